@@ -1,0 +1,4 @@
+pub mod Bytes
+pub mod Sets
+pub mod Tokens
+pub mod Matching

@@ -1,0 +1,4 @@
+//! Git's glob patterns: matching bytes, reading pattern lines, and lists of patterns with a base.
+#![tactic(auto)]
+
+pub mod wildmatch;

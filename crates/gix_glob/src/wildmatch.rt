@@ -1,0 +1,5 @@
+//! Matching of bytes against a glob pattern: the mode, and the matcher.
+mod mode;
+mod sets;
+
+pub use mode::Mode;
