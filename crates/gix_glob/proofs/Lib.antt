@@ -1,2 +1,3 @@
 pub mod SetLemmas
 pub mod TokenLemmas
+pub mod CutLemmas
