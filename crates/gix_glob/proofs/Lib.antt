@@ -1,3 +1,4 @@
 pub mod SetLemmas
 pub mod TokenLemmas
 pub mod CutLemmas
+pub mod Walks
