@@ -9,6 +9,7 @@ use Rattle.gix_glob.specs.Bytes.{HasByte, fold, is_path, slash}
 use Rattle.gix_glob.specs.Sets.{Set, set_holds}
 use Rattle.gix_glob.specs.Tokens.{Token, Byte, Any, OneOf, Free, Local, Dirs, Nothing, TokenAt, From}
 use Rattle.gix_glob.specs.Matching.{OneByte, HasNoSlash, EndsInSlash, Lang, IsCut, SplitsFrom}
+use Rattle.gix_glob.specs.Reader.{Fits}
 use Rattle.gix_glob.proofs.TokenLemmas.{TokenAt-unique, TokenAt-inside}
 
 -- The value from place k on is a piece, up to place e, and what follows.
@@ -59,13 +60,6 @@ one_byte_in : (P : ℕ → Type 0) (v : List ℕ) (k : ℕ) → k < length v →
     → OneByte P (get_or v k 0 ∷ []) × (drop k v ≡ (get_or v k 0 ∷ []) ++ drop (k + 1) v)
 one_byte_in P v k inside holds =
     ((get_or v k 0, refl, holds), rw add-one (drop-cons v k 0 inside))
-
--- a one-byte token takes this byte
-abbrev pub Fits : Mode → Token → ℕ → Type 0
-Fits mode (Byte b) c = fold mode c ≡ fold mode b
-Fits mode Any c = IsTrue (is_path mode) → c ≢ slash
-Fits mode (OneOf set) c = IsTrue (set_holds mode set c)
-Fits mode _ c = ⊥
 
 -- the token takes one byte
 abbrev pub IsOne : Token → Type 0

@@ -2,3 +2,4 @@ pub mod SetLemmas
 pub mod TokenLemmas
 pub mod CutLemmas
 pub mod Walks
+pub mod Reading

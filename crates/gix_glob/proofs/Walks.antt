@@ -3,9 +3,11 @@ use Rattle.std.proofs.Common.{◌≡◌, ◌≢◌, ◌↔◌, ◌⊎◌, inl, i
 use Rattle.std.specs.List.{list_any}
 use Rattle.gix_glob.specs.declared.wildmatch.sets.Item.{Item}
 use Rattle.gix_glob.specs.declared.wildmatch.sets.Item.TheVariants as item
+use Rattle.gix_glob.specs.declared.wildmatch.sets.Entry.{Entry}
+use Rattle.gix_glob.specs.declared.wildmatch.sets.Entry.TheVariants as entry
 use Rattle.gix_glob.specs.Bytes.{HasByte, open_bracket, close_bracket}
 use Rattle.gix_glob.specs.Sets.{Set, SetAt, ItemAt, ItemsAt, IsSign, member_of}
-use Rattle.gix_glob.specs.Entries.{IsFirstItem}
+use Rattle.gix_glob.specs.Reader.{IsEntry, IsFirstItem}
 use Rattle.gix_glob.proofs.SetLemmas.{ItemAt-unique, ItemsAt-unique}
 
 -- an item begins inside the text
@@ -101,3 +103,43 @@ set_out_by text i start false xs close (inr bare) iff e = subst (λ (n : ℕ). I
 pub set_out : (text : List ℕ) (i start : ℕ) (s : Set) (j : ℕ) → IsFirstItem text i start → (e : SetAt text i s j)
     → ItemsAt text true None start s.items e.close
 set_out text i start s j first e = set_out_by text i start s.negated s.items e.close first e.sign e.items
+
+-- Whether an item holds a byte: of the items from the start on, none so far does.
+pub record IsYetUnheld (text : List ℕ) (start : ℕ) (test : Item → Bool) (first : Bool) (low : Option ℕ) (i : ℕ) : Type 0 where
+  pub rest : (xs : List Item) (close : ℕ) → ItemsAt text true None start xs close
+      → (ys : List Item) × ItemsAt text first low i ys close × (list_any test xs ≡ list_any test ys)
+
+pub unheld_first : (text : List ℕ) (start : ℕ) (test : Item → Bool) → IsYetUnheld text start test true None start
+unheld_first text start test = record { rest = λ xs close e. (xs, e, refl) }
+
+pub unheld_next : (text : List ℕ) (start : ℕ) (test : Item → Bool) (first : Bool) (low : Option ℕ) (i : ℕ) (x : Item) (j : ℕ)
+    → IsYetUnheld text start test first low i → (IsTrue (not first) → ¬ HasByte text i close_bracket) → ItemAt text low i x j
+    → test x ≡ false → IsYetUnheld text start test false (member_of x) j
+unheld_next text start test first low i x j so_far open_yet here misses = record {
+  rest = λ xs close e.
+      let now = so_far.rest xs close e in
+      let later = after_item text first low i x j open_yet here now.0 close now.1 in
+      let head : list_any test (x ∷ later.0) ≡ list_any test later.0 =
+      ap (λ (b : Bool). b || list_any test later.0) misses in
+      (later.0, later.2, now.2 ∙ (ap (λ (ys : List Item). list_any test ys) later.1 ∙ head));
+}
+
+pub held_now : (text : List ℕ) (start : ℕ) (test : Item → Bool) (first : Bool) (low : Option ℕ) (i : ℕ) (x : Item) (j : ℕ)
+    → IsYetUnheld text start test first low i → (IsTrue (not first) → ¬ HasByte text i close_bracket) → ItemAt text low i x j
+    → test x ≡ true → (xs : List Item) (close : ℕ) → ItemsAt text true None start xs close → list_any test xs ≡ true
+held_now text start test first low i x j so_far open_yet here holds xs close e =
+    let now = so_far.rest xs close e in
+    let later = after_item text first low i x j open_yet here now.0 close now.1 in
+    now.2 ∙ (ap (λ (ys : List Item). list_any test ys) later.1 ∙ ap (λ (b : Bool). b || list_any test later.0) holds)
+
+-- Where no item stands, no item holds the byte.
+pub unheld_end : (text : List ℕ) (start : ℕ) (test : Item → Bool) (first : Bool) (low : Option ℕ) (i : ℕ) (met : Entry)
+    → IsYetUnheld text start test first low i → IsEntry text first low i met → ((x : Item) (j : ℕ) → met ≡ entry.Item x j → ⊥)
+    → (xs : List Item) (close : ℕ) → ItemsAt text true None start xs close → list_any test xs ≡ false
+unheld_end text start test first low i (entry.Item x j) so_far is other xs close e = absurd (other x j refl)
+unheld_end text start test first low i entry.Close so_far is other xs close e =
+    let now = so_far.rest xs close e in
+    let same = ItemsAt-unique text first low i now.0 [] close i now.1 is.0 in
+    now.2 ∙ ap (λ (ys : List Item). list_any test ys) same.0
+unheld_end text start test first low i entry.Broken so_far is other xs close e =
+    let now = so_far.rest xs close e in absurd (is now.0 close now.1)

@@ -1,5 +1,6 @@
 //! Matching of bytes against a glob pattern: the mode, and the matcher.
 mod mode;
 mod sets;
+mod tokens;
 
 pub use mode::Mode;

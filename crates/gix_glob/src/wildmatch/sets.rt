@@ -1,10 +1,15 @@
 //! Bracket sets: the items of a set, where it ends, and which bytes it holds.
-ghost use Rattle.std.specs.Prelude.{◌≡◌, ◌↔◌, ℕ, ◌<◌, ◌≤◌, IsTrue, IfSome, IfNone, Option, Some, length, not};
+ghost use Rattle.std.specs.Prelude.{◌↔◌, ℕ, ◌<◌, ◌≤◌, IsTrue, IfSome, IfNone, Option, Some, None, List, true, length, not, ◌≡◌};
 ghost use Rattle.gix_glob.specs.declared.wildmatch.sets.Item.{Item};
 ghost use Rattle.gix_glob.specs.declared.wildmatch.sets.Class.{Class};
 ghost use Rattle.gix_glob.specs.Bytes.{HasByte, IsEscaped, open_bracket, close_bracket};
 ghost use Rattle.gix_glob.specs.Sets.{BeginsRange, BeginsClass, IsFirstFrom, IsUpperEnd, ItemAt, Set, SetAt, member_of, name_of};
-ghost use Rattle.gix_glob.specs.Entries.{IsEntry, IsFirstItem};
+ghost use Rattle.gix_glob.specs.Sets.{class_holds, item_holds, ItemsAt};
+ghost use Rattle.gix_glob.specs.Sets.{set_holds as held, range_holds as in_range, is_between as between};
+ghost use Rattle.gix_glob.specs.Reader.{IsEntry, IsFirstItem};
+ghost use Rattle.std.specs.List.{list_any};
+
+use super::mode::Mode;
 
 /// A class of bytes that a set names between `[:` and `:]`.
 #[derive(Debug, Copy, Clone, Eq, PartialEq)]
@@ -79,7 +84,7 @@ fn begins_class(pattern: &[u8], at: usize) -> bool
 }
 
 /// The byte that an escape at this place stands for.
-fn escaped_at(pattern: &[u8], at: usize) -> Option<u8>
+pub fn escaped_at(pattern: &[u8], at: usize) -> Option<u8>
     requires { at < length pattern.now }
     ensures found { IfSome result (λ byte. IsEscaped pattern.now at byte) }
     ensures none { IfNone result ((byte : ℕ) → ¬ IsEscaped pattern.now at byte) }
@@ -170,6 +175,7 @@ fn item_at(pattern: &[u8], low: Option<u8>, at: usize) -> Option<(Item, usize)>
 }
 
 /// What stands at an item's place.
+#[derive(Clone, Copy)]
 enum Entry {
     /// An item, and the place after it.
     Item(Item, usize),
@@ -248,4 +254,94 @@ pub fn set_end(pattern: &[u8], at: usize) -> Option<usize>
             Entry::Broken => return None,
         }
     }
+}
+
+impl Class {
+    /// Whether the class holds a byte, which is folded already where the mode asks for it.
+    fn holds(self, byte: u8, mode: Mode) -> bool
+        ensures { result ≡ class_holds mode self byte }
+    {
+        match self {
+            Class::Alnum => byte.is_ascii_alphanumeric(),
+            Class::Alpha => byte.is_ascii_alphabetic(),
+            Class::Blank => byte == b' ' || byte == b'\t',
+            Class::Cntrl => byte.is_ascii_control(),
+            Class::Digit => byte.is_ascii_digit(),
+            Class::Graph => byte.is_ascii_graphic(),
+            Class::Lower => byte.is_ascii_lowercase(),
+            Class::Print => byte == b' ' || byte.is_ascii_graphic(),
+            Class::Punct => byte.is_ascii_punctuation(),
+            Class::Space => (byte == b' ' || byte == b'\t') || (byte == b'\n' || byte == b'\r'),
+            Class::Upper => byte.is_ascii_uppercase()
+                || (mode.folds() && byte.is_ascii_lowercase()),
+            Class::Xdigit => byte.is_ascii_hexdigit(),
+        }
+    }
+}
+
+/// Whether a number lies between two others, in either order.
+fn is_between(a: u8, b: u8, n: u8) -> bool
+    ensures { result ≡ between a b n }
+{
+    (a <= n && n <= b) || (b <= n && n <= a)
+}
+
+/// Whether a range holds a byte. Where case doesn't count, the ends in uppercase count too.
+fn range_holds(low: u8, high: u8, byte: u8, mode: Mode) -> bool
+    ensures { result ≡ in_range mode low high byte }
+{
+    let (low, high, byte) = (mode.fold(low), mode.fold(high), mode.fold(byte));
+    (low <= byte && byte <= high)
+        || (mode.folds()
+            && byte.is_ascii_lowercase()
+            && is_between(
+                low.to_ascii_uppercase(),
+                high.to_ascii_uppercase(),
+                byte.to_ascii_uppercase(),
+            ))
+}
+
+impl Item {
+    /// Whether the item holds a byte.
+    fn holds(self, byte: u8, mode: Mode) -> bool
+        ensures { result ≡ item_holds mode byte self }
+    {
+        match self {
+            Item::Member(member) => mode.fold(byte) == mode.fold(member),
+            Item::Range(low, high) => range_holds(low, high, byte, mode),
+            Item::Class(class) => class.holds(mode.fold(byte), mode),
+        }
+    }
+}
+
+/// Whether an item of the set whose first item stands at this place holds a byte.
+fn items_hold(pattern: &[u8], start: usize, byte: u8, mode: Mode) -> bool
+    requires { start ≤ length pattern.now }
+    ensures { (xs : List Item) (close : ℕ) → ItemsAt pattern.now true None start xs close → result ≡ list_any (item_holds mode byte) xs }
+{
+    let mut is_first = true;
+    let mut low = None;
+    let mut place = start;
+    'items: while let Entry::Item(item, next) = entry_at(pattern, is_first, low, place) {
+        if item.holds(byte, mode) {
+            return true;
+        }
+        is_first = false;
+        low = item.member();
+        place = next;
+    }
+    false
+}
+
+/// Whether the set whose bracket stands at this place holds a byte.
+pub fn set_holds(pattern: &[u8], at: usize, byte: u8, mode: Mode) -> bool
+    requires { at < length pattern.now }
+    ensures { (set : Set) (end : ℕ) → SetAt pattern.now at set end → result ≡ held mode set byte }
+{
+    if mode.is_path() && byte == b'/' {
+        return false;
+    }
+    let start = first_item(pattern, at);
+    let is_negated = start == at + 2;
+    items_hold(pattern, start, byte, mode) != is_negated
 }
