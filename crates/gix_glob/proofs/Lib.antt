@@ -3,3 +3,4 @@ pub mod TokenLemmas
 pub mod CutLemmas
 pub mod Walks
 pub mod Reading
+pub mod Engines
