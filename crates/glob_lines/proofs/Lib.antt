@@ -1,2 +1,3 @@
 pub mod LinesLemmas
+pub mod PathsLemmas
 pub mod TransferLemmas
