@@ -2,4 +2,5 @@ pub mod Bytes
 pub mod Sets
 pub mod Tokens
 pub mod Matching
+pub mod Watched
 pub mod Reader

@@ -1,6 +1,8 @@
-//! Worked rows of matching, reading and listing, as tests that call the public functions of the crates below.
+//! Worked rows of matching, reading and listing, and runs over readers and writers that fail. Tests alone.
 #![tactic(auto)]
 
+#[cfg(test)]
+mod fakes;
 #[cfg(test)]
 mod folding;
 #[cfg(test)]
@@ -11,3 +13,5 @@ mod rows;
 mod sets;
 #[cfg(test)]
 mod tokens;
+#[cfg(test)]
+mod wild_rows;
