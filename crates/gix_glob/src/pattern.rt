@@ -1,0 +1,4 @@
+//! Patterns: a line that was read, what it says of its text, and the values and paths that it matches.
+mod case;
+
+pub use case::Case;
