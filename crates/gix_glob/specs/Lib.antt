@@ -2,3 +2,4 @@ pub mod Bytes
 pub mod Sets
 pub mod Tokens
 pub mod Matching
+pub mod Patterns

@@ -1,0 +1,2 @@
+pub mod ByteSearches
+pub mod Reading
