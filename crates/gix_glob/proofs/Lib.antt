@@ -1,2 +1,5 @@
+pub mod SetLemmas
+pub mod TokenLemmas
+pub mod CutLemmas
 pub mod ByteSearches
 pub mod Reading
