@@ -23,9 +23,9 @@ piece_of : (v : List ℕ) (k : ℕ) (piece rest : List ℕ) → k ≤ length v �
     → IsPiece v k (k + length piece) piece × (rest ≡ drop (k + length piece) v)
 piece_of v k piece rest inside cut =
     let long : length v - k ≡ length piece + length rest =
-        sym (length-drop k v) ∙ (ap (λ (xs : List ℕ). length xs) cut ∙ length-append piece rest) in
+    sym (length-drop k v) ∙ (ap (λ (xs : List ℕ). length xs) cut ∙ length-append piece rest) in
     let after : rest ≡ drop (k + length piece) v =
-        sym (drop-append_seam piece rest) ∙ (ap (drop (length piece)) (sym cut) ∙ drop-drop (length piece) k v) in
+    sym (drop-append_seam piece rest) ∙ (ap (drop (length piece)) (sym cut) ∙ drop-drop (length piece) k v) in
     (record { low = omega arith; high = omega arith; joined = cut ∙ ap (λ (xs : List ℕ). piece ++ xs) after; long = omega arith }, after)
 
 -- each stretch of the value is a piece
@@ -33,8 +33,8 @@ stretch : (v : List ℕ) (k e : ℕ) → k ≤ e → e ≤ length v → IsPiece 
 stretch v k e low high =
     let sum : k + (e - k) ≡ e = omega arith in
     let joined : drop k v ≡ take (e - k) (drop k v) ++ drop e v =
-        sym (take-append-drop (e - k) (drop k v))
-        ∙ ap (λ (xs : List ℕ). take (e - k) (drop k v) ++ xs) (drop-drop (e - k) k v ∙ ap (λ (n : ℕ). drop n v) sum) in
+    sym (take-append-drop (e - k) (drop k v))
+    ∙ ap (λ (xs : List ℕ). take (e - k) (drop k v) ++ xs) (drop-drop (e - k) k v ∙ ap (λ (n : ℕ). drop n v) sum) in
     record { low = low; high = high; joined = joined; long = simp (length-take, length-drop) (omega arith) }
 
 -- the byte of a piece at a place is that of the value
@@ -122,13 +122,17 @@ step_out mode p v i j k t here inside all = out all.tokens all.read all.cut wher
   out [] read cut = let here_inside = TokenAt-inside mode p i t j here in absurd (omega arith)
   out (u ∷ us) read cut =
       let same = TokenAt-unique mode p i u t read.0 j read.1 here in
-      let parts = piece_of v k cut.0 cut.1 inside cut.2 in
-      (k + length cut.0, cut.0, parts.0, subst (λ (x : Token). Lang mode x cut.0) same.0 cut.3,
-       record {
-         tokens = us;
-         read = subst (λ (n : ℕ). From mode p n us) same.1 read.2;
-         cut = subst (λ (xs : List ℕ). IsCut mode us xs) parts.1 cut.4;
-       })
+      let parts = piece_of v k cut.0 cut.1 inside cut.2 in (
+        k + length cut.0,
+        cut.0,
+        parts.0,
+        subst (λ (x : Token). Lang mode x cut.0) same.0 cut.3,
+        record {
+          tokens = us;
+          read = subst (λ (n : ℕ). From mode p n us) same.1 read.2;
+          cut = subst (λ (xs : List ℕ). IsCut mode us xs) parts.1 cut.4;
+        },
+      )
 
 -- The tokens from the pattern's end on split what is empty.
 pub end_in : (mode : Mode) (p v : List ℕ) (i k : ℕ) → i ≡ length p → length v ≤ k → SplitsFrom v k p i mode
@@ -161,13 +165,16 @@ one_out mode p v i j k t one here all = out all.tokens all.read all.cut where
   out (u ∷ us) read cut =
       let same = TokenAt-unique mode p i u t read.0 j read.1 here in
       let piece : OneByte (Fits mode t) cut.0 =
-          lang_is_one mode t cut.0 one (subst (λ (x : Token). Lang mode x cut.0) same.0 cut.3) in
-      let parts = one_byte_out (Fits mode t) v k cut.0 cut.1 cut.2 piece in
-      (parts.0, parts.1, record {
-        tokens = us;
-        read = subst (λ (n : ℕ). From mode p n us) same.1 read.2;
-        cut = subst (λ (xs : List ℕ). IsCut mode us xs) parts.2 cut.4;
-      })
+      lang_is_one mode t cut.0 one (subst (λ (x : Token). Lang mode x cut.0) same.0 cut.3) in
+      let parts = one_byte_out (Fits mode t) v k cut.0 cut.1 cut.2 piece in (
+        parts.0,
+        parts.1,
+        record {
+          tokens = us;
+          read = subst (λ (n : ℕ). From mode p n us) same.1 read.2;
+          cut = subst (λ (xs : List ℕ). IsCut mode us xs) parts.2 cut.4;
+        },
+      )
 
 -- A run that crosses slashes takes any stretch.
 pub free_in : (mode : Mode) (p v : List ℕ) (i j k e : ℕ) → TokenAt mode p i Free j → k ≤ e → e ≤ length v
@@ -186,9 +193,9 @@ pub local_in : (mode : Mode) (p v : List ℕ) (i j k e : ℕ) → TokenAt mode p
 local_in mode p v i j k e here low high none later =
     let x = stretch v k e low high in
     let bare : HasNoSlash (take (e - k) (drop k v)) =
-        has_no_slash (take (e - k) (drop k v)) (λ m below.
-            let long = x.long in
-            rw (piece_at v k e (take (e - k) (drop k v)) x m below) (none.at (k + m) (omega arith) (omega arith))) in
+    has_no_slash (take (e - k) (drop k v)) (λ m below.
+    let long = x.long in
+    rw (piece_at v k e (take (e - k) (drop k v)) x m below) (none.at (k + m) (omega arith) (omega arith))) in
     step_in mode p v i j k e Local (take (e - k) (drop k v)) here x bare later
 
 pub local_out : (mode : Mode) (p v : List ℕ) (i j k : ℕ) → TokenAt mode p i Local j → k ≤ length v
@@ -196,11 +203,13 @@ pub local_out : (mode : Mode) (p v : List ℕ) (i j k : ℕ) → TokenAt mode p 
 local_out mode p v i j k here inside all =
     let out = step_out mode p v i j k Local here inside all in
     let x : IsPiece v k out.0 out.1 = out.2 in
-    let none : NoSlash v k out.0 = record { at = λ m low below.
-        let long = x.long in
-        let same = piece_at v k out.0 out.1 x (m - k) (omega arith) in
-        let sum : k + (m - k) ≡ m = omega arith in
-        rw sum at (rw same at (no_slash_at out.1 out.3 (m - k) (omega arith))) } in
+    let none : NoSlash v k out.0 = record {
+      at = λ m low below.
+          let long = x.long in
+          let same = piece_at v k out.0 out.1 x (m - k) (omega arith) in
+          let sum : k + (m - k) ≡ m = omega arith in
+          rw sum at (rw same at (no_slash_at out.1 out.3 (m - k) (omega arith)));
+    } in
     (out.0, x.low, x.high, none, out.4)
 
 -- A double star with its slash takes nothing, or a stretch that ends in a slash.
@@ -218,10 +227,11 @@ ends_in_slash v k e after =
     let inside : e - 1 - k < length (drop k v) = simp length-drop (omega arith) in
     let place : k + (e - 1 - k) ≡ e - 1 = omega arith in
     let last : get_or (drop k v) (e - 1 - k) 0 ≡ slash =
-        get_or-drop k v (e - 1 - k) 0 ∙ (ap (λ (n : ℕ). get_or v n 0) place ∙ after.slash) in
-    (take (e - 1 - k) (drop k v),
-     ap (λ (n : ℕ). take n (drop k v)) one
-     ∙ (take-suc (drop k v) (e - 1 - k) 0 inside ∙ ap (λ (b : ℕ). take (e - 1 - k) (drop k v) ++ b ∷ []) last))
+    get_or-drop k v (e - 1 - k) 0 ∙ (ap (λ (n : ℕ). get_or v n 0) place ∙ after.slash) in (
+      take (e - 1 - k) (drop k v),
+      ap (λ (n : ℕ). take n (drop k v)) one
+          ∙ (take-suc (drop k v) (e - 1 - k) 0 inside ∙ ap (λ (b : ℕ). take (e - 1 - k) (drop k v) ++ b ∷ []) last),
+    )
 
 -- the place after a piece of that language
 slash_before : (v : List ℕ) (k e : ℕ) (piece : List ℕ) → IsPiece v k e piece → (piece ≡ []) ⊎ EndsInSlash piece
@@ -237,9 +247,9 @@ slash_before v k e piece x (inr ends) =
     let low : k ≤ e = x.low in
     let place : k + length ends.0 ≡ e - 1 = omega arith in
     let last : get_or piece (length ends.0) 0 ≡ slash =
-        ap (λ (xs : List ℕ). get_or xs (length ends.0) 0) ends.1 ∙ get_or-append_seam ends.0 slash [] 0 in
+    ap (λ (xs : List ℕ). get_or xs (length ends.0) 0) ends.1 ∙ get_or-append_seam ends.0 slash [] 0 in
     let byte : get_or v (e - 1) 0 ≡ slash =
-        ap (λ (n : ℕ). get_or v n 0) (sym place) ∙ (sym (piece_at v k e piece x (length ends.0) (omega arith)) ∙ last) in
+    ap (λ (n : ℕ). get_or v n 0) (sym place) ∙ (sym (piece_at v k e piece x (length ends.0) (omega arith)) ∙ last) in
     inr (record { past = omega arith; inside = x.high; slash = byte })
 
 pub dirs_in_empty : (mode : Mode) (p v : List ℕ) (i j k : ℕ) → TokenAt mode p i Dirs j → k ≤ length v

@@ -2,4 +2,5 @@ pub mod SetLemmas
 pub mod TokenLemmas
 pub mod CutLemmas
 pub mod ByteSearches
+pub mod FlagBits
 pub mod Reading

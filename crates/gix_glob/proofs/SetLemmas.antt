@@ -122,7 +122,7 @@ ItemAt-unique text low i (item.Class c) (item.Range a b) j k e f =
 ItemAt-unique text low i (item.Class c) (item.Class d) j k e f =
     let same : e.0 ≡ f.0 = IsFirstFrom-unique text (i + 2) close_bracket e.0 f.0 e.1.first f.1.first in
     let names : name_of c ≡ name_of d =
-        sym e.2 ∙ (ap (λ (n : ℕ). slice_range text (i + 2) (n - 1)) same ∙ f.2) in
+    sym e.2 ∙ (ap (λ (n : ℕ). slice_range text (i + 2) (n - 1)) same ∙ f.2) in
     (ap item.Class (name_of-injective c d names), e.3 ∙ (ap (λ (n : ℕ). n + 1) same ∙ sym f.3))
 
 -- The items from a place decide themselves and where they end.
@@ -134,8 +134,8 @@ ItemsAt-unique text first low i (x ∷ xs) [] j k e f = absurd (e.0 f.0 f.1)
 ItemsAt-unique text first low i (x ∷ xs) (y ∷ ys) j k e f =
     let here = ItemAt-unique text low i x y e.1 f.1 e.2 f.2 in
     let rest : ItemsAt text false (member_of y) f.1 xs j =
-        subst (λ (z : Item). ItemsAt text false (member_of z) f.1 xs j) here.0
-            (subst (λ (n : ℕ). ItemsAt text false (member_of x) n xs j) here.1 e.3) in
+    subst (λ (z : Item). ItemsAt text false (member_of z) f.1 xs j) here.0
+    (subst (λ (n : ℕ). ItemsAt text false (member_of x) n xs j) here.1 e.3) in
     let later = ItemsAt-unique text false (member_of y) f.1 xs ys j k rest f.3 in
     let head : x ≡ y = here.0 in
     let tail : xs ≡ ys = later.0 in
@@ -153,7 +153,7 @@ pub SetAt-unique : (text : List ℕ) (i : ℕ) (s t : Set) (j k : ℕ)
 SetAt-unique text i s t j k e f =
     let sign : s.negated ≡ t.negated = negated-unique s.negated t.negated (IsSign text (i + 1)) e.sign f.sign in
     let moved : ItemsAt text true None (if t.negated then i + 2 else i + 1) s.items e.close =
-        subst (λ (b : Bool). ItemsAt text true None (if b then i + 2 else i + 1) s.items e.close) sign e.items in
+    subst (λ (b : Bool). ItemsAt text true None (if b then i + 2 else i + 1) s.items e.close) sign e.items in
     let both = ItemsAt-unique text true None (if t.negated then i + 2 else i + 1) s.items t.items e.close f.close moved f.items in
     let items : s.items ≡ t.items = both.0 in
     (set_eq s t sign items, e.after ∙ (ap (λ (n : ℕ). n + 1) both.1 ∙ sym f.after))

@@ -1,8 +1,9 @@
 -- Pattern lines: how a line is read, and what is shown of a pattern.
-use Rattle.std.specs.Prelude.{◌≡◌, ℕ, ◌+◌, Bool, false, not, ◌&&◌, ◌||◌, ◌==◌, nat_eq, if◌then◌else◌, bit_and, List, [], ◌++◌, drop, Option, codes, position}
+use Rattle.std.specs.Prelude.{◌≡◌, ℕ, ◌+◌, Bool, IsTrue, false, not, ◌&&◌, ◌||◌, ◌==◌, nat_eq, if◌then◌else◌, bit_and, List, [], ◌++◌, drop, Option, codes, position, encode_utf8_all}
 use Rattle.std.specs.List.{list_any, list_all, starts_with, ends_with}
 use Rattle.std.specs.Char.{is_ascii_whitespace}
 use Rattle.std.specs.Str.{bytes_eq}
+use Rattle.bstr.specs.Utf8.{lossy_chars}
 use Rattle.gix_glob.specs.declared.pattern.mode.Mode.{Mode}
 use Rattle.gix_glob.specs.Bytes.{star, question_mark, open_bracket, backslash, slash}
 
@@ -86,8 +87,18 @@ pub record HasReading (text : List ℕ) (may_alter : Bool) : Type 0 where
   pub place : Option ℕ
   pub read : Reads text may_alter body flags place
 
--- what is displayed of a pattern
+-- a text as it is displayed: what isn't UTF-8 gives way to U+FFFD
+abbrev pub displayed : List ℕ → List ℕ
+displayed text = encode_utf8_all (lossy_chars text)
+
+-- the line that is shown for a pattern
 abbrev pub shown : Mode → List ℕ → List ℕ
 shown flags body =
     (if is_negative flags then codes "!" else [])
     ++ (slash_if (is_absolute flags) ++ (body ++ slash_if (is_for_directories flags)))
+
+-- A text, a mode and a place make a pattern: the place is that of the text's first special byte, and a mode that
+-- says that the end decides stands only with a star and a literal.
+pub record IsPattern (text : List ℕ) (mode : Mode) (place : Option ℕ) : Type 0 where
+  pub placed : place ≡ first_special text
+  pub ends : IsTrue (is_by_its_end mode) → IsTrue (is_star_and_literal text)

@@ -4,3 +4,5 @@
 pub mod parse;
 pub mod pattern;
 pub mod wildmatch;
+
+pub use pattern::Pattern;

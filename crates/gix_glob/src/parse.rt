@@ -1,13 +1,22 @@
 //! Reading a pattern line: the sign and the slashes around its text, and what is known of the text.
-ghost use Rattle.std.specs.Prelude.{◌≡◌, ◌==◌, ◌+◌, ◌↔◌, ◌++◌, Bool, IsTrue, IsNone, IfSome, MatchOption, if◌then◌else◌, codes, nat_eq};
+ghost use Rattle.std.specs.Prelude.{◌≡◌, ◌==◌, ◌+◌, ◌↔◌, ◌++◌, Bool, IsTrue, IsNone, IfOk, IsOkAnd, MatchOption, true, if◌then◌else◌, codes, nat_eq};
 ghost use Rattle.std.specs.List.{starts_with, ends_with, list_any};
 ghost use Rattle.std.specs.Str.{bytes_eq};
-ghost use Rattle.gix_glob.specs.Patterns.{Reads, HasReading, is_blank, without_negation, sign_of, slash_if, bits_of, is_special, is_star_and_literal, first_special};
+ghost use Rattle.gix_glob.specs.Patterns.{Reads, HasReading, is_blank, without_negation, sign_of, slash_if, bits_of, is_wildcard, is_special, is_star_and_literal, first_special};
+ghost use Rattle.gix_glob.specs.PatternParts.{IsReadFrom};
 
+use crate::pattern::{Mode, Pattern};
 use bitflags::Flags;
-use memchr::memchr;
+use memchr::{memchr, memchr3};
+use std::alloc::{AllocError, Global};
 
-use crate::pattern::Mode;
+/// Reads a pattern line, with its leading `!`, as [`Pattern::from_bytes`] does: `None` where it is blank.
+pub fn parse(alloc: Global, text: &[u8]) -> Result<Option<Pattern>, AllocError>
+    ensures reads { IfOk result (λ read. MatchOption read (¬ HasReading text.now true) (IsReadFrom text.now true)) }
+    ensures blank { IsOkAnd result IsNone ↔ IsTrue (is_blank (without_negation text.now)) }
+{
+    Pattern::from_bytes(alloc, text)
+}
 
 /// What follows the sign of a line, and whether the sign negates.
 fn after_sign(pat: &[u8], may_alter: bool) -> (&[u8], bool)
@@ -67,6 +76,14 @@ fn has_slash(text: &[u8]) -> bool
     ensures { result ≡ list_any (λ b. b == 47) text.now }
 {
     memchr(b'/', text).is_some()
+}
+
+/// Whether the text has a wildcard, escaped or not.
+#[tactic(auto, using(crate::proofs::ByteSearches::is_some_first_byte))]
+pub(crate) fn has_wildcard(text: &[u8]) -> bool
+    ensures { result ≡ list_any is_wildcard text.now }
+{
+    memchr3(b'*', b'?', b'[', text).is_some()
 }
 
 /// What follows a leading slash, and whether there was one.
