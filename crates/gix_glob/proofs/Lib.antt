@@ -4,3 +4,5 @@ pub mod CutLemmas
 pub mod ByteSearches
 pub mod FlagBits
 pub mod Reading
+pub mod LiteralLemmas
+pub mod Shortcuts

@@ -4,3 +4,4 @@ pub mod Tokens
 pub mod Matching
 pub mod Patterns
 pub mod PatternParts
+pub mod Folding
