@@ -2,6 +2,8 @@ pub mod Bytes
 pub mod Sets
 pub mod Tokens
 pub mod Matching
+pub mod Reader
+pub mod Folding
 pub mod Patterns
 pub mod PatternParts
-pub mod Folding
+pub mod RepositoryPaths
