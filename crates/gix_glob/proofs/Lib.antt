@@ -4,3 +4,8 @@ pub mod CutLemmas
 pub mod Walks
 pub mod Reading
 pub mod Engines
+pub mod ByteSearches
+pub mod FlagBits
+pub mod LineReading
+pub mod LiteralLemmas
+pub mod Shortcuts

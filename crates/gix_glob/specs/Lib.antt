@@ -4,3 +4,7 @@ pub mod Tokens
 pub mod Matching
 pub mod Watched
 pub mod Reader
+pub mod Folding
+pub mod Patterns
+pub mod PatternParts
+pub mod RepositoryPaths
