@@ -3,3 +3,4 @@ pub mod Sets
 pub mod Tokens
 pub mod Matching
 pub mod Watched
+pub mod Loading
