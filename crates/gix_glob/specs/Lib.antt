@@ -4,3 +4,5 @@ pub mod Tokens
 pub mod Matching
 pub mod Watched
 pub mod Loading
+pub mod Paths
+pub mod PartsLeft

@@ -1,5 +1,6 @@
 //! Git's glob patterns: matching bytes, reading pattern lines, and lists of patterns with a base.
 #![tactic(auto)]
 
+pub mod laws;
 pub mod search;
 pub mod wildmatch;
