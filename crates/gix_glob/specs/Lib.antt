@@ -6,3 +6,6 @@ pub mod Watched
 pub mod Loading
 pub mod Paths
 pub mod PartsLeft
+pub mod Patterns
+pub mod PatternParts
+pub mod Folding
