@@ -11,3 +11,6 @@ pub mod FlagBits
 pub mod LineReading
 pub mod LiteralLemmas
 pub mod Shortcuts
+pub mod Components
+pub mod Marks
+pub mod Existence
