@@ -10,24 +10,7 @@ use Rattle.gix_glob.specs.Bytes.{fold, folds, is_path, slash}
 use Rattle.gix_glob.specs.Sets.{set_holds}
 use Rattle.gix_glob.specs.Tokens.{Token, Byte, Any, OneOf, Free, Local, Dirs, Nothing}
 use Rattle.gix_glob.specs.Reader.{Fits}
-
--- a byte ends a component: in path mode a slash, in plain mode each byte
-abbrev ends_by : Bool → ℕ → Bool
-ends_by true b = b == slash
-ends_by false b = true
-
-abbrev pub ends : Mode → ℕ → Bool
-ends mode b = ends_by (is_path mode) b
-
--- a token takes what ends a component: in path mode a slash, in plain mode each token of one byte
-abbrev separates_by : Bool → Token → Bool
-separates_by path (Byte b) = ends_by path b
-separates_by path Any = not path
-separates_by path (OneOf s) = not path
-separates_by path _ = false
-
-abbrev pub separates : Mode → Token → Bool
-separates mode t = separates_by (is_path mode) t
+use Rattle.gix_glob.specs.Components.{ends_by, ends, separates_by, separates, reach, next_component}
 
 ends_plain_by : (path : Bool) (b : ℕ) → path ≡ false → ends_by path b ≡ true
 ends_plain_by true b plain = cc
@@ -131,15 +114,6 @@ separates_slash_by path Nothing is apart = cc
 -- in path mode the slash alone ends a component
 pub separates-slash : (mode : Mode) (t : Token) → IsTrue (is_path mode) → separates mode t ≡ true → t ≡ Byte slash
 separates-slash mode t path apart = separates_slash_by (is_path mode) t path apart
-
--- how many places on the next component begins
-reach : Mode → List ℕ → ℕ
-reach mode [] = 1
-reach mode (b ∷ bs) = if ends mode b then 1 else suc (reach mode bs)
-
--- the place where the next component begins, or the place past the value's end
-pub next_component : Mode → List ℕ → ℕ → ℕ
-next_component mode v x = x + reach mode (drop x v)
 
 next_at : (mode : Mode) (v : List ℕ) (x : ℕ) → x < length v
     → next_component mode v x ≡ x + (if ends mode (get_or v x 0) then 1 else suc (reach mode (drop (suc x) v)))

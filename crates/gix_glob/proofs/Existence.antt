@@ -104,12 +104,15 @@ star_token mode p i j run inside none = by_mode (is_path mode) refl where
       none Free j
       (record {
         run = run;
-        bounded = λ path'.
-            (both, λ h.
-                let before : j < length p = h.inside in
-                none Dirs (j + 1) (record { path = path; at = j; run = run; bounded = both; slash = h; after = refl }) (omega arith));
+        bounded = λ path'. (
+          both,
+          λ h.
+              let before : j < length p = h.inside in
+              none Dirs (j + 1) (record { path = path; at = j; run = run; bounded = both; slash = h; after = refl }) (omega arith),
+        );
       })
       inside
+
   by_mode : (path : Bool) → is_path mode ≡ path → ⊥
   by_mode true path = none Local j (record { path = path; run = run; unbounded = bounded path }) inside
   by_mode false plain = none Free j (record { run = run; bounded = λ path. let wrong : true ≡ false = sym path ∙ plain in cc }) inside

@@ -14,3 +14,4 @@ pub mod Shortcuts
 pub mod Components
 pub mod Marks
 pub mod Existence
+pub mod Budget

@@ -10,131 +10,19 @@ use Rattle.gix_glob.specs.declared.wildmatch.marks.Crossing.TheVariants as cross
 use Rattle.gix_glob.specs.declared.wildmatch.marks.State.{State}
 use Rattle.gix_glob.specs.declared.wildmatch.marks.Turn.{Turn}
 use Rattle.gix_glob.specs.declared.wildmatch.marks.Turn.TheVariants as turn
-use Rattle.gix_glob.specs.Bytes.{HasByte, IsEscaped, is_path, slash, star, question_mark, close_bracket}
+use Rattle.gix_glob.specs.Bytes.{HasByte, IsEscaped, is_path, slash, star, question_mark, open_bracket, close_bracket, backslash}
 use Rattle.gix_glob.specs.Sets.{Set, SetAt, ItemsAt}
 use Rattle.gix_glob.specs.Tokens.{Token, Byte, Any, OneOf, Free, Local, Dirs, Nothing, TokenAt, IsRun, IsBounded, IsAfterSlash, IsBeforeSlash}
 use Rattle.gix_glob.specs.Matching.{SplitsFrom}
 use Rattle.gix_glob.specs.Reader.{IsToken, Fits, NoSlash, AfterSlash, is_star, shape_of}
+use Rattle.gix_glob.specs.Components.{ends, separates, next_component}
+use Rattle.gix_glob.specs.Marks.{Whole, LaterFree, LaterDirs, LaterLocal, LaterCrossing, LaterWithin, Ahead, Far, Near, FreeKnown, CrossingKnown, LocalKnown, WithinKnown, Stands, StandsAt, IsLeft, IsInner, IsOutcome, Resumes, IsNextFolder}
 use Rattle.gix_glob.proofs.SetLemmas.{HasByte-unique, two_bytes}
 use Rattle.gix_glob.proofs.TokenLemmas.{TokenAt-unique}
 use Rattle.gix_glob.proofs.CutLemmas.{free_in, free_out, local_in, local_out, dirs_in_empty, dirs_in, dirs_out, nothing_out, end_in, end_out}
 use Rattle.gix_glob.proofs.Engines.{byte_in, byte_out}
 use Rattle.gix_glob.proofs.Existence.{items_close}
-use Rattle.gix_glob.proofs.Components.{ends, separates, separates-fits, separates-slash, fold-slash, ends_plain, ends_slash, no_end, inner, slash_ends, ends_or_not, next_component, next-end, next-past, next-inner, next_past, next_before_end, next_plain}
-
--- the pattern matches the value
-abbrev pub Whole : Mode → List ℕ → List ℕ → Type 0
-Whole mode p v = SplitsFrom v 0 p 0 mode
-
--- A later success of a mark: from a place past it, the rest of the pattern splits the rest of the value.
-pub record LaterFree (mode : Mode) (p v : List ℕ) (place at : ℕ) : Type 0 where
-  pub e : ℕ
-  pub past : at < e
-  pub inside : e ≤ length v
-  pub splits : SplitsFrom v e p place mode
-
-pub record LaterDirs (mode : Mode) (p v : List ℕ) (place at : ℕ) : Type 0 where
-  pub e : ℕ
-  pub after : AfterSlash v at e
-  pub splits : SplitsFrom v e p place mode
-
-pub record LaterLocal (mode : Mode) (p v : List ℕ) (place at : ℕ) : Type 0 where
-  pub e : ℕ
-  pub past : at < e
-  pub inside : e ≤ length v
-  pub bare : NoSlash v at e
-  pub splits : SplitsFrom v e p place mode
-
-abbrev pub LaterCrossing : Mode → List ℕ → List ℕ → Crossing → Type 0
-LaterCrossing mode p v crossing.Unmet = ⊥
-LaterCrossing mode p v (crossing.Free m) = LaterFree mode p v m.place m.at
-LaterCrossing mode p v (crossing.Dirs m) = LaterDirs mode p v m.place m.at
-
-abbrev pub LaterWithin : Mode → List ℕ → List ℕ → Option Mark → Type 0
-LaterWithin mode p v None = ⊥
-LaterWithin mode p v (Some m) = LaterLocal mode p v m.place m.at
-
--- A later success of the crossing mark lies ahead of this place: past it, and past its component where no slash is wanted.
-pub record Ahead (mode : Mode) (p v : List ℕ) (i j : ℕ) : Type 0 where
-  pub e : ℕ
-  pub past : j < e
-  pub inside : e ≤ length v
-  pub far : (t : Token) (k : ℕ) → TokenAt mode p i t k → separates mode t ≡ false → next_component mode v j ≤ e
-  pub after : IsAfterSlash p i → get_or v (e - 1) 0 ≡ slash
-  pub splits : SplitsFrom v e p i mode
-
--- It lies in a later component.
-pub record Far (mode : Mode) (p v : List ℕ) (i j : ℕ) : Type 0 where
-  pub e : ℕ
-  pub far : next_component mode v j ≤ e
-  pub inside : e ≤ length v
-  pub splits : SplitsFrom v e p i mode
-
--- A later success of the local mark lies here or ahead in this component.
-pub record Near (mode : Mode) (p v : List ℕ) (i j : ℕ) : Type 0 where
-  pub e : ℕ
-  pub low : j ≤ e
-  pub inside : e ≤ length v
-  pub bare : NoSlash v j e
-  pub splits : SplitsFrom v e p i mode
-
--- what is known of a run of stars that crosses slashes: in path mode a slash follows
-pub record FreeKnown (mode : Mode) (p v : List ℕ) (place : ℕ) : Type 0 where
-  pub low : place ≤ length p
-  pub start : ¬ IsAfterSlash p place
-  pub far : (x e : ℕ) → x < e → (t : Token) (k : ℕ) → TokenAt mode p place t k → separates mode t ≡ false → next_component mode v x ≤ e
-
-abbrev pub CrossingKnown : Mode → List ℕ → List ℕ → Crossing → Type 0
-CrossingKnown mode p v crossing.Unmet = Unit {0}
-CrossingKnown mode p v (crossing.Free m) = FreeKnown mode p v m.place
-CrossingKnown mode p v (crossing.Dirs m) = m.place ≤ length p
-
--- what is known of the local mark: since it was met no slash was passed
-pub record LocalKnown (mode : Mode) (p v : List ℕ) (i j : ℕ) (c : Crossing) (place at : ℕ) : Type 0 where
-  pub path : IsTrue (is_path mode)
-  pub low : place ≤ length p
-  pub here : ¬ IsAfterSlash p i
-  pub start : ¬ IsAfterSlash p place
-  pub near : LaterLocal mode p v place at → Near mode p v i j
-  pub far : LaterCrossing mode p v c → Far mode p v place at
-
-abbrev pub WithinKnown : Mode → List ℕ → List ℕ → ℕ → ℕ → Crossing → Option Mark → Type 0
-WithinKnown mode p v i j c None = Unit {0}
-WithinKnown mode p v i j c (Some m) = LocalKnown mode p v i j c m.place m.at
-
--- What holds at each turn: a success from here or of a mark is a match, and a match is one of these.
-pub record Stands (mode : Mode) (p v : List ℕ) (i j : ℕ) (c : Crossing) (l : Option Mark) : Type 0 where
-  pub low : i ≤ length p
-  pub inside : j ≤ length v
-  pub sound : SplitsFrom v j p i mode → Whole mode p v
-  pub sound_local : LaterWithin mode p v l → Whole mode p v
-  pub sound_crossing : LaterCrossing mode p v c → Whole mode p v
-  pub complete : Whole mode p v → SplitsFrom v j p i mode ⊎ (LaterWithin mode p v l ⊎ LaterCrossing mode p v c)
-  pub ahead : LaterCrossing mode p v c → Ahead mode p v i j
-  pub crossing : CrossingKnown mode p v c
-  pub local : WithinKnown mode p v i j c l
-
-abbrev pub StandsAt : Mode → List ℕ → List ℕ → State → Type 0
-StandsAt mode p v s = Stands mode p v s.place s.at s.crossing s.local
-
--- What holds once the token does not fit and the local mark cannot move: a match is a later success of the crossing mark.
-pub record IsLeft (mode : Mode) (p v : List ℕ) (c : Crossing) : Type 0 where
-  pub sound : LaterCrossing mode p v c → Whole mode p v
-  pub complete : Whole mode p v → LaterCrossing mode p v c
-  pub crossing : CrossingKnown mode p v c
-
--- what a turn comes to
-abbrev pub IsOutcome : Mode → List ℕ → List ℕ → State → Turn → Type 0
-IsOutcome mode p v s turn.Match = Whole mode p v
-IsOutcome mode p v s turn.NoMatch = ¬ Whole mode p v
-IsOutcome mode p v s turn.Miss = ¬ SplitsFrom v s.at p s.place mode
-IsOutcome mode p v s (turn.On next) = StandsAt mode p v next
-
--- a mark is moved to the next place after a slash
-pub record IsNextFolder (v : List ℕ) (from to : Mark) : Type 0 where
-  pub same : to.place ≡ from.place
-  pub after : AfterSlash v from.at to.at
-  pub bare : NoSlash v from.at (to.at - 1)
+use Rattle.gix_glob.proofs.Components.{separates-fits, separates-slash, fold-slash, ends_plain, ends_slash, no_end, inner, slash_ends, ends_or_not, next-end, next-past, next-inner, next_past, next_before_end, next_plain}
 
 -- the engine at its start
 pub stands_start : (mode : Mode) (p v : List ℕ) → Stands mode p v 0 0 crossing.Unmet None
@@ -372,7 +260,7 @@ free_last mode p v i k j c l st here last =
     st.sound (free_in mode p v i k j (length v) here st.inside (omega arith) (end_in mode p v k (length v) last (omega arith)))
 
 -- in path mode a slash follows a run of stars that crosses slashes
-free_known : (mode : Mode) (p v : List ℕ) (i k : ℕ) → TokenAt mode p i Free k → k ≤ length p → k ≢ length p → FreeKnown mode p v k
+pub free_known : (mode : Mode) (p v : List ℕ) (i k : ℕ) → TokenAt mode p i Free k → k ≤ length p → k ≢ length p → FreeKnown mode p v k
 free_known mode p v i k here k_low more = record {
   low = k_low;
   start = run_end_not_after p i k here.run;
@@ -759,3 +647,83 @@ end_met mode p v i j c l st at_end past = st.sound (end_in mode p v i j at_end p
 
 pub end_missed : (mode : Mode) (p v : List ℕ) (i j : ℕ) → i ≡ length p → (length v ≤ j → ⊥) → ¬ SplitsFrom v j p i mode
 end_missed mode p v i j at_end short all = short (end_out mode p v i j at_end all)
+
+-- What a shape says of its token.
+pub shape_free : (t : Token) → shape.Free ≡ shape_of t → t ≡ Free
+shape_free (Byte b) e = cc
+shape_free Any e = cc
+shape_free (OneOf s) e = cc
+shape_free Free e = refl
+shape_free Local e = cc
+shape_free Dirs e = cc
+shape_free Nothing e = cc
+
+pub shape_local : (t : Token) → shape.Local ≡ shape_of t → t ≡ Local
+shape_local (Byte b) e = cc
+shape_local Any e = cc
+shape_local (OneOf s) e = cc
+shape_local Free e = cc
+shape_local Local e = refl
+shape_local Dirs e = cc
+shape_local Nothing e = cc
+
+pub shape_dirs : (t : Token) → shape.Dirs ≡ shape_of t → t ≡ Dirs
+shape_dirs (Byte b) e = cc
+shape_dirs Any e = cc
+shape_dirs (OneOf s) e = cc
+shape_dirs Free e = cc
+shape_dirs Local e = cc
+shape_dirs Dirs e = refl
+shape_dirs Nothing e = cc
+
+pub shape_nothing : (t : Token) → shape.Nothing ≡ shape_of t → t ≡ Nothing
+shape_nothing (Byte b) e = cc
+shape_nothing Any e = cc
+shape_nothing (OneOf s) e = cc
+shape_nothing Free e = cc
+shape_nothing Local e = cc
+shape_nothing Dirs e = cc
+shape_nothing Nothing e = refl
+
+pub shape_slash : (t : Token) → shape.Byte slash ≡ shape_of t → t ≡ Byte slash
+shape_slash (Byte b) e = let same : slash ≡ b = cc in ap Byte (sym same)
+shape_slash Any e = cc
+shape_slash (OneOf s) e = cc
+shape_slash Free e = cc
+shape_slash Local e = cc
+shape_slash Dirs e = cc
+shape_slash Nothing e = cc
+
+-- where a local mark is set, a token that is no slash takes no slash
+pub inner_of : (mode : Mode) (p v : List ℕ) (i j : ℕ) (c : Crossing) (l : Option Mark) (t : Token) → WithinKnown mode p v i j c l
+    → Fits mode t (get_or v j 0) → t ≢ Byte slash → IsInner mode v j l
+inner_of mode p v i j c None t known fits other = tt
+inner_of mode p v i j c (Some m) t known fits other =
+    inner mode (get_or v j 0) known.path (not_slash_here mode t (get_or v j 0) known.path fits other)
+
+-- A byte that begins no other token is a token by itself.
+abbrev pub literal_token : (mode : Mode) (p : List ℕ) (i : ℕ) → i < length p
+    → (get_or p i 0 ≢ star) × (get_or p i 0 ≢ question_mark) × (get_or p i 0 ≢ open_bracket) × (get_or p i 0 ≢ backslash)
+    → IsToken mode p i (shape.Byte (get_or p i 0)) (i + 1)
+literal_token mode p i inside plain = record {
+  token = Byte (get_or p i 0);
+  here = inr (record { inside = inside; is = refl }, plain.0, plain.1, plain.2, plain.3, refl);
+  shown = refl;
+  past = omega arith;
+  inside = omega arith;
+}
+
+-- the local mark, where it is known which it is
+pub known_local : (mode : Mode) (p v : List ℕ) (i j : ℕ) (c : Crossing) (k l : Option Mark) → k ≡ l → Stands mode p v i j c k
+    → Stands mode p v i j c l
+known_local mode p v i j c k l same st = subst (λ (x : Option Mark). Stands mode p v i j c x) same st
+
+-- the crossing mark, where it is known which it is
+pub known_crossing : (mode : Mode) (p v : List ℕ) (c d : Crossing) → c ≡ d → IsLeft mode p v c → IsLeft mode p v d
+known_crossing mode p v c d same left = subst (λ (x : Crossing). IsLeft mode p v x) same left
+
+-- the places, where it is known which they are
+pub known_places : (mode : Mode) (p v : List ℕ) (i j k e : ℕ) (c : Crossing) (l : Option Mark) → k ≡ i → e ≡ j
+    → Stands mode p v i j c l → Stands mode p v k e c l
+known_places mode p v i j k e c l x y st =
+    subst (λ (m : ℕ). Stands mode p v m e c l) (sym x) (subst (λ (m : ℕ). Stands mode p v i m c l) (sym y) st)

@@ -11,3 +11,7 @@ pub mod Folding
 pub mod Patterns
 pub mod PatternParts
 pub mod RepositoryPaths
+pub mod Steps
+pub mod Components
+pub mod Marks
+pub mod Budget

@@ -9,6 +9,7 @@ mod sets;
 mod steps;
 mod tokens;
 
+pub use marks::marked;
 pub use mode::Mode;
 pub use steps::Steps;
 

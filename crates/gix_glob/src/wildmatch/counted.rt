@@ -12,6 +12,7 @@ use std::marker::Model;
 use std::sync::ledger::Ledger;
 
 /// A value whose bytes are read in counted steps alone.
+#[derive(Drop)]
 pub struct Counted<'a> {
     bytes: &'a [u8],
 }
@@ -84,6 +85,7 @@ impl<'a> Counted<'a> {
     #[inline(always)]
     pub fn has<L: Ledger>(&self, at: usize, wanted: u8, mode: Mode, steps: &mut Steps<L>) -> bool
         ensures answer { IsTrue result ↔ ((at < length self.now) × Fits mode (Byte wanted) (slice_index self.now at)) }
+        ensures room { IsTrue result → at < usize.MAX }
         ensures count { steps.new ≡ steps.old + 1 }
     {
         steps.tick();
@@ -104,6 +106,7 @@ impl<'a> Counted<'a> {
         requires { place < length pattern.now }
         ensures answer { (token : Token) (end : ℕ) → TokenAt mode pattern.now place token end → shape ≡ shape_of token
             → IsTrue result ↔ ((at < length self.now) × Fits mode token (slice_index self.now at)) }
+        ensures room { IsTrue result → at < usize.MAX }
         ensures count { steps.new ≡ steps.old + 1 }
     {
         steps.tick();
