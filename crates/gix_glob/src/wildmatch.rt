@@ -1,4 +1,5 @@
 //! Matching of bytes against a glob pattern: the mode, and the matcher.
+ghost use Rattle.std.specs.Prelude.{◌≡◌, ◌<◌};
 ghost use Rattle.gix_glob.specs.Matching.{Splits, Holds};
 
 mod counted;
@@ -11,6 +12,8 @@ mod tokens;
 
 pub use marks::marked;
 pub use mode::Mode;
+use std::marker::Brand;
+use std::sync::ledger::{Blank, Ledger};
 pub use steps::Steps;
 
 /// Whether `pattern` matches the whole of `value`, both as bytes of any kind, in `mode`.
@@ -20,5 +23,16 @@ pub use steps::Steps;
 pub fn wildmatch(pattern: &[u8], value: &[u8], mode: Mode) -> bool
     ensures { Holds result (Splits value.now pattern.now mode) pattern.now }
 {
-    plain::splits(pattern, value, mode)
+    with_new_steps::<Brand>(pattern, value, mode, Blank::new(1))
+}
+
+/// The two marks, with a new count of steps that no one asks for.
+#[inline(always)]
+fn with_new_steps<L: Ledger>(pattern: &[u8], value: &[u8], mode: Mode, blank: Blank) -> bool
+    requires name { blank.name ≡ L.name }
+    requires parts { blank.parts ≡ L.parts }
+    requires some { 0 < blank.parts }
+    ensures { Holds result (Splits value.now pattern.now mode) pattern.now }
+{
+    marked(pattern, value, mode, &mut Steps::<L>::new(blank))
 }
