@@ -9,3 +9,5 @@ pub mod FlagBits
 pub mod LineReading
 pub mod LiteralLemmas
 pub mod Shortcuts
+pub mod PatternOrder
+pub mod ShownLines
