@@ -1,3 +1,5 @@
+pub mod PathParts
+pub mod Bases
 pub mod SetLemmas
 pub mod TokenLemmas
 pub mod CutLemmas

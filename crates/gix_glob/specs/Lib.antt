@@ -3,6 +3,10 @@ pub mod Sets
 pub mod Tokens
 pub mod Matching
 pub mod Reader
+pub mod Watched
+pub mod Loading
+pub mod Paths
+pub mod PartsLeft
 pub mod Folding
 pub mod Patterns
 pub mod PatternParts

@@ -4,6 +4,7 @@
 pub mod laws;
 pub mod parse;
 pub mod pattern;
+pub mod search;
 pub mod wildmatch;
 
 pub use pattern::Pattern;
