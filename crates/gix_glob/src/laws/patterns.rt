@@ -6,12 +6,13 @@ ghost use Rattle.std.specs.declared.cmp.Ordering.TheVariants.{Equal};
 ghost use Rattle.gix_glob.specs.declared.wildmatch.mode.Mode as wildmatch;
 ghost use Rattle.gix_glob.specs.declared.pattern.mode.Mode as pattern;
 ghost use Rattle.gix_glob.specs.declared.pattern.Pattern.{Pattern};
+ghost use Rattle.gix_glob.specs.declared.pattern.case.Case.{Case};
 ghost use Rattle.gix_glob.specs.Folding.{AreAlike};
 ghost use Rattle.gix_glob.specs.Matching.{Splits, HasStars, Holds};
 ghost use Rattle.gix_glob.specs.PatternParts.{text_of, SamePattern, pattern_cmp};
 ghost use Rattle.gix_glob.specs.Patterns.{Reads, SameReading, displayed, is_absolute, is_negative, is_special, shown};
 
-use crate::pattern::Pattern;
+use crate::pattern::{Case, Pattern};
 use std::hash::Hash;
 
 /// A text without `*`, `?`, `[` and `\` matches exactly the values that are equal to it, up to case where the mode folds.
@@ -61,4 +62,9 @@ pub fn order_agrees_with_equality()
     ensures equality { (p q : Pattern) → IsTrue (⟦<Pattern as PartialEq>⟧.eq p q) ↔ SamePattern p q }
     ensures hash { (p q : Pattern) → IsTrue (⟦<Pattern as PartialEq>⟧.eq p q)
         → ⟦<Pattern as Hash>⟧.hash_input p ≡ ⟦<Pattern as Hash>⟧.hash_input q }
+{}
+
+/// The case of letters counts where nothing else is said.
+pub fn case_counts_by_default()
+    ensures { (case : Case) → ⟦<Case as Default>⟧.is_default case → case ≡ Case.Sensitive }
 {}
