@@ -11,3 +11,5 @@ pub mod FlagBits
 pub mod LineReading
 pub mod LiteralLemmas
 pub mod Shortcuts
+pub mod PatternOrder
+pub mod ShownLines

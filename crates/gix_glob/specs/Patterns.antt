@@ -80,6 +80,12 @@ pub record Reads (text : List ℕ) (may_alter : Bool) (body : List ℕ) (flags :
   pub flagged : flags.0 ≡ bits_of sign lead body tail
   pub placed : place ≡ first_special body
 
+-- two readings agree in all that is answered
+pub record SameReading (b b' : List ℕ) (f f' : Mode) (p p' : Option ℕ) : Type 0 where
+  pub body : b ≡ b'
+  pub flags : f ≡ f'
+  pub place : p ≡ p'
+
 -- some reading exists
 pub record HasReading (text : List ℕ) (may_alter : Bool) : Type 0 where
   pub body : List ℕ

@@ -4,6 +4,14 @@ ghost use Rattle.std.specs.List.{join_with_byte};
 ghost use Rattle.gix_glob.specs.Bytes.{slash};
 ghost use Rattle.gix_glob.specs.Paths.{pieces, Base, EndsInSlash};
 
+mod patterns;
+
+pub use patterns::{
+    case_counts_by_default, flags_do_not_count, line_has_one_reading, literal_text_splits_itself,
+    order_agrees_with_equality, shown_line_is_read_back, two_answers_agree,
+    utf8_is_displayed_as_it_is,
+};
+
 // ---- path texts and bases
 
 /// The pieces of a path text, joined by slashes, are the text.

@@ -150,3 +150,6 @@ pub fn pattern(pat: &[u8], may_alter: bool) -> Option<(&[u8], Mode, Option<usize
     let mode = mode_of(text, negative, absolute, must_be_dir);
     Some((text, mode, first_wildcard_pos(text)))
 }
+
+#[cfg(test)]
+mod tests;

@@ -156,3 +156,6 @@ fn are_parts(text: &[u8], mode: Mode, first_wildcard_pos: Option<usize>) -> bool
     }
     !mode.contains(Mode::ENDS_WITH) || parse::is_ends_with(text)
 }
+
+#[cfg(test)]
+mod tests;
