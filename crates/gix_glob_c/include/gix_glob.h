@@ -25,4 +25,15 @@
 bool gix_glob_wildmatch(const uint8_t *pattern, size_t pattern_len,
                         const uint8_t *value, size_t value_len, uint8_t mode);
 
+/* Whether a pattern line, as it stands in an ignore file, matches a path of a repository, in path mode. A line without a
+ * pattern matches nothing, and a path with a leading slash isn't matched. A line that begins with '!' is matched like any
+ * other: whoever asks turns the answer round. */
+bool gix_glob_matches_path(const uint8_t *line, size_t line_len,
+                           const uint8_t *path, size_t path_len, bool is_dir, bool fold);
+
+/* Whether the text of a pattern, whose parts were read before, matches the value. A place past the text's end stands for
+ * none. Parts that don't belong together may give a wrong answer, and nothing worse. */
+bool gix_glob_matches(const uint8_t *text, size_t text_len, uint32_t pattern_mode, size_t first_wildcard_pos,
+                      const uint8_t *value, size_t value_len, uint8_t mode);
+
 #endif

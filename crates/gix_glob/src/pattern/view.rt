@@ -1,15 +1,15 @@
 //! A pattern whose text is borrowed: the parts of a line that was read, without a copy of its text.
-ghost use Rattle.std.specs.Prelude.{◌≡◌, drop, take};
+ghost use Rattle.std.specs.Prelude.{◌≡◌, drop, take, true, MatchOption, IfSome};
 ghost use Rattle.std.specs.Option.{ForSome};
 ghost use Rattle.gix_glob.specs.Bytes.{HasByte};
 ghost use Rattle.gix_glob.specs.Matching.{Holds, Splits};
-ghost use Rattle.gix_glob.specs.Patterns.{IsPattern};
+ghost use Rattle.gix_glob.specs.Patterns.{HasReading, IsPattern, Reads};
 ghost use Rattle.gix_glob.specs.RepositoryPaths.{Answers, IsAfterLastSlash, subject};
 
 use super::matching::{are_alike, begins_alike, ends_alike, is_one_component};
 use super::paths::with_case;
 use super::{Case, Mode};
-use crate::wildmatch;
+use crate::{parse, wildmatch};
 use bitflags::Flags;
 
 /// The parts of a pattern, its text borrowed: what `parse::pattern` answers. Nothing is allocated to match with it.
@@ -42,7 +42,21 @@ fn front(text: &[u8], pos: usize) -> &[u8]
     if pos < text.len() { &text[..pos] } else { text }
 }
 
-impl PatternView<'_> {
+impl<'a> PatternView<'a> {
+    /// Reads a pattern line as [`super::Pattern::from_bytes`] does, without a copy: `None` where it is blank.
+    pub fn from_bytes(line: &'a [u8]) -> Option<PatternView<'a>>
+        ensures reads { MatchOption result (¬ HasReading line.now true)
+            (λ view. Reads line.now true view.text.now view.mode view.first_wildcard_pos) }
+        ensures lawful { IfSome result (λ view. IsPattern view.text.now view.mode view.first_wildcard_pos) }
+    {
+        let (text, mode, first_wildcard_pos) = parse::pattern(line, true)?;
+        Some(PatternView {
+            text,
+            mode,
+            first_wildcard_pos,
+        })
+    }
+
     /// Whether the text matches the value, as [`super::Pattern::matches`] answers.
     ///
     /// A text without special bytes, a literal front, and a star before a literal are decided without the matcher.
