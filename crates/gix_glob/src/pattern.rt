@@ -12,10 +12,12 @@ mod display;
 mod matching;
 mod mode;
 mod paths;
+mod view;
 
 pub use case::Case;
 pub use mode::Mode;
 pub use paths::basename_start;
+pub use view::PatternView;
 
 /// A pattern as it was read: its text, what is known of it, and the place where its literal front ends.
 #[derive(PartialEq, Eq, Debug, Hash, Ord, PartialOrd, Drop)]
@@ -110,6 +112,20 @@ impl Pattern {
     ghost use Rattle.std.specs.List.{list_any};
     ghost use Rattle.gix_glob.specs.Patterns.{is_negative, is_wildcard};
     ghost use Rattle.gix_glob.specs.PatternParts.{text_of, mode_of, place_of};
+
+    /// The parts of the pattern, its text borrowed.
+    pub fn view(&self) -> PatternView<'_>
+        ensures text { result.text.now ≡ text_of self.now }
+        ensures mode { result.mode ≡ mode_of self.now }
+        ensures place { result.first_wildcard_pos ≡ place_of self.now }
+        ensures lawful { IsPattern result.text.now result.mode result.first_wildcard_pos }
+    {
+        PatternView {
+            text: &self.text,
+            mode: self.mode,
+            first_wildcard_pos: self.first_wildcard_pos,
+        }
+    }
 
     /// The bytes that are matched, without the sign and the slashes around them.
     pub fn text(&self) -> &[u8]
