@@ -1,15 +1,14 @@
 -- What is shown of a reading is read back.
-use Rattle.std.proofs.Common.{◌≡◌, ℕ, suc, Bool, true, false, ◌||◌, ◌==◌, IsTrue, List, [], ◌∷◌, ◌++◌, length, get_or, drop, arith, Option, ◌⊎◌, inl, inr, ⊎_elim, sym, ◌∙◌, ap, refl, codes, nat_eq, if◌then◌else◌}
-use Rattle.std.specs.List.{list_any, starts_with, ends_with}
+use Rattle.std.proofs.Common.{◌≡◌, ℕ, suc, Bool, true, false, ◌||◌, IsTrue, List, [], ◌∷◌, ◌++◌, length, get_or, drop, arith, Option, ◌⊎◌, inl, inr, ⊎_elim, sym, ◌∙◌, ap, refl, codes, nat_eq, if◌then◌else◌}
+use Rattle.std.specs.List.{starts_with}
 use Rattle.std.specs.Str.{bytes_eq}
 use Rattle.std.proofs.lemmas.Bool.{cases_Bool, or_cases, false≢true}
 use Rattle.std.proofs.lemmas.Bool.Decides.{Decides-eqb}
 use Rattle.std.proofs.lemmas.List.{append_cancel_left}
 use Rattle.std.proofs.lemmas.Slice.Eq.{starts_is}
 use Rattle.gix_glob.specs.declared.pattern.mode.Mode.{Mode}
-use Rattle.gix_glob.specs.Bytes.{slash}
-use Rattle.gix_glob.specs.Patterns.{Reads, sign_of, slash_if, shown, is_star_and_literal, is_negative, is_absolute, is_for_directories}
-use Rattle.gix_glob.proofs.FlagBits.{sum_of_bits, is_negative-sum, is_absolute-sum, is_for_directories-sum}
+use Rattle.gix_glob.specs.Patterns.{Reads, sum_of_bits, has_slash, sign_of, slash_if, shown, is_star_and_literal, is_negative, is_absolute, is_for_directories}
+use Rattle.gix_glob.proofs.FlagBits.{is_negative-sum, is_absolute-sum, is_for_directories-sum}
 
 -- a slash that stands is a slash
 slash_if-again : (there : Bool) → slash_if (bytes_eq (slash_if there) (codes "/")) ≡ slash_if there
@@ -118,6 +117,6 @@ module _ (text body : List ℕ) (flags : Mode) (place : Option ℕ) (r : Reads t
     not_blank = r.not_blank;
     leads = r.leads;
     trails = r.trails;
-    flagged = r.flagged ∙ ap (λ (x : Bool). sum_of_bits (list_any (λ b. b == slash) body) (is_star_and_literal body) (bytes_eq r.tail (codes "/")) x (bytes_eq r.lead (codes "/"))) marks_agree;
+    flagged = r.flagged ∙ ap (λ (x : Bool). sum_of_bits (has_slash body) (is_star_and_literal body) (bytes_eq r.tail (codes "/")) x (bytes_eq r.lead (codes "/"))) marks_agree;
     placed = r.placed;
   }

@@ -1,8 +1,8 @@
 //! Whether a value matches, and the comparisons that decide it without the matcher.
-ghost use Rattle.std.specs.Prelude.{◌≡◌, ◌↔◌, ◌==◌, ◌||◌, not, IsTrue};
-ghost use Rattle.std.specs.List.{list_any};
+ghost use Rattle.std.specs.Prelude.{◌≡◌, ◌↔◌, ◌||◌, not, IsTrue};
 ghost use Rattle.gix_glob.specs.Bytes.{is_path};
 ghost use Rattle.gix_glob.specs.Folding.{AreAlike, BeginsAlike, EndsAlike};
+ghost use Rattle.gix_glob.specs.Patterns.{has_slash};
 
 use super::Pattern;
 use crate::{parse, wildmatch};
@@ -23,7 +23,7 @@ impl Pattern {
 
 /// Whether a star may take all bytes of the value: in plain mode, and where the value has no slash.
 pub(super) fn is_one_component(value: &[u8], mode: wildmatch::Mode) -> bool
-    ensures { result ≡ (not (is_path mode) || not (list_any (λ b. b == 47) value.now)) }
+    ensures { result ≡ (not (is_path mode) || not (has_slash value.now)) }
 {
     !mode.contains(wildmatch::Mode::NO_MATCH_SLASH_LITERAL) || !parse::has_slash(value)
 }

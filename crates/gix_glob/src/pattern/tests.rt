@@ -1,6 +1,6 @@
 //! Patterns as values: made, taken apart, shown, ordered and matched.
 ghost use Rattle.std.specs.Prelude.{◌↔◌, IsTrue};
-ghost use Rattle.gix_glob.specs.Bytes.{HasByte};
+ghost use Rattle.gix_glob.specs.Bytes.{HasByte, slash};
 
 use super::{Case, Mode, Pattern, basename_start};
 use crate::wildmatch;
@@ -201,7 +201,7 @@ fn starts_of_basenames(rt: HostRuntime) {
 
 /// Whether a path has no leading slash.
 fn is_relative(path: &[u8]) -> bool
-    ensures { IsTrue result ↔ ¬ HasByte path.now 0 47 }
+    ensures { IsTrue result ↔ ¬ HasByte path.now 0 slash }
 {
     !path.starts_with(b"/")
 }

@@ -1,7 +1,7 @@
 //! A pattern whose text is borrowed: the parts of a line that was read, without a copy of its text.
 ghost use Rattle.std.specs.Prelude.{◌≡◌, drop, take, true, MatchOption, IfSome};
 ghost use Rattle.std.specs.Option.{ForSome};
-ghost use Rattle.gix_glob.specs.Bytes.{HasByte};
+ghost use Rattle.gix_glob.specs.Bytes.{HasByte, slash};
 ghost use Rattle.gix_glob.specs.Matching.{Holds, Splits};
 ghost use Rattle.gix_glob.specs.Patterns.{HasReading, IsPattern, Reads};
 ghost use Rattle.gix_glob.specs.RepositoryPaths.{Answers, IsAfterLastSlash, subject};
@@ -85,7 +85,7 @@ impl<'a> PatternView<'a> {
         case: Case,
         mode: wildmatch::Mode,
     ) -> bool
-        requires relative { ¬ HasByte path.now 0 47 }
+        requires relative { ¬ HasByte path.now 0 slash }
         requires basename { ForSome basename_start_pos (IsAfterLastSlash path.now) }
         ensures { IsPattern self.entry.text.now self.entry.mode self.entry.first_wildcard_pos →
             Holds result (Answers self.entry.text.now self.entry.mode path.now basename_start_pos is_dir case mode) self.entry.text.now }
