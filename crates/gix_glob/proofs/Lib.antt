@@ -8,3 +8,4 @@ pub mod FlagBits
 pub mod Reading
 pub mod LiteralLemmas
 pub mod Shortcuts
+pub mod Rests

@@ -9,3 +9,4 @@ pub mod PartsLeft
 pub mod Patterns
 pub mod PatternParts
 pub mod Folding
+pub mod Stripping

@@ -2,6 +2,7 @@
 mod base;
 mod fault;
 mod parts;
+pub mod pattern;
 mod reading;
 mod watched;
 
