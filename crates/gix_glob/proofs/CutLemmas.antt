@@ -9,6 +9,7 @@ use Rattle.gix_glob.specs.Bytes.{HasByte, fold, is_path, slash}
 use Rattle.gix_glob.specs.Sets.{Set, set_holds}
 use Rattle.gix_glob.specs.Tokens.{Token, Byte, Any, OneOf, Free, Local, Dirs, Nothing, TokenAt, From}
 use Rattle.gix_glob.specs.Matching.{OneByte, HasNoSlash, EndsInSlash, Lang, IsCut, SplitsFrom}
+use Rattle.gix_glob.specs.Reader.{Fits, NoSlash, AfterSlash}
 use Rattle.gix_glob.proofs.TokenLemmas.{TokenAt-unique, TokenAt-inside}
 
 -- The value from place k on is a piece, up to place e, and what follows.
@@ -60,13 +61,6 @@ one_byte_in : (P : ℕ → Type 0) (v : List ℕ) (k : ℕ) → k < length v →
 one_byte_in P v k inside holds =
     ((get_or v k 0, refl, holds), rw add-one (drop-cons v k 0 inside))
 
--- a one-byte token takes this byte
-abbrev pub Fits : Mode → Token → ℕ → Type 0
-Fits mode (Byte b) c = fold mode c ≡ fold mode b
-Fits mode Any c = IsTrue (is_path mode) → c ≢ slash
-Fits mode (OneOf set) c = IsTrue (set_holds mode set c)
-Fits mode _ c = ⊥
-
 -- the token takes one byte
 abbrev pub IsOne : Token → Type 0
 IsOne (Byte b) = Unit {0}
@@ -91,10 +85,6 @@ one_is_lang mode Free piece w = absurd w.2
 one_is_lang mode Local piece w = absurd w.2
 one_is_lang mode Dirs piece w = absurd w.2
 one_is_lang mode Nothing piece w = absurd w.2
-
--- no place from k up to e has a slash
-pub record NoSlash (v : List ℕ) (k e : ℕ) : Type 0 where
-  pub at : (m : ℕ) → k ≤ m → m < e → get_or v m 0 ≢ slash
 
 no_slash_at : (xs : List ℕ) → HasNoSlash xs → (m : ℕ) → m < length xs → get_or xs m 0 ≢ slash
 no_slash_at [] all m below = absurd (omega arith)
@@ -213,10 +203,6 @@ local_out mode p v i j k here inside all =
     (out.0, x.low, x.high, none, out.4)
 
 -- A double star with its slash takes nothing, or a stretch that ends in a slash.
-pub record AfterSlash (v : List ℕ) (k e : ℕ) : Type 0 where
-  pub past : k < e
-  pub inside : e ≤ length v
-  pub slash : get_or v (e - 1) 0 ≡ slash
 
 -- a stretch that ends after a slash
 ends_in_slash : (v : List ℕ) (k e : ℕ) → AfterSlash v k e → EndsInSlash (take (e - k) (drop k v))

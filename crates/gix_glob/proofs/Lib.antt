@@ -3,9 +3,12 @@ pub mod Bases
 pub mod SetLemmas
 pub mod TokenLemmas
 pub mod CutLemmas
+pub mod Walks
+pub mod Reading
+pub mod Engines
 pub mod ByteSearches
 pub mod FlagBits
-pub mod Reading
+pub mod LineReading
 pub mod LiteralLemmas
 pub mod Shortcuts
 pub mod Rests

@@ -14,7 +14,8 @@ use Rattle.gix_glob.specs.Folding.{AreAlike, folded}
 use Rattle.gix_glob.specs.Patterns.{is_special, is_star_and_literal, first_special}
 use Rattle.gix_glob.specs.Tokens.{Token, Byte, Free, Local, TokenAt, IsRun, IsBounded, FreeAt, LocalAt}
 use Rattle.gix_glob.specs.Matching.{Splits, SplitsFrom}
-use Rattle.gix_glob.proofs.CutLemmas.{end_in, end_out, one_in, one_out, free_in, free_out, local_in, local_out, NoSlash}
+use Rattle.gix_glob.proofs.CutLemmas.{end_in, end_out, one_in, one_out, free_in, free_out, local_in, local_out}
+use Rattle.gix_glob.specs.Reader.{NoSlash}
 
 -- no byte is special from place i up to place j
 pub record IsLiteral (p : List ℕ) (i j : ℕ) : Type 0 where
@@ -41,11 +42,16 @@ literal_out mode p v zero k e i j ke ij inside reach plain all =
     (omega arith, record { at = λ x y low high same. absurd (omega arith) }, subst (λ (m : ℕ). SplitsFrom v m p j mode) k_is (subst (λ (m : ℕ). SplitsFrom v k p m mode) i_is all))
 literal_out mode p v (suc n) k e i j ke ij inside reach plain all =
     let first = one_out mode p v i (i + 1) k (Byte (get_or p i 0)) tt (literal_token mode p i (omega arith) (plain.at i (omega arith) (omega arith))) all in
-    let rest = literal_out mode p v n (k + 1) e (i + 1) j (omega arith) (omega arith) inside (let below = first.0 in omega arith) (record { at = λ y low high. plain.at y (omega arith) high }) first.2 in
-    (rest.0, record { at = λ x y low high same. ⊎_elim
-        (λ (here : y ≡ i). let there : x ≡ k = omega arith in subst (λ (m : ℕ). fold mode (get_or v m 0) ≡ fold mode (get_or p y 0)) (sym there) (subst (λ (m : ℕ). fold mode (get_or v k 0) ≡ fold mode (get_or p m 0)) (sym here) first.1))
-        (λ (later : y ≡ i → ⊥). rest.1.at x y (omega arith) high (omega arith))
-        (cases_eq y i) }, rest.2)
+    let rest = literal_out mode p v n (k + 1) e (i + 1) j (omega arith) (omega arith) inside (let below = first.0 in omega arith) (record { at = λ y low high. plain.at y (omega arith) high }) first.2 in (
+      rest.0,
+      record {
+        at = λ x y low high same. ⊎_elim
+            (λ (here : y ≡ i). let there : x ≡ k = omega arith in subst (λ (m : ℕ). fold mode (get_or v m 0) ≡ fold mode (get_or p y 0)) (sym there) (subst (λ (m : ℕ). fold mode (get_or v k 0) ≡ fold mode (get_or p m 0)) (sym here) first.1))
+            (λ (later : y ≡ i → ⊥). rest.1.at x y (omega arith) high (omega arith))
+            (cases_eq y i);
+      },
+      rest.2,
+    )
 
 pub literal_in : (mode : Mode) (p v : List ℕ) (n k e i j : ℕ) → k + n ≡ e → i + n ≡ j → j ≤ length p → e ≤ length v → IsLiteral p i j
     → IsCopied mode v p k i j → SplitsFrom v e p j mode → SplitsFrom v k p i mode
@@ -55,16 +61,16 @@ literal_in mode p v zero k e i j ke ij inside reach plain same all =
     subst (λ (m : ℕ). SplitsFrom v m p i mode) k_is (subst (λ (m : ℕ). SplitsFrom v e p m mode) i_is all)
 literal_in mode p v (suc n) k e i j ke ij inside reach plain same all =
     one_in mode p v i (i + 1) k (Byte (get_or p i 0)) (literal_token mode p i (omega arith) (plain.at i (omega arith) (omega arith))) (omega arith)
-        (same.at k i (omega arith) (omega arith) (omega arith))
-        (literal_in mode p v n (k + 1) e (i + 1) j (omega arith) (omega arith) inside reach (record { at = λ y low high. plain.at y (omega arith) high }) (record { at = λ x y low high sum. same.at x y (omega arith) high (omega arith) }) all)
+    (same.at k i (omega arith) (omega arith) (omega arith))
+    (literal_in mode p v n (k + 1) e (i + 1) j (omega arith) (omega arith) inside reach (record { at = λ y low high. plain.at y (omega arith) high }) (record { at = λ x y low high sum. same.at x y (omega arith) high (omega arith) }) all)
 
 -- lists of one length are alike exactly where their bytes are
 alike_from : (mode : Mode) (xs ys : List ℕ) → length xs ≡ length ys → ((m : ℕ) → m < length xs → fold mode (get_or xs m 0) ≡ fold mode (get_or ys m 0)) → AreAlike mode xs ys
 alike_from mode xs ys long each =
     let f : ℕ → ℕ = fold mode in
     ext_get_or 0 (map f xs) (map f ys) (length-map xs f ∙ long ∙ sym (length-map ys f))
-        (λ m below. let inside : m < length xs = omega (arith, length-map xs f) in
-            get_or-map f xs m 0 0 inside ∙ each m inside ∙ sym (get_or-map f ys m 0 0 (omega (arith, long))))
+    (λ m below. let inside : m < length xs = omega (arith, length-map xs f) in
+    get_or-map f xs m 0 0 inside ∙ each m inside ∙ sym (get_or-map f ys m 0 0 (omega (arith, long))))
 
 alike_length : (mode : Mode) (xs ys : List ℕ) → AreAlike mode xs ys → length xs ≡ length ys
 alike_length mode xs ys same =
@@ -90,24 +96,27 @@ to_start v p mode s = record { tokens = s.tokens; read = s.read; cut = s.cut }
 pub literal_splits : (p v : List ℕ) (mode : Mode) → list_any is_special p ≡ false → Splits v p mode ↔ AreAlike mode v p
 literal_splits p v mode none =
     let plain = literal_everywhere p none in (
-        λ s. (let out = literal_out mode p v (length p) 0 (length p) 0 (length p) (omega arith) (omega arith) (omega arith) (omega arith) plain (from_start v p mode s) in
-            let ends = end_out mode p v (length p) (length p) refl out.2 in
-            let reach = out.0 in
-            alike_from mode v p (omega arith) (λ m inside. out.1.at m m (omega arith) (omega arith) refl)),
-        λ same. (let long = alike_length mode v p same in
-            to_start v p mode (literal_in mode p v (length p) 0 (length p) 0 (length p) (omega arith) (omega arith) (omega arith) (omega arith) plain
-                (record { at = λ x y low high sum. let here : x ≡ y = omega arith in subst (λ (m : ℕ). fold mode (get_or v x 0) ≡ fold mode (get_or p m 0)) here (alike_at mode v p same x (omega arith)) })
-                (end_in mode p v (length p) (length p) refl (omega arith)))))
+      λ s. (let out = literal_out mode p v (length p) 0 (length p) 0 (length p) (omega arith) (omega arith) (omega arith) (omega arith) plain (from_start v p mode s) in
+          let ends = end_out mode p v (length p) (length p) refl out.2 in
+          let reach = out.0 in
+          alike_from mode v p (omega arith) (λ m inside. out.1.at m m (omega arith) (omega arith) refl)),
+      λ same. (let long = alike_length mode v p same in
+          to_start v p mode (literal_in mode p v (length p) 0 (length p) 0 (length p) (omega arith) (omega arith) (omega arith) (omega arith) plain
+          (record { at = λ x y low high sum. let here : x ≡ y = omega arith in subst (λ (m : ℕ). fold mode (get_or v x 0) ≡ fold mode (get_or p m 0)) here (alike_at mode v p same x (omega arith)) })
+          (end_in mode p v (length p) (length p) refl (omega arith)))),
+    )
 
 -- A text with a literal front splits only values that begin with it, up to case where the mode folds.
 pub literal_front : (p v : List ℕ) (mode : Mode) (n : ℕ) → n ≤ length p → IsLiteral p 0 n → Splits v p mode
     → (n ≤ length v) × AreAlike mode (take n p) (take n v)
 literal_front p v mode n inside plain s =
     let out = literal_out mode p v n 0 n 0 n (omega arith) (omega arith) inside (omega arith) plain (from_start v p mode s) in
-    let reach = out.0 in
-    (reach, alike_from mode (take n p) (take n v) (simp length-take (omega arith))
-        (λ m below. let small : m < n = (let l = length-take n p in omega arith) in
-            ap (fold mode) (get_or-take n p m 0 small) ∙ sym (out.1.at m m (omega arith) small refl) ∙ ap (fold mode) (sym (get_or-take n v m 0 small))))
+    let reach = out.0 in (
+      reach,
+      alike_from mode (take n p) (take n v) (simp length-take (omega arith))
+          (λ m below. let small : m < n = (let l = length-take n p in omega arith) in
+          ap (fold mode) (get_or-take n p m 0 small) ∙ sym (out.1.at m m (omega arith) small refl) ∙ ap (fold mode) (sym (get_or-take n v m 0 small))),
+    )
 
 -- A star before a literal.
 literal_behind : (lit : List ℕ) → list_any is_special lit ≡ false → (y : ℕ) → 1 ≤ y → y < suc (length lit) → is_special (get_or (42 ∷ lit) y 0) ≡ false
@@ -139,9 +148,11 @@ module _ (mode : Mode) (lit : List ℕ) (none : list_any is_special lit ≡ fals
       let out = literal_out mode (42 ∷ lit) v (length lit) e (e + length lit) 1 (length (42 ∷ lit)) refl (omega arith) (omega arith) high plain_behind later in
       let reach = out.0 in
       let ends = end_out mode (42 ∷ lit) v (length (42 ∷ lit)) (e + length lit) refl out.2 in
-      let place : length v - length lit ≡ e = omega arith in
-      (omega arith, alike_from mode lit (drop (length v - length lit) v) (rw length-drop (omega arith))
-          (λ m below. rw get_or-drop (sym (out.1.at (length v - length lit + m) (suc m) (omega arith) (omega arith) (omega arith)))))
+      let place : length v - length lit ≡ e = omega arith in (
+        omega arith,
+        alike_from mode lit (drop (length v - length lit) v) (rw length-drop (omega arith))
+            (λ m below. rw get_or-drop (sym (out.1.at (length v - length lit + m) (suc m) (omega arith) (omega arith) (omega arith)))),
+      )
 
   star_out : (v : List ℕ) → SplitsFrom v 0 (42 ∷ lit) 0 mode → (length lit ≤ length v) × AreAlike mode lit (drop (length v - length lit) v)
   star_out v s = ⊎_elim
@@ -163,18 +174,18 @@ module _ (mode : Mode) (lit : List ℕ) (none : list_any is_special lit ≡ fals
       → length lit ≤ length v → AreAlike mode lit (drop (length v - length lit) v) → SplitsFrom v 0 (42 ∷ lit) 0 mode
   star_in v open_or_bare fits same =
       let later : SplitsFrom v (length v - length lit) (42 ∷ lit) 1 mode =
-          literal_in mode (42 ∷ lit) v (length lit) (length v - length lit) (length v) 1 (length (42 ∷ lit)) (omega arith) (omega arith) (omega arith) (omega arith) plain_behind
-              (record { at = ends_copied v fits same })
-              (end_in mode (42 ∷ lit) v (length (42 ∷ lit)) (length v) refl (omega arith)) in
+      literal_in mode (42 ∷ lit) v (length lit) (length v - length lit) (length v) 1 (length (42 ∷ lit)) (omega arith) (omega arith) (omega arith) (omega arith) plain_behind
+      (record { at = ends_copied v fits same })
+      (end_in mode (42 ∷ lit) v (length (42 ∷ lit)) (length v) refl (omega arith)) in
       let bare : is_path mode ≡ true → (m : ℕ) → m < length v → get_or v m 0 ≡ slash → ⊥ =
-          λ path m inside is. ⊎_elim
-              (λ (plain : is_path mode ≡ false). false≢true (sym plain ∙ path))
-              (λ (slashless : list_any (λ b. b == slash) v ≡ false). false≢true (sym slashless ∙ list_any_at (λ b. b == slash) v m 0 inside (eq-eqb _ _ is)))
-              open_or_bare in
+      λ path m inside is. ⊎_elim
+      (λ (plain : is_path mode ≡ false). false≢true (sym plain ∙ path))
+      (λ (slashless : list_any (λ b. b == slash) v ≡ false). false≢true (sym slashless ∙ list_any_at (λ b. b == slash) v m 0 inside (eq-eqb _ _ is)))
+      open_or_bare in
       ⊎_elim
-          (λ path. local_in mode (42 ∷ lit) v 0 1 0 (length v - length lit) (local_star path) (omega arith) (omega arith) (record { at = λ m low high is. bare path m (omega arith) is }) later)
-          (λ plain. free_in mode (42 ∷ lit) v 0 1 0 (length v - length lit) (free_star plain) (omega arith) (omega arith) later)
-          (cases_Bool (is_path mode))
+      (λ path. local_in mode (42 ∷ lit) v 0 1 0 (length v - length lit) (local_star path) (omega arith) (omega arith) (record { at = λ m low high is. bare path m (omega arith) is }) later)
+      (λ plain. free_in mode (42 ∷ lit) v 0 1 0 (length v - length lit) (free_star plain) (omega arith) (omega arith) later)
+      (cases_Bool (is_path mode))
 
 not_true : (b : Bool) → not b ≡ true → b ≡ false
 not_true true h = absurd (false≢true h)
@@ -200,11 +211,11 @@ star_literal_in p v mode shape open_or_bare fits same =
 pub literal_from_place : (p : List ℕ) → first_special p ≡ None → list_any is_special p ≡ false
 literal_from_place p none =
     ⊎_elim
-        (λ (below : nat_lt (position_or_len is_special p) (length p) ≡ true). let h = rw below at none in absurd (cc))
-        (λ (past : nat_lt (position_or_len is_special p) (length p) ≡ false).
-            let reach = ltb-false _ _ past in
-            list_any_none is_special p (λ k d inside. fails_before_first is_special p k d (omega arith)))
-        (cases_Bool (nat_lt (position_or_len is_special p) (length p)))
+    (λ (below : nat_lt (position_or_len is_special p) (length p) ≡ true). let h = rw below at none in absurd (cc))
+    (λ (past : nat_lt (position_or_len is_special p) (length p) ≡ false).
+    let reach = ltb-false _ _ past in
+    list_any_none is_special p (λ k d inside. fails_before_first is_special p k d (omega arith)))
+    (cases_Bool (nat_lt (position_or_len is_special p) (length p)))
 
 -- up to the place of the first special byte a text is literal
 pub literal_up_to_place : (p : List ℕ) (n : ℕ) → first_special p ≡ Some n → (n ≤ length p) × IsLiteral p 0 n

@@ -157,3 +157,11 @@ SetAt-unique text i s t j k e f =
     let both = ItemsAt-unique text true None (if t.negated then i + 2 else i + 1) s.items t.items e.close f.close moved f.items in
     let items : s.items ≡ t.items = both.0 in
     (set_eq s t sign items, e.after ∙ (ap (λ (n : ℕ). n + 1) both.1 ∙ sym f.after))
+
+-- A `-` that begins a range without an upper end is no item.
+pub no_item_without_end : (text : List ℕ) (low : Option ℕ) (i : ℕ) → BeginsRange text low i
+    → ((high j : ℕ) → ¬ IsUpperEnd text (i + 1) high j) → (x : Item) (j : ℕ) → ¬ ItemAt text low i x j
+no_item_without_end text low i begins none (item.Member a) j (inl e) = two_bytes text i backslash dash e.0.escape begins.dash (λ h. omega arith)
+no_item_without_end text low i begins none (item.Member a) j (inr e) = e.0.no_range begins
+no_item_without_end text low i begins none (item.Range a b) j e = none b j e.2
+no_item_without_end text low i begins none (item.Class c) j e = two_bytes text i open_bracket dash e.1.begins.bracket begins.dash (λ h. omega arith)

@@ -19,8 +19,9 @@ map_same f each (x ∷ xs) = cc (each x, map_same f each xs)
 pub alike_unfolded : (mode : Mode) (xs ys : List ℕ) → folds mode ≡ false → AreAlike mode xs ys ↔ (xs ≡ ys)
 alike_unfolded mode xs ys plain =
     let each : (b : ℕ) → fold mode b ≡ b = λ b. rw plain in (
-        λ same. (sym (map_same (fold mode) each xs) ∙ same ∙ map_same (fold mode) each ys),
-        λ same. ap (map (fold mode)) same)
+      λ same. (sym (map_same (fold mode) each xs) ∙ same ∙ map_same (fold mode) each ys),
+      λ same. ap (map (fold mode)) same,
+    )
 
 -- an answer that is yes exactly where a fact holds
 exact_holds : (answer : Bool) (fact : Type 0) (p : List ℕ) → IsTrue answer ↔ fact → Holds answer fact p
@@ -41,10 +42,11 @@ pub end_holds : (answer : Bool) (p v : List ℕ) (mode : Mode) → is_star_and_l
     → IsTrue answer ↔ EndsAlike mode v (drop 1 p) → Holds answer (Splits v p mode) p
 end_holds answer p v mode shape free exact =
     let one_component : (is_path mode ≡ false) ⊎ (list_any (λ b. b == slash) v ≡ false) =
-        ⊎_elim (λ h. inl (not_true _ h)) (λ h. inr (not_true _ h)) (or_cases _ _ free) in
+    ⊎_elim (λ h. inl (not_true _ h)) (λ h. inr (not_true _ h)) (or_cases _ _ free) in
     exact_holds answer (Splits v p mode) p (
-        λ yes. (let ends = exact.0 yes in star_literal_in p v mode shape one_component ends.fits ends.alike),
-        λ s. (let out = star_literal_out p v mode shape s in exact.1 (record { fits = out.0; alike = out.1 })))
+      λ yes. (let ends = exact.0 yes in star_literal_in p v mode shape one_component ends.fits ends.alike),
+      λ s. (let out = star_literal_out p v mode shape s in exact.1 (record { fits = out.0; alike = out.1 })),
+    )
 
 -- a value that doesn't begin with the literal front doesn't match
 pub front_holds : (answer : Bool) (p v : List ℕ) (mode : Mode) (n : ℕ) → first_special p ≡ Some n → answer ≡ false
@@ -53,6 +55,7 @@ front_holds answer p v mode n first refused exact =
     let plain = literal_up_to_place p n first in
     let long : length (take n p) ≡ n = length-take-le n p plain.0 in
     exact_holds false (Splits v p mode) p (
-        λ yes. absurd (false≢true yes),
-        λ s. (let out = literal_front p v mode n plain.0 plain.1 s in
-            sym refused ∙ exact.1 (record { fits = omega (arith, out.0); alike = subst (λ (m : ℕ). AreAlike mode (take n p) (take m v)) (sym long) out.1 })))
+      λ yes. absurd (false≢true yes),
+      λ s. (let out = literal_front p v mode n plain.0 plain.1 s in
+          sym refused ∙ exact.1 (record { fits = omega (arith, out.0); alike = subst (λ (m : ℕ). AreAlike mode (take n p) (take m v)) (sym long) out.1 })),
+    )

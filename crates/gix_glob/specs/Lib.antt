@@ -2,11 +2,13 @@ pub mod Bytes
 pub mod Sets
 pub mod Tokens
 pub mod Matching
+pub mod Reader
+pub mod Folding
+pub mod Patterns
+pub mod PatternParts
+pub mod RepositoryPaths
 pub mod Watched
 pub mod Loading
 pub mod Paths
 pub mod PartsLeft
-pub mod Patterns
-pub mod PatternParts
-pub mod Folding
 pub mod Stripping

@@ -27,11 +27,19 @@ pub record IsRun (pattern : List ℕ) (i j : ℕ) : Type 0 where
   pub stars : (k : ℕ) → i ≤ k → k < j → HasByte pattern k star
   pub whole : ¬ HasByte pattern j star
 
+-- place i is the pattern's start, or comes directly after a slash
+abbrev pub IsAfterSlash : List ℕ → ℕ → Type 0
+IsAfterSlash pattern i = (i ≡ 0) ⊎ HasByte pattern (i - 1) slash
+
+-- place j is the pattern's end, or has a slash, bare or escaped
+abbrev pub IsBeforeSlash : List ℕ → ℕ → Type 0
+IsBeforeSlash pattern j = (j ≡ length pattern) ⊎ (HasByte pattern j slash ⊎ IsEscaped pattern j slash)
+
 -- the run is of two stars or more, at the pattern's start or after a slash, and before the pattern's end, a slash or an escaped slash
 pub record IsBounded (pattern : List ℕ) (i j : ℕ) : Type 0 where
   pub many : i + 2 ≤ j
-  pub before : (i ≡ 0) ⊎ HasByte pattern (i - 1) slash
-  pub after : (j ≡ length pattern) ⊎ (HasByte pattern j slash ⊎ IsEscaped pattern j slash)
+  pub before : IsAfterSlash pattern i
+  pub after : IsBeforeSlash pattern j
 
 -- The byte b is spelled from place i up to place j: escaped, or bare where it isn't special.
 abbrev pub ByteAt : List ℕ → ℕ → ℕ → ℕ → Type 0

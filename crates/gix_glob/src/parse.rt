@@ -72,7 +72,7 @@ pub(crate) fn is_ends_with(text: &[u8]) -> bool
 
 /// Whether the text has a slash.
 #[tactic(auto, using(crate::proofs::ByteSearches::is_some_first_byte))]
-fn has_slash(text: &[u8]) -> bool
+pub(crate) fn has_slash(text: &[u8]) -> bool
     ensures { result ≡ list_any (λ b. b == 47) text.now }
 {
     memchr(b'/', text).is_some()

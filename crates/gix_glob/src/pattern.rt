@@ -9,10 +9,13 @@ use std::alloc::{AllocError, Global};
 
 mod case;
 mod display;
+mod matching;
 mod mode;
+mod paths;
 
 pub use case::Case;
 pub use mode::Mode;
+pub use paths::basename_start;
 
 /// A pattern as it was read: its text, what is known of it, and the place where its literal front ends.
 #[derive(PartialEq, Eq, Debug, Hash, Ord, PartialOrd, Drop)]

@@ -48,3 +48,35 @@ impl Default for Mode {
         Mode(0)
     }
 }
+
+impl Mode {
+    ghost use Rattle.gix_glob.specs.Bytes.{is_path, folds, fold};
+
+    /// Whether a wildcard matches no slash.
+    #[inline(always)]
+    pub(crate) fn is_path(self) -> bool
+        ensures { result ≡ is_path self }
+    {
+        self.contains(Mode::NO_MATCH_SLASH_LITERAL)
+    }
+
+    /// Whether the case of ASCII letters does not count.
+    #[inline(always)]
+    pub(crate) fn folds(self) -> bool
+        ensures { result ≡ folds self }
+    {
+        self.contains(Mode::IGNORE_CASE)
+    }
+
+    /// A byte after folding, where the mode asks for it.
+    #[inline(always)]
+    pub(crate) fn fold(self, byte: u8) -> u8
+        ensures { result ≡ fold self byte }
+    {
+        if self.folds() {
+            byte.to_ascii_lowercase()
+        } else {
+            byte
+        }
+    }
+}

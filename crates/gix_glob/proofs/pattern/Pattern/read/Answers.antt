@@ -1,7 +1,7 @@
 -- What is read keeps the invariant.
 use Rattle.std.proofs.Common.{◌≡◌, sym, subst, List, ℕ}
 use Rattle.gix_glob.specs.Patterns.{IsPattern}
-use Rattle.gix_glob.proofs.Reading.{IsPattern-Reads}
+use Rattle.gix_glob.proofs.LineReading.{IsPattern-Reads}
 use Rattle.gix_glob.proofs.pattern.Pattern.read.Goals as goal
 
 pub invariant_of-result : goal.invariant_of-result
