@@ -12,3 +12,4 @@ pub mod LineReading
 pub mod LiteralLemmas
 pub mod Shortcuts
 pub mod Rests
+pub mod Places
