@@ -13,3 +13,5 @@ pub mod LiteralLemmas
 pub mod Shortcuts
 pub mod Rests
 pub mod Places
+pub mod Copies
+pub mod WholeLines
