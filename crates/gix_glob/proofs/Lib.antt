@@ -13,3 +13,7 @@ pub mod LiteralLemmas
 pub mod Shortcuts
 pub mod PatternOrder
 pub mod ShownLines
+pub mod Rests
+pub mod Places
+pub mod Copies
+pub mod WholeLines
