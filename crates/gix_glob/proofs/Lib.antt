@@ -17,3 +17,7 @@ pub mod Rests
 pub mod Places
 pub mod Copies
 pub mod WholeLines
+pub mod Components
+pub mod Marks
+pub mod Existence
+pub mod Budget
