@@ -3,3 +3,11 @@ pub mod TokenLemmas
 pub mod CutLemmas
 pub mod Walks
 pub mod Reading
+pub mod SplitLemmas
+pub mod PlaceLemmas
+pub mod Starts
+pub mod SlashLemmas
+pub mod Alignments
+pub mod StarLemmas
+pub mod AttemptLemmas
+pub mod Shapes

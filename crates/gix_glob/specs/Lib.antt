@@ -3,3 +3,5 @@ pub mod Sets
 pub mod Tokens
 pub mod Matching
 pub mod Reader
+pub mod Pruning
+pub mod StarSearch
