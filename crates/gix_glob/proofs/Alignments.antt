@@ -5,8 +5,8 @@ use Rattle.gix_glob.specs.declared.wildmatch.mode.Mode.{Mode}
 use Rattle.gix_glob.specs.Bytes.{HasByte, is_path, star, slash}
 use Rattle.gix_glob.specs.Tokens.{Token, Byte, Any, OneOf, Free, Local, Dirs, Nothing, TokenAt, From}
 use Rattle.gix_glob.specs.Matching.{OneByte, Lang, IsCut, SplitsFrom, star_count}
-use Rattle.gix_glob.specs.Reader.{Fits}
-use Rattle.gix_glob.specs.Pruning.{IsStart, NoSlashBetween, TakeOneByte, EndsShort}
+use Rattle.gix_glob.specs.Reader.{Fits, NoSlash}
+use Rattle.gix_glob.specs.Pruning.{IsStart, TakeOneByte, EndsShort}
 use Rattle.gix_glob.proofs.TokenLemmas.{TokenAt-unique, TokenAt-inside}
 use Rattle.gix_glob.proofs.CutLemmas.{IsOne, one_byte_in, one_byte_out, lang_is_one, one_is_lang, one_in, one_out}
 use Rattle.gix_glob.proofs.SplitLemmas.{IsStarToken, IsOtherToken, kind_of}
@@ -18,7 +18,7 @@ pub record Moved (mode : Mode) (p v : List ℕ) (from at place k m n : ℕ) : Ty
   pub inside : n ≤ length v
   pub here : SplitsFrom v n p place mode
   pub behind : from < place → HasByte p (place - 1) slash → get_or v (n - 1) 0 ≡ slash
-  pub level : IsTrue (is_path mode) → NoSlashBetween v at m → NoSlashBetween v k n
+  pub level : IsTrue (is_path mode) → NoSlash v at m → NoSlash v k n
 
 -- What the list of tokens from the start on says of the list from here on.
 pub record ListMoved (mode : Mode) (p : List ℕ) (place : ℕ) (ts : List Token) : Type 0 where
@@ -161,19 +161,21 @@ moved_next mode p v from at place k m n next t x low one here fits =
           let back : n + 1 - 1 ≡ n = omega arith in
           let taken : Fits mode (Byte slash) (get_or v n 0) = subst (λ (u : Token). Fits mode u (get_or v n 0)) same out.1 in
           subst (λ (q : ℕ). get_or v q 0 ≡ slash) (sym back) (fold_slash mode (get_or v n 0) taken);
-      level = λ path none q above below is.
-          let before : NoSlashBetween v k n = x.level path none in
-          at_last q path before above is (cases_lt q n) (omega arith) out.1;
+      level = λ path none. record {
+        at = λ q above below is.
+            let before : NoSlash v k n = x.level path none in
+            at_last q path before above is (cases_lt q n) (omega arith) out.1;
+      };
     } where
-      at_last : (q : ℕ) → IsTrue (is_path mode) → NoSlashBetween v k n → k + 1 ≤ q → get_or v q 0 ≡ slash → (q < n) ⊎ (n ≤ q) → q ≤ n
+      at_last : (q : ℕ) → IsTrue (is_path mode) → NoSlash v k n → k + 1 ≤ q → get_or v q 0 ≡ slash → (q < n) ⊎ (n ≤ q) → q ≤ n
           → Fits mode t (get_or v n 0) → ⊥
-      at_last q path before above is (inl less) most taken = before q (omega arith) less is
+      at_last q path before above is (inl less) most taken = before.at q (omega arith) less is
       at_last q path before above is (inr more) most taken =
           let same : q ≡ n = omega arith in
           let byte : get_or v n 0 ≡ slash = subst (λ (r : ℕ). get_or v r 0 ≡ slash) same is in
           let first : get_or v k 0 ≡ slash =
           only_slash mode t (get_or v k 0) path (subst (λ (c : ℕ). Fits mode t c) byte taken) fits in
-          before k (omega arith) (omega arith) first
+          before.at k (omega arith) (omega arith) first
 
 pub aligned_next : (mode : Mode) (p v : List ℕ) (from at place k next : ℕ) (t : Token) → Aligned mode p v from at place k
     → IsOne t → TokenAt mode p place t next → place < next → k < length v → Fits mode t (get_or v k 0)

@@ -7,7 +7,7 @@ use Rattle.gix_glob.specs.declared.wildmatch.mode.Mode.{Mode}
 use Rattle.gix_glob.specs.Bytes.{slash}
 use Rattle.gix_glob.specs.Tokens.{Token, Byte, Any, OneOf, Free, Local, Dirs, Nothing, TokenAt, From}
 use Rattle.gix_glob.specs.Matching.{OneByte, HasNoSlash, EndsInSlash, Lang, IsCut, SplitsFrom}
-use Rattle.gix_glob.specs.Reader.{Fits}
+use Rattle.gix_glob.specs.Reader.{Fits, NoSlash, AfterSlash}
 use Rattle.gix_glob.proofs.TokenLemmas.{TokenAt-unique, TokenAt-inside}
 
 -- The value from place k on is a piece, up to place e, and what follows.
@@ -83,10 +83,6 @@ one_is_lang mode Free piece w = absurd w.2
 one_is_lang mode Local piece w = absurd w.2
 one_is_lang mode Dirs piece w = absurd w.2
 one_is_lang mode Nothing piece w = absurd w.2
-
--- no place from k up to e has a slash
-pub record NoSlash (v : List ℕ) (k e : ℕ) : Type 0 where
-  pub at : (m : ℕ) → k ≤ m → m < e → get_or v m 0 ≢ slash
 
 no_slash_at : (xs : List ℕ) → HasNoSlash xs → (m : ℕ) → m < length xs → get_or xs m 0 ≢ slash
 no_slash_at [] all m below = absurd (omega arith)
@@ -205,10 +201,6 @@ local_out mode p v i j k here inside all =
     (out.0, x.low, x.high, none, out.4)
 
 -- A double star with its slash takes nothing, or a stretch that ends in a slash.
-pub record AfterSlash (v : List ℕ) (k e : ℕ) : Type 0 where
-  pub past : k < e
-  pub inside : e ≤ length v
-  pub slash : get_or v (e - 1) 0 ≡ slash
 
 -- a stretch that ends after a slash
 ends_in_slash : (v : List ℕ) (k e : ℕ) → AfterSlash v k e → EndsInSlash (take (e - k) (drop k v))

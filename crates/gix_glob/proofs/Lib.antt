@@ -1,3 +1,5 @@
+pub mod PathParts
+pub mod Bases
 pub mod SetLemmas
 pub mod TokenLemmas
 pub mod CutLemmas
@@ -11,3 +13,11 @@ pub mod Alignments
 pub mod StarLemmas
 pub mod AttemptLemmas
 pub mod Shapes
+pub mod Engines
+pub mod ByteSearches
+pub mod FlagBits
+pub mod LineReading
+pub mod LiteralLemmas
+pub mod Shortcuts
+pub mod PatternOrder
+pub mod ShownLines

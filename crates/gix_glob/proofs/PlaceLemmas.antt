@@ -45,7 +45,7 @@ component_found v at n m whole before here =
     let inside : m < n = subst (λ (l : ℕ). m < l) (part_length v at n (omega arith)) before.high in record {
       low = omega arith;
       inside = omega arith;
-      none = no_slash_part v at n m (omega arith) before.before;
+      none = record { at = no_slash_part v at n m (omega arith) before.before };
       ends = λ below. sym (part_byte v at n m inside) ∙ is_equal _ slash here;
     }
 
@@ -56,7 +56,7 @@ component_last v at n whole none =
     subst (λ (l : ℕ). Nowhere (Passes (is_byte slash) (take n (drop at v))) 0 l) (part_length v at n (omega arith)) none in record {
       low = omega arith;
       inside = omega arith;
-      none = λ k low below. no_slash_part v at n n (omega arith) few k low (omega arith);
+      none = record { at = λ k low below. no_slash_part v at n n (omega arith) few k low (omega arith) };
       ends = λ below. absurd (omega arith);
     }
 

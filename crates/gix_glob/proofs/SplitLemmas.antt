@@ -5,9 +5,10 @@ use Rattle.gix_glob.specs.declared.wildmatch.mode.Mode.{Mode}
 use Rattle.gix_glob.specs.Bytes.{HasByte, star, question_mark, open_bracket, backslash, slash}
 use Rattle.gix_glob.specs.Tokens.{Token, Byte, Any, OneOf, Free, Local, Dirs, Nothing, TokenAt, ByteAt, IsRun, IsBroken, From}
 use Rattle.gix_glob.specs.Matching.{SplitsFrom, star_count}
+use Rattle.gix_glob.specs.Reader.{NoSlash, AfterSlash}
 use Rattle.gix_glob.proofs.SetLemmas.{HasByte-unique, two_bytes}
 use Rattle.gix_glob.proofs.TokenLemmas.{IsRun-unique, run_lead, TokenAt-unique, TokenAt-inside}
-use Rattle.gix_glob.proofs.CutLemmas.{NoSlash, AfterSlash, free_in, free_out, local_in, local_out, dirs_in, dirs_out}
+use Rattle.gix_glob.proofs.CutLemmas.{free_in, free_out, local_in, local_out, dirs_in, dirs_out}
 
 pub free_before : (mode : Mode) (p v : List ℕ) (i j k e : ℕ) → TokenAt mode p i Free j → k ≤ e → e ≤ length v
     → SplitsFrom v e p i mode → SplitsFrom v k p i mode

@@ -9,11 +9,11 @@ use Rattle.gix_glob.specs.declared.wildmatch.tokens.Shape.{Shape}
 use Rattle.gix_glob.specs.Bytes.{HasByte, fold, is_path, star, slash}
 use Rattle.gix_glob.specs.Tokens.{Token, Byte, Any, OneOf, Free, Local, Dirs, Nothing, TokenAt, DirsAt, From}
 use Rattle.gix_glob.specs.Matching.{SplitsFrom, star_count}
-use Rattle.gix_glob.specs.Reader.{IsToken, shape_of}
-use Rattle.gix_glob.specs.Pruning.{NoSlashBetween, HasRoom, BeginsCrossing, IsAttempt}
+use Rattle.gix_glob.specs.Reader.{IsToken, NoSlash, AfterSlash, shape_of}
+use Rattle.gix_glob.specs.Pruning.{HasRoom, BeginsCrossing, IsAttempt}
 use Rattle.gix_glob.specs.StarSearch.{literal_of, Skips, IsComponentEnd, IsCrossing, IsWithin, IsDescent}
 use Rattle.gix_glob.proofs.TokenLemmas.{TokenAt-unique, TokenAt-inside, run_lead}
-use Rattle.gix_glob.proofs.CutLemmas.{NoSlash, AfterSlash, IsOne, one_in, one_out, free_in, free_out, local_in, local_out, dirs_in_empty, dirs_in, dirs_out, end_in, end_out, nothing_out}
+use Rattle.gix_glob.proofs.CutLemmas.{IsOne, one_in, one_out, free_in, free_out, local_in, local_out, dirs_in_empty, dirs_in, dirs_out, end_in, end_out, nothing_out}
 use Rattle.gix_glob.proofs.SplitLemmas.{IsStarToken, slash_token, no_slash_join}
 use Rattle.gix_glob.proofs.SlashLemmas.{fold_slash}
 use Rattle.gix_glob.proofs.Starts.{dirs_slash}
@@ -195,9 +195,9 @@ cross_answer mode p v i at place found depth wanted RecursionLimitReached bare x
 -- ---- within a component
 
 -- what lies within a component ends before its slash
-within_end : (v : List ℕ) (at end k : ℕ) → IsComponentEnd v at end → at ≤ k → k ≤ length v → NoSlashBetween v at k → end < k → ⊥
+within_end : (v : List ℕ) (at end k : ℕ) → IsComponentEnd v at end → at ≤ k → k ≤ length v → NoSlash v at k → end < k → ⊥
 within_end v at end k x low high none past =
-    let first : at ≤ end = x.low in none end first past (x.ends (omega arith))
+    let first : at ≤ end = x.low in none.at end first past (x.ends (omega arith))
 
 pub stay_end : (mode : Mode) (p v : List ℕ) (i at end depth : ℕ) → i ≡ length p → at ≤ length v → IsComponentEnd v at end
     → end ≡ length v → IsWithin Match p i v at mode depth
@@ -206,7 +206,7 @@ stay_end mode p v i at end depth at_end inside x last = record {
     length v,
     inside,
     omega arith,
-    subst (λ (n : ℕ). NoSlashBetween v at n) last x.none,
+    subst (λ (n : ℕ). NoSlash v at n) last x.none,
     end_in mode p v i (length v) at_end (omega arith),
   );
   lost = λ room ne. absurd (ne refl);
@@ -237,13 +237,13 @@ stay_none mode p v i at place end until depth wanted x reach tried first skips =
   everywhere = λ room e. cc;
   limit = λ room e. cc;
 } where
-  last : (k : ℕ) → at ≤ k → k ≤ length v → NoSlashBetween v at k → until ≤ k → k ≡ length v
+  last : (k : ℕ) → at ≤ k → k ≤ length v → NoSlash v at k → until ≤ k → k ≡ length v
   last k low high none past =
       let before : end < k → ⊥ = within_end v at end k x low high none in
       let least : until ≡ min (length v) (end + 1) = reach in
       omega arith
 
-  by : HasRoom p i mode (depth + 1) → (k : ℕ) → at ≤ k → k ≤ length v → NoSlashBetween v at k → (k < until) ⊎ (until ≤ k)
+  by : HasRoom p i mode (depth + 1) → (k : ℕ) → at ≤ k → k ≤ length v → NoSlash v at k → (k < until) ⊎ (until ≤ k)
       → ¬ SplitsFrom v k p i mode
   by room k low high none (inl below) =
       tried_to mode p v i (depth + 1) at place until until wanted tried first skips room k low below
@@ -257,7 +257,7 @@ stay_answer mode p v i at place end until found depth wanted Match bare x reach 
     let low : at ≤ place = tried.low in
     let past : place ≤ found = skips.low in
     let least : until ≡ min (length v) (end + 1) = reach in record {
-      found = λ e. (found, omega arith, omega arith, (λ k above below. x.none k above (omega arith)), attempt.split refl);
+      found = λ e. (found, omega arith, omega arith, record { at = λ k above below. x.none.at k above (omega arith) }, attempt.split refl);
       lost = λ room ne. absurd (ne refl);
       everywhere = λ room e. cc;
       limit = λ room e. cc;
@@ -276,14 +276,14 @@ stay_answer mode p v i at place end until found depth wanted AbortToStarStar bar
   everywhere = λ room e. cc;
   limit = λ room e. cc;
 } where
-  by : HasRoom p i mode (depth + 1) → (k : ℕ) → at ≤ k → k ≤ length v → NoSlashBetween v at k → (k < found) ⊎ (found ≤ k)
+  by : HasRoom p i mode (depth + 1) → (k : ℕ) → at ≤ k → k ≤ length v → NoSlash v at k → (k < found) ⊎ (found ≤ k)
       → ¬ SplitsFrom v k p i mode
   by room k low high none (inl before) =
       tried_to mode p v i (depth + 1) at place until found wanted tried first skips room k low before
   by room k low high none (inr after) =
       let from : at ≤ place = tried.low in
       let past : place ≤ found = skips.low in
-      (attempt.excludes room).component refl bare k after high (λ q above below. none q (omega arith) below)
+      (attempt.excludes room).component refl bare k after high (record { at = λ q above below. none.at q (omega arith) below })
 stay_answer mode p v i at place end until found depth wanted RecursionLimitReached bare x reach tried first skips inside attempt n1 = record {
   found = λ e. cc;
   lost = λ room ne. absurd ((attempt.excludes room).limit refl);
@@ -304,7 +304,7 @@ pub record AtStar (answer : Answer) (p : List ℕ) (i : ℕ) (v : List ℕ) (at 
   pub lost : HasRoom p i mode depth → answer ≢ Match → ¬ SplitsFrom v at p i mode
   pub everywhere : HasRoom p i mode depth → answer ≡ AbortAll → 0 < i → (k : ℕ) → at ≤ k → k ≤ length v
       → (HasByte p (i - 1) slash → get_or v (k - 1) 0 ≡ slash) → ¬ SplitsFrom v k p i mode
-  pub component : HasRoom p i mode depth → answer ≡ AbortToStarStar → (k : ℕ) → at ≤ k → k ≤ length v → NoSlashBetween v at k
+  pub component : HasRoom p i mode depth → answer ≡ AbortToStarStar → (k : ℕ) → at ≤ k → k ≤ length v → NoSlash v at k
       → ¬ SplitsFrom v k p i mode
   pub limit : HasRoom p i mode depth → answer ≢ RecursionLimitReached
   pub crossing : BeginsCrossing p i mode → answer ≢ NoMatch
@@ -351,11 +351,11 @@ local_star mode p v i j at depth answer here inside x =
       after = j;
       here = here;
       is_star = is_star;
-      found = λ e. let f = x.found e in local_in mode p v i j at f.0 here f.1 f.2 (record { at = f.3 }) f.4;
+      found = λ e. let f = x.found e in local_in mode p v i j at f.0 here f.1 f.2 f.3 f.4;
       path = λ e. here.path;
       lost = λ room ne s.
           let out = local_out mode p v i j at here inside s in
-          x.lost (room_after mode p i Local j depth here is_star room) ne out.0 out.1 out.2 out.3.at out.4;
+          x.lost (room_after mode p i Local j depth here is_star room) ne out.0 out.1 out.2 out.3 out.4;
       everywhere = λ room e past k low high behind s.
           let out = local_out mode p v i j k here high s in
           let later : k ≤ out.0 = out.1 in
@@ -363,8 +363,8 @@ local_star mode p v i j at depth answer here inside x =
       component = λ room e k low high none s.
           let out = local_out mode p v i j k here high s in
           let later : k ≤ out.0 = out.1 in
-          let all : NoSlash v at out.0 = no_slash_join v at k out.0 (record { at = none }) out.3 in
-          x.lost (room_after mode p i Local j depth here is_star room) (component_no_match answer e) out.0 (omega arith) out.2 all.at out.4;
+          let all : NoSlash v at out.0 = no_slash_join v at k out.0 none out.3 in
+          x.lost (room_after mode p i Local j depth here is_star room) (component_no_match answer e) out.0 (omega arith) out.2 all out.4;
       limit = λ room. x.limit (room_after mode p i Local j depth here is_star room);
       crossing = λ b. absurd (local_not_crossing mode p i j here b);
     }

@@ -5,3 +5,11 @@ pub mod Matching
 pub mod Reader
 pub mod Pruning
 pub mod StarSearch
+pub mod Watched
+pub mod Loading
+pub mod Paths
+pub mod PartsLeft
+pub mod Folding
+pub mod Patterns
+pub mod PatternParts
+pub mod RepositoryPaths

@@ -5,6 +5,7 @@ use Rattle.gix_glob.specs.declared.wildmatch.pruned.Answer.{Answer}
 use Rattle.gix_glob.specs.declared.wildmatch.pruned.Answer.TheVariants.{Match, NoMatch, AbortAll, AbortToStarStar, RecursionLimitReached}
 use Rattle.gix_glob.specs.Bytes.{HasByte, is_path, star, slash}
 use Rattle.gix_glob.specs.Tokens.{Token, Byte, Any, OneOf, Free, Dirs, TokenAt, DirsAt, From}
+use Rattle.gix_glob.specs.Reader.{NoSlash}
 use Rattle.gix_glob.specs.Matching.{IsCut, SplitsFrom, star_count}
 
 -- The tokens are spelled, one after the other, from place i up to place j.
@@ -27,10 +28,6 @@ pub record IsDirsSlash (pattern : List ℕ) (i : ℕ) (mode : Mode) : Type 0 whe
 pub record IsStart (pattern : List ℕ) (i : ℕ) (mode : Mode) : Type 0 where
   pub place : IsBoundary pattern i mode ⊎ IsDirsSlash pattern i mode
 
--- the bytes of the value from place i up to, not including, place j hold no slash
-abbrev pub NoSlashBetween : List ℕ → ℕ → ℕ → Type 0
-NoSlashBetween value i j = (k : ℕ) → i ≤ k → k < j → slice_index value k ≢ slash
-
 -- the depth and the star tokens from place i of the pattern on make at most 63
 pub record HasRoom (pattern : List ℕ) (i : ℕ) (mode : Mode) (depth : ℕ) : Type 0 where
   pub tokens : List Token
@@ -43,7 +40,7 @@ pub record Excludes (answer : Answer) (pattern : List ℕ) (from : ℕ) (value :
   pub everywhere : answer ≡ AbortAll → ¬ HasByte pattern from star
       → (k : ℕ) → at ≤ k → k ≤ length value → ¬ SplitsFrom value k pattern from mode
   pub component : answer ≡ AbortToStarStar → ¬ HasByte pattern from star
-      → (k : ℕ) → at ≤ k → k ≤ length value → NoSlashBetween value at k → ¬ SplitsFrom value k pattern from mode
+      → (k : ℕ) → at ≤ k → k ≤ length value → NoSlash value at k → ¬ SplitsFrom value k pattern from mode
   pub limit : answer ≢ RecursionLimitReached
 
 -- no star token, and none that matches nothing: each token takes one byte

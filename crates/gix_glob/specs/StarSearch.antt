@@ -7,7 +7,8 @@ use Rattle.gix_glob.specs.declared.wildmatch.tokens.Shape.{Shape}
 use Rattle.gix_glob.specs.declared.wildmatch.tokens.Shape.TheVariants as shape
 use Rattle.gix_glob.specs.Bytes.{fold, slash}
 use Rattle.gix_glob.specs.Matching.{SplitsFrom}
-use Rattle.gix_glob.specs.Pruning.{NoSlashBetween, HasRoom}
+use Rattle.gix_glob.specs.Reader.{NoSlash}
+use Rattle.gix_glob.specs.Pruning.{HasRoom}
 
 -- the byte that a token of this shape asks for, where it asks for one
 abbrev pub literal_of : Shape → Option ℕ
@@ -24,7 +25,7 @@ pub record Skips (mode : Mode) (value : List ℕ) (wanted : Option ℕ) (i j : �
 pub record IsComponentEnd (value : List ℕ) (i j : ℕ) : Type 0 where
   pub low : i ≤ j
   pub inside : j ≤ length value
-  pub none : NoSlashBetween value i j
+  pub none : NoSlash value i j
   pub ends : j < length value → slice_index value j ≡ slash
 
 -- What a search over all places of the value answers, for the tokens from place i of the pattern on.
@@ -37,9 +38,9 @@ pub record IsCrossing (answer : Answer) (pattern : List ℕ) (i : ℕ) (value : 
 
 -- What a search within a component of the value answers, for the tokens from place i of the pattern on.
 pub record IsWithin (answer : Answer) (pattern : List ℕ) (i : ℕ) (value : List ℕ) (at : ℕ) (mode : Mode) (depth : ℕ) : Type 0 where
-  pub found : answer ≡ Match → (k : ℕ) × (at ≤ k) × (k ≤ length value) × NoSlashBetween value at k × SplitsFrom value k pattern i mode
+  pub found : answer ≡ Match → (k : ℕ) × (at ≤ k) × (k ≤ length value) × NoSlash value at k × SplitsFrom value k pattern i mode
   pub lost : HasRoom pattern i mode (depth + 1) → answer ≢ Match
-      → (k : ℕ) → at ≤ k → k ≤ length value → NoSlashBetween value at k → ¬ SplitsFrom value k pattern i mode
+      → (k : ℕ) → at ≤ k → k ≤ length value → NoSlash value at k → ¬ SplitsFrom value k pattern i mode
   pub everywhere : HasRoom pattern i mode (depth + 1) → answer ≡ AbortAll
       → (k : ℕ) → at ≤ k → k ≤ length value → ¬ SplitsFrom value k pattern i mode
   pub limit : HasRoom pattern i mode (depth + 1) → answer ≢ RecursionLimitReached

@@ -1,36 +1,31 @@
 //! Laws over the definitions: each is a call with an empty body, which a caller makes to know what it ensures.
-ghost use Rattle.std.specs.Prelude.{◌≡◌, ℕ, ◌-◌, ◌<◌, ◌≤◌, List, length, slice_index};
-ghost use Rattle.gix_glob.specs.declared.wildmatch.mode.Mode.{Mode};
+ghost use Rattle.std.specs.Prelude.{◌≡◌, ℕ, List, Option, Some};
+ghost use Rattle.std.specs.List.{join_with_byte};
 ghost use Rattle.gix_glob.specs.Bytes.{slash};
-ghost use Rattle.gix_glob.specs.Tokens.{Token, Free, Local, Dirs, TokenAt, From, Tokens};
-ghost use Rattle.gix_glob.specs.Matching.{SplitsFrom, star_count};
-ghost use Rattle.gix_glob.specs.Pruning.{NoSlashBetween};
+ghost use Rattle.gix_glob.specs.Paths.{pieces, Base, EndsInSlash};
 
-// ---- star tokens at earlier places
+mod patterns;
+mod stars;
 
-/// What begins with a run that crosses slashes, and is split at a place, is split at every place before.
-pub fn a_crossing_run_splits_from_before()
-    ensures { (mode : Mode) (pattern value : List ℕ) (i after j k : ℕ) → TokenAt mode pattern i Free after → j ≤ k → k ≤ length value → SplitsFrom value k pattern i mode → SplitsFrom value j pattern i mode }
+pub use patterns::{
+    case_counts_by_default, flags_do_not_count, line_has_one_reading, literal_text_splits_itself,
+    order_agrees_with_equality, shown_line_is_read_back, two_answers_agree,
+    utf8_is_displayed_as_it_is,
+};
+pub use stars::{
+    a_crossing_run_splits_from_before, a_double_star_splits_from_before,
+    a_local_run_splits_from_before, a_pattern_has_one_reading,
+    star_tokens_are_as_many_in_each_mode,
+};
+
+// ---- path texts and bases
+
+/// The pieces of a path text, joined by slashes, are the text.
+pub fn pieces_join_to_the_text()
+    ensures { (text : List ℕ) → join_with_byte slash (pieces text) ≡ text }
 {}
 
-/// What begins with a double star and its slash, and is split at a place after a slash, is split at every place before.
-pub fn a_double_star_splits_from_before()
-    ensures { (mode : Mode) (pattern value : List ℕ) (i after j k : ℕ) → TokenAt mode pattern i Dirs after → j < k → k ≤ length value → slice_index value (k - 1) ≡ slash → SplitsFrom value k pattern i mode → SplitsFrom value j pattern i mode }
-{}
-
-/// What begins with a run within a component, and is split at a place, is split at every place before in that component.
-pub fn a_local_run_splits_from_before()
-    ensures { (mode : Mode) (pattern value : List ℕ) (i after j k : ℕ) → TokenAt mode pattern i Local after → j ≤ k → k ≤ length value → NoSlashBetween value j k → SplitsFrom value k pattern i mode → SplitsFrom value j pattern i mode }
-{}
-
-// ---- readings
-
-/// The tokens from a place of a pattern on, and so those of the whole pattern, are one list.
-pub fn a_pattern_has_one_reading()
-    ensures { (mode : Mode) (pattern : List ℕ) (i : ℕ) (ts us : List Token) → From mode pattern i ts → From mode pattern i us → ts ≡ us }
-{}
-
-/// A pattern has as many star tokens in one mode as in another.
-pub fn star_tokens_are_as_many_in_each_mode()
-    ensures { (mode other : Mode) (pattern : List ℕ) (ts us : List Token) → Tokens mode pattern ts → Tokens other pattern us → star_count ts ≡ star_count us }
+/// Each base ends in a slash.
+pub fn bases_end_in_a_slash()
+    ensures { (source : List ℕ) (root : Option (List ℕ)) (base : List ℕ) → Base source root (Some base) → EndsInSlash base }
 {}

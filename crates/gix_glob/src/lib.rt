@@ -2,4 +2,9 @@
 #![tactic(auto)]
 
 pub mod laws;
+pub mod parse;
+pub mod pattern;
+pub mod search;
 pub mod wildmatch;
+
+pub use pattern::Pattern;

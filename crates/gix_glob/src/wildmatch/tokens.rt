@@ -2,7 +2,7 @@
 ghost use Rattle.std.specs.Prelude.{◌≡◌, ◌↔◌, ℕ, ◌<◌, ◌≤◌, IsTrue, length};
 ghost use Rattle.gix_glob.specs.Tokens.{Token, TokenAt, IsRun, IsBounded, IsAfterSlash, IsBeforeSlash};
 ghost use Rattle.gix_glob.specs.Bytes.{HasByte, star};
-ghost use Rattle.gix_glob.specs.Reader.{IsToken, shape_of, Fits};
+ghost use Rattle.gix_glob.specs.Reader.{IsToken, is_star, shape_of, Fits};
 
 use super::mode::Mode;
 use super::sets::{escaped_at, set_end, set_holds};
@@ -115,6 +115,13 @@ pub fn token_at(pattern: &[u8], at: usize, mode: Mode) -> (Shape, usize)
 }
 
 impl Shape {
+    /// Whether the token is a star token.
+    pub fn is_star(self) -> bool
+        ensures { result ≡ is_star self }
+    {
+        matches!(self, Shape::Free | Shape::Local | Shape::Dirs)
+    }
+
     /// Whether the token of this shape at this place is one of a single byte and takes that byte.
     pub fn takes(self, pattern: &[u8], at: usize, byte: u8, mode: Mode) -> bool
         requires { at < length pattern.now }

@@ -1,0 +1,4 @@
+pub mod Lines
+pub mod Paths
+pub mod Transfers
+pub mod Values

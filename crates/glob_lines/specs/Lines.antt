@@ -1,0 +1,39 @@
+-- The lines of bytes, and texts that have one line for each of them.
+use Rattle.std.specs.Prelude.{◌≡◌, ◌≢◌, ◌⊎◌, ℕ, List, [], ◌∷◌, ◌++◌, ◌==◌, if◌then◌else◌}
+use Rattle.std.specs.List.{AllByRecursion, AllZip, flat_map, onto_first}
+
+abbrev pub line_feed : ℕ
+line_feed = 10
+
+-- no byte of the text is a line feed
+abbrev pub HasNoLineFeed : List ℕ → Type 0
+HasNoLineFeed text = AllByRecursion (λ b. b ≢ line_feed) text
+
+-- the texts, each followed by a line feed
+abbrev pub terminated : List (List ℕ) → List ℕ
+terminated texts = flat_map (λ text. text ++ line_feed ∷ []) texts
+
+-- the bytes are the texts, each followed by a line feed but for the last, which isn't empty
+pub record EndsOpen (bytes : List ℕ) (texts : List (List ℕ)) : Type 0 where
+  pub front : List (List ℕ)
+  pub last : List ℕ
+  pub some : last ≢ []
+  pub is : texts ≡ front ++ last ∷ []
+  pub joined : bytes ≡ terminated front ++ last
+
+-- The lines of the bytes: the texts that hold no line feed and that, each followed by one, give the bytes.
+-- The last line feed may be missing after a text that isn't empty.
+pub record Lines (bytes : List ℕ) (texts : List (List ℕ)) : Type 0 where
+  pub each : AllByRecursion HasNoLineFeed texts
+  pub joined : (bytes ≡ terminated texts) ⊎ EndsOpen bytes texts
+
+-- the lines of the bytes, by equations: the law `lines_are_these` says that they are those of `Lines`, and no others
+abbrev pub lines_of : List ℕ → List (List ℕ)
+lines_of [] = []
+lines_of (b ∷ bytes) = if b == line_feed then [] ∷ lines_of bytes else onto_first b (lines_of bytes)
+
+-- The text has one line for each of these lines, by P from line to line.
+pub record WritesEach (P : List ℕ → List ℕ → Type 0) (lines : List (List ℕ)) (text : List ℕ) : Type 0 where
+  pub written : List (List ℕ)
+  pub each : AllZip P lines written
+  pub joined : text ≡ terminated written

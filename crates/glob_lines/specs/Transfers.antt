@@ -1,0 +1,23 @@
+-- What a run does to the bytes of its readers and of its writer, where they tell them.
+use Rattle.std.specs.Prelude.{◌≡◌, List, ℕ, ◌++◌, Option}
+use Rattle.std.specs.Io.KnownBytes.{Appends, Consumes, IsAtEnd}
+
+-- the reader gave these bytes, and has no more
+pub record ReadsWhole (old new : Option (List ℕ)) (bytes : List ℕ) : Type 0 where
+  pub consumed : Consumes old new bytes
+  pub ended : IsAtEnd new
+
+-- the writer took a beginning of the text
+pub record AppendsFront (old new : Option (List ℕ)) (text : List ℕ) : Type 0 where
+  pub front : List ℕ
+  pub rest : List ℕ
+  pub whole : text ≡ front ++ rest
+  pub appended : Appends old new front
+
+-- An input was read, and a text that is allowed for this input was written.
+pub record Run {I : Type 0} (Read : I → Type 0) (IsText : I → List ℕ → Type 0) (Written : List ℕ → Type 0) : Type 0 where
+  pub input : I
+  pub read : Read input
+  pub text : List ℕ
+  pub allowed : IsText input text
+  pub written : Written text

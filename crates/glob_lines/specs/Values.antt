@@ -1,0 +1,20 @@
+-- The text of values: what is written for the lines of values and a pattern.
+use Rattle.std.specs.Prelude.{◌≡◌, ℕ, Bool, List, codes, if◌then◌else◌}
+use Rattle.gix_glob.specs.declared.wildmatch.mode.Mode.{Mode}
+use Rattle.gix_glob.specs.Matching.{Holds, Splits}
+use Rattle.glob_lines.specs.Lines.{Lines, WritesEach}
+
+abbrev pub word_of : Bool → List ℕ
+word_of answer = if answer then codes "yes" else codes "no"
+
+-- the line that is written for a value: `yes` or `no`
+pub record WritesAnswer (pattern : List ℕ) (mode : Mode) (value line : List ℕ) : Type 0 where
+  pub answer : Bool
+  pub holds : Holds answer (Splits value pattern mode) pattern
+  pub word : line ≡ word_of answer
+
+-- The text of values: an answer for each line of the input.
+pub record ValuesText (pattern : List ℕ) (mode : Mode) (input text : List ℕ) : Type 0 where
+  pub values : List (List ℕ)
+  pub lines : Lines input values
+  pub answers : WritesEach (WritesAnswer pattern mode) values text

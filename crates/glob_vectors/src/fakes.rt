@@ -1,0 +1,75 @@
+//! Readers and writers in memory, which move few bytes a call and fail from a chosen call on.
+use std::io;
+use std::io::{ErrorKind, Read, Write};
+
+/// A reader of bytes in memory.
+#[derive(Drop)]
+pub(crate) struct Source<'a> {
+    rest: &'a [u8],
+    piece: usize,
+    calls_left: usize,
+}
+
+impl<'a> Source<'a> {
+    /// Gives at most `piece` bytes a read. So many reads succeed, and each later one fails.
+    pub(crate) fn new(bytes: &'a [u8], piece: usize, successes: usize) -> Source<'a> {
+        Source {
+            rest: bytes,
+            piece,
+            calls_left: successes,
+        }
+    }
+}
+
+impl Read for Source<'_> {
+    fn read(&mut self, buf: &mut [u8]) -> io::Result<usize> {
+        if self.calls_left == 0 {
+            return Err(io::Error::from(ErrorKind::Other));
+        }
+        self.calls_left -= 1;
+        let count = self.rest.len().min(self.piece).min(buf.len());
+        buf[..count].copy_from_slice(&self.rest[..count]);
+        self.rest = &self.rest[count..];
+        Ok(count)
+    }
+}
+
+/// A writer that keeps what it takes.
+#[derive(Drop)]
+pub(crate) struct Sink {
+    taken: Vec<u8>,
+    piece: usize,
+    calls_left: usize,
+}
+
+impl Sink {
+    /// Takes at most `piece` bytes a write, onto `taken`. So many writes succeed, and each later one fails.
+    pub(crate) fn new(taken: Vec<u8>, piece: usize, successes: usize) -> Sink {
+        Sink {
+            taken,
+            piece,
+            calls_left: successes,
+        }
+    }
+
+    /// What was written.
+    pub(crate) fn taken(&self) -> &[u8] {
+        &self.taken
+    }
+}
+
+impl Write for Sink {
+    fn write(&mut self, buf: &[u8]) -> io::Result<usize> {
+        if self.calls_left == 0 {
+            return Err(io::Error::from(ErrorKind::Other));
+        }
+        self.calls_left -= 1;
+        let count = buf.len().min(self.piece);
+        self.taken.extend_from_slice(&buf[..count])?;
+        Ok(count)
+    }
+
+    fn flush(&mut self) -> io::Result<()> {
+        Ok(())
+    }
+}

@@ -1,0 +1,166 @@
+//! What the program answers to its words: its status, its output and its errors.
+use super::run_words;
+use gix_glob::search::Watched;
+use std::alloc::{AllocError, Global};
+use std::io;
+use std::io::{ErrorKind, Read, Write};
+use std::test::Fail;
+
+const USAGE: &str = "usage: globline wild plain|fold|path|path-fold PATTERN
+       globline list sensitive|fold FILE ROOT
+";
+
+/// A device on which each call fails.
+#[derive(Drop)]
+struct Broken;
+
+impl Read for Broken {
+    fn read(&mut self, _buf: &mut [u8]) -> io::Result<usize> {
+        Err(io::Error::from(ErrorKind::Other))
+    }
+}
+
+impl Write for Broken {
+    fn write(&mut self, _buf: &[u8]) -> io::Result<usize> {
+        Err(io::Error::from(ErrorKind::Other))
+    }
+
+    fn flush(&mut self) -> io::Result<()> {
+        Err(io::Error::from(ErrorKind::Other))
+    }
+}
+
+fn words_of(alloc: Global, words: &[&str]) -> Result<Vec<String>, AllocError> {
+    let mut owned = Vec::new(alloc);
+    for word in words {
+        owned.push(String::from_str(alloc, word)?)?;
+    }
+    Ok(owned)
+}
+
+#[test]
+fn wild_answers_each_line(rt: HostRuntime) -> Result<(), Fail> {
+    let rows: [(&str, &str, &[u8], &[u8]); 8] = [
+        ("plain", "a*b", b"ab\naxb\nb\n", b"yes\nyes\nno\n"),
+        ("plain", "a?", b"", b""),
+        ("plain", "*", b"a/b\n", b"yes\n"),
+        ("path", "*", b"a/b\na\n", b"no\nyes\n"),
+        ("plain", "*.RS", b"lib.rs\n", b"no\n"),
+        ("fold", "*.RS", b"lib.rs\na/b.rs\n", b"yes\nyes\n"),
+        ("path-fold", "*.RS", b"lib.rs\na/b.rs\n", b"yes\nno\n"),
+        ("plain", "", b"\na\n", b"yes\nno\n"),
+    ];
+    for (mode, pattern, lines, text) in rows {
+        let words = words_of(rt.alloc(), &["wild", mode, pattern])?;
+        let mut input = Watched::new(lines);
+        let mut output = Watched::new(Vec::new(rt.alloc()));
+        let mut errors = Vec::new(rt.alloc());
+        let status = run_words(
+            &rt,
+            rt.alloc(),
+            &words,
+            &mut input,
+            &mut output,
+            &mut errors,
+        );
+        assert_eq!(rt; status, 0, "{mode} {pattern}");
+        assert_eq!(rt; output.into_inner().as_slice(), text, "{mode} {pattern}");
+        assert_eq!(rt; errors.as_slice(), b"".as_slice(), "{mode} {pattern}");
+    }
+    Ok(())
+}
+
+#[test]
+fn wrong_words_show_the_usage(rt: HostRuntime) -> Result<(), Fail> {
+    let rows: [&[&str]; 10] = [
+        &[],
+        &["wild"],
+        &["wild", "plain"],
+        &["wild", "plain", "a", "b"],
+        &["wild", "Plain", "a"],
+        &["wild", "", "a"],
+        &["Wild", "plain", "a"],
+        &["plain", "wild", "a"],
+        &["ignore", "sensitive", "-", "f"],
+        &["", "", ""],
+    ];
+    for words in rows {
+        let owned = words_of(rt.alloc(), words)?;
+        let mut input = Watched::new(Broken);
+        let mut output = Watched::new(Vec::new(rt.alloc()));
+        let mut errors = Vec::new(rt.alloc());
+        let status = run_words(
+            &rt,
+            rt.alloc(),
+            &owned,
+            &mut input,
+            &mut output,
+            &mut errors,
+        );
+        assert_eq!(rt; status, 2, "{words:?}");
+        assert_eq!(rt; output.into_inner().as_slice(), b"".as_slice(), "{words:?}");
+        assert_eq!(rt; errors.as_slice(), USAGE.as_bytes(), "{words:?}");
+    }
+    Ok(())
+}
+
+#[test]
+fn a_failed_read_is_told(rt: HostRuntime) -> Result<(), Fail> {
+    let words = words_of(rt.alloc(), &["wild", "plain", "a"])?;
+    let mut input = Watched::new(Broken);
+    let mut output = Watched::new(Vec::new(rt.alloc()));
+    let mut errors = Vec::new(rt.alloc());
+    let status = run_words(
+        &rt,
+        rt.alloc(),
+        &words,
+        &mut input,
+        &mut output,
+        &mut errors,
+    );
+    assert_eq!(rt; status, 1);
+    assert_eq!(rt; output.into_inner().as_slice(), b"".as_slice());
+    assert_eq!(rt; errors.as_slice(), b"globline: read failed\n".as_slice());
+    Ok(())
+}
+
+#[test]
+fn a_failed_write_is_told(rt: HostRuntime) -> Result<(), Fail> {
+    let words = words_of(rt.alloc(), &["wild", "plain", "a"])?;
+    let mut input = Watched::new(b"a\n".as_slice());
+    let mut output = Watched::new(Broken);
+    let mut errors = Vec::new(rt.alloc());
+    let status = run_words(
+        &rt,
+        rt.alloc(),
+        &words,
+        &mut input,
+        &mut output,
+        &mut errors,
+    );
+    assert_eq!(rt; status, 1);
+    assert_eq!(rt; errors.as_slice(), b"globline: write failed\n".as_slice());
+    Ok(())
+}
+
+#[test]
+fn failing_errors_change_no_status(rt: HostRuntime) -> Result<(), Fail> {
+    for (words, status) in [
+        (["wild", "plain", "a"].as_slice(), 1),
+        (["wild"].as_slice(), 2),
+    ] {
+        let owned = words_of(rt.alloc(), words)?;
+        let mut input = Watched::new(Broken);
+        let mut output = Watched::new(Broken);
+        let answer = run_words(
+            &rt,
+            rt.alloc(),
+            &owned,
+            &mut input,
+            &mut output,
+            &mut Broken,
+        );
+        assert_eq!(rt; answer, status, "{words:?}");
+    }
+    Ok(())
+}
