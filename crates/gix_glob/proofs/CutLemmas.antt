@@ -1,12 +1,10 @@
 -- Cuttings by the places of the value: what the first token of a cutting takes, and what is left.
-use Rattle.std.proofs.Common.{◌≡◌, ◌≢◌, ◌⊎◌, inl, inr, ℕ, zero, suc, ◌+◌, ◌-◌, ◌<◌, ◌≤◌, Bool, IsTrue, List, [], ◌∷◌, ◌++◌, length, get_or, take, drop, refl, sym, ◌∙◌, ap, subst, arith, append_assoc, add-one, length-append, length-drop, drop-cons}
+use Rattle.std.proofs.Common.{◌≡◌, ◌≢◌, ◌⊎◌, inl, inr, ℕ, zero, suc, ◌+◌, ◌-◌, ◌<◌, ◌≤◌, List, [], ◌∷◌, ◌++◌, length, get_or, take, drop, refl, sym, ◌∙◌, ap, subst, arith, add-one, length-append, length-drop, drop-cons}
 use Rattle.std.proofs.Math.Seq.{drop-append_seam, get_or-append_seam, take-suc}
 use Rattle.std.proofs.Math.ListN.{drop_of_length-le, get_or-append}
 use Rattle.std.proofs.lemmas.List.{take-append-drop, drop-drop, get_or-drop, length-take}
-use Rattle.std.specs.List.{AllByRecursion}
 use Rattle.gix_glob.specs.declared.wildmatch.mode.Mode.{Mode}
-use Rattle.gix_glob.specs.Bytes.{HasByte, fold, is_path, slash}
-use Rattle.gix_glob.specs.Sets.{Set, set_holds}
+use Rattle.gix_glob.specs.Bytes.{slash}
 use Rattle.gix_glob.specs.Tokens.{Token, Byte, Any, OneOf, Free, Local, Dirs, Nothing, TokenAt, From}
 use Rattle.gix_glob.specs.Matching.{OneByte, HasNoSlash, EndsInSlash, Lang, IsCut, SplitsFrom}
 use Rattle.gix_glob.specs.Reader.{Fits, NoSlash, AfterSlash}
@@ -45,7 +43,7 @@ piece_at v k e piece x m below =
     ∙ (ap (λ (xs : List ℕ). get_or xs m 0) (sym x.joined) ∙ get_or-drop k v m 0)
 
 -- one byte from place k
-one_byte_out : (P : ℕ → Type 0) (v : List ℕ) (k : ℕ) (piece rest : List ℕ) → drop k v ≡ piece ++ rest → OneByte P piece
+pub one_byte_out : (P : ℕ → Type 0) (v : List ℕ) (k : ℕ) (piece rest : List ℕ) → drop k v ≡ piece ++ rest → OneByte P piece
     → (k < length v) × P (get_or v k 0) × (rest ≡ drop (k + 1) v)
 one_byte_out P v k piece rest cut one =
     let byte : drop k v ≡ one.0 ∷ rest = cut ∙ ap (λ (xs : List ℕ). xs ++ rest) one.1 in
@@ -56,7 +54,7 @@ one_byte_out P v k piece rest cut one =
     let tail : rest ≡ drop (suc k) v = cc in
     (inside, subst P head one.2, rw add-one tail)
 
-one_byte_in : (P : ℕ → Type 0) (v : List ℕ) (k : ℕ) → k < length v → P (get_or v k 0)
+pub one_byte_in : (P : ℕ → Type 0) (v : List ℕ) (k : ℕ) → k < length v → P (get_or v k 0)
     → OneByte P (get_or v k 0 ∷ []) × (drop k v ≡ (get_or v k 0 ∷ []) ++ drop (k + 1) v)
 one_byte_in P v k inside holds =
     ((get_or v k 0, refl, holds), rw add-one (drop-cons v k 0 inside))
@@ -68,7 +66,7 @@ IsOne Any = Unit {0}
 IsOne (OneOf set) = Unit {0}
 IsOne _ = ⊥
 
-lang_is_one : (mode : Mode) (t : Token) (piece : List ℕ) → IsOne t → Lang mode t piece → OneByte (Fits mode t) piece
+pub lang_is_one : (mode : Mode) (t : Token) (piece : List ℕ) → IsOne t → Lang mode t piece → OneByte (Fits mode t) piece
 lang_is_one mode (Byte b) piece one w = w
 lang_is_one mode Any piece one w = w
 lang_is_one mode (OneOf set) piece one w = w
@@ -77,7 +75,7 @@ lang_is_one mode Local piece one w = absurd one
 lang_is_one mode Dirs piece one w = absurd one
 lang_is_one mode Nothing piece one w = absurd one
 
-one_is_lang : (mode : Mode) (t : Token) (piece : List ℕ) → OneByte (Fits mode t) piece → Lang mode t piece
+pub one_is_lang : (mode : Mode) (t : Token) (piece : List ℕ) → OneByte (Fits mode t) piece → Lang mode t piece
 one_is_lang mode (Byte b) piece w = w
 one_is_lang mode Any piece w = w
 one_is_lang mode (OneOf set) piece w = w

@@ -5,6 +5,14 @@ pub mod TokenLemmas
 pub mod CutLemmas
 pub mod Walks
 pub mod Reading
+pub mod SplitLemmas
+pub mod PlaceLemmas
+pub mod Starts
+pub mod SlashLemmas
+pub mod Alignments
+pub mod StarLemmas
+pub mod AttemptLemmas
+pub mod Shapes
 pub mod Engines
 pub mod ByteSearches
 pub mod FlagBits

@@ -8,11 +8,17 @@ ghost use Rattle.gix_glob.specs.RepositoryPaths.{IsAfterLastSlash, IsBasenameSta
 ghost use Rattle.gix_glob.specs.Stripping.{Rest, stripped_place};
 
 mod patterns;
+mod stars;
 
 pub use patterns::{
     case_counts_by_default, flags_do_not_count, line_has_one_reading, literal_text_splits_itself,
     order_agrees_with_equality, shown_line_is_read_back, two_answers_agree,
     utf8_is_displayed_as_it_is,
+};
+pub use stars::{
+    a_crossing_run_splits_from_before, a_double_star_splits_from_before,
+    a_local_run_splits_from_before, a_pattern_has_one_reading,
+    star_tokens_are_as_many_in_each_mode,
 };
 
 // ---- path texts and bases

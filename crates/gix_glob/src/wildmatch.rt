@@ -5,13 +5,16 @@ ghost use Rattle.gix_glob.specs.Matching.{Splits, Holds};
 mod counted;
 mod marks;
 mod mode;
+#[cfg(test)]
 mod plain;
+mod pruned;
 mod sets;
 mod steps;
 mod tokens;
 
 pub use marks::marked;
 pub use mode::Mode;
+pub use pruned::{Answer, attempt, is_start, recursive};
 use std::marker::Brand;
 use std::sync::ledger::{Blank, Ledger};
 pub use steps::Steps;
