@@ -7,6 +7,10 @@ ghost use Rattle.gix_glob.specs.Paths.{pieces, Base, EndsInSlash, IsFolder};
 ghost use Rattle.gix_glob.specs.RepositoryPaths.{IsAfterLastSlash, IsBasenameStart};
 ghost use Rattle.gix_glob.specs.Stripping.{Rest, stripped_place};
 
+mod lists;
+
+pub use lists::{list_order_agrees_with_equality, mapping_order_agrees_with_equality};
+
 // ---- path texts and bases
 
 /// The pieces of a path text, joined by slashes, are the text.
