@@ -7,9 +7,11 @@ ghost use Rattle.gix_glob.specs.Paths.{pieces, Base, EndsInSlash, IsFolder};
 ghost use Rattle.gix_glob.specs.RepositoryPaths.{IsAfterLastSlash, IsBasenameStart};
 ghost use Rattle.gix_glob.specs.Stripping.{Rest, stripped_place};
 
+mod lists;
 mod patterns;
 mod stars;
 
+pub use lists::{list_order_agrees_with_equality, mapping_order_agrees_with_equality};
 pub use patterns::{
     case_counts_by_default, flags_do_not_count, line_has_one_reading, literal_text_splits_itself,
     order_agrees_with_equality, shown_line_is_read_back, two_answers_agree,

@@ -1,0 +1,30 @@
+//! Laws of mappings and lists of patterns: their order and their hash agree with equality.
+ghost use Rattle.std.specs.Prelude.{◌≡◌, ◌↔◌, IsTrue};
+ghost use Rattle.std.specs.declared.cmp.Ordering.TheVariants.{Equal};
+
+use crate::search::Pattern;
+use crate::search::pattern::{List, Mapping};
+use std::hash::Hash;
+
+/// Two mappings tie in order exactly where they are equal, and equal ones hash alike.
+pub fn mapping_order_agrees_with_equality<V: Ord + Hash>()
+    ensures ties { (a b : Mapping V) → (⟦<Mapping<V> as Ord>⟧.cmp a b ≡ Equal) ↔ IsTrue (⟦<Mapping<V> as PartialEq>⟧.eq a b) }
+    ensures hash { (a b : Mapping V) → IsTrue (⟦<Mapping<V> as PartialEq>⟧.eq a b)
+        → ⟦<Mapping<V> as Hash>⟧.hash_input a ≡ ⟦<Mapping<V> as Hash>⟧.hash_input b }
+{
+    comparisons_agree::<Mapping<V>>()
+}
+
+/// Two lists tie in order exactly where they are equal, and equal ones hash alike.
+pub fn list_order_agrees_with_equality<T: Pattern>()
+    ensures ties { (a b : List T T.Value) → (⟦<List<T> as Ord>⟧.cmp a b ≡ Equal) ↔ IsTrue (⟦<List<T> as PartialEq>⟧.eq a b) }
+    ensures hash { (a b : List T T.Value) → IsTrue (⟦<List<T> as PartialEq>⟧.eq a b)
+        → ⟦<List<T> as Hash>⟧.hash_input a ≡ ⟦<List<T> as Hash>⟧.hash_input b }
+{
+    comparisons_agree::<List<T>>()
+}
+
+fn comparisons_agree<T: Ord + Hash>()
+    ensures ties { (a b : T) → (T.Ord.cmp a b ≡ Equal) ↔ IsTrue (T.PartialEq.eq a b) }
+    ensures hash { (a b : T) → IsTrue (T.PartialEq.eq a b) → T.Hash.hash_input a ≡ T.Hash.hash_input b }
+{}
