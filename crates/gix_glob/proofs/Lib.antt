@@ -1,6 +1,14 @@
+pub mod PathParts
+pub mod Bases
 pub mod SetLemmas
 pub mod TokenLemmas
 pub mod CutLemmas
 pub mod Walks
 pub mod Reading
 pub mod Engines
+pub mod ByteSearches
+pub mod FlagBits
+pub mod LineReading
+pub mod LiteralLemmas
+pub mod Shortcuts
+pub mod Rests

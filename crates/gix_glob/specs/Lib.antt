@@ -4,3 +4,11 @@ pub mod Tokens
 pub mod Matching
 pub mod Watched
 pub mod Reader
+pub mod Folding
+pub mod Patterns
+pub mod PatternParts
+pub mod RepositoryPaths
+pub mod Loading
+pub mod Paths
+pub mod PartsLeft
+pub mod Stripping

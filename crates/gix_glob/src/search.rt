@@ -1,4 +1,11 @@
 //! Lists of patterns: where they come from, and what is left of a path under their base.
+mod base;
+mod fault;
+mod parts;
+pub mod pattern;
+mod reading;
 mod watched;
 
+pub use base::has_file_part;
+pub use fault::LoadFault;
 pub use watched::Watched;

@@ -1,0 +1,66 @@
+-- Pieces and parts of path texts.
+use Rattle.std.proofs.Common.{◌≡◌, ◌≢◌, ℕ, ◌+◌, ◌-◌, ◌<◌, ◌≤◌, Bool, true, false, not, ◌==◌, List, [], ◌∷◌, ◌++◌, length, take, drop, Option, Some, None, refl, sym, ap, ◌∙◌, arith, position, slice_index, codes, inl, inr, length-take, take_all}
+use Rattle.std.specs.List.{before_first, after_first, position_or_len, prefix_len}
+use Rattle.std.proofs.lemmas.Bool.{cases_lt}
+use Rattle.std.proofs.lemmas.Grind.{common_steps}
+use Rattle.std.proofs.lemmas.List.Splits.{slice_split_first, slice_split_none, length-slice_split}
+use Rattle.std.proofs.lemmas.List.Sums.{prefix_len-le-length, fails_before_first}
+use Rattle.std.proofs.Math.ListN.{drop_of_length-le}
+use Rattle.gix_glob.specs.Bytes.{slash}
+use Rattle.gix_glob.specs.Paths.{pieces, named, past_first, front_part, parts}
+
+-- where a test passes first
+pub position-is : (p : ℕ → Bool) (text : List ℕ) (at : ℕ) → position p text ≡ Some at → position_or_len p text ≡ at
+position-is p text at found = grind (arith, common_steps)
+
+pub position-none : (p : ℕ → Bool) (text : List ℕ) → position p text ≡ None → position_or_len p text ≡ length text
+position-none p text missing =
+    let bound = prefix_len-le-length (λ x. not (p x)) text in
+    grind (arith, common_steps, bound)
+
+-- a text without a slash is its own one piece, and nothing follows it
+whole-piece : (text : List ℕ) → length text ≤ position_or_len (λ b. b == slash) text → pieces text ≡ before_first (λ b. b == slash) text ∷ []
+whole-piece text none =
+    slice_split_none (λ b. b == slash) text (λ k d inside. fails_before_first (λ b. b == slash) text k d (omega arith))
+    ∙ ap (λ piece. piece ∷ []) (sym (take_all (position_or_len (λ b. b == slash) text) text none))
+
+nothing-after : (text : List ℕ) → length text ≤ position_or_len (λ b. b == slash) text → after_first (λ b. b == slash) text ≡ []
+nothing-after text none = drop_of_length-le text (omega arith)
+
+-- the first piece and the named ones of what follows
+pub named-pieces : (text : List ℕ) → named (pieces text) ≡ named (before_first (λ b. b == slash) text ∷ pieces (after_first (λ b. b == slash) text))
+named-pieces text = elim (cases_lt (position_or_len (λ b. b == slash) text) (length text)) [
+  | inl found ↦ ap named (slice_split_first (λ b. b == slash) text 0 found)
+  | inr none ↦ rw (whole-piece text none, nothing-after text none)
+]
+
+-- a first piece that is not empty is a part
+front-piece : (piece : List ℕ) (more : List (List ℕ)) → 0 < length piece → front_part (piece ∷ more) ++ named (past_first (piece ∷ more)) ≡ piece ∷ named more
+front-piece [] more some = absurd (omega arith)
+front-piece (b ∷ bs) more some = refl
+
+starts-later : (text : List ℕ) → 0 < length text → slice_index text 0 ≢ slash → 0 < position_or_len (λ b. b == slash) text
+starts-later [] some relative = absurd (omega arith)
+starts-later (b ∷ bs) some relative = grind arith
+
+-- a text that does not begin with a slash has its first piece as a part
+pub parts-relative : (text : List ℕ) → 0 < length text → slice_index text 0 ≢ slash → parts text ≡ before_first (λ b. b == slash) text ∷ named (pieces (after_first (λ b. b == slash) text))
+parts-relative text some relative =
+    let later : 0 < length (before_first (λ b. b == slash) text) = rw (length-take (position_or_len (λ b. b == slash) text) text) (omega (arith, starts-later text some relative)) in
+    elim (cases_lt (position_or_len (λ b. b == slash) text) (length text)) [
+      | inl found ↦ ap (λ ps. front_part ps ++ named (past_first ps)) (slice_split_first (λ b. b == slash) text 0 found) ∙ front-piece _ _ later
+      | inr none ↦ ap (λ ps. front_part ps ++ named (past_first ps)) (whole-piece text none) ∙ front-piece _ _ later ∙ rw (nothing-after text none)
+    ]
+
+-- the same, by the text's first byte
+pub parts-by_piece : (text : List ℕ) (first : ℕ) (others : List ℕ) → text ≡ first ∷ others → first ≢ slash → parts text ≡ before_first (λ b. b == slash) text ∷ named (pieces (after_first (λ b. b == slash) text))
+parts-by_piece text first others is relative =
+    parts-relative text (omega (arith, ap length is)) (λ slashed. relative (sym (ap (λ t. slice_index t 0) is) ∙ slashed))
+
+-- a slash at the front is a part of its own
+absolute-front : (ps : List (List ℕ)) → 0 < length ps → front_part ([] ∷ ps) ++ named (past_first ([] ∷ ps)) ≡ codes "/" ∷ named ps
+absolute-front [] some = absurd (omega arith)
+absolute-front (p ∷ ps) some = refl
+
+pub parts-by_slash : (text others : List ℕ) → text ≡ slash ∷ others → parts text ≡ codes "/" ∷ named (pieces others)
+parts-by_slash text others is = ap parts is ∙ absolute-front (pieces others) (omega (arith, length-slice_split (λ b. b == slash) others))

@@ -1,0 +1,52 @@
+-- What is left of a path under a base.
+use Rattle.std.proofs.Common.{◌≡◌, ℕ, ◌+◌, ◌<◌, ◌≤◌, List, [], ◌∷◌, ◌++◌, length, take, drop, map, refl, sym, ap, ◌∙◌, subst, arith, length-append, take_at, drop_at, Bool, true, false, Option, None, Some, MatchOption, Bor}
+use Rattle.std.specs.Char.{to_ascii_lowercase}
+use Rattle.std.specs.Str.{bytes_eq}
+use Rattle.std.proofs.lemmas.Slice.Eq.{bytes_eq-Decides}
+use Rattle.std.proofs.lemmas.List.{take-append-drop, length-map}
+use Rattle.gix_glob.specs.declared.pattern.case.Case.{Case}
+use Rattle.gix_glob.specs.declared.pattern.case.Case.TheVariants.{Sensitive, Fold}
+use Rattle.gix_glob.specs.Stripping.{compared, Rest}
+
+-- comparing keeps a text's length
+pub length-compared : (case : Case) (text : List ℕ) → length (compared case text) ≡ length text
+length-compared Sensitive text = refl
+length-compared Fold text = length-map text to_ascii_lowercase
+
+-- the front is as long as the base
+pub Rest-front : (case : Case) (base path rest : List ℕ) (r : Rest case base path rest) → length r.front ≡ length base
+Rest-front case base path rest r = sym (length-compared case r.front) ∙ ap length r.same ∙ length-compared case base
+
+-- the front and the rest are what the base's length cuts off
+pub Rest-cut : (case : Case) (base path rest : List ℕ) (r : Rest case base path rest) → r.front ≡ take (length base) path
+Rest-cut case base path rest r = sym (ap (take (length base)) r.joined ∙ take_at r.front rest (length base) (Rest-front case base path rest r))
+
+pub Rest-left : (case : Case) (base path rest : List ℕ) → Rest case base path rest → rest ≡ drop (length base) path
+Rest-left case base path rest r = sym (ap (drop (length base)) r.joined ∙ drop_at r.front rest (length base) (Rest-front case base path rest r))
+
+pub Rest-fits : (case : Case) (base path rest : List ℕ) → Rest case base path rest → length base ≤ length path
+Rest-fits case base path rest r = omega (arith, ap length r.joined, length-append r.front rest, Rest-front case base path rest r)
+
+-- and they are a front and a rest where the front compares equal
+pub Rest-from_cut : (case : Case) (base path : List ℕ) → compared case (take (length base) path) ≡ compared case base → Rest case base path (drop (length base) path)
+Rest-from_cut case base path same = record {
+  front = take (length base) path;
+  joined = sym (take-append-drop (length base) path);
+  same = same;
+}
+
+pub Rest-compares : (case : Case) (base path rest : List ℕ) → Rest case base path rest → compared case (take (length base) path) ≡ compared case base
+Rest-compares case base path rest r = ap (compared case) (sym (Rest-cut case base path rest r)) ∙ r.same
+
+-- what `strip_prefix` tests and answers
+pub Rest-no_prefix : (base path rest : List ℕ) → bytes_eq (take (length base) path) base ≡ false → ¬ Rest Sensitive base path rest
+Rest-no_prefix base path rest differs r =
+    let same = (bytes_eq-Decides (take (length base) path) base).1 (Rest-compares Sensitive base path rest r) in cc
+
+pub Rest-prefix : (base path rest : List ℕ) → bytes_eq (take (length base) path) base ≡ true → rest ≡ drop (length base) path → Rest Sensitive base path rest
+Rest-prefix base path rest same is =
+    subst (Rest Sensitive base path) (sym is) (Rest-from_cut Sensitive base path ((bytes_eq-Decides (take (length base) path) base).0 same))
+
+pub exact-answer : (base path : List ℕ) (answer : Option (Bor (List ℕ))) → MatchOption answer (bytes_eq (take (length base) path) base ≡ false) (λ rest. (bytes_eq (take (length base) path) base ≡ true) × (rest.now ≡ drop (length base) path) × (length rest.now + length base ≡ length path)) → MatchOption answer ((rest : List ℕ) → ¬ Rest Sensitive base path rest) (λ rest. Rest Sensitive base path rest.now)
+exact-answer base path None differs = λ rest. Rest-no_prefix base path rest differs
+exact-answer base path (Some rest) is = Rest-prefix base path rest.now is.0 is.1

@@ -1,0 +1,15 @@
+-- What loading answers, and what it leaves.
+use Rattle.std.specs.Prelude.{◌≡◌, ℕ, Bool, true, false, List, ◌++◌, Result, Ok, Err}
+use Rattle.gix_glob.specs.declared.search.fault.LoadFault.{LoadFault}
+use Rattle.gix_glob.specs.declared.search.fault.LoadFault.TheVariants.{Memory, Read}
+
+-- the whole is the beginning, and then some rest
+pub record IsBeginningOf (beginning whole : List ℕ) : Type 0 where
+  pub rest : List ℕ
+  pub joined : beginning ++ rest ≡ whole
+
+-- the answer is that opening or reading failed
+abbrev pub is_read_fault : {T : Type 0} → Result T LoadFault → Bool
+is_read_fault (Ok x) = false
+is_read_fault (Err (Memory e)) = false
+is_read_fault (Err (Read e)) = true

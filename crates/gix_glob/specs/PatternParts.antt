@@ -1,0 +1,24 @@
+-- What callers see of a pattern: its text, its mode and the place of its first special byte.
+use Rattle.std.specs.Prelude.{◌≡◌, ℕ, Bool, List, Option}
+use Rattle.gix_glob.specs.declared.pattern.Pattern.{Pattern}
+use Rattle.gix_glob.specs.declared.pattern.mode.Mode.{Mode}
+use Rattle.gix_glob.specs.Patterns.{Reads}
+
+abbrev pub text_of : Pattern → List ℕ
+text_of p = p.text.items
+
+abbrev pub mode_of : Pattern → Mode
+mode_of p = p.mode
+
+abbrev pub place_of : Pattern → Option ℕ
+place_of p = p.first_wildcard_pos
+
+-- the pattern is the reading of the line
+abbrev pub IsReadFrom : List ℕ → Bool → Pattern → Type 0
+IsReadFrom text may_alter p = Reads text may_alter (text_of p) (mode_of p) (place_of p)
+
+-- two patterns agree in all that callers see
+pub record SamePattern (p q : Pattern) : Type 0 where
+  pub text : text_of p ≡ text_of q
+  pub mode : mode_of p ≡ mode_of q
+  pub place : place_of p ≡ place_of q

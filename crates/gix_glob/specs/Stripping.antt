@@ -1,0 +1,26 @@
+-- Stripping a base from a path: what is left of the path, and where its last part then begins.
+use Rattle.std.specs.Prelude.{◌≡◌, ◌==◌, ℕ, ◌-◌, if◌then◌else◌, List, map, ◌++◌, Option, None, Some}
+use Rattle.std.specs.Char.{to_ascii_lowercase}
+use Rattle.gix_glob.specs.declared.pattern.case.Case.{Case}
+use Rattle.gix_glob.specs.declared.pattern.case.Case.TheVariants.{Sensitive, Fold}
+
+-- the bytes that are compared: those of the text, with the case of letters or without
+abbrev pub compared : Case → List ℕ → List ℕ
+compared Sensitive text = text
+compared Fold text = map to_ascii_lowercase text
+
+-- the path is a front that equals the base, and then the rest
+pub record Rest (case : Case) (base path rest : List ℕ) : Type 0 where
+  pub front : List ℕ
+  pub joined : path ≡ front ++ rest
+  pub same : compared case front ≡ compared case base
+
+-- the same for a base that may be missing: then the whole path is left
+abbrev pub RestOf : Case → Option (List ℕ) → List ℕ → List ℕ → Type 0
+RestOf case None path rest = rest ≡ path
+RestOf case (Some base) path rest = Rest case base path rest
+
+-- a place in the path, as a place in what follows the base; the rest's own beginning is no place
+abbrev pub stripped_place : ℕ → Option ℕ → Option ℕ
+stripped_place base_len None = None
+stripped_place base_len (Some at) = if at - base_len == 0 then None else Some (at - base_len)

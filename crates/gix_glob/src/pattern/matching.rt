@@ -1,0 +1,71 @@
+//! Whether a value matches: three shortcuts, and the matcher for the rest.
+ghost use Rattle.std.specs.Prelude.{◌≡◌, ◌↔◌, ◌==◌, ◌||◌, not, IsTrue};
+ghost use Rattle.std.specs.List.{list_any};
+ghost use Rattle.gix_glob.specs.Bytes.{is_path};
+ghost use Rattle.gix_glob.specs.Folding.{AreAlike, BeginsAlike, EndsAlike};
+
+use super::{Mode, Pattern};
+use crate::{parse, wildmatch};
+use bitflags::Flags;
+
+impl Pattern {
+    ghost use Rattle.gix_glob.specs.Matching.{Splits, Holds};
+    ghost use Rattle.gix_glob.specs.PatternParts.{text_of};
+
+    /// Whether the text matches the value. What the line said of negation, of directories and of a leading slash
+    /// doesn't count.
+    ///
+    /// A text without special bytes, a literal front, and a star before a literal are decided without the matcher.
+    pub fn matches(&self, value: &[u8], mode: wildmatch::Mode) -> bool
+        ensures { Holds result (Splits value.now (text_of self.now) mode) (text_of self.now) }
+    {
+        let Some(pos) = self.first_wildcard_pos else {
+            return are_alike(&self.text, value, mode);
+        };
+        if self.mode.contains(Mode::ENDS_WITH) && is_one_component(value, mode) {
+            return ends_alike(&self.text[1..], value, mode);
+        }
+        if !begins_alike(&self.text[..pos], value, mode) {
+            return false;
+        }
+        wildmatch::wildmatch(&self.text, value, mode)
+    }
+}
+
+/// Whether a star may take all bytes of the value: in plain mode, and where the value has no slash.
+fn is_one_component(value: &[u8], mode: wildmatch::Mode) -> bool
+    ensures { result ≡ (not (is_path mode) || not (list_any (λ b. b == 47) value.now)) }
+{
+    !mode.contains(wildmatch::Mode::NO_MATCH_SLASH_LITERAL) || !parse::has_slash(value)
+}
+
+/// Whether the two texts are equal, up to case where the mode folds.
+fn are_alike(a: &[u8], b: &[u8], mode: wildmatch::Mode) -> bool
+    ensures { IsTrue result ↔ AreAlike mode a.now b.now }
+{
+    if mode.contains(wildmatch::Mode::IGNORE_CASE) {
+        a.eq_ignore_ascii_case(b)
+    } else {
+        a == b
+    }
+}
+
+/// Whether the value begins with the text, up to case where the mode folds.
+fn begins_alike(front: &[u8], value: &[u8], mode: wildmatch::Mode) -> bool
+    ensures { IsTrue result ↔ BeginsAlike mode value.now front.now }
+{
+    if value.len() < front.len() {
+        return false;
+    }
+    are_alike(front, &value[..front.len()], mode)
+}
+
+/// Whether the value ends in the text, up to case where the mode folds.
+fn ends_alike(end: &[u8], value: &[u8], mode: wildmatch::Mode) -> bool
+    ensures { IsTrue result ↔ EndsAlike mode value.now end.now }
+{
+    if value.len() < end.len() {
+        return false;
+    }
+    are_alike(end, &value[value.len() - end.len()..], mode)
+}
