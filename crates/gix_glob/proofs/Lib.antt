@@ -12,3 +12,6 @@ pub mod LineReading
 pub mod LiteralLemmas
 pub mod Shortcuts
 pub mod Rests
+pub mod Places
+pub mod Copies
+pub mod WholeLines

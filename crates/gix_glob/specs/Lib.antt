@@ -12,3 +12,6 @@ pub mod Loading
 pub mod Paths
 pub mod PartsLeft
 pub mod Stripping
+pub mod Lists
+pub mod Loaded
+pub mod WholeLine

@@ -1,5 +1,5 @@
 -- What loading answers, and what it leaves.
-use Rattle.std.specs.Prelude.{◌≡◌, ℕ, Bool, true, false, List, ◌++◌, Result, Ok, Err}
+use Rattle.std.specs.Prelude.{◌≡◌, ℕ, Bool, true, false, List, ◌++◌, Option, Some, None, Result, Ok, Err}
 use Rattle.gix_glob.specs.declared.search.fault.LoadFault.{LoadFault}
 use Rattle.gix_glob.specs.declared.search.fault.LoadFault.TheVariants.{Memory, Read}
 
@@ -13,3 +13,10 @@ abbrev pub is_read_fault : {T : Type 0} → Result T LoadFault → Bool
 is_read_fault (Ok x) = false
 is_read_fault (Err (Memory e)) = false
 is_read_fault (Err (Read e)) = true
+
+-- a read failed: there is no list, for another cause than memory
+abbrev pub is_unread : {T : Type 0} → Result (Option T) LoadFault → Bool
+is_unread (Ok (Some list)) = false
+is_unread (Ok None) = true
+is_unread (Err (Memory e)) = false
+is_unread (Err (Read e)) = true

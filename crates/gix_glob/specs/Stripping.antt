@@ -1,6 +1,7 @@
 -- Stripping a base from a path: what is left of the path, and where its last part then begins.
-use Rattle.std.specs.Prelude.{◌≡◌, ◌==◌, ℕ, ◌-◌, if◌then◌else◌, List, map, ◌++◌, Option, None, Some}
+use Rattle.std.specs.Prelude.{◌≡◌, ◌==◌, ◌≤◌, ⊤, ℕ, ◌-◌, if◌then◌else◌, List, length, map, ◌++◌, Option, None, Some}
 use Rattle.std.specs.Char.{to_ascii_lowercase}
+use Rattle.std.specs.Option.{ForSome}
 use Rattle.gix_glob.specs.declared.pattern.case.Case.{Case}
 use Rattle.gix_glob.specs.declared.pattern.case.Case.TheVariants.{Sensitive, Fold}
 
@@ -24,3 +25,17 @@ RestOf case (Some base) path rest = Rest case base path rest
 abbrev pub stripped_place : ℕ → Option ℕ → Option ℕ
 stripped_place base_len None = None
 stripped_place base_len (Some at) = if at - base_len == 0 then None else Some (at - base_len)
+
+-- the same for a base that may be missing: then each place is as it was
+abbrev pub place_after : Option (List ℕ) → Option ℕ → Option ℕ
+place_after None place = place
+place_after (Some base) place = stripped_place (length base) place
+
+-- nothing is left: the path does not begin with the base
+abbrev pub NothingLeft : Case → Option (List ℕ) → List ℕ → Type 0
+NothingLeft case base path = (rest : List ℕ) → ¬ RestOf case base path rest
+
+-- where the path begins with the base, the place is not before the base's end
+abbrev pub IsPlaced : Case → Option (List ℕ) → List ℕ → Option ℕ → Type 0
+IsPlaced case None path place = ⊤
+IsPlaced case (Some base) path place = (rest : List ℕ) → Rest case base path rest → ForSome place (λ at. length base ≤ at)

@@ -1,8 +1,11 @@
 //! Laws over the definitions: each is a call with an empty body, which a caller makes to know what it ensures.
-ghost use Rattle.std.specs.Prelude.{◌≡◌, ℕ, List, Option, Some};
+ghost use Rattle.std.specs.Prelude.{◌≡◌, ◌≤◌, ℕ, List, length, Option, Some};
 ghost use Rattle.std.specs.List.{join_with_byte};
 ghost use Rattle.gix_glob.specs.Bytes.{slash};
-ghost use Rattle.gix_glob.specs.Paths.{pieces, Base, EndsInSlash};
+ghost use Rattle.gix_glob.specs.declared.pattern.case.Case.{Case};
+ghost use Rattle.gix_glob.specs.Paths.{pieces, Base, EndsInSlash, IsFolder};
+ghost use Rattle.gix_glob.specs.RepositoryPaths.{IsAfterLastSlash, IsBasenameStart};
+ghost use Rattle.gix_glob.specs.Stripping.{Rest, stripped_place};
 
 // ---- path texts and bases
 
@@ -14,4 +17,17 @@ pub fn pieces_join_to_the_text()
 /// Each base ends in a slash.
 pub fn bases_end_in_a_slash()
     ensures { (source : List ℕ) (root : Option (List ℕ)) (base : List ℕ) → Base source root (Some base) → EndsInSlash base }
+{}
+
+/// A stripped position is the rest's own: where the position is the place after the path's last slash, what stripping
+/// answers is the place after the rest's last slash, and no place where the rest has no slash.
+pub fn stripped_positions_are_the_rests_own()
+    ensures { (case : Case) (base path rest : List ℕ) (position : Option ℕ) →
+        Rest case base path rest → IsBasenameStart path position → IsBasenameStart rest (stripped_place (length base) position) }
+{}
+
+/// The place after a path's last slash does not lie before the end of a base that is empty or ends in a slash.
+pub fn positions_lie_past_the_base()
+    ensures { (case : Case) (base path rest : List ℕ) (at : ℕ) →
+        IsFolder base → Rest case base path rest → IsAfterLastSlash path at → length base ≤ at }
 {}

@@ -1,6 +1,8 @@
 //! Lists of patterns: where they come from, and what is left of a path under their base.
 mod base;
 mod fault;
+mod files;
+mod parser;
 mod parts;
 pub mod pattern;
 mod reading;
@@ -8,4 +10,9 @@ mod watched;
 
 pub use base::has_file_part;
 pub use fault::LoadFault;
+pub use files::add_patterns_file;
+pub use parser::Pattern;
 pub use watched::Watched;
+
+#[cfg(test)]
+mod tests;

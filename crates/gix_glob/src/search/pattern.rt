@@ -1,4 +1,9 @@
 //! Lists of patterns with a base, and paths as such a list sees them.
+mod list;
+mod loading;
+mod mapping;
 mod stripping;
 
+pub use list::List;
+pub use mapping::Mapping;
 pub use stripping::strip_base_handle_recompute_basename_pos;

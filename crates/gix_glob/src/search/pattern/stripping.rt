@@ -1,7 +1,7 @@
 //! What is left of a path once a base is stripped from its front.
-ghost use Rattle.std.specs.Prelude.{◌≡◌, ◌≤◌, ℕ, List, length, MatchOption};
+ghost use Rattle.std.specs.Prelude.{◌≡◌, ◌≤◌, length, Some, MatchOption};
 ghost use Rattle.std.specs.Option.{ForSome};
-ghost use Rattle.gix_glob.specs.Stripping.{Rest, stripped_place};
+ghost use Rattle.gix_glob.specs.Stripping.{Rest, NothingLeft, IsPlaced, stripped_place};
 
 use crate::pattern::Case;
 
@@ -17,9 +17,9 @@ pub fn strip_base_handle_recompute_basename_pos<'a>(
     basename_pos: Option<usize>,
     case: Case,
 ) -> Option<(&'a [u8], Option<usize>)>
-    requires { (rest : List ℕ) → Rest case base.now relative_path.now rest → ForSome basename_pos (λ at. length base.now ≤ at) }
+    requires { IsPlaced case (Some base.now) relative_path.now basename_pos }
     ensures { MatchOption result
-        ((rest : List ℕ) → ¬ Rest case base.now relative_path.entry.now rest)
+        (NothingLeft case (Some base.now) relative_path.entry.now)
         (λ left. Rest case base.now relative_path.entry.now left.0.now × (left.1 ≡ stripped_place (length base.now) basename_pos)) }
 {
     let rest = strip_base(base, relative_path, case)?;
@@ -28,7 +28,7 @@ pub fn strip_base_handle_recompute_basename_pos<'a>(
 
 fn strip_base<'a>(base: &[u8], path: &'a [u8], case: Case) -> Option<&'a [u8]>
     ensures { MatchOption result
-        ((rest : List ℕ) → ¬ Rest case base.now path.entry.now rest)
+        (NothingLeft case (Some base.now) path.entry.now)
         (λ rest. Rest case base.now path.entry.now rest.now) }
 {
     match case {
@@ -39,7 +39,7 @@ fn strip_base<'a>(base: &[u8], path: &'a [u8], case: Case) -> Option<&'a [u8]>
 
 fn strip_exact<'a>(base: &[u8], path: &'a [u8]) -> Option<&'a [u8]>
     ensures { MatchOption result
-        ((rest : List ℕ) → ¬ Rest Case.Sensitive base.now path.entry.now rest)
+        (NothingLeft Case.Sensitive (Some base.now) path.entry.now)
         (λ rest. Rest Case.Sensitive base.now path.entry.now rest.now) }
 {
     path.strip_prefix(base)
@@ -47,7 +47,7 @@ fn strip_exact<'a>(base: &[u8], path: &'a [u8]) -> Option<&'a [u8]>
 
 fn strip_folded<'a>(base: &[u8], path: &'a [u8]) -> Option<&'a [u8]>
     ensures { MatchOption result
-        ((rest : List ℕ) → ¬ Rest Case.Fold base.now path.entry.now rest)
+        (NothingLeft Case.Fold (Some base.now) path.entry.now)
         (λ rest. Rest Case.Fold base.now path.entry.now rest.now) }
 {
     if path.len() < base.len() {
@@ -70,3 +70,6 @@ fn stripped_place(base_len: usize, basename_pos: Option<usize>) -> Option<usize>
         at => Some(at),
     }
 }
+
+#[cfg(test)]
+mod tests;
