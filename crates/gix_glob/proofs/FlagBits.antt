@@ -1,13 +1,9 @@
 -- Which bits stand in a sum of the named ones.
-use Rattle.std.proofs.Common.{◌≡◌, ℕ, ◌+◌, Bool, true, false, not, ◌&&◌, refl, ap, ◌∙◌, if◌then◌else◌}
+use Rattle.std.proofs.Common.{◌≡◌, ℕ, Bool, true, false, not, ◌&&◌, refl, ap, ◌∙◌}
 use Rattle.std.specs.Prelude.{◌==◌, bit_and}
 use Rattle.std.proofs.lemmas.Bool.{and_parts}
 use Rattle.gix_glob.specs.declared.pattern.mode.Mode.{Mode}
-use Rattle.gix_glob.specs.Patterns.{is_by_its_end, is_for_directories, is_negative, is_absolute}
-
-abbrev pub sum_of_bits : Bool → Bool → Bool → Bool → Bool → ℕ
-sum_of_bits slashed ends tail negated lead =
-    (if slashed then 0 else 1) + (if ends then 2 else 0) + (if tail then 4 else 0) + (if negated then 8 else 0) + (if lead then 16 else 0)
+use Rattle.gix_glob.specs.Patterns.{sum_of_bits, is_by_its_end, is_for_directories, is_negative, is_absolute}
 
 -- two answers are the same
 abbrev same : Bool → Bool → Bool

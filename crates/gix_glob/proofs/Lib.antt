@@ -11,7 +11,13 @@ pub mod FlagBits
 pub mod LineReading
 pub mod LiteralLemmas
 pub mod Shortcuts
+pub mod PatternOrder
+pub mod ShownLines
 pub mod Rests
 pub mod Places
 pub mod Copies
 pub mod WholeLines
+pub mod Components
+pub mod Marks
+pub mod Existence
+pub mod Budget

@@ -1,5 +1,5 @@
 -- A line has one reading, and it has one unless it is blank.
-use Rattle.std.proofs.Common.{◌≡◌, ℕ, List, [], ◌∷◌, ◌++◌, drop, length, Option, Bool, true, false, ◌||◌, ◌⊎◌, ⊎_elim, sym, ◌∙◌, ap, refl, if◌then◌else◌}
+use Rattle.std.proofs.Common.{◌≡◌, ℕ, List, [], ◌∷◌, ◌++◌, drop, Option, Bool, true, false, ◌||◌, ⊎_elim, sym, ◌∙◌, ap, refl, if◌then◌else◌}
 use Rattle.std.specs.Prelude.{nat_eq, codes}
 use Rattle.std.specs.Char.{is_ascii_whitespace}
 use Rattle.std.specs.List.{starts_with, ends_with}
@@ -8,14 +8,8 @@ use Rattle.std.proofs.lemmas.Bool.Decides.{Decides-eqb}
 use Rattle.std.proofs.lemmas.List.{append_cancel_left, append_cancel_right}
 use Rattle.std.proofs.lemmas.Slice.Eq.{starts_is}
 use Rattle.gix_glob.specs.declared.pattern.mode.Mode.{Mode}
-use Rattle.gix_glob.specs.Patterns.{Reads, HasReading, sign_of, slash_if, first_special, bits_of, is_blank, without_negation, IsPattern}
+use Rattle.gix_glob.specs.Patterns.{Reads, SameReading, HasReading, sign_of, slash_if, first_special, is_blank, without_negation, IsPattern}
 use Rattle.gix_glob.proofs.FlagBits.{is_by_its_end-sum}
-
--- what two readings of one line agree on
-pub record SameReading (b b' : List ℕ) (f f' : Mode) (p p' : Option ℕ) : Type 0 where
-  pub body : b ≡ b'
-  pub flags : f ≡ f'
-  pub place : p ≡ p'
 
 pub one_reading : (text : List ℕ) (may_alter : Bool) (body body' : List ℕ) (flags flags' : Mode) (place place' : Option ℕ) → Reads text may_alter body flags place → Reads text may_alter body' flags' place' → SameReading body body' flags flags' place place'
 one_reading text may_alter body body' flags flags' place place' r s =

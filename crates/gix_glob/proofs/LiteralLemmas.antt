@@ -1,7 +1,7 @@
 -- What a stretch without special bytes splits: the value has the same bytes there, up to case where the mode folds.
-use Rattle.std.proofs.Common.{◌≡◌, ◌≢◌, ◌↔◌, ◌⊎◌, inl, inr, ⊎_elim, ℕ, zero, suc, ◌+◌, ◌-◌, ◌<◌, ◌≤◌, Bool, true, false, not, IsTrue, ◌||◌, ◌==◌, List, [], ◌∷◌, length, get_or, take, drop, map, Option, None, Some, refl, sym, ◌∙◌, ap, subst, arith, codes, nat_eq, nat_lt}
-use Rattle.std.specs.List.{list_any, starts_with, position, position_or_len}
-use Rattle.std.proofs.lemmas.Bool.{or_parts, and_parts, eqb-false, eq-eqb, ltb-false, cases_Bool, cases_eq, false≢true, not_from_true, not-false, false_from_ne_true, ltb-true}
+use Rattle.std.proofs.Common.{◌≡◌, ◌↔◌, ◌⊎◌, inr, ⊎_elim, ℕ, zero, suc, ◌+◌, ◌-◌, ◌<◌, ◌≤◌, Bool, true, false, not, ◌==◌, List, ◌∷◌, length, get_or, take, drop, map, None, Some, refl, sym, ◌∙◌, ap, subst, arith, codes, nat_lt}
+use Rattle.std.specs.List.{list_any, position_or_len}
+use Rattle.std.proofs.lemmas.Bool.{or_parts, and_parts, eqb-false, eq-eqb, ltb-false, cases_Bool, cases_eq, false≢true, false_from_ne_true}
 use Rattle.std.proofs.lemmas.Bool.Decides.{Decides-eqb}
 use Rattle.std.proofs.lemmas.List.{get_or-map, ext_get_or, length-map, length-take, length-drop, get_or-take, get_or-drop}
 use Rattle.std.proofs.lemmas.List.Folds.{list_any_at, list_any_none}
@@ -10,12 +10,11 @@ use Rattle.std.proofs.lemmas.List.Sums.{fails_before_first}
 use Rattle.std.proofs.lemmas.Slice.Eq.{starts_is}
 use Rattle.gix_glob.specs.declared.wildmatch.mode.Mode.{Mode}
 use Rattle.gix_glob.specs.Bytes.{HasByte, fold, is_path, slash, star}
-use Rattle.gix_glob.specs.Folding.{AreAlike, folded}
+use Rattle.gix_glob.specs.Folding.{AreAlike}
 use Rattle.gix_glob.specs.Patterns.{is_special, is_star_and_literal, first_special}
-use Rattle.gix_glob.specs.Tokens.{Token, Byte, Free, Local, TokenAt, IsRun, IsBounded, FreeAt, LocalAt}
+use Rattle.gix_glob.specs.Tokens.{Byte, Free, Local, TokenAt, IsRun}
 use Rattle.gix_glob.specs.Matching.{Splits, SplitsFrom}
 use Rattle.gix_glob.proofs.CutLemmas.{end_in, end_out, one_in, one_out, free_in, free_out, local_in, local_out}
-use Rattle.gix_glob.specs.Reader.{NoSlash}
 
 -- no byte is special from place i up to place j
 pub record IsLiteral (p : List ℕ) (i j : ℕ) : Type 0 where

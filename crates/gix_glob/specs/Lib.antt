@@ -15,3 +15,7 @@ pub mod Stripping
 pub mod Lists
 pub mod Loaded
 pub mod WholeLine
+pub mod Steps
+pub mod Components
+pub mod Marks
+pub mod Budget

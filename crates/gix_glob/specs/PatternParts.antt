@@ -1,5 +1,9 @@
 -- What callers see of a pattern: its text, its mode and the place of its first special byte.
 use Rattle.std.specs.Prelude.{◌≡◌, ℕ, Bool, List, Option}
+use Rattle.std.specs.Cmp.Lexicographic.{slice_cmp}
+use Rattle.std.specs.Option.{option_cmp}
+use Rattle.std.specs.Ordering.{nat_cmp, ordering_then}
+use Rattle.std.specs.declared.cmp.Ordering.{Ordering}
 use Rattle.gix_glob.specs.declared.pattern.Pattern.{Pattern}
 use Rattle.gix_glob.specs.declared.pattern.mode.Mode.{Mode}
 use Rattle.gix_glob.specs.Patterns.{Reads}
@@ -22,3 +26,9 @@ pub record SamePattern (p q : Pattern) : Type 0 where
   pub text : text_of p ≡ text_of q
   pub mode : mode_of p ≡ mode_of q
   pub place : place_of p ≡ place_of q
+
+-- the order of patterns: by text, then by the bits of the mode, then by place, where `None` comes first
+abbrev pub pattern_cmp : Pattern → Pattern → Ordering
+pattern_cmp p q =
+    ordering_then (slice_cmp nat_cmp (text_of p) (text_of q))
+    (ordering_then (nat_cmp (mode_of p).0 (mode_of q).0) (option_cmp nat_cmp (place_of p) (place_of q)))

@@ -39,6 +39,10 @@ first_special text = position is_special text
 abbrev pub is_star_and_literal : List ℕ → Bool
 is_star_and_literal text = starts_with nat_eq text (codes "*") && not (list_any is_special (drop 1 text))
 
+-- some byte is a slash
+abbrev pub has_slash : List ℕ → Bool
+has_slash text = list_any (λ b. b == slash) text
+
 -- empty, or ASCII whitespace alone
 abbrev pub is_blank : List ℕ → Bool
 is_blank text = list_all is_ascii_whitespace text
@@ -58,14 +62,19 @@ sign_of may_alter text =
 abbrev pub slash_if : Bool → List ℕ
 slash_if there = if there then codes "/" else []
 
--- the bits of what was read, each worth its own number
+-- the bits of a mode, each worth its own number
+abbrev pub sum_of_bits : Bool → Bool → Bool → Bool → Bool → ℕ
+sum_of_bits slashed by_its_end for_directories negative absolute =
+    (if slashed then 0 else 1)
+    + (if by_its_end then 2 else 0)
+    + (if for_directories then 4 else 0)
+    + (if negative then 8 else 0)
+    + (if absolute then 16 else 0)
+
+-- the bits of what was read
 abbrev pub bits_of : List ℕ → List ℕ → List ℕ → List ℕ → ℕ
 bits_of sign lead body tail =
-    (if list_any (λ b. b == slash) body then 0 else 1)
-    + (if is_star_and_literal body then 2 else 0)
-    + (if bytes_eq tail (codes "/") then 4 else 0)
-    + (if bytes_eq sign (codes "!") then 8 else 0)
-    + (if bytes_eq lead (codes "/") then 16 else 0)
+    sum_of_bits (has_slash body) (is_star_and_literal body) (bytes_eq tail (codes "/")) (bytes_eq sign (codes "!")) (bytes_eq lead (codes "/"))
 
 -- The line is a sign, a slash or none, the body, and a slash or none. The body is what a pattern of this line has as its text.
 pub record Reads (text : List ℕ) (may_alter : Bool) (body : List ℕ) (flags : Mode) (place : Option ℕ) : Type 0 where
@@ -79,6 +88,12 @@ pub record Reads (text : List ℕ) (may_alter : Bool) (body : List ℕ) (flags :
   pub trails : tail ≡ slash_if (ends_with nat_eq (body ++ tail) (codes "/"))
   pub flagged : flags.0 ≡ bits_of sign lead body tail
   pub placed : place ≡ first_special body
+
+-- two readings agree in all that is answered
+pub record SameReading (b b' : List ℕ) (f f' : Mode) (p p' : Option ℕ) : Type 0 where
+  pub body : b ≡ b'
+  pub flags : f ≡ f'
+  pub place : p ≡ p'
 
 -- some reading exists
 pub record HasReading (text : List ℕ) (may_alter : Bool) : Type 0 where

@@ -7,6 +7,14 @@ ghost use Rattle.gix_glob.specs.Paths.{pieces, Base, EndsInSlash, IsFolder};
 ghost use Rattle.gix_glob.specs.RepositoryPaths.{IsAfterLastSlash, IsBasenameStart};
 ghost use Rattle.gix_glob.specs.Stripping.{Rest, stripped_place};
 
+mod patterns;
+
+pub use patterns::{
+    case_counts_by_default, flags_do_not_count, line_has_one_reading, literal_text_splits_itself,
+    order_agrees_with_equality, shown_line_is_read_back, two_answers_agree,
+    utf8_is_displayed_as_it_is,
+};
+
 // ---- path texts and bases
 
 /// The pieces of a path text, joined by slashes, are the text.

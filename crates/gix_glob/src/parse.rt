@@ -1,8 +1,8 @@
 //! Reading a pattern line: the sign and the slashes around its text, and what is known of the text.
-ghost use Rattle.std.specs.Prelude.{◌≡◌, ◌==◌, ◌+◌, ◌↔◌, ◌++◌, Bool, IsTrue, IsNone, IfOk, IsOkAnd, MatchOption, true, if◌then◌else◌, codes, nat_eq};
+ghost use Rattle.std.specs.Prelude.{◌≡◌, ◌↔◌, ◌++◌, IsTrue, IsNone, IfOk, IsOkAnd, MatchOption, true, if◌then◌else◌, codes, nat_eq};
 ghost use Rattle.std.specs.List.{starts_with, ends_with, list_any};
 ghost use Rattle.std.specs.Str.{bytes_eq};
-ghost use Rattle.gix_glob.specs.Patterns.{Reads, HasReading, is_blank, without_negation, sign_of, slash_if, bits_of, is_wildcard, is_special, is_star_and_literal, first_special};
+ghost use Rattle.gix_glob.specs.Patterns.{Reads, HasReading, is_blank, without_negation, sign_of, slash_if, sum_of_bits, has_slash, is_wildcard, is_special, is_star_and_literal, first_special};
 ghost use Rattle.gix_glob.specs.PatternParts.{IsReadFrom};
 
 use crate::pattern::{Mode, Pattern};
@@ -10,7 +10,27 @@ use bitflags::Flags;
 use memchr::{memchr, memchr3};
 use std::alloc::{AllocError, Global};
 
-/// Reads a pattern line, with its leading `!`, as [`Pattern::from_bytes`] does: `None` where it is blank.
+/// Reads a pattern line without a copy: its text, borrowed from the line, what is known of it, and the place of its
+/// first `*`, `?`, `[` or `\`, counted in bytes from 0. `None` where the line is blank.
+///
+/// With `may_alter` a leading `!` is taken off and negates, and the backslash of a leading `\!` or `\#` is taken off.
+/// One leading and one trailing slash are taken off in any case. The rule is "reading a pattern" in `docs/PATTERNS.md`.
+pub fn pattern(pat: &[u8], may_alter: bool) -> Option<(&[u8], Mode, Option<usize>)>
+    ensures reads { MatchOption result (¬ HasReading pat.now may_alter) (λ found. Reads pat.now may_alter found.0.now found.1 found.2) }
+    ensures blank { IsNone result ↔ IsTrue (is_blank (if may_alter then without_negation pat.now else pat.now)) }
+{
+    let (line, negative) = after_sign(pat, may_alter);
+    if is_whitespace(line) {
+        return None;
+    }
+    let (line, absolute) = after_lead(line);
+    let (text, must_be_dir) = before_tail(line);
+    let mode = mode_of(text, negative, absolute, must_be_dir);
+    Some((text, mode, first_wildcard_pos(text)))
+}
+
+/// Reads a pattern line, with its leading `!`, as [`Pattern::from_bytes`] does: `None` where it is blank. The error is
+/// want of memory for the text.
 pub fn parse(alloc: Global, text: &[u8]) -> Result<Option<Pattern>, AllocError>
     ensures reads { IfOk result (λ read. MatchOption read (¬ HasReading text.now true) (IsReadFrom text.now true)) }
     ensures blank { IsOkAnd result IsNone ↔ IsTrue (is_blank (without_negation text.now)) }
@@ -73,7 +93,7 @@ pub(crate) fn is_ends_with(text: &[u8]) -> bool
 /// Whether the text has a slash.
 #[tactic(auto, using(crate::proofs::ByteSearches::is_some_first_byte))]
 pub(crate) fn has_slash(text: &[u8]) -> bool
-    ensures { result ≡ list_any (λ b. b == 47) text.now }
+    ensures { result ≡ has_slash text.now }
 {
     memchr(b'/', text).is_some()
 }
@@ -110,12 +130,7 @@ fn before_tail(line: &[u8]) -> (&[u8], bool)
 
 /// What is known of a text and of what stood around it.
 fn mode_of(text: &[u8], negative: bool, absolute: bool, must_be_dir: bool) -> Mode
-    ensures { result.0
-        ≡ (if list_any (λ b. b == 47) text.now then 0 else 1)
-        + (if is_star_and_literal text.now then 2 else 0)
-        + (if must_be_dir then 4 else 0)
-        + (if negative then 8 else 0)
-        + (if absolute then 16 else 0) }
+    ensures { result.0 ≡ sum_of_bits (has_slash text.now) (is_star_and_literal text.now) must_be_dir negative absolute }
 {
     let mut mode = Mode::empty();
     if !has_slash(text) {
@@ -136,17 +151,5 @@ fn mode_of(text: &[u8], negative: bool, absolute: bool, must_be_dir: bool) -> Mo
     mode
 }
 
-/// Reads a pattern line, and answers the text, what is known of it, and the place of its first special byte.
-pub fn pattern(pat: &[u8], may_alter: bool) -> Option<(&[u8], Mode, Option<usize>)>
-    ensures reads { MatchOption result (¬ HasReading pat.now may_alter) (λ found. Reads pat.now may_alter found.0.now found.1 found.2) }
-    ensures blank { IsNone result ↔ IsTrue (is_blank (if may_alter then without_negation pat.now else pat.now)) }
-{
-    let (line, negative) = after_sign(pat, may_alter);
-    if is_whitespace(line) {
-        return None;
-    }
-    let (line, absolute) = after_lead(line);
-    let (text, must_be_dir) = before_tail(line);
-    let mode = mode_of(text, negative, absolute, must_be_dir);
-    Some((text, mode, first_wildcard_pos(text)))
-}
+#[cfg(test)]
+mod tests;

@@ -12,12 +12,17 @@ mod display;
 mod matching;
 mod mode;
 mod paths;
+mod view;
 
 pub use case::Case;
 pub use mode::Mode;
 pub use paths::basename_start;
+pub use view::PatternView;
 
 /// A pattern as it was read: its text, what is known of it, and the place where its literal front ends.
+///
+/// Each value has the place of its own text's first special byte, and `ENDS_WITH` only with a text of that shape. The
+/// rules are in `docs/PATTERNS.md`.
 #[derive(PartialEq, Eq, Debug, Hash, Ord, PartialOrd, Drop)]
 pub struct Pattern {
     text: Vec<u8>,
@@ -33,7 +38,7 @@ impl Pattern {
     ghost use Rattle.gix_glob.specs.Patterns.{HasReading, is_blank, without_negation};
     ghost use Rattle.gix_glob.specs.PatternParts.{text_of, mode_of, place_of, IsReadFrom};
 
-    /// Reads a pattern line, with its leading `!`: `None` where it is blank.
+    /// Reads a pattern line, with its leading `!`: `None` where it is blank. The error is want of memory for the text.
     pub fn from_bytes(alloc: Global, text: &[u8]) -> Result<Option<Pattern>, AllocError>
         ensures reads { IfOk result (λ read. MatchOption read (¬ HasReading text.now true) (IsReadFrom text.now true)) }
         ensures blank { IsOkAnd result IsNone ↔ IsTrue (is_blank (without_negation text.now)) }
@@ -41,7 +46,8 @@ impl Pattern {
         Pattern::read(alloc, text, true)
     }
 
-    /// Reads a pattern line in which `!`, `\!` and `\#` have no meaning of their own: `None` where it is blank.
+    /// Reads a pattern line in which `!`, `\!` and `\#` have no meaning of their own: `None` where it is blank. One leading
+    /// and one trailing slash are taken off all the same. The error is want of memory for the text.
     pub fn from_bytes_without_negation(
         alloc: Global,
         text: &[u8],
@@ -52,6 +58,7 @@ impl Pattern {
         Pattern::read(alloc, text, false)
     }
 
+    /// Reads a pattern line into memory of its own.
     fn read(alloc: Global, line: &[u8], may_alter: bool) -> Result<Option<Pattern>, AllocError>
         ensures reads { IfOk result (λ read. MatchOption read (¬ HasReading line.now may_alter) (IsReadFrom line.now may_alter)) }
         ensures blank { IsOkAnd result IsNone ↔ IsTrue (is_blank (if may_alter then without_negation line.now else line.now)) }
@@ -111,6 +118,20 @@ impl Pattern {
     ghost use Rattle.gix_glob.specs.Patterns.{is_negative, is_wildcard};
     ghost use Rattle.gix_glob.specs.PatternParts.{text_of, mode_of, place_of};
 
+    /// The parts of the pattern, its text borrowed.
+    pub fn view(&self) -> PatternView<'_>
+        ensures text { result.text.now ≡ text_of self.now }
+        ensures mode { result.mode ≡ mode_of self.now }
+        ensures place { result.first_wildcard_pos ≡ place_of self.now }
+        ensures lawful { IsPattern result.text.now result.mode result.first_wildcard_pos }
+    {
+        PatternView {
+            text: &self.text,
+            mode: self.mode,
+            first_wildcard_pos: self.first_wildcard_pos,
+        }
+    }
+
     /// The bytes that are matched, without the sign and the slashes around them.
     pub fn text(&self) -> &[u8]
         ensures { result.now ≡ text_of self.now }
@@ -156,3 +177,6 @@ fn are_parts(text: &[u8], mode: Mode, first_wildcard_pos: Option<usize>) -> bool
     }
     !mode.contains(Mode::ENDS_WITH) || parse::is_ends_with(text)
 }
+
+#[cfg(test)]
+mod tests;

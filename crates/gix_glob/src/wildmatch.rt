@@ -1,12 +1,17 @@
 //! Matching of bytes against a glob pattern: the mode, and the matcher.
 ghost use Rattle.gix_glob.specs.Matching.{Splits, Holds};
 
+mod counted;
+mod marks;
 mod mode;
 mod plain;
 mod sets;
+mod steps;
 mod tokens;
 
+pub use marks::marked;
 pub use mode::Mode;
+pub use steps::Steps;
 
 /// Whether `pattern` matches the whole of `value`, both as bytes of any kind, in `mode`.
 ///

@@ -1,7 +1,17 @@
-//! Worked rows that cross the crates, and runs over readers and writers that fail. Tests alone.
+//! Worked rows of matching, reading and listing, and runs over readers and writers that fail. Tests alone.
 #![tactic(auto)]
 
 #[cfg(test)]
 mod fakes;
+#[cfg(test)]
+mod folding;
+#[cfg(test)]
+mod modes;
+#[cfg(test)]
+mod rows;
+#[cfg(test)]
+mod sets;
+#[cfg(test)]
+mod tokens;
 #[cfg(test)]
 mod wild_rows;

@@ -1,10 +1,10 @@
-//! Whether a value matches: three shortcuts, and the matcher for the rest.
-ghost use Rattle.std.specs.Prelude.{◌≡◌, ◌↔◌, ◌==◌, ◌||◌, not, IsTrue};
-ghost use Rattle.std.specs.List.{list_any};
+//! Whether a value matches, and the comparisons that decide it without the matcher.
+ghost use Rattle.std.specs.Prelude.{◌≡◌, ◌↔◌, ◌||◌, not, IsTrue};
 ghost use Rattle.gix_glob.specs.Bytes.{is_path};
 ghost use Rattle.gix_glob.specs.Folding.{AreAlike, BeginsAlike, EndsAlike};
+ghost use Rattle.gix_glob.specs.Patterns.{has_slash};
 
-use super::{Mode, Pattern};
+use super::Pattern;
 use crate::{parse, wildmatch};
 use bitflags::Flags;
 
@@ -13,34 +13,23 @@ impl Pattern {
     ghost use Rattle.gix_glob.specs.PatternParts.{text_of};
 
     /// Whether the text matches the value. What the line said of negation, of directories and of a leading slash
-    /// doesn't count.
-    ///
-    /// A text without special bytes, a literal front, and a star before a literal are decided without the matcher.
+    /// doesn't count. It takes no memory. The rule is "matching a value" in `docs/PATTERNS.md`.
     pub fn matches(&self, value: &[u8], mode: wildmatch::Mode) -> bool
         ensures { Holds result (Splits value.now (text_of self.now) mode) (text_of self.now) }
     {
-        let Some(pos) = self.first_wildcard_pos else {
-            return are_alike(&self.text, value, mode);
-        };
-        if self.mode.contains(Mode::ENDS_WITH) && is_one_component(value, mode) {
-            return ends_alike(&self.text[1..], value, mode);
-        }
-        if !begins_alike(&self.text[..pos], value, mode) {
-            return false;
-        }
-        wildmatch::wildmatch(&self.text, value, mode)
+        self.view().matches(value, mode)
     }
 }
 
 /// Whether a star may take all bytes of the value: in plain mode, and where the value has no slash.
-fn is_one_component(value: &[u8], mode: wildmatch::Mode) -> bool
-    ensures { result ≡ (not (is_path mode) || not (list_any (λ b. b == 47) value.now)) }
+pub(super) fn is_one_component(value: &[u8], mode: wildmatch::Mode) -> bool
+    ensures { result ≡ (not (is_path mode) || not (has_slash value.now)) }
 {
     !mode.contains(wildmatch::Mode::NO_MATCH_SLASH_LITERAL) || !parse::has_slash(value)
 }
 
 /// Whether the two texts are equal, up to case where the mode folds.
-fn are_alike(a: &[u8], b: &[u8], mode: wildmatch::Mode) -> bool
+pub(super) fn are_alike(a: &[u8], b: &[u8], mode: wildmatch::Mode) -> bool
     ensures { IsTrue result ↔ AreAlike mode a.now b.now }
 {
     if mode.contains(wildmatch::Mode::IGNORE_CASE) {
@@ -51,7 +40,7 @@ fn are_alike(a: &[u8], b: &[u8], mode: wildmatch::Mode) -> bool
 }
 
 /// Whether the value begins with the text, up to case where the mode folds.
-fn begins_alike(front: &[u8], value: &[u8], mode: wildmatch::Mode) -> bool
+pub(super) fn begins_alike(front: &[u8], value: &[u8], mode: wildmatch::Mode) -> bool
     ensures { IsTrue result ↔ BeginsAlike mode value.now front.now }
 {
     if value.len() < front.len() {
@@ -61,7 +50,7 @@ fn begins_alike(front: &[u8], value: &[u8], mode: wildmatch::Mode) -> bool
 }
 
 /// Whether the value ends in the text, up to case where the mode folds.
-fn ends_alike(end: &[u8], value: &[u8], mode: wildmatch::Mode) -> bool
+pub(super) fn ends_alike(end: &[u8], value: &[u8], mode: wildmatch::Mode) -> bool
     ensures { IsTrue result ↔ EndsAlike mode value.now end.now }
 {
     if value.len() < end.len() {

@@ -2,7 +2,7 @@
 ghost use Rattle.std.specs.Prelude.{◌≡◌, ◌↔◌, IsTrue, Some};
 ghost use Rattle.gix_glob.specs.RepositoryPaths.{IsBasenameStart, with_case};
 
-use super::{Case, Mode, Pattern};
+use super::{Case, Pattern};
 use crate::wildmatch;
 use bitflags::Flags;
 use memchr::memrchr;
@@ -11,11 +11,11 @@ use memchr::memrchr;
 pub fn basename_start(path: &[u8]) -> Option<usize>
     ensures { IsBasenameStart path.now result }
 {
-    memrchr(b'/', path).map(|slash| slash + 1)
+    memrchr(b'/', path).map(|place| place + 1)
 }
 
 /// The mode of a match, in which case doesn't count where it is to be folded.
-fn with_case(mode: wildmatch::Mode, case: Case) -> wildmatch::Mode
+pub(super) fn with_case(mode: wildmatch::Mode, case: Case) -> wildmatch::Mode
     ensures { result ≡ with_case mode case }
 {
     match case {
@@ -26,15 +26,16 @@ fn with_case(mode: wildmatch::Mode, case: Case) -> wildmatch::Mode
 
 impl Pattern {
     ghost use Rattle.std.specs.Option.{ForSome};
-    ghost use Rattle.gix_glob.specs.Bytes.{HasByte};
+    ghost use Rattle.gix_glob.specs.Bytes.{HasByte, slash};
     ghost use Rattle.gix_glob.specs.Matching.{Holds};
     ghost use Rattle.gix_glob.specs.PatternParts.{text_of, mode_of};
-    ghost use Rattle.gix_glob.specs.RepositoryPaths.{IsAfterLastSlash, Answers, subject};
+    ghost use Rattle.gix_glob.specs.RepositoryPaths.{IsAfterLastSlash, Answers};
 
-    /// Whether a path of a repository matches. A path without leading slash is asked about, and `basename_start_pos`
-    /// is what [`basename_start`] answers for it, or `None` where the whole path is to be looked at.
+    /// Whether a path of a repository matches. The path has no leading slash, and `basename_start_pos` is what
+    /// [`basename_start`] answers for it, or `None` where the whole path is to be looked at.
     ///
-    /// A pattern for directories matches only where `is_dir` is `Some(true)`.
+    /// A pattern for directories matches only where `is_dir` is `Some(true)`. It takes no memory. The rule is "matching a
+    /// repository path" in `docs/PATTERNS.md`.
     pub fn matches_repo_relative_path(
         &self,
         path: &[u8],
@@ -43,29 +44,11 @@ impl Pattern {
         case: Case,
         mode: wildmatch::Mode,
     ) -> bool
-        requires relative { ¬ HasByte path.now 0 47 }
+        requires relative { ¬ HasByte path.now 0 slash }
         requires basename { ForSome basename_start_pos (IsAfterLastSlash path.now) }
         ensures { Holds result (Answers (text_of self.now) (mode_of self.now) path.now basename_start_pos is_dir case mode) (text_of self.now) }
     {
-        if self.mode.contains(Mode::MUST_BE_DIR) && is_dir != Some(true) {
-            return false;
-        }
-        self.matches(
-            self.subject(path, basename_start_pos),
-            with_case(mode, case),
-        )
-    }
-
-    /// The bytes of a path that the pattern looks at.
-    fn subject<'a>(&self, path: &'a [u8], basename_start_pos: Option<usize>) -> &'a [u8]
-        requires { ForSome basename_start_pos (IsAfterLastSlash path.now) }
-        ensures { result.now ≡ subject (mode_of self.now) path.now basename_start_pos }
-    {
-        match basename_start_pos {
-            Some(start)
-                if self.mode.contains(Mode::NO_SUB_DIR) && !self.mode.contains(Mode::ABSOLUTE) =>
-                &path[start..],
-            _ => path,
-        }
+        self.view()
+            .matches_repo_relative_path(path, basename_start_pos, is_dir, case, mode)
     }
 }

@@ -1,7 +1,7 @@
 //! The reader of tokens: what stands at a place of the pattern, and the place after it.
 ghost use Rattle.std.specs.Prelude.{◌≡◌, ◌↔◌, ℕ, ◌<◌, ◌≤◌, IsTrue, length};
 ghost use Rattle.gix_glob.specs.Tokens.{Token, TokenAt, IsRun, IsBounded, IsAfterSlash, IsBeforeSlash};
-ghost use Rattle.gix_glob.specs.Bytes.{HasByte, star};
+ghost use Rattle.gix_glob.specs.Bytes.{HasByte, slash, star};
 ghost use Rattle.gix_glob.specs.Reader.{IsToken, is_star, shape_of, Fits};
 
 use super::mode::Mode;
@@ -120,6 +120,13 @@ impl Shape {
         ensures { result ≡ is_star self }
     {
         matches!(self, Shape::Free | Shape::Local | Shape::Dirs)
+    }
+
+    /// Whether the token is a slash, bare or escaped.
+    pub fn is_slash(self) -> bool
+        ensures { IsTrue result ↔ (self ≡ Shape.Byte slash) }
+    {
+        matches!(self, Shape::Byte(b'/'))
     }
 
     /// Whether the token of this shape at this place is one of a single byte and takes that byte.

@@ -1,5 +1,5 @@
 -- The sign is taken off first, so what follows it decides whether there is a reading.
-use Rattle.std.proofs.Common.{sym, ◌∙◌, ap}
+use Rattle.std.proofs.Common.{sym, ◌∙◌}
 use Rattle.std.proofs.lemmas.Bool.{false≢true, true≢false}
 use Rattle.gix_glob.proofs.LineReading.{not_blank-HasReading, blank_after_sign}
 use Rattle.gix_glob.proofs.parse.pattern.Goals as goal

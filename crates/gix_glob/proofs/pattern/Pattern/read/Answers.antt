@@ -1,5 +1,5 @@
 -- What is read keeps the invariant.
-use Rattle.std.proofs.Common.{◌≡◌, sym, subst, List, ℕ}
+use Rattle.std.proofs.Common.{sym, subst, List, ℕ}
 use Rattle.gix_glob.specs.Patterns.{IsPattern}
 use Rattle.gix_glob.proofs.LineReading.{IsPattern-Reads}
 use Rattle.gix_glob.proofs.pattern.Pattern.read.Goals as goal

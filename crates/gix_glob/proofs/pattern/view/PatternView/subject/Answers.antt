@@ -1,6 +1,6 @@
 -- Where the last part of a path begins lies within the path.
 use Rattle.std.proofs.Common.{arith, rules}
-use Rattle.gix_glob.proofs.pattern.Pattern.subject.Goals as goal
+use Rattle.gix_glob.proofs.pattern.view.PatternView.subject.Goals as goal
 
 pub slice_bounds-result-count : goal.slice_bounds-result-count
 slice_bounds-result-count c =

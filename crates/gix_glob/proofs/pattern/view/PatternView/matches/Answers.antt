@@ -1,0 +1,23 @@
+-- Each shortcut answers what the tokens of the text say.
+use Rattle.std.proofs.Common.{sym, ◌∙◌}
+use Rattle.gix_glob.proofs.Shortcuts.{whole_holds, end_holds, front_holds}
+use Rattle.gix_glob.proofs.pattern.view.PatternView.matches.Goals as goal
+
+pub returns-in_default : goal.returns-in_default
+returns-in_default c = λ lawful.
+    whole_holds c.are_alike.result c.args.self.text.now c.args.value.now c.args.mode (sym lawful.placed ∙ c.in_default.is)
+    c.are_alike.ensures
+
+pub returns-then-is_one_component : goal.returns-then-is_one_component
+returns-then-is_one_component c = λ lawful.
+    let exact = rw c.past_star.ensures at c.ends_alike.ensures in
+    end_holds c.ends_alike.result c.args.self.text.now c.args.value.now c.args.mode
+    (lawful.ends (sym (c.contains.ensures tt) ∙ c.if-contains.true))
+    (sym c.is_one_component.ensures ∙ c.if-is_one_component.true)
+    exact
+
+pub returns-then-not-begins_alike : goal.returns-then-not-begins_alike
+returns-then-not-begins_alike c = λ lawful.
+    let exact = rw c.front.ensures at c.begins_alike.ensures in
+    front_holds c.begins_alike.result c.args.self.text.now c.args.value.now c.args.mode c.in-Some.pos
+    (sym lawful.placed ∙ c.in-Some.is) c.if-not-begins_alike.true exact

@@ -1,0 +1,22 @@
+-- The line was read, and the path looked at from its last slash on.
+use Rattle.std.proofs.Common.{subst, Some}
+use Rattle.gix_glob.specs.declared.pattern.case.Case.{Case}
+use Rattle.gix_glob.specs.Matching.{Holds}
+use Rattle.gix_glob.specs.RepositoryPaths.{Answers}
+use Rattle.gix_glob_c.proofs.gix_glob_matches_path.Goals as goal
+
+pub returns-clause-answers : goal.returns-clause-answers
+returns-clause-answers c = λ reading relative.
+    let view = c.in-Some.view in
+    record {
+      body = view.text.now;
+      flags = view.mode;
+      place = view.first_wildcard_pos;
+      position = c.basename_start.result;
+      read = c.in-Some.ensures.reads;
+      start = c.basename_start.ensures;
+      holds = subst (λ (case : Case). Holds c.matches_repo_relative_path.result
+          (Answers view.text.now view.mode c.args.path.now c.basename_start.result (Some c.args.is_dir) case (record { 0 = 1 }))
+          view.text.now)
+          c.case_for.ensures (c.matches_repo_relative_path.ensures c.in-Some.ensures.lawful);
+    }

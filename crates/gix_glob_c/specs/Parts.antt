@@ -1,0 +1,26 @@
+-- What the numbers that cross from C stand for.
+use Rattle.std.specs.Prelude.{ℕ, Bool, true, List, length, nat_lt, Option, None, Some, if◌then◌else◌}
+use Rattle.gix_glob.specs.declared.pattern.case.Case.{Case}
+use Rattle.gix_glob.specs.declared.pattern.case.Case.TheVariants.{Sensitive, Fold}
+use Rattle.gix_glob.specs.declared.pattern.mode.Mode.{Mode}
+use Rattle.gix_glob.specs.Matching.{Holds}
+use Rattle.gix_glob.specs.Patterns.{Reads}
+use Rattle.gix_glob.specs.RepositoryPaths.{Answers, IsBasenameStart}
+
+-- whether case counts
+abbrev pub case_of : Bool → Case
+case_of fold = if fold then Fold else Sensitive
+
+-- a place past the text's end stands for none
+abbrev pub place_of : List ℕ → ℕ → Option ℕ
+place_of text place = if nat_lt place (length text) then Some place else None
+
+-- the answer is that of the pattern which the line reads as, for the path, in path mode
+pub record LineAnswers (line path : List ℕ) (is_dir fold answer : Bool) : Type 0 where
+  pub body : List ℕ
+  pub flags : Mode
+  pub place : Option ℕ
+  pub position : Option ℕ
+  pub read : Reads line true body flags place
+  pub start : IsBasenameStart path position
+  pub holds : Holds answer (Answers body flags path position (Some is_dir) (case_of fold) (record { 0 = 1 })) body

@@ -1,0 +1,82 @@
+//! The matcher for C: a static library over `gix_glob`, declared in `include/gix_glob.h`.
+#![tactic(auto)]
+
+ghost use Rattle.std.specs.Prelude.{◌≡◌, true, false};
+ghost use Rattle.gix_glob.specs.Bytes.{HasByte, slash};
+ghost use Rattle.gix_glob.specs.Matching.{Holds, Splits};
+ghost use Rattle.gix_glob.specs.Patterns.{HasReading, IsPattern};
+ghost use Rattle.gix_glob_c.specs.Parts.{LineAnswers, case_of, place_of};
+
+use bitflags::Flags;
+use gix_glob::pattern::{self, Case, PatternView, basename_start};
+use gix_glob::wildmatch::{Mode, wildmatch};
+
+/// Whether the pattern matches the whole of the value. Bit 1 of `mode` is path mode, bit 2 folds; others don't count.
+#[unsafe(no_mangle)]
+pub extern "C" fn gix_glob_wildmatch(pattern: &[u8], value: &[u8], mode: u8) -> bool
+    ensures { Holds result (Splits value.now pattern.now (record { 0 = mode })) pattern.now }
+{
+    wildmatch(pattern, value, Mode::from_bits_retain(mode))
+}
+
+/// Whether a pattern line matches a path of a repository, in path mode. A blank line matches nothing, and a path
+/// with a leading slash isn't matched.
+#[unsafe(no_mangle)]
+pub extern "C" fn gix_glob_matches_path(line: &[u8], path: &[u8], is_dir: bool, fold: bool) -> bool
+    ensures blank { ¬ HasReading line.now true → result ≡ false }
+    ensures absolute { HasByte path.now 0 slash → result ≡ false }
+    ensures answers { HasReading line.now true → ¬ HasByte path.now 0 slash → LineAnswers line.now path.now is_dir fold result }
+{
+    let Some(view) = PatternView::from_bytes(line) else {
+        return false;
+    };
+    if path.starts_with(b"/") {
+        return false;
+    }
+    view.matches_repo_relative_path(
+        path,
+        basename_start(path),
+        Some(is_dir),
+        case_for(fold),
+        Mode::NO_MATCH_SLASH_LITERAL,
+    )
+}
+
+/// Whether the text of a pattern, whose parts were read before, matches the value. A place past the text's end stands for
+/// none. Parts that don't belong together may give a wrong answer, and nothing worse.
+#[unsafe(no_mangle)]
+pub extern "C" fn gix_glob_matches(
+    text: &[u8],
+    pattern_mode: u32,
+    first_wildcard_pos: usize,
+    value: &[u8],
+    mode: u8,
+) -> bool
+    ensures { IsPattern text.now (record { 0 = pattern_mode }) (place_of text.now first_wildcard_pos) →
+        Holds result (Splits value.now text.now (record { 0 = mode })) text.now }
+{
+    let view = PatternView {
+        text,
+        mode: pattern::Mode::from_bits_retain(pattern_mode),
+        first_wildcard_pos: place_in(text, first_wildcard_pos),
+    };
+    view.matches(value, Mode::from_bits_retain(mode))
+}
+
+/// The place, where it is inside the text.
+fn place_in(text: &[u8], place: usize) -> Option<usize>
+    ensures { result ≡ place_of text.now place }
+{
+    if place < text.len() {
+        Some(place)
+    } else {
+        None
+    }
+}
+
+/// Whether case counts.
+fn case_for(fold: bool) -> Case
+    ensures { result ≡ case_of fold }
+{
+    if fold { Case::Fold } else { Case::Sensitive }
+}
