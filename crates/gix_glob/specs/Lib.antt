@@ -2,12 +2,12 @@ pub mod Bytes
 pub mod Sets
 pub mod Tokens
 pub mod Matching
-pub mod Watched
 pub mod Reader
 pub mod Folding
 pub mod Patterns
 pub mod PatternParts
 pub mod RepositoryPaths
+pub mod Watched
 pub mod Loading
 pub mod Paths
 pub mod PartsLeft

@@ -1,15 +1,16 @@
 //! The words of the command line: what they ask for, and the status that the program ends with.
 ghost use Rattle.std.specs.Prelude.{◌≡◌, ◌≤◌, ◌↔◌, false, map, string_bytes, OnOk};
 ghost use Rattle.gix_glob.specs.Watched.{has_failed, inner};
-ghost use Rattle.globline.specs.Words.{AnsweredWords, AreWrong, CarriesOut};
+ghost use Rattle.globline.specs.Words.{AnsweredWords, AreWrong, CanRun, CarriesOut};
 
 #[cfg(test)]
 mod tests;
 
-use crate::command::Command;
+use crate::command::{Command, command_of};
 use gix_glob::search::Watched;
-use glob_lines::{EngineFault, run_wild};
+use glob_lines::{EngineFault, run_list, run_wild};
 use std::alloc::Global;
+use std::fs;
 use std::io::{ErrorKind, Read, Write};
 use std::rt::Files;
 
@@ -46,7 +47,7 @@ pub fn run_words<F: Files, I: Read, O: Write, E: Write>(
     ensures wrong { (result ≡ 2) ↔ AreWrong (map string_bytes words.now) }
     ensures unchanged { result ≡ 2 → output.new ≡ output.old }
 {
-    let Some(command) = Command::from_words(words) else {
+    let Some(command) = command_of(words) else {
         return wrong_words(errors);
     };
     match run(rt, alloc, command, input, output) {
@@ -75,12 +76,25 @@ fn run<F: Files, I: Read, O: Write>(
 ) -> Result<(), EngineFault>
     requires readable { has_failed input.old ≡ false }
     requires writable { has_failed output.old ≡ false }
+    requires file { CanRun command }
     ensures { OnOk result (CarriesOut command.entry
         (I.remaining (inner input.old)) (I.remaining (inner input.new)) (O.contents (inner output.old)) (O.contents (inner output.new))) }
 {
     match command {
         Command::Wild { mode, pattern } => run_wild(alloc, pattern, mode, input, output),
+        Command::List { case, file, root } => {
+            let mut patterns = Watched::new(open(rt, file)?);
+            run_list(alloc, &mut patterns, file, root, case, input, output)
+        }
     }
+}
+
+/// Opens the file of pattern lines.
+fn open<F: Files>(rt: &F, file: &str) -> Result<F::File, EngineFault> {
+    fs::open(rt, file).map_err(|refused| match refused.kind() {
+        ErrorKind::OutOfMemory => EngineFault::Memory,
+        _ => EngineFault::Read,
+    })
 }
 
 /// Tells a fault.
