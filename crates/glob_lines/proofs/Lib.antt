@@ -1,3 +1,7 @@
 pub mod LinesLemmas
+pub mod MappingsLemmas
+pub mod NumbersLemmas
 pub mod PathsLemmas
+pub mod PlainLemmas
+pub mod StrippingLemmas
 pub mod TransferLemmas

@@ -1,5 +1,5 @@
 -- The lines of bytes: the relation and the equations agree.
-use Rattle.std.proofs.Common.{◌≡◌, ◌≢◌, inl, inr, ⊎_elim, ℕ, zero, suc, ◌+◌, ◌<◌, cond, List, [], ◌∷◌, ◌++◌, length, take, drop, get_or, Some, None, refl, sym, ap, subst, ◌∙◌, append_assoc, append-nil, le_refl, take_all, take-append-drop, arith}
+use Rattle.std.proofs.Common.{◌≡◌, ◌≢◌, inl, inr, ⊎_elim, ℕ, zero, suc, ◌+◌, ◌<◌, ◌≤◌, cond, List, [], ◌∷◌, ◌++◌, length, take, drop, get_or, Some, None, refl, sym, ap, subst, ◌∙◌, append_assoc, append-nil, le_refl, take_all, take-append-drop, arith}
 use Rattle.std.specs.List.{AllByRecursion, onto_first}
 use Rattle.std.proofs.lemmas.Bool.{ne_eqb, eqb-true, eq-eqb}
 use Rattle.std.proofs.lemmas.Bool.Decides.{eqb_tells}
@@ -158,3 +158,19 @@ IsWrittenUpTo-more P all rest more text new line written h is p e = record {
 
 pub IsWrittenUpTo-all : (P : List ℕ → List ℕ → Type 0) (all rest : List (List ℕ)) (text : List ℕ) → IsWrittenUpTo P all rest text → rest ≡ [] → WritesEach P all text
 IsWrittenUpTo-all P all rest text h none = subst (λ lines. WritesEach P lines text) (sym (h.split ∙ ap (λ l. h.done ++ l) none ∙ append-nil h.done)) h.writes
+
+-- ---- how many
+
+length-onto_first-le : (b : ℕ) (texts : List (List ℕ)) → length (onto_first b texts) ≤ suc (length texts)
+length-onto_first-le b [] = omega arith
+length-onto_first-le b (text ∷ texts) = omega arith
+
+pub length-lines_of-le : (bytes : List ℕ) → length (lines_of bytes) ≤ length bytes
+length-lines_of-le [] = omega arith
+length-lines_of-le (b ∷ bytes) =
+    let fewer = length-lines_of-le bytes in
+    let first = length-onto_first-le b (lines_of bytes) in
+    ⊎_elim
+    (λ is. rw is.0 (omega arith))
+    (λ is. rw is.0 (omega arith))
+    (eqb_tells b line_feed)

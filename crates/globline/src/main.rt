@@ -1,6 +1,7 @@
 //! Answers, line by line, which glob patterns match.
 #![tactic(auto)]
 
+mod command;
 mod words;
 
 use gix_glob::search::Watched;

@@ -1,15 +1,16 @@
 //! The words of the command line: what they ask for, and the status that the program ends with.
-ghost use Rattle.std.specs.Prelude.{◌≡◌, ◌≤◌, false, OnOk};
-ghost use Rattle.gix_glob.specs.Watched.{has_failed};
+ghost use Rattle.std.specs.Prelude.{◌≡◌, ◌≤◌, ◌↔◌, false, map, string_bytes, OnOk};
+ghost use Rattle.gix_glob.specs.Watched.{has_failed, inner};
+ghost use Rattle.globline.specs.Words.{AnsweredWords, AreWrong, CanRun, CarriesOut};
 
 #[cfg(test)]
 mod tests;
 
-use bitflags::Flags;
+use crate::command::{Command, command_of};
 use gix_glob::search::Watched;
-use gix_glob::wildmatch::Mode;
-use glob_lines::{EngineFault, run_wild};
+use glob_lines::{EngineFault, run_list, run_wild};
 use std::alloc::Global;
+use std::fs;
 use std::io::{ErrorKind, Read, Write};
 use std::rt::Files;
 
@@ -24,11 +25,6 @@ const USAGE: &str = "\
 usage: globline wild plain|fold|path|path-fold PATTERN
        globline list sensitive|fold FILE ROOT
 ";
-
-/// What the words ask for.
-enum Command<'a> {
-    Wild { mode: Mode, pattern: &'a [u8] },
-}
 
 /// Does what the words after the program's name ask for, and answers the status to end with.
 ///
@@ -45,8 +41,11 @@ pub fn run_words<F: Files, I: Read, O: Write, E: Write>(
     requires readable { has_failed input.old ≡ false }
     requires writable { has_failed output.old ≡ false }
     ensures status { result ≤ 2 }
-    ensures wrong { result ≡ 2 → output.new ≡ output.old }
-    ensures answered { result ≡ 0 → has_failed output.new ≡ false }
+    // The words were understood, and the lines were answered, all of them.
+    ensures answered { result ≡ 0 → AnsweredWords (map string_bytes words.now)
+        (I.remaining (inner input.old)) (I.remaining (inner input.new)) (O.contents (inner output.old)) (O.contents (inner output.new)) }
+    ensures wrong { (result ≡ 2) ↔ AreWrong (map string_bytes words.now) }
+    ensures unchanged { result ≡ 2 → output.new ≡ output.old }
 {
     let Some(command) = command_of(words) else {
         return wrong_words(errors);
@@ -67,28 +66,6 @@ pub(crate) fn without_words<E: Write>(refused: ErrorKind, errors: &mut E) -> u8
     }
 }
 
-/// What the words ask for, or nothing where they are wrong.
-fn command_of(words: &[String]) -> Option<Command<'_>> {
-    match words {
-        [command, mode, pattern] if command.as_str() == "wild" => Some(Command::Wild {
-            mode: mode_of(mode.as_str())?,
-            pattern: pattern.as_bytes(),
-        }),
-        _ => None,
-    }
-}
-
-/// The match mode that a word names.
-fn mode_of(word: &str) -> Option<Mode> {
-    match word {
-        "plain" => Some(Mode::empty()),
-        "fold" => Some(Mode::IGNORE_CASE),
-        "path" => Some(Mode::NO_MATCH_SLASH_LITERAL),
-        "path-fold" => Some(Mode::NO_MATCH_SLASH_LITERAL.union(Mode::IGNORE_CASE)),
-        _ => None,
-    }
-}
-
 /// Runs the engine that the command asks for.
 fn run<F: Files, I: Read, O: Write>(
     rt: &F,
@@ -99,11 +76,25 @@ fn run<F: Files, I: Read, O: Write>(
 ) -> Result<(), EngineFault>
     requires readable { has_failed input.old ≡ false }
     requires writable { has_failed output.old ≡ false }
-    ensures ok { OnOk result (has_failed output.new ≡ false) }
+    requires file { CanRun command }
+    ensures { OnOk result (CarriesOut command.entry
+        (I.remaining (inner input.old)) (I.remaining (inner input.new)) (O.contents (inner output.old)) (O.contents (inner output.new))) }
 {
     match command {
         Command::Wild { mode, pattern } => run_wild(alloc, pattern, mode, input, output),
+        Command::List { case, file, root } => {
+            let mut patterns = Watched::new(open(rt, file)?);
+            run_list(alloc, &mut patterns, file, root, case, input, output)
+        }
     }
+}
+
+/// Opens the file of pattern lines.
+fn open<F: Files>(rt: &F, file: &str) -> Result<F::File, EngineFault> {
+    fs::open(rt, file).map_err(|refused| match refused.kind() {
+        ErrorKind::OutOfMemory => EngineFault::Memory,
+        _ => EngineFault::Read,
+    })
 }
 
 /// Tells a fault.

@@ -1,0 +1,166 @@
+//! The engine that lists, for each path line, the numbers of the pattern lines that match it.
+ghost use Rattle.std.specs.Prelude.{◌≡◌, ◌↔◌, ◌||◌, false, map, option_map, MatchOption, IsTrue, IfOk, OnOk, IsErrOf};
+ghost use Rattle.std.specs.Option.{ForSome, option_copied};
+ghost use Rattle.std.specs.Vec.{vec_items};
+ghost use Rattle.std.specs.Io.KnownBytes.{Appends};
+ghost use Rattle.gix_glob.specs.Bytes.{HasByte};
+ghost use Rattle.gix_glob.specs.Lists.{entry_of};
+ghost use Rattle.gix_glob.specs.Paths.{EndsInSlash, has_file_part};
+ghost use Rattle.gix_glob.specs.RepositoryPaths.{IsBasenameStart};
+ghost use Rattle.gix_glob.specs.Stripping.{NothingLeft, RestOf};
+ghost use Rattle.gix_glob.specs.Watched.{has_failed, inner};
+ghost use Rattle.glob_lines.specs.Mappings.{MappingsText, MatchesText, ReadsBoth, WritesMatches, WritesNumbers};
+ghost use Rattle.glob_lines.specs.Transfers.{Adds, AppendsFront, Run};
+
+use crate::decimal::append_decimal;
+use crate::fault::EngineFault;
+use crate::lines::Lines;
+use crate::paths::{path_of, plain_path};
+use crate::plain::PlainLines;
+use crate::transfer::{read_whole, write_whole};
+use gix_glob::laws;
+use gix_glob::pattern::{Case, basename_start};
+use gix_glob::search::Watched;
+use gix_glob::search::pattern::{List, Mapping};
+use gix_glob::wildmatch::Mode;
+use std::alloc::{AllocError, Global};
+use std::io::{Read, Write};
+
+/// Reads pattern lines, and path lines, each to its end, and writes for each path line the numbers of the pattern lines
+/// that match it.
+///
+/// The pattern lines are read by [`PlainLines`], into one list with the base of `source` under `root`. For each path line
+/// a line is written: `!` where it is not [`plain_path`]; else the numbers of the pattern lines that match, from 1, in
+/// decimal, in order, with one space between; nothing where the path does not begin with the base. A trailing slash marks a
+/// directory and is not part of the path. A negative pattern is listed like any other.
+///
+/// With a root some part of the source must be able to name a file, which `has_file_part` of `gix_glob` tells. No call on
+/// a reader or the writer may have failed before. All input is read before anything is written: `EngineFault::Memory` and
+/// `EngineFault::Read` leave the output as it was, and after `EngineFault::Write` a beginning of the text was written.
+/// Lines and texts are told in `docs/LINES.md`.
+pub fn run_list<P: Read, Q: Read, W: Write>(
+    alloc: Global,
+    patterns: &mut Watched<P>,
+    source: &str,
+    root: Option<&str>,
+    case: Case,
+    paths: &mut Watched<Q>,
+    writer: &mut Watched<W>,
+) -> Result<(), EngineFault>
+    requires patterns_readable { has_failed patterns.old ≡ false }
+    requires paths_readable { has_failed paths.old ≡ false }
+    requires writable { has_failed writer.old ≡ false }
+    requires file { ForSome root (λ _. IsTrue (has_file_part source.now)) }
+    // On success, all of both inputs was read, and all of a text of mappings was written.
+    ensures ok { OnOk result
+        (Run (ReadsBoth (P.remaining (inner patterns.old)) (P.remaining (inner patterns.new))
+            (Q.remaining (inner paths.old)) (Q.remaining (inner paths.new)))
+        (MappingsText source.now (option_copied root.entry) case)
+        (Appends (W.contents (inner writer.old)) (W.contents (inner writer.new)))) }
+    ensures memory { IsErrOf result EngineFault.Memory → writer.new ≡ writer.old }
+    ensures read { IsErrOf result EngineFault.Read → writer.new ≡ writer.old }
+    ensures write { IsErrOf result EngineFault.Write →
+        Run (ReadsBoth (P.remaining (inner patterns.old)) (P.remaining (inner patterns.new))
+            (Q.remaining (inner paths.old)) (Q.remaining (inner paths.new)))
+        (MappingsText source.now (option_copied root.entry) case)
+        (AppendsFront (W.contents (inner writer.old)) (W.contents (inner writer.new))) }
+    ensures read_failed { IsErrOf result EngineFault.Read ↔ IsTrue (has_failed patterns.new || has_failed paths.new) }
+    ensures write_failed { IsErrOf result EngineFault.Write ↔ IsTrue (has_failed writer.new) }
+{
+    let pattern_lines = read_whole(alloc, patterns)?;
+    let source = String::from_str(alloc, source)?;
+    let list = List::from_bytes(alloc, &pattern_lines, source, root, PlainLines)?;
+    let path_lines = read_whole(alloc, paths)?;
+    // a law does nothing: it is called for what it ensures
+    laws::bases_end_in_a_slash();
+    let text = matches_of(alloc, &list, case, &path_lines)?;
+    write_whole(writer, &text)
+}
+
+/// The text of mappings for the path lines.
+fn matches_of(
+    alloc: Global,
+    list: &List<PlainLines>,
+    case: Case,
+    paths: &[u8],
+) -> Result<Vec<u8>, AllocError>
+    requires { ForSome (option_map vec_items list.now.base) EndsInSlash }
+    ensures { IfOk result (λ text.
+        MatchesText (map (entry_of (λ _. tt)) list.now.patterns.items) (option_map vec_items list.now.base) case paths.now text.items) }
+{
+    let mut text = Vec::new(alloc);
+    for line in Lines::new(paths) {
+        append_matches(&mut text, list, case, line)?;
+        text.push(b'\n')?;
+    }
+    Ok(text)
+}
+
+/// Appends what is written for a path line, without the line feed.
+fn append_matches(
+    text: &mut Vec<u8>,
+    list: &List<PlainLines>,
+    case: Case,
+    line: &[u8],
+) -> Result<(), AllocError>
+    requires { ForSome (option_map vec_items list.now.base) EndsInSlash }
+    ensures { OnOk result (Adds
+        (WritesMatches (map (entry_of (λ _. tt)) list.now.patterns.items) (option_map vec_items list.now.base) case line.now)
+        text.old.items text.new.items) }
+{
+    if !plain_path(line) {
+        text.push(b'!')?;
+        return Ok(());
+    }
+    let (path, is_dir) = path_of(line);
+    match rest_of(list, path, case) {
+        Some((rest, position)) => {
+            append_numbers(text, &list.patterns, rest, position, is_dir, case)
+        }
+        None => Ok(()),
+    }
+}
+
+/// What is left of a path under the base of the list, and where the last part of it begins.
+fn rest_of<'a>(
+    list: &List<PlainLines>,
+    path: &'a [u8],
+    case: Case,
+) -> Option<(&'a [u8], Option<usize>)>
+    requires { ForSome (option_map vec_items list.now.base) EndsInSlash }
+    ensures { MatchOption result
+        (NothingLeft case (option_map vec_items list.now.base) path.entry.now)
+        (λ left. RestOf case (option_map vec_items list.now.base) path.entry.now left.0.now × IsBasenameStart left.0.now left.1) }
+{
+    laws::positions_lie_past_the_base();
+    laws::stripped_positions_are_the_rests_own();
+    list.strip_base_handle_recompute_basename_pos(path, basename_start(path), case)
+}
+
+/// Appends the numbers of the mappings that match what is left of a path.
+fn append_numbers(
+    text: &mut Vec<u8>,
+    mappings: &[Mapping<()>],
+    rest: &[u8],
+    position: Option<usize>,
+    is_dir: bool,
+    case: Case,
+) -> Result<(), AllocError>
+    requires relative { ¬ HasByte rest.now 0 47 }
+    requires basename { IsBasenameStart rest.now position }
+    ensures { OnOk result (Adds
+        (WritesNumbers (map (entry_of (λ _. tt)) mappings.now) case is_dir rest.now)
+        text.old.items text.new.items) }
+{
+    let mut separator = b"".as_slice();
+    for mapping in mappings {
+        let pattern = &mapping.pattern;
+        let mode = Mode::NO_MATCH_SLASH_LITERAL;
+        if pattern.matches_repo_relative_path(rest, position, Some(is_dir), case, mode) {
+            text.extend_from_slice(separator)?;
+            append_decimal(text, mapping.sequence_number)?;
+            separator = b" ".as_slice();
+        }
+    }
+    Ok(())
+}

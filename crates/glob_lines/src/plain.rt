@@ -1,0 +1,46 @@
+//! The parser of plain lines: each line is a pattern, and its number stands beside it.
+
+use crate::lines::Lines;
+use gix_glob::Pattern;
+use gix_glob::search;
+use gix_glob::search::pattern::Mapping;
+use std::alloc::{AllocError, Global};
+
+/// Reads each line by `Pattern::from_bytes`. A line that is no pattern is skipped, but counted.
+///
+/// A line ends at a line feed or at the end of the bytes. The number of a mapping is that of its line, from 1.
+#[derive(Clone, Copy, PartialEq, Eq, Debug, Hash, PartialOrd, Ord, Default)]
+pub struct PlainLines;
+
+impl search::Pattern for PlainLines {
+    ghost use Rattle.glob_lines.specs.PlainEquations.{plain_of};
+
+    type Value = ();
+
+    ghost Seen = { Unit {0} };
+
+    ghost seen = { λ _. tt };
+
+    ghost meaning = { λ _ bytes _. plain_of bytes };
+
+    fn bytes_to_patterns(
+        &self,
+        alloc: Global,
+        bytes: &[u8],
+        _source: &str,
+    ) -> Result<Vec<Mapping<()>>, AllocError> {
+        let mut mappings = Vec::new(alloc);
+        let mut number = 0;
+        for line in Lines::new(bytes) {
+            number += 1;
+            if let Some(pattern) = Pattern::from_bytes(alloc, line)? {
+                mappings.push(Mapping {
+                    pattern,
+                    value: (),
+                    sequence_number: number,
+                })?;
+            }
+        }
+        Ok(mappings)
+    }
+}

@@ -1,0 +1,168 @@
+//! Path lines against the lines of a pattern file.
+use crate::fakes::{Sink, Source};
+use gix_glob::pattern::Case;
+use gix_glob::search::Watched;
+use glob_lines::{EngineFault, run_list};
+use std::alloc::Global;
+use std::test::Fail;
+
+const WHOLE: usize = usize::MAX;
+
+/// What a run with the pattern lines of a file was asked.
+#[derive(Clone, Copy)]
+struct Question<'a> {
+    source: &'a str,
+    root: Option<&'a str>,
+    case: Case,
+}
+
+/// A file at the top of a repository.
+const TOP: Question<'static> = Question {
+    source: "f",
+    root: Some(""),
+    case: Case::Sensitive,
+};
+
+/// A file in the folder `a`.
+const IN_A: Question<'static> = Question {
+    source: "a/ig",
+    root: Some(""),
+    case: Case::Sensitive,
+};
+
+/// The same file, where case does not count.
+const IN_A_FOLDED: Question<'static> = Question {
+    source: "a/ig",
+    root: Some(""),
+    case: Case::Fold,
+};
+
+/// A file in the folder `d`.
+const IN_D: Question<'static> = Question {
+    source: "d/ig",
+    root: Some(""),
+    case: Case::Sensitive,
+};
+
+/// The same file, of which no root is known.
+const WITHOUT_ROOT: Question<'static> = Question {
+    source: "d/ig",
+    root: None,
+    case: Case::Sensitive,
+};
+
+/// What a run over readers and a writer in memory answered, and what it wrote.
+fn run(
+    alloc: Global,
+    question: Question<'_>,
+    patterns: Source<'_>,
+    paths: Source<'_>,
+    output: Sink,
+) -> (Result<(), EngineFault>, Sink) {
+    let mut patterns = Watched::new(patterns);
+    let mut paths = Watched::new(paths);
+    let mut writer = Watched::new(output);
+    let Question { source, root, case } = question;
+    let answer = run_list(alloc, &mut patterns, source, root, case, &mut paths, &mut writer);
+    (answer, writer.into_inner())
+}
+
+#[test]
+fn the_numbers_of_matching_lines_are_listed(rt: HostRuntime) -> Result<(), Fail> {
+    let ten: &[u8] = b"a\na\na\na\na\na\na\na\na\na\n";
+    let paths_of_a: &[u8] = b"a/b\nb\na/x/b\na/x/y.c\nA/b\n";
+    let rows: [(Question<'_>, &[u8], &[u8], &[u8]); 11] = [
+        (TOP, b"*.rs\n\nsrc/\n", b"src/lib.rs\nsrc/\na//b\nx\nsrc\n", b"1\n3\n!\n\n\n"),
+        (IN_A, b"/b\n*.c\n", paths_of_a, b"1\n\n\n2\n\n"),
+        (IN_A_FOLDED, b"/b\n*.c\n", paths_of_a, b"1\n\n\n2\n1\n"),
+        (TOP, b"", b"a\n/a\n", b"\n!\n"),
+        (TOP, b"!a\na\n", b"a\n", b"1 2\n"),
+        (TOP, ten, b"a\n", b"1 2 3 4 5 6 7 8 9 10\n"),
+        (IN_D, b"x/\n", b"d/x/\nd/x\n", b"1\n\n"),
+        (WITHOUT_ROOT, b"/x\n", b"x\nd/x\n", b"1\n\n"),
+        (TOP, b"a\n", b"a\r\n", b"\n"),
+        (TOP, b"*", b"\xff\n\x00", b"1\n1\n"),
+        (TOP, b"a", b"", b""),
+    ];
+    for (question, patterns, paths, text) in rows {
+        for piece in [1, WHOLE] {
+            let (answer, output) = run(
+                rt.alloc(),
+                question,
+                Source::new(patterns, piece, WHOLE),
+                Source::new(paths, piece, WHOLE),
+                Sink::new(Vec::new(rt.alloc()), piece, WHOLE),
+            );
+            assert_eq!(rt; answer, Ok(()), "{patterns:?} on {paths:?}, {piece} bytes a call");
+            assert_eq!(rt; output.taken(), text, "{patterns:?} on {paths:?}, {piece} bytes a call");
+        }
+    }
+    Ok(())
+}
+
+#[test]
+fn a_failed_read_of_patterns_writes_nothing(rt: HostRuntime) -> Result<(), Fail> {
+    let patterns = b"a\n";
+    // a read for each byte, and one that finds the end
+    for successes in 0..5 {
+        let (answer, output) = run(
+            rt.alloc(),
+            TOP,
+            Source::new(patterns, 1, successes),
+            Source::new(b"a\n", WHOLE, WHOLE),
+            Sink::new(Vec::new(rt.alloc()), WHOLE, WHOLE),
+        );
+        if successes <= patterns.len() {
+            assert_eq!(rt; answer, Err(EngineFault::Read), "{successes} reads");
+            assert_eq!(rt; output.taken(), b"".as_slice(), "{successes} reads");
+        } else {
+            assert_eq!(rt; answer, Ok(()), "{successes} reads");
+            assert_eq!(rt; output.taken(), b"1\n".as_slice(), "{successes} reads");
+        }
+    }
+    Ok(())
+}
+
+#[test]
+fn a_failed_read_of_paths_writes_nothing(rt: HostRuntime) -> Result<(), Fail> {
+    let paths = b"a\nb";
+    for successes in 0..6 {
+        let (answer, output) = run(
+            rt.alloc(),
+            TOP,
+            Source::new(b"a\n", WHOLE, WHOLE),
+            Source::new(paths, 1, successes),
+            Sink::new(Vec::new(rt.alloc()), WHOLE, WHOLE),
+        );
+        if successes <= paths.len() {
+            assert_eq!(rt; answer, Err(EngineFault::Read), "{successes} reads");
+            assert_eq!(rt; output.taken(), b"".as_slice(), "{successes} reads");
+        } else {
+            assert_eq!(rt; answer, Ok(()), "{successes} reads");
+            assert_eq!(rt; output.taken(), b"1\n\n".as_slice(), "{successes} reads");
+        }
+    }
+    Ok(())
+}
+
+#[test]
+fn a_failed_write_leaves_a_beginning(rt: HostRuntime) -> Result<(), Fail> {
+    let text = b"1 2\n!\n";
+    for successes in 0..8 {
+        let (answer, output) = run(
+            rt.alloc(),
+            TOP,
+            Source::new(b"a\n*\n", WHOLE, WHOLE),
+            Source::new(b"a\n/a\n", WHOLE, WHOLE),
+            Sink::new(Vec::new(rt.alloc()), 1, successes),
+        );
+        if successes < text.len() {
+            assert_eq!(rt; answer, Err(EngineFault::Write), "{successes} writes");
+            assert_eq!(rt; output.taken(), &text[..successes], "{successes} writes");
+        } else {
+            assert_eq!(rt; answer, Ok(()), "{successes} writes");
+            assert_eq!(rt; output.taken(), text.as_slice(), "{successes} writes");
+        }
+    }
+    Ok(())
+}

@@ -1,0 +1,80 @@
+-- What the words of the command line ask for, and what is done then.
+use Rattle.std.specs.Prelude.{◌≡◌, ◌≢◌, ◌⊎◌, ⊤, ℕ, true, List, [], ◌∷◌, Option, None, Some, codes}
+use Rattle.std.specs.Io.KnownBytes.{Appends}
+use Rattle.std.specs.Option.{option_copied}
+use Rattle.gix_glob.specs.declared.pattern.case.Case.{Case}
+use Rattle.gix_glob.specs.declared.pattern.case.Case.TheVariants.{Sensitive, Fold}
+use Rattle.gix_glob.specs.declared.wildmatch.mode.Mode.{Mode}
+use Rattle.gix_glob.specs.Bytes.{bits}
+use Rattle.gix_glob.specs.Paths.{has_file_part}
+use Rattle.glob_lines.specs.Mappings.{MappingsText}
+use Rattle.glob_lines.specs.Transfers.{ReadsWhole, Run}
+use Rattle.glob_lines.specs.Values.{ValuesText}
+use Rattle.globline.specs.declared.command.Command.{Command}
+use Rattle.globline.specs.declared.command.Command.TheVariants as command
+
+-- the word names the mode
+abbrev pub NamesMode : List ℕ → Mode → Type 0
+NamesMode word mode =
+    ((word ≡ codes "plain") × (bits mode ≡ 0))
+    ⊎ (((word ≡ codes "fold") × (bits mode ≡ 2))
+    ⊎ (((word ≡ codes "path") × (bits mode ≡ 1))
+    ⊎ ((word ≡ codes "path-fold") × (bits mode ≡ 3))))
+
+-- the word says whether case counts
+abbrev pub NamesCase : List ℕ → Case → Type 0
+NamesCase word case = ((word ≡ codes "sensitive") × (case ≡ Sensitive)) ⊎ ((word ≡ codes "fold") × (case ≡ Fold))
+
+-- the word names the root, or says that there is none
+abbrev pub NamesRoot : List ℕ → Option (List ℕ) → Type 0
+NamesRoot word root = ((word ≡ codes "-") × (root ≡ None)) ⊎ ((word ≢ codes "-") × (root ≡ Some word))
+
+-- the words are `wild MODE PATTERN`
+pub record AskWild (words : List (List ℕ)) (mode : Mode) (pattern : List ℕ) : Type 0 where
+  pub mode_word : List ℕ
+  pub are : words ≡ codes "wild" ∷ mode_word ∷ pattern ∷ []
+  pub moded : NamesMode mode_word mode
+
+-- the words are `list CASE FILE ROOT`, where FILE can name a file
+pub record AskList (words : List (List ℕ)) (case : Case) (file : List ℕ) (root : Option (List ℕ)) : Type 0 where
+  pub case_word : List ℕ
+  pub root_word : List ℕ
+  pub are : words ≡ codes "list" ∷ case_word ∷ file ∷ root_word ∷ []
+  pub cased : NamesCase case_word case
+  pub filed : has_file_part file ≡ true
+  pub rooted : NamesRoot root_word root
+
+-- the words ask for the command
+abbrev pub Ask : List (List ℕ) → Command → Type 0
+Ask words (command.Wild mode pattern) = AskWild words mode pattern.now
+Ask words (command.List case file root) = AskList words case file.now (option_copied root)
+
+-- the command can be carried out: its file can be one
+abbrev pub CanRun : Command → Type 0
+CanRun (command.Wild mode pattern) = ⊤
+CanRun (command.List case file root) = has_file_part file.now ≡ true
+
+-- the words ask for nothing that the program does
+pub record AreWrong (words : List (List ℕ)) : Type 0 where
+  pub wild : (mode : Mode) (pattern : List ℕ) → ¬ AskWild words mode pattern
+  pub list : (case : Case) (file : List ℕ) (root : Option (List ℕ)) → ¬ AskList words case file root
+
+-- the input was read whole, and its values were answered
+pub record AnswersWild (mode : Mode) (pattern : List ℕ) (input_old input_new output_old output_new : Option (List ℕ)) : Type 0 where
+  pub run : Run (ReadsWhole input_old input_new) (ValuesText pattern mode) (Appends output_old output_new)
+
+-- the input was read whole, and its paths were answered by the pattern lines that the file gave
+pub record AnswersList (case : Case) (file : List ℕ) (root : Option (List ℕ)) (input_old input_new output_old output_new : Option (List ℕ)) : Type 0 where
+  pub patterns : List ℕ
+  pub run : Run (ReadsWhole input_old input_new) (λ paths. MappingsText file root case (record { patterns = patterns; paths = paths })) (Appends output_old output_new)
+
+-- the command was carried out
+abbrev pub CarriesOut : Command → Option (List ℕ) → Option (List ℕ) → Option (List ℕ) → Option (List ℕ) → Type 0
+CarriesOut (command.Wild mode pattern) = AnswersWild mode pattern.now
+CarriesOut (command.List case file root) = AnswersList case file.now (option_copied root)
+
+-- the words ask for a command, and it was carried out
+pub record AnsweredWords (words : List (List ℕ)) (input_old input_new output_old output_new : Option (List ℕ)) : Type 0 where
+  pub command : Command
+  pub asked : Ask words command
+  pub done : CarriesOut command input_old input_new output_old output_new
