@@ -40,24 +40,6 @@ pub record Aligned (mode : Mode) (p v : List ℕ) (from at place k : ℕ) : Type
   pub short_back : EndsShort v k p place mode → EndsShort v at p from mode
   pub short_forth : EndsShort v at p from mode → EndsShort v k p place mode
 
-pub aligned_first : (mode : Mode) (p v : List ℕ) (from at : ℕ) → IsStart p from mode → at ≤ length v
-    → Aligned mode p v from at from at
-aligned_first mode p v from at start inside = record {
-  start = start;
-  low = omega arith;
-  value_low = omega arith;
-  value_high = inside;
-  no_star = λ past. absurd (omega arith);
-  back = λ s. s;
-  forth = λ m low high s.
-      let same : m + (at - at) ≡ m = omega arith in
-      subst (λ (n : ℕ). Moved mode p v from at from at m n) (sym same)
-      (record { inside = high; here = s; behind = λ past. absurd (omega arith); level = λ path none. none });
-  list = λ ts read. record { tokens = ts; read = read; counted = refl; single = λ x. x };
-  short_back = λ s. s;
-  short_forth = λ s. s;
-}
-
 one_count : (t : Token) (ts : List Token) → IsOne t → star_count (t ∷ ts) ≡ star_count ts
 one_count (Byte b) ts one = refl
 one_count Any ts one = refl

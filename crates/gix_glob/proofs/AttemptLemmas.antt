@@ -24,16 +24,6 @@ crossing_star mode p i x = by x.token where
   by (inl e) = run_lead p i x.after e.run
   by (inr e) = run_lead p i e.at e.run
 
--- at the depth's limit there is no room
-pub limit_attempt : (mode : Mode) (p v : List ℕ) (from at depth : ℕ) → 64 ≤ depth
-    → IsAttempt RecursionLimitReached p from v at mode depth
-limit_attempt mode p v from at depth deep = record {
-  split = λ e. cc;
-  excludes = λ room. let few : depth + star_count room.tokens ≤ 63 = room.few in absurd (omega arith);
-  aborts = λ room. let few : depth + star_count room.tokens ≤ 63 = room.few in absurd (omega arith);
-  path = λ e. cc;
-}
-
 module _ (mode : Mode) (p v : List ℕ) (from at place k : ℕ) (x : Aligned mode p v from at place k) where
   -- the start itself leads here
   moved_here : SplitsFrom v at p from mode → SplitsFrom v k p place mode

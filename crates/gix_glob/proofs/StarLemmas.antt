@@ -97,10 +97,6 @@ pub record Tried (mode : Mode) (p v : List ℕ) (i depth at place until : ℕ) :
   pub high : place ≤ until
   pub none : HasRoom p i mode depth → (k : ℕ) → at ≤ k → k < place → ¬ SplitsFrom v k p i mode
 
-pub tried_none : (mode : Mode) (p v : List ℕ) (i depth at until : ℕ) → at ≤ until → Tried mode p v i depth at at until
-tried_none mode p v i depth at until inside =
-    record { low = omega arith; high = inside; none = λ room k low below. absurd (omega arith) }
-
 -- the places passed over are tried too
 tried_to : (mode : Mode) (p v : List ℕ) (i depth at place until found : ℕ) (wanted : Option ℕ) → Tried mode p v i depth at place until
     → FirstToken mode p i wanted → Skips mode v wanted place found → HasRoom p i mode depth
@@ -135,15 +131,6 @@ all_lost mode p v i depth at place until found wanted bare x first skips attempt
   by : (k < found) ⊎ (found ≤ k) → ¬ SplitsFrom v k p i mode
   by (inl before) = tried_to mode p v i depth at place until found wanted x first skips room k low before
   by (inr after) = (attempt.excludes room).everywhere refl bare k after high
-
-pub cross_end : (mode : Mode) (p v : List ℕ) (i at depth : ℕ) → i ≡ length p → at ≤ length v → IsCrossing Match p i v at mode depth
-cross_end mode p v i at depth at_end inside = record {
-  found = λ e. (length v, inside, omega arith, end_in mode p v i (length v) at_end (omega arith));
-  lost = λ room ne. absurd (ne refl);
-  limit = λ room e. cc;
-  not_here_alone = λ e. cc;
-  not_component_alone = λ e. cc;
-}
 
 -- no further place
 pub cross_none : (mode : Mode) (p v : List ℕ) (i at place depth : ℕ) (wanted : Option ℕ)
@@ -198,21 +185,6 @@ cross_answer mode p v i at place found depth wanted RecursionLimitReached bare x
 within_end : (v : List ℕ) (at end k : ℕ) → IsComponentEnd v at end → at ≤ k → k ≤ length v → NoSlash v at k → end < k → ⊥
 within_end v at end k x low high none past =
     let first : at ≤ end = x.low in none.at end first past (x.ends (omega arith))
-
-pub stay_end : (mode : Mode) (p v : List ℕ) (i at end depth : ℕ) → i ≡ length p → at ≤ length v → IsComponentEnd v at end
-    → end ≡ length v → IsWithin Match p i v at mode depth
-stay_end mode p v i at end depth at_end inside x last = record {
-  found = λ e. (
-    length v,
-    inside,
-    omega arith,
-    subst (λ (n : ℕ). NoSlash v at n) last x.none,
-    end_in mode p v i (length v) at_end (omega arith),
-  );
-  lost = λ room ne. absurd (ne refl);
-  everywhere = λ room e. cc;
-  limit = λ room e. cc;
-}
 
 pub stay_more : (mode : Mode) (p v : List ℕ) (i at end depth : ℕ) → i ≡ length p → at ≤ length v → IsComponentEnd v at end
     → end ≢ length v → IsWithin AbortToStarStar p i v at mode depth

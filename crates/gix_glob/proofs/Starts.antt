@@ -90,13 +90,6 @@ pub record Scan (mode : Mode) (p : List ℕ) (from place : ℕ) : Type 0 where
   pub ahead : (x : IsBoundary p from mode) → (ts : List Token) × Spells mode p place ts from
   pub slash_ahead : (x : IsDirsSlash p from mode) → (ts : List Token) × Spells mode p place ts x.begin
 
-pub scan_first : (mode : Mode) (p : List ℕ) (from : ℕ) → Scan mode p from 0
-scan_first mode p from = record {
-  boundary = record { tokens = []; spelled = refl };
-  ahead = λ x. (x.tokens, x.spelled);
-  slash_ahead = λ x. (x.boundary.tokens, x.boundary.spelled);
-}
-
 -- the tokens after the first
 spells_rest : (mode : Mode) (p : List ℕ) (place : ℕ) (t : Token) (next : ℕ) (ts : List Token) (to : ℕ) → TokenAt mode p place t next
     → (place ≡ to → ⊥) → Spells mode p place ts to → (us : List Token) × Spells mode p next us to

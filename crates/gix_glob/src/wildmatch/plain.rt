@@ -34,7 +34,7 @@ fn spans(shape: Shape, value: &[u8], at: usize, end: usize) -> bool
 }
 
 /// Whether the tokens from a place of the pattern on split the value's bytes from a place on.
-fn splits_from(pattern: &[u8], from: usize, value: &[u8], at: usize, mode: Mode) -> bool
+pub fn splits_from(pattern: &[u8], from: usize, value: &[u8], at: usize, mode: Mode) -> bool
     requires from { from ≤ length pattern.now }
     requires at { at ≤ length value.now }
     ensures { IsTrue result ↔ SplitsFrom value.now at pattern.now from mode }

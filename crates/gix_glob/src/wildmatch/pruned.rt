@@ -193,11 +193,10 @@ fn stay(pattern: &[u8], from: usize, value: &[u8], at: usize, mode: Mode, depth:
 {
     let end = component_end(value, at);
     if from == pattern.len() {
-        return if end == value.len() {
-            Answer::Match
-        } else {
-            Answer::AbortToStarStar
-        };
+        if end < value.len() {
+            return Answer::AbortToStarStar;
+        }
+        return Answer::Match;
     }
     let (shape, _) = token_at(pattern, from, mode);
     let wanted = shape.literal();

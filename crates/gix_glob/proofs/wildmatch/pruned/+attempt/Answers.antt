@@ -133,10 +133,10 @@ descend-returns-in_default t c = λ i here.
     descent_later c.args.mode c.args.pattern.now c.args.value.now i c.args.from (c.args.from - 1) c.args.at c.args.depth c.attempt.result c.cross.result
     here (omega arith) c.requires.inside c.attempt.ensures c.in_default.not-Match c.cross.ensures
 
-pub stay-returns-else-end-value : goal.stay-returns-else-end-value
-stay-returns-else-end-value t c =
+pub stay-returns-then-end-value : goal.stay-returns-then-end-value
+stay-returns-then-end-value t c =
     stay_more c.args.mode c.args.pattern.now c.args.value.now c.args.from c.args.at c.component_end-end.result c.args.depth
-    c.if-from-pattern.true c.requires.inside c.component_end-end.ensures c.if-end-value.false
+    c.if-from-pattern.true c.requires.inside c.component_end-end.ensures (λ e. let before = c.if-end-value.true in omega arith)
 
 pub stay-places-preserved : goal.stay-places-preserved
 stay-places-preserved t c =
