@@ -3,9 +3,8 @@ use super::{run_words, without_words};
 use gix_glob::search::Watched;
 use std::alloc::{AllocError, Global};
 use std::io::{ErrorKind, Read, Write};
-use std::process;
 use std::test::Fail;
-use std::{fs, io};
+use std::{fs, io, process};
 
 const USAGE: &str = "usage: globline wild plain|fold|path|path-fold PATTERN
        globline list sensitive|fold FILE ROOT
@@ -190,13 +189,26 @@ fn list_answers_each_path(rt: HostRuntime) -> Result<(), Fail> {
         ("sensitive", "-", b"", b""),
     ];
     for (case, root, lines, text) in rows {
-        let words = words_of(rt.alloc(), &["list", case, file, root])?;
+        let mut words = words_of(rt.alloc(), &["list", case])?;
+        words.push(String::from_str(rt.alloc(), file)?)?;
+        words.push(String::from_str(rt.alloc(), root)?)?;
         let mut input = Watched::new(lines);
         let mut output = Watched::new(Vec::new(rt.alloc()));
         let mut errors = Vec::new(rt.alloc());
-        let status = run_words(&rt, rt.alloc(), &words, &mut input, &mut output, &mut errors);
+        let status = run_words(
+            &rt,
+            rt.alloc(),
+            &words,
+            &mut input,
+            &mut output,
+            &mut errors,
+        );
         assert_eq!(rt; status, 0, "{case}, root {root:?}");
-        assert_eq!(rt; output.into_inner().as_slice(), text, "{case}, root {root:?}");
+        assert_eq!(rt;
+            output.into_inner().as_slice(),
+            text,
+            "{case}, root {root:?}"
+        );
         assert_eq!(rt; errors.as_slice(), b"".as_slice(), "{case}, root {root:?}");
     }
     fs::remove_file(&rt, file)?;
@@ -210,10 +222,21 @@ fn a_file_that_cannot_be_read_is_told(rt: HostRuntime) -> Result<(), Fail> {
         let mut input = Watched::new(b"a\n".as_slice());
         let mut output = Watched::new(Vec::new(rt.alloc()));
         let mut errors = Vec::new(rt.alloc());
-        let status = run_words(&rt, rt.alloc(), &words, &mut input, &mut output, &mut errors);
+        let status = run_words(
+            &rt,
+            rt.alloc(),
+            &words,
+            &mut input,
+            &mut output,
+            &mut errors,
+        );
         assert_eq!(rt; status, 1, "{file}");
         assert_eq!(rt; output.into_inner().as_slice(), b"".as_slice(), "{file}");
-        assert_eq!(rt; errors.as_slice(), b"globline: read failed\n".as_slice(), "{file}");
+        assert_eq!(rt;
+            errors.as_slice(),
+            b"globline: read failed\n".as_slice(),
+            "{file}"
+        );
     }
     Ok(())
 }
