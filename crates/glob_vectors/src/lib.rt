@@ -4,9 +4,15 @@
 #[cfg(test)]
 mod fakes;
 #[cfg(test)]
+mod file_rows;
+#[cfg(test)]
 mod folding;
 #[cfg(test)]
+mod list_rows;
+#[cfg(test)]
 mod modes;
+#[cfg(test)]
+mod refused_memory;
 #[cfg(test)]
 mod rows;
 #[cfg(test)]

@@ -1,9 +1,9 @@
 //! Path lines against the lines of a pattern file.
 use crate::fakes::{Sink, Source};
 use gix_glob::pattern::Case;
-use gix_glob::search::Watched;
+use gix_glob::search::{Watched, has_file_part};
 use glob_lines::{EngineFault, run_list};
-use std::alloc::Global;
+use std::process::Abort;
 use std::test::Fail;
 
 const WHOLE: usize = usize::MAX;
@@ -53,7 +53,7 @@ const WITHOUT_ROOT: Question<'static> = Question {
 
 /// What a run over readers and a writer in memory answered, and what it wrote.
 fn run(
-    alloc: Global,
+    rt: &(impl Abort + AllocGlobal),
     question: Question<'_>,
     patterns: Source<'_>,
     paths: Source<'_>,
@@ -63,7 +63,16 @@ fn run(
     let mut paths = Watched::new(paths);
     let mut writer = Watched::new(output);
     let Question { source, root, case } = question;
-    let answer = run_list(alloc, &mut patterns, source, root, case, &mut paths, &mut writer);
+    assert!(rt; has_file_part(source), "{source}");
+    let answer = run_list(
+        rt.alloc(),
+        &mut patterns,
+        source,
+        root,
+        case,
+        &mut paths,
+        &mut writer,
+    );
     (answer, writer.into_inner())
 }
 
@@ -72,7 +81,12 @@ fn the_numbers_of_matching_lines_are_listed(rt: HostRuntime) -> Result<(), Fail>
     let ten: &[u8] = b"a\na\na\na\na\na\na\na\na\na\n";
     let paths_of_a: &[u8] = b"a/b\nb\na/x/b\na/x/y.c\nA/b\n";
     let rows: [(Question<'_>, &[u8], &[u8], &[u8]); 11] = [
-        (TOP, b"*.rs\n\nsrc/\n", b"src/lib.rs\nsrc/\na//b\nx\nsrc\n", b"1\n3\n!\n\n\n"),
+        (
+            TOP,
+            b"*.rs\n\nsrc/\n",
+            b"src/lib.rs\nsrc/\na//b\nx\nsrc\n",
+            b"1\n3\n!\n\n\n",
+        ),
         (IN_A, b"/b\n*.c\n", paths_of_a, b"1\n\n\n2\n\n"),
         (IN_A_FOLDED, b"/b\n*.c\n", paths_of_a, b"1\n\n\n2\n1\n"),
         (TOP, b"", b"a\n/a\n", b"\n!\n"),
@@ -87,14 +101,22 @@ fn the_numbers_of_matching_lines_are_listed(rt: HostRuntime) -> Result<(), Fail>
     for (question, patterns, paths, text) in rows {
         for piece in [1, WHOLE] {
             let (answer, output) = run(
-                rt.alloc(),
+                &rt,
                 question,
                 Source::new(patterns, piece, WHOLE),
                 Source::new(paths, piece, WHOLE),
                 Sink::new(Vec::new(rt.alloc()), piece, WHOLE),
             );
-            assert_eq!(rt; answer, Ok(()), "{patterns:?} on {paths:?}, {piece} bytes a call");
-            assert_eq!(rt; output.taken(), text, "{patterns:?} on {paths:?}, {piece} bytes a call");
+            assert_eq!(rt;
+                answer,
+                Ok(()),
+                "{patterns:?} on {paths:?}, {piece} bytes a call"
+            );
+            assert_eq!(rt;
+                output.taken(),
+                text,
+                "{patterns:?} on {paths:?}, {piece} bytes a call"
+            );
         }
     }
     Ok(())
@@ -106,7 +128,7 @@ fn a_failed_read_of_patterns_writes_nothing(rt: HostRuntime) -> Result<(), Fail>
     // a read for each byte, and one that finds the end
     for successes in 0..5 {
         let (answer, output) = run(
-            rt.alloc(),
+            &rt,
             TOP,
             Source::new(patterns, 1, successes),
             Source::new(b"a\n", WHOLE, WHOLE),
@@ -128,7 +150,7 @@ fn a_failed_read_of_paths_writes_nothing(rt: HostRuntime) -> Result<(), Fail> {
     let paths = b"a\nb";
     for successes in 0..6 {
         let (answer, output) = run(
-            rt.alloc(),
+            &rt,
             TOP,
             Source::new(b"a\n", WHOLE, WHOLE),
             Source::new(paths, 1, successes),
@@ -150,7 +172,7 @@ fn a_failed_write_leaves_a_beginning(rt: HostRuntime) -> Result<(), Fail> {
     let text = b"1 2\n!\n";
     for successes in 0..8 {
         let (answer, output) = run(
-            rt.alloc(),
+            &rt,
             TOP,
             Source::new(b"a\n*\n", WHOLE, WHOLE),
             Source::new(b"a\n/a\n", WHOLE, WHOLE),

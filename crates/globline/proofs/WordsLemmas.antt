@@ -1,7 +1,15 @@
--- The words of a command, by their number.
-use Rattle.std.proofs.Common.{◌≡◌, ℕ, suc, ◌<◌, ◌≤◌, List, [], ◌∷◌, length, get_or, map, refl, ap, arith}
+-- The words of a command by their number, and what the engines do for a command.
+use Rattle.std.proofs.Common.{◌≡◌, ◌<◌, ◌≤◌, ℕ, List, [], ◌∷◌, length, get_or, map, Option, arith}
+use Rattle.std.specs.Io.KnownBytes.{Appends}
+use Rattle.gix_glob.specs.declared.pattern.case.Case.{Case}
+use Rattle.gix_glob.specs.declared.wildmatch.mode.Mode.{Mode}
+use Rattle.glob_lines.specs.Mappings.{MappingsText, ReadsBoth}
+use Rattle.glob_lines.specs.Transfers.{ReadsWhole, Run}
+use Rattle.glob_lines.specs.Values.{ValuesText}
+use Rattle.globline.specs.Words.{AnswersList, AnswersWild}
 
--- a list of three
+-- ---- lists of three and of four
+
 pub map-of_three : {X Y : Type 0} (f : X → Y) (xs : List X) (a b c : X) → 3 ≤ length xs → length xs < 4 → a ≡ get_or xs 0 a → b ≡ get_or xs 1 b → c ≡ get_or xs 2 c
     → map f xs ≡ f a ∷ f b ∷ f c ∷ []
 map-of_three f [] a b c low high p q r = absurd (omega arith)
@@ -9,3 +17,26 @@ map-of_three f (x ∷ []) a b c low high p q r = absurd (omega arith)
 map-of_three f (x ∷ y ∷ []) a b c low high p q r = absurd (omega arith)
 map-of_three f (x ∷ y ∷ z ∷ []) a b c low high p q r = cc
 map-of_three f (x ∷ y ∷ z ∷ w ∷ xs) a b c low high p q r = absurd (omega arith)
+
+pub map-of_four : {X Y : Type 0} (f : X → Y) (xs : List X) (a b c d : X) → 4 ≤ length xs → length xs < 5 → a ≡ get_or xs 0 a → b ≡ get_or xs 1 b → c ≡ get_or xs 2 c → d ≡ get_or xs 3 d
+    → map f xs ≡ f a ∷ f b ∷ f c ∷ f d ∷ []
+map-of_four f [] a b c d low high p q r s = absurd (omega arith)
+map-of_four f (x ∷ []) a b c d low high p q r s = absurd (omega arith)
+map-of_four f (x ∷ y ∷ []) a b c d low high p q r s = absurd (omega arith)
+map-of_four f (x ∷ y ∷ z ∷ []) a b c d low high p q r s = absurd (omega arith)
+map-of_four f (x ∷ y ∷ z ∷ w ∷ []) a b c d low high p q r s = cc
+map-of_four f (x ∷ y ∷ z ∷ w ∷ v ∷ xs) a b c d low high p q r s = absurd (omega arith)
+
+-- ---- the engines
+
+pub answers_wild : (mode : Mode) (pattern : List ℕ) (input_old input_new output_old output_new : Option (List ℕ)) → Run (ReadsWhole input_old input_new) (ValuesText pattern mode) (Appends output_old output_new)
+    → AnswersWild mode pattern input_old input_new output_old output_new
+answers_wild mode pattern input_old input_new output_old output_new run = record { run = run }
+
+pub answers_list : (case : Case) (file : List ℕ) (root : Option (List ℕ)) (patterns_old patterns_new input_old input_new output_old output_new : Option (List ℕ))
+    → Run (ReadsBoth patterns_old patterns_new input_old input_new) (MappingsText file root case) (Appends output_old output_new)
+    → AnswersList case file root input_old input_new output_old output_new
+answers_list case file root patterns_old patterns_new input_old input_new output_old output_new run = record {
+  patterns = run.input.patterns;
+  run = record { input = run.input.paths; read = run.read.paths; text = run.text; allowed = run.allowed; written = run.written };
+}

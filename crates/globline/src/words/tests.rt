@@ -1,10 +1,10 @@
 //! What the program answers to its words: its status, its output and its errors.
-use super::run_words;
+use super::{run_words, without_words};
 use gix_glob::search::Watched;
 use std::alloc::{AllocError, Global};
-use std::io;
 use std::io::{ErrorKind, Read, Write};
 use std::test::Fail;
+use std::{fs, io, process};
 
 const USAGE: &str = "usage: globline wild plain|fold|path|path-fold PATTERN
        globline list sensitive|fold FILE ROOT
@@ -72,7 +72,7 @@ fn wild_answers_each_line(rt: HostRuntime) -> Result<(), Fail> {
 
 #[test]
 fn wrong_words_show_the_usage(rt: HostRuntime) -> Result<(), Fail> {
-    let rows: [&[&str]; 10] = [
+    let rows: [&[&str]; 17] = [
         &[],
         &["wild"],
         &["wild", "plain"],
@@ -81,6 +81,13 @@ fn wrong_words_show_the_usage(rt: HostRuntime) -> Result<(), Fail> {
         &["wild", "", "a"],
         &["Wild", "plain", "a"],
         &["plain", "wild", "a"],
+        &["list"],
+        &["list", "sensitive", "f"],
+        &["list", "sensitive", "f", "-", "-"],
+        &["list", "upper", "f", "-"],
+        &["list", "sensitive", "", "-"],
+        &["list", "sensitive", "/", "-"],
+        &["list", "sensitive", "//", ""],
         &["ignore", "sensitive", "-", "f"],
         &["", "", ""],
     ];
@@ -162,5 +169,85 @@ fn failing_errors_change_no_status(rt: HostRuntime) -> Result<(), Fail> {
         );
         assert_eq!(rt; answer, status, "{words:?}");
     }
+    Ok(())
+}
+
+#[test]
+fn list_answers_each_path(rt: HostRuntime) -> Result<(), Fail> {
+    let number = process::id(rt.process());
+    let file = format!(in rt.alloc(); "/tmp/globline-patterns-{number}")?;
+    let file = file.as_str();
+    fs::write(&rt, file, "*.rs\n\nsrc/\n")?;
+    let paths: &[u8] = b"src/lib.rs\nsrc/\na//b\nx\nsrc\n";
+    let paths_in_tmp: &[u8] = b"tmp/src/lib.rs\ntmp/SRC/\nsrc/\n";
+    let rows: [(&str, &str, &[u8], &[u8]); 6] = [
+        ("sensitive", "-", paths, b"1\n3\n!\n\n\n"),
+        ("sensitive", "/tmp", paths, b"1\n3\n!\n\n\n"),
+        ("sensitive", "/", paths_in_tmp, b"1\n\n\n"),
+        ("fold", "/", paths_in_tmp, b"1\n3\n\n"),
+        ("sensitive", "", paths, b"\n\n!\n\n\n"),
+        ("sensitive", "-", b"", b""),
+    ];
+    for (case, root, lines, text) in rows {
+        let mut words = words_of(rt.alloc(), &["list", case])?;
+        words.push(String::from_str(rt.alloc(), file)?)?;
+        words.push(String::from_str(rt.alloc(), root)?)?;
+        let mut input = Watched::new(lines);
+        let mut output = Watched::new(Vec::new(rt.alloc()));
+        let mut errors = Vec::new(rt.alloc());
+        let status = run_words(
+            &rt,
+            rt.alloc(),
+            &words,
+            &mut input,
+            &mut output,
+            &mut errors,
+        );
+        assert_eq!(rt; status, 0, "{case}, root {root:?}");
+        assert_eq!(rt;
+            output.into_inner().as_slice(),
+            text,
+            "{case}, root {root:?}"
+        );
+        assert_eq!(rt; errors.as_slice(), b"".as_slice(), "{case}, root {root:?}");
+    }
+    fs::remove_file(&rt, file)?;
+    Ok(())
+}
+
+#[test]
+fn a_file_that_cannot_be_read_is_told(rt: HostRuntime) -> Result<(), Fail> {
+    for file in ["/tmp/globline/missing", "/tmp", "/dev/null/f"] {
+        let words = words_of(rt.alloc(), &["list", "sensitive", file, "-"])?;
+        let mut input = Watched::new(b"a\n".as_slice());
+        let mut output = Watched::new(Vec::new(rt.alloc()));
+        let mut errors = Vec::new(rt.alloc());
+        let status = run_words(
+            &rt,
+            rt.alloc(),
+            &words,
+            &mut input,
+            &mut output,
+            &mut errors,
+        );
+        assert_eq!(rt; status, 1, "{file}");
+        assert_eq!(rt; output.into_inner().as_slice(), b"".as_slice(), "{file}");
+        assert_eq!(rt;
+            errors.as_slice(),
+            b"globline: read failed\n".as_slice(),
+            "{file}"
+        );
+    }
+    Ok(())
+}
+
+#[test]
+fn words_that_cannot_be_had_are_told(rt: HostRuntime) -> Result<(), Fail> {
+    let mut errors = Vec::new(rt.alloc());
+    assert_eq!(rt; without_words(ErrorKind::OutOfMemory, &mut errors), 1);
+    assert_eq!(rt; errors.as_slice(), b"globline: no memory\n".as_slice());
+    let mut errors = Vec::new(rt.alloc());
+    assert_eq!(rt; without_words(ErrorKind::InvalidData, &mut errors), 2);
+    assert_eq!(rt; errors.as_slice(), USAGE.as_bytes());
     Ok(())
 }

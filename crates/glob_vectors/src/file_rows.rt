@@ -1,0 +1,38 @@
+//! Pattern files: the lines of a real file, as entries of a list.
+use bitflags::Flags;
+use gix_glob::pattern::Mode;
+use gix_glob::search::pattern::List;
+use glob_lines::PlainLines;
+use std::test::Fail;
+use std::{fs, process};
+
+#[test]
+fn the_lines_of_a_file_are_mappings(rt: HostRuntime) -> Result<(), Fail> {
+    let number = process::id(rt.process());
+    let path = format!(in rt.alloc(); "/tmp/glob_vectors-patterns-{number}")?;
+    fs::write(&rt, path.as_str(), "*.rs\n\nsrc/\n")?;
+    let mut buf = Vec::new(rt.alloc());
+    let list = List::from_file(
+        &rt,
+        rt.alloc(),
+        path.clone()?,
+        Some("/"),
+        &mut buf,
+        PlainLines,
+    )?;
+    fs::remove_file(&rt, path.as_str())?;
+    let list = list.ok_or("no list")?;
+    let [first, second] = list.patterns.as_slice() else {
+        return Err(Fail::new("not two mappings"));
+    };
+    assert_eq!(rt; first.sequence_number, 1);
+    assert_eq!(rt; first.pattern.text(), b"*.rs".as_slice());
+    assert!(rt; first.pattern.mode() == Mode::NO_SUB_DIR.union(Mode::ENDS_WITH));
+    assert_eq!(rt; second.sequence_number, 3);
+    assert_eq!(rt; second.pattern.text(), b"src".as_slice());
+    assert!(rt; second.pattern.mode() == Mode::NO_SUB_DIR.union(Mode::MUST_BE_DIR));
+    let base = list.base.ok_or("no base")?;
+    assert_eq!(rt; base.as_slice(), b"tmp/".as_slice());
+    assert_eq!(rt; buf.as_slice(), b"*.rs\n\nsrc/\n".as_slice());
+    Ok(())
+}
