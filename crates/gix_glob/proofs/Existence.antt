@@ -17,18 +17,18 @@ pub items_close : (p : List ℕ) (first : Bool) (low : Option ℕ) (i : ℕ) (xs
 items_close p first low i [] j e = subst (λ (n : ℕ). HasByte p n close_bracket) e.2 e.1
 items_close p first low i (x ∷ xs) j e = items_close p false (member_of x) e.1 xs j e.3
 
-upper_past : (p : List ℕ) (i high j : ℕ) → IsUpperEnd p i high j → i < j
+pub upper_past : (p : List ℕ) (i high j : ℕ) → IsUpperEnd p i high j → i < j
 upper_past p i high j (inl e) = omega (arith, e.2)
 upper_past p i high j (inr e) = omega (arith, e.1)
 
 -- an item ends past its place
-item_past : (p : List ℕ) (low : Option ℕ) (i : ℕ) (x : Item) (j : ℕ) → ItemAt p low i x j → i < j
+pub item_past : (p : List ℕ) (low : Option ℕ) (i : ℕ) (x : Item) (j : ℕ) → ItemAt p low i x j → i < j
 item_past p low i (item.Member b) j (inl e) = omega (arith, e.1)
 item_past p low i (item.Member b) j (inr e) = omega (arith, e.1)
 item_past p low i (item.Range a b) j e = let past : i + 1 < j = upper_past p (i + 1) b j e.2 in omega arith
 item_past p low i (item.Class c) j e = omega (arith, e.1.far, e.3)
 
-items_past : (p : List ℕ) (first : Bool) (low : Option ℕ) (i : ℕ) (xs : List Item) (j : ℕ) → ItemsAt p first low i xs j → i ≤ j
+pub items_past : (p : List ℕ) (first : Bool) (low : Option ℕ) (i : ℕ) (xs : List Item) (j : ℕ) → ItemsAt p first low i xs j → i ≤ j
 items_past p first low i [] j e = omega (arith, e.2)
 items_past p first low i (x ∷ xs) j e =
     let here : i < e.1 = item_past p low i x e.1 e.2 in
@@ -38,14 +38,14 @@ start_past : (i : ℕ) (negated : Bool) → i < (if negated then i + 2 else i + 
 start_past i true = omega arith
 start_past i false = omega arith
 
-set_past : (p : List ℕ) (i : ℕ) (s : Set) (j : ℕ) → SetAt p i s j → i < j
+pub set_past : (p : List ℕ) (i : ℕ) (s : Set) (j : ℕ) → SetAt p i s j → i < j
 set_past p i s j e =
     let start : i < (if s.negated then i + 2 else i + 1) = start_past i s.negated in
     let close : (if s.negated then i + 2 else i + 1) ≤ e.close = items_past p _ _ _ s.items e.close e.items in
     let after : j ≡ e.close + 1 = e.after in
     omega arith
 
-set_inside : (p : List ℕ) (i : ℕ) (s : Set) (j : ℕ) → SetAt p i s j → j ≤ length p
+pub set_inside : (p : List ℕ) (i : ℕ) (s : Set) (j : ℕ) → SetAt p i s j → j ≤ length p
 set_inside p i s j e =
     let inside : e.close < length p = (items_close p _ _ _ s.items e.close e.items).inside in
     let after : j ≡ e.close + 1 = e.after in

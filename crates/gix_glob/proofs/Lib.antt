@@ -28,4 +28,6 @@ pub mod WholeLines
 pub mod Components
 pub mod Marks
 pub mod Existence
+pub mod ForwardReading
+pub mod OneMoreStar
 pub mod Budget

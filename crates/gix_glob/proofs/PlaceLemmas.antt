@@ -6,10 +6,10 @@ use Rattle.gix_glob.specs.Bytes.{fold, slash}
 use Rattle.gix_glob.specs.StarSearch.{Skips, IsComponentEnd}
 
 -- a part of the value has its bytes
-part_byte : (v : List ℕ) (from n k : ℕ) → k < n → get_or (take n (drop from v)) k 0 ≡ get_or v (from + k) 0
+pub part_byte : (v : List ℕ) (from n k : ℕ) → k < n → get_or (take n (drop from v)) k 0 ≡ get_or v (from + k) 0
 part_byte v from n k below = rw (get_or-take, get_or-drop) refl
 
-part_length : (v : List ℕ) (from n : ℕ) → from + n ≤ length v → length (take n (drop from v)) ≡ n
+pub part_length : (v : List ℕ) (from n : ℕ) → from + n ≤ length v → length (take n (drop from v)) ≡ n
 part_length v from n fits = simp (length-take, length-drop) (omega arith)
 
 -- what is passed over in a part is passed over in the value

@@ -151,7 +151,7 @@ token_past mode p i Nothing j e =
     omega arith
 
 -- tokens lead forwards
-spells_forward : (mode : Mode) (p : List ℕ) (i : ℕ) (ts : List Token) (j : ℕ) → Spells mode p i ts j → i ≤ j
+pub spells_forward : (mode : Mode) (p : List ℕ) (i : ℕ) (ts : List Token) (j : ℕ) → Spells mode p i ts j → i ≤ j
 spells_forward mode p i [] j e = omega arith
 spells_forward mode p i (t ∷ ts) j e =
     let later : e.0 ≤ j = spells_forward mode p e.0 ts j e.2 in

@@ -20,7 +20,7 @@ pub use patterns::{
 pub use stars::{
     a_crossing_run_splits_from_before, a_double_star_splits_from_before,
     a_local_run_splits_from_before, a_pattern_has_one_reading,
-    star_tokens_are_as_many_in_each_mode,
+    one_more_star_changes_nothing_in_plain_mode, star_tokens_are_as_many_in_each_mode,
 };
 
 // ---- path texts and bases

@@ -1,9 +1,11 @@
 //! Laws of readings and of star tokens.
-ghost use Rattle.std.specs.Prelude.{◌≡◌, ℕ, ◌-◌, ◌<◌, ◌≤◌, List, length, slice_index};
+ghost use Rattle.std.specs.Prelude.{◌≡◌, ◌↔◌, ℕ, ◌-◌, ◌<◌, ◌≤◌, false, List, length, slice_index};
+ghost use Rattle.std.specs.List.{insert};
 ghost use Rattle.gix_glob.specs.declared.wildmatch.mode.Mode.{Mode};
-ghost use Rattle.gix_glob.specs.Bytes.{slash};
+ghost use Rattle.gix_glob.specs.Bytes.{is_path, star, slash};
 ghost use Rattle.gix_glob.specs.Tokens.{Token, Free, Local, Dirs, TokenAt, From, Tokens};
-ghost use Rattle.gix_glob.specs.Matching.{SplitsFrom, star_count};
+ghost use Rattle.gix_glob.specs.Matching.{Splits, SplitsFrom, HasStars, star_count};
+ghost use Rattle.gix_glob.specs.Pruning.{IsBoundary};
 ghost use Rattle.gix_glob.specs.Reader.{NoSlash};
 
 // ---- star tokens at earlier places
@@ -33,4 +35,15 @@ pub fn a_pattern_has_one_reading()
 /// A pattern has as many star tokens in one mode as in another.
 pub fn star_tokens_are_as_many_in_each_mode()
     ensures { (mode other : Mode) (pattern : List ℕ) (ts us : List Token) → Tokens mode pattern ts → Tokens other pattern us → star_count ts ≡ star_count us }
+{}
+
+// ---- one more star
+
+/// In plain mode one more star at the start of a star token changes neither what the pattern splits nor how many star
+/// tokens it has.
+pub fn one_more_star_changes_nothing_in_plain_mode()
+    ensures splits { (mode : Mode) (pattern value : List ℕ) (i j : ℕ) → is_path mode ≡ false → IsBoundary pattern i mode
+        → TokenAt mode pattern i Free j → Splits value pattern mode ↔ Splits value (insert pattern i star) mode }
+    ensures stars { (mode : Mode) (pattern : List ℕ) (i j n : ℕ) → is_path mode ≡ false → IsBoundary pattern i mode
+        → TokenAt mode pattern i Free j → HasStars pattern n ↔ HasStars (insert pattern i star) n }
 {}
