@@ -66,7 +66,7 @@ lead-rest : (rest : List ℕ) → rest ≡ lead_of rest ++ drop (length (lead_of
 lead-rest rest =
     ⊎_elim
     (λ yes. let front = (starts_is Decides-eqb rest (codes "/") (starts_with nat_eq rest (codes "/")) refl).0 yes in
-      rw yes front)
+    rw yes front)
     (λ none. rw none refl)
     (cases_Bool (starts_with nat_eq rest (codes "/")))
 
@@ -74,7 +74,7 @@ body-tail : (inner : List ℕ) → inner ≡ before_tail inner ++ tail_of inner
 body-tail inner =
     ⊎_elim
     (λ yes. let end = (ends_is Decides-eqb inner (codes "/") (ends_with nat_eq inner (codes "/")) refl).0 yes in
-      rw yes end)
+    rw yes end)
     (λ none. rw none (sym (append-nil (take (length inner - 0) inner) ∙ take_all (length inner - 0) inner (omega arith))))
     (cases_Bool (ends_with nat_eq inner (codes "/")))
 
@@ -93,13 +93,13 @@ sign-rest line =
     ⊎_elim
     (λ (negates : begins_with (codes "!") line ≡ true). rw negates (begins line (codes "!") negates))
     (λ (keeps : begins_with (codes "!") line ≡ false). ⊎_elim
-      (λ (escapes : (begins_with (codes "\\!") line || begins_with (codes "\\#") line) ≡ true).
-        rw (keeps, escapes) (⊎_elim
-          (λ bang. first_byte line _ 92 (begins line (codes "\\!") bang))
-          (λ hash. first_byte line _ 92 (begins line (codes "\\#") hash))
-          (or_cases _ _ escapes)))
-      (λ (plain : (begins_with (codes "\\!") line || begins_with (codes "\\#") line) ≡ false). rw (keeps, plain) refl)
-      (cases_Bool (begins_with (codes "\\!") line || begins_with (codes "\\#") line)))
+    (λ (escapes : (begins_with (codes "\\!") line || begins_with (codes "\\#") line) ≡ true).
+    rw (keeps, escapes) (⊎_elim
+    (λ bang. first_byte line _ 92 (begins line (codes "\\!") bang))
+    (λ hash. first_byte line _ 92 (begins line (codes "\\#") hash))
+    (or_cases _ _ escapes)))
+    (λ (plain : (begins_with (codes "\\!") line || begins_with (codes "\\#") line) ≡ false). rw (keeps, plain) refl)
+    (cases_Bool (begins_with (codes "\\!") line || begins_with (codes "\\#") line)))
     (cases_Bool (begins_with (codes "!") line))
 
 entry_after_lead-reads : (number : ℕ) (line sign lead inner : List ℕ) → sign ≡ sign_of true line → line ≡ sign ++ (lead ++ inner) → is_blank (lead ++ inner) ≡ false → lead ≡ lead_of (lead ++ inner)
@@ -140,9 +140,9 @@ unfolding entry_of_line entry_after_sign
 no_entry number line blank = (
   rw blank refl,
   λ has. let r = has.read in
-    let after : drop (length (sign_of true line)) line ≡ r.lead ++ (has.body ++ r.tail) =
-    ap (λ (l : List ℕ). drop (length l) line) (sym r.signed) ∙ ap (drop (length r.sign)) r.joined ∙ drop_at r.sign _ (length r.sign) refl in
-    absurd (false≢true (sym r.not_blank ∙ sym (ap is_blank after) ∙ blank)),
+      let after : drop (length (sign_of true line)) line ≡ r.lead ++ (has.body ++ r.tail) =
+      ap (λ (l : List ℕ). drop (length l) line) (sym r.signed) ∙ ap (drop (length r.sign)) r.joined ∙ drop_at r.sign _ (length r.sign) refl in
+      absurd (false≢true (sym r.not_blank ∙ sym (ap is_blank after) ∙ blank)),
 )
 
 -- ---- the entries of all lines
@@ -152,9 +152,9 @@ entries_from-PlainFrom number [] = refl
 entries_from-PlainFrom number (line ∷ lines) =
     ⊎_elim
     (λ blank. let none = no_entry number line blank in
-      inl (none.1, subst (PlainFrom (number + 1) lines) (sym (ap (λ o. cons_option o (entries_from (number + 1) lines)) none.0)) (entries_from-PlainFrom (number + 1) lines)))
+    inl (none.1, subst (PlainFrom (number + 1) lines) (sym (ap (λ o. cons_option o (entries_from (number + 1) lines)) none.0)) (entries_from-PlainFrom (number + 1) lines)))
     (λ some. let read = some_entry number line some in
-      inr (read.0, entries_from (number + 1) lines, ap (λ o. cons_option o (entries_from (number + 1) lines)) read.1, read.2, entries_from-PlainFrom (number + 1) lines))
+    inr (read.0, entries_from (number + 1) lines, ap (λ o. cons_option o (entries_from (number + 1) lines)) read.1, read.2, entries_from-PlainFrom (number + 1) lines))
     (cases_Bool (is_blank (drop (length (sign_of true line)) line)))
 
 PlainFrom-only : (number : ℕ) (lines : List (List ℕ)) (entries : List PlainEntry) → PlainFrom number lines entries → entries ≡ entries_from number lines

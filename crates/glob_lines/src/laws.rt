@@ -12,5 +12,4 @@ pub fn lines_are_these()
 /// Bytes have one list of plain entries, which the equations of `plain_of` give.
 pub fn plain_entries_are_these()
     ensures { (bytes : List ℕ) (entries : List PlainEntry) → Plain bytes entries ↔ (entries ≡ plain_of bytes) }
-{
-}
+{}

@@ -54,14 +54,14 @@ pub fn run_list<P: Read, Q: Read, W: Write>(
     // On success, all of both inputs was read, and all of a text of mappings was written.
     ensures ok { OnOk result
         (Run (ReadsBoth (P.remaining (inner patterns.old)) (P.remaining (inner patterns.new))
-            (Q.remaining (inner paths.old)) (Q.remaining (inner paths.new)))
+        (Q.remaining (inner paths.old)) (Q.remaining (inner paths.new)))
         (MappingsText source.now (option_copied root.entry) case)
         (Appends (W.contents (inner writer.old)) (W.contents (inner writer.new)))) }
     ensures memory { IsErrOf result EngineFault.Memory → writer.new ≡ writer.old }
     ensures read { IsErrOf result EngineFault.Read → writer.new ≡ writer.old }
     ensures write { IsErrOf result EngineFault.Write →
         Run (ReadsBoth (P.remaining (inner patterns.old)) (P.remaining (inner patterns.new))
-            (Q.remaining (inner paths.old)) (Q.remaining (inner paths.new)))
+        (Q.remaining (inner paths.old)) (Q.remaining (inner paths.new)))
         (MappingsText source.now (option_copied root.entry) case)
         (AppendsFront (W.contents (inner writer.old)) (W.contents (inner writer.new))) }
     ensures read_failed { IsErrOf result EngineFault.Read ↔ IsTrue (has_failed patterns.new || has_failed paths.new) }

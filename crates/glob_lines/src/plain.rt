@@ -1,9 +1,8 @@
 //! The parser of plain lines: each line is a pattern, and its number stands beside it.
 
 use crate::lines::Lines;
-use gix_glob::Pattern;
-use gix_glob::search;
 use gix_glob::search::pattern::Mapping;
+use gix_glob::{Pattern, search};
 use std::alloc::{AllocError, Global};
 
 /// Reads each line by `Pattern::from_bytes`. A line that is no pattern is skipped, but counted.

@@ -18,7 +18,7 @@ returns-in-Some c =
     let plain : IsPlainPath c.args.line.now = c.plain_path.ensures.0 c.if-not-plain_path.false in
     on_ok_weaker c.append_numbers.result
     (writes_numbers _ (option_map vec_items c.args.list.now.base) c.args.case c.args.line.now c.path_of-is_dir.result.0.now c.in-Some.rest.now c.path_of-is_dir.result.1 _ _
-      plain c.path_of-is_dir.ensures c.in-Some.ensures.0)
+    plain c.path_of-is_dir.ensures c.in-Some.ensures.0)
     (rw c.deref.ensures.value at c.append_numbers.ensures)
 
 pub returns-in-None : goal.returns-in-None

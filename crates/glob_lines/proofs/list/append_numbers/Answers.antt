@@ -23,11 +23,11 @@ loop-mapping-preserved c =
     ∙ ap (λ m. map (entry_of (λ _. tt)) (take i mappings) ++ entry_of (λ _. tt) m ∷ []) (sym c.mapping-item.is) in
     let answered : MayAnswer c.args.case c.args.is_dir c.args.rest.now c.args.position entry c.matches_repo_relative_path.result = c.matches_repo_relative_path.ensures in
     elim c.if-matches_repo_relative_path.branch [
-      then-matches_repo_relative_path+in_ok-extend_from_slice+in_ok-append_decimal w ↦
-        IsListedUpTo-more _ _ _ entry _ _ _ _ _ c.loop-mapping.invariant one_more (rw w.if-matches_repo_relative_path.true at answered) (search rules) (search rules)
-    | else-matches_repo_relative_path w ↦
-        let skipped = IsListedUpTo-skip _ _ _ entry _ _ _ c.loop-mapping.invariant one_more (rw w.if-matches_repo_relative_path.false at answered) in
-        rw (w.text-is, w.separator-is) skipped
+      | then-matches_repo_relative_path+in_ok-extend_from_slice+in_ok-append_decimal w ↦
+          IsListedUpTo-more _ _ _ entry _ _ _ _ _ c.loop-mapping.invariant one_more (rw w.if-matches_repo_relative_path.true at answered) (search rules) (search rules)
+      | else-matches_repo_relative_path w ↦
+          let skipped = IsListedUpTo-skip _ _ _ entry _ _ _ c.loop-mapping.invariant one_more (rw w.if-matches_repo_relative_path.false at answered) in
+          rw (w.text-is, w.separator-is) skipped
     ]
 
 pub returns : goal.returns
