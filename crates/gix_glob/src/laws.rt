@@ -9,6 +9,7 @@ ghost use Rattle.gix_glob.specs.Stripping.{Rest, stripped_place};
 
 mod lists;
 mod patterns;
+mod readings;
 mod stars;
 
 pub use lists::{list_order_agrees_with_equality, mapping_order_agrees_with_equality};
@@ -17,6 +18,7 @@ pub use patterns::{
     order_agrees_with_equality, shown_line_is_read_back, two_answers_agree,
     utf8_is_displayed_as_it_is,
 };
+pub use readings::each_pattern_has_a_reading;
 pub use stars::{
     a_crossing_run_splits_from_before, a_double_star_splits_from_before,
     a_local_run_splits_from_before, a_pattern_has_one_reading,

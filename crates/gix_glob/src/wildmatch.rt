@@ -10,7 +10,7 @@ mod plain;
 mod pruned;
 mod sets;
 mod steps;
-mod tokens;
+pub(crate) mod tokens;
 
 pub use marks::marked;
 pub use mode::Mode;
