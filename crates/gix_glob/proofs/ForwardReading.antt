@@ -1,12 +1,12 @@
 -- In plain mode a token is read from the bytes that it spells: where two texts have the same bytes, they have the same tokens.
-use Rattle.std.proofs.Common.{◌≡◌, ◌≢◌, ◌⊎◌, inl, inr, ℕ, ◌+◌, ◌-◌, ◌<◌, ◌≤◌, Bool, true, false, not, IsTrue, ◌↔◌, if◌then◌else◌, List, [], ◌∷◌, length, get_or, take, drop, slice_range, Option, Some, None, refl, sym, ◌∙◌, ap, subst, arith, length-take, length-drop, get_or-take, get_or-drop}
+use Rattle.std.proofs.Common.{◌≡◌, ◌⊎◌, inl, inr, ℕ, ◌+◌, ◌-◌, ◌<◌, ◌≤◌, Bool, true, false, if◌then◌else◌, List, [], ◌∷◌, length, get_or, slice_range, Option, None, refl, sym, ◌∙◌, subst, arith}
 use Rattle.std.proofs.lemmas.Bool.{cases_lt}
 use Rattle.std.proofs.lemmas.Grind.{same_number_lists}
 use Rattle.gix_glob.specs.declared.wildmatch.mode.Mode.{Mode}
 use Rattle.gix_glob.specs.declared.wildmatch.sets.Item.{Item}
 use Rattle.gix_glob.specs.declared.wildmatch.sets.Item.TheVariants as item
 use Rattle.gix_glob.specs.Bytes.{HasByte, IsEscaped, is_path, star, open_bracket, close_bracket, exclamation_mark, caret, question_mark, backslash, dash, colon}
-use Rattle.gix_glob.specs.Sets.{BeginsRange, BeginsClass, NamesClass, NamesNoClass, IsBare, IsUpperEnd, IsFirstFrom, ItemAt, ItemsAt, SetAt, Set, member_of, name_of, IsSign}
+use Rattle.gix_glob.specs.Sets.{BeginsRange, BeginsClass, NamesClass, NamesNoClass, IsBare, IsUpperEnd, IsFirstFrom, ItemAt, ItemsAt, SetAt, Set, member_of, IsSign}
 use Rattle.gix_glob.specs.Tokens.{Token, Byte, Any, OneOf, Free, Local, Dirs, Nothing, TokenAt, IsRun, IsBroken, From}
 use Rattle.gix_glob.specs.Pruning.{Spells}
 use Rattle.gix_glob.proofs.SetLemmas.{two_bytes}
@@ -55,7 +55,8 @@ module _ (p : List ℕ) (a : ℕ) (q : List ℕ) (b n : ℕ) where
     byte = l.there (x + 1) (y + 1) c (faces_on a b n x y (x + 1) (y + 1) f (omega arith) (omega arith) inside) e.byte;
   }
 
-  range_alike : Alike p a q b n → (low : Option ℕ) (x y : ℕ) → Faces a b n x y → x + 1 < a + n → BeginsRange p low x → BeginsRange q low y
+  range_alike : Alike p a q b n → (low : Option ℕ) (x y : ℕ) → Faces a b n x y → x + 1 < a + n
+      → BeginsRange p low x → BeginsRange q low y
   range_alike l low x y f inside r =
       let on = faces_on a b n x y (x + 1) (y + 1) f (omega arith) (omega arith) inside in record {
         dash = l.there x y dash f r.dash;
@@ -70,7 +71,8 @@ module _ (p : List ℕ) (a : ℕ) (q : List ℕ) (b n : ℕ) where
     colon = l.there (x + 1) (y + 1) colon (faces_on a b n x y (x + 1) (y + 1) f (omega arith) (omega arith) inside) e.colon;
   }
 
-  first_alike : Alike p a q b n → (x y c k m : ℕ) → Faces a b n x y → k + y ≡ m + x → k < a + n → IsFirstFrom p x c k → IsFirstFrom q y c m
+  first_alike : Alike p a q b n → (x y c k m : ℕ) → Faces a b n x y → k + y ≡ m + x → k < a + n
+      → IsFirstFrom p x c k → IsFirstFrom q y c m
   first_alike l x y c k m f sum inside e =
       let low : x ≤ k = e.low in record {
         low = omega arith;
@@ -96,8 +98,8 @@ module _ (p : List ℕ) (a : ℕ) (q : List ℕ) (b n : ℕ) where
       }
 
   -- the bytes between two places
-  slice_alike : Alike p a q b n → (x y k m : ℕ) → Faces a b n x y → x ≤ k → k + y ≡ m + x → k < a + n → k ≤ length p → m ≤ length q
-      → slice_range p x k ≡ slice_range q y m
+  slice_alike : Alike p a q b n → (x y k m : ℕ) → Faces a b n x y → x ≤ k → k + y ≡ m + x → k < a + n → k ≤ length p
+      → m ≤ length q → slice_range p x k ≡ slice_range q y m
   slice_alike l x y k m f low sum inside fits fits' =
       let long = part_length p x (k - x) (omega arith) in
       let long' = part_length q y (m - y) (omega arith) in
@@ -202,7 +204,8 @@ module _ (p : List ℕ) (a : ℕ) (q : List ℕ) (b n : ℕ) where
       let named = names_alike p a q b n l x y e.0 (y + (e.0 - x)) f (omega arith) (omega arith) e.1 in
       let within' : y + (e.0 - x) < length q = named.first.here.inside in
       let on = faces_on a b n x y (x + 2) (y + 2) f (omega arith) (omega arith) (omega arith) in
-      let name = slice_alike p a q b n l (x + 2) (y + 2) (e.0 - 1) (y + (e.0 - x) - 1) on (omega arith) (omega arith) (omega arith) (omega arith) (omega arith) in
+      let name =
+      slice_alike p a q b n l (x + 2) (y + 2) (e.0 - 1) (y + (e.0 - x) - 1) on (omega arith) (omega arith) (omega arith) (omega arith) (omega arith) in
       (y + (e.0 - x), named, sym name ∙ e.2, omega arith)
 
   items_alike : Alike p a q b n → (first : Bool) (low : Option ℕ) (x y : ℕ) (xs : List Item) (j m : ℕ) → Faces a b n x y
@@ -234,7 +237,8 @@ module _ (p : List ℕ) (a : ℕ) (q : List ℕ) (b n : ℕ) where
           λ is. e.sign.1 (sign_alike q b p a n (alike_flip p a q b n l) (y + 1) (x + 1) (faces_flip a b n (x + 1) (y + 1) next) is),
         );
         close = m - 1;
-        items = items_alike l true None _ _ s.items e.close (m - 1) (start_faces a b n x y f s.negated (omega arith)) (omega arith) (omega arith) e.items;
+        items =
+            items_alike l true None _ _ s.items e.close (m - 1) (start_faces a b n x y f s.negated (omega arith)) (omega arith) (omega arith) e.items;
         after = omega arith;
       }
 

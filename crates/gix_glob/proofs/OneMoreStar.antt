@@ -1,5 +1,5 @@
 -- One more star at the start of a star token: in plain mode the pattern's tokens stay as they are.
-use Rattle.std.proofs.Common.{◌≡◌, ◌⊎◌, inl, inr, ℕ, ◌+◌, ◌-◌, ◌<◌, ◌≤◌, ◌↔◌, false, IsTrue, List, [], ◌∷◌, length, get_or, refl, sym, ◌∙◌, ap, subst, arith}
+use Rattle.std.proofs.Common.{◌≡◌, ◌⊎◌, inl, inr, ℕ, ◌+◌, ◌-◌, ◌<◌, ◌≤◌, ◌↔◌, false, List, [], ◌∷◌, length, refl, sym, ◌∙◌, ap, subst, arith}
 use Rattle.std.specs.List.{insert}
 use Rattle.std.proofs.lemmas.Bool.{cases_lt}
 use Rattle.std.proofs.lemmas.List.Edits.{length-insert, get_or-insert_at, get_or-insert_below, get_or-insert_above}
@@ -12,7 +12,7 @@ use Rattle.gix_glob.proofs.SetLemmas.{HasByte-unique}
 use Rattle.gix_glob.proofs.TokenLemmas.{TokenAt-unique, TokenAt-inside, run_lead}
 use Rattle.gix_glob.proofs.Existence.{From-short}
 use Rattle.gix_glob.proofs.SplitLemmas.{slash_token}
-use Rattle.gix_glob.proofs.ForwardReading.{Alike, Faces, alike_flip, from_alike, spells_alike}
+use Rattle.gix_glob.proofs.ForwardReading.{Alike, alike_flip, from_alike, spells_alike}
 
 -- ---- the bytes
 
