@@ -18,6 +18,8 @@ mod rows;
 #[cfg(test)]
 mod sets;
 #[cfg(test)]
+mod stars;
+#[cfg(test)]
 mod tokens;
 #[cfg(test)]
 mod wild_rows;

@@ -1,6 +1,6 @@
 //! The rows that show each rule at work.
 use crate::modes::{fold, path, plain};
-use gix_glob::wildmatch::wildmatch;
+use gix_glob::wildmatch::{recursive, wildmatch};
 
 /// Pattern, value and answer, in plain mode.
 const PLAIN_ROWS: [(&str, &str, bool); 18] = [
@@ -56,6 +56,11 @@ fn rows_in_plain_mode(rt: HostRuntime) {
             answer,
             "plain: {pattern} on {value}"
         );
+        assert_eq!(rt;
+            recursive(pattern.as_bytes(), value.as_bytes(), plain()),
+            answer,
+            "recursive, plain: {pattern} on {value}"
+        );
     }
 }
 
@@ -66,6 +71,11 @@ fn rows_in_path_mode(rt: HostRuntime) {
             wildmatch(pattern.as_bytes(), value.as_bytes(), path()),
             answer,
             "path: {pattern} on {value}"
+        );
+        assert_eq!(rt;
+            recursive(pattern.as_bytes(), value.as_bytes(), path()),
+            answer,
+            "recursive, path: {pattern} on {value}"
         );
     }
 }
@@ -78,18 +88,28 @@ fn rows_in_fold_mode(rt: HostRuntime) {
             answer,
             "fold: {pattern} on {value}"
         );
+        assert_eq!(rt;
+            recursive(pattern.as_bytes(), value.as_bytes(), fold()),
+            answer,
+            "recursive, fold: {pattern} on {value}"
+        );
     }
 }
 
 #[test]
 fn byte_zero_is_a_byte(rt: HostRuntime) {
     assert!(rt; !wildmatch(&[b'*', 0], b"", plain()));
+    assert!(rt; !recursive(&[b'*', 0], b"", plain()));
     assert!(rt; wildmatch(&[b'*', 0], &[0], plain()));
+    assert!(rt; recursive(&[b'*', 0], &[0], plain()));
     assert!(rt; wildmatch(&[0], &[0], plain()));
+    assert!(rt; recursive(&[0], &[0], plain()));
     assert!(rt; !wildmatch(&[0], b"", plain()));
+    assert!(rt; !recursive(&[0], b"", plain()));
 }
 
 #[test]
 fn form_feed_is_no_space(rt: HostRuntime) {
     assert!(rt; !wildmatch(b"[[:space:]]", &[12], plain()));
+    assert!(rt; !recursive(b"[[:space:]]", &[12], plain()));
 }

@@ -1,6 +1,6 @@
 //! Rows of bracket sets.
 use crate::modes::{path, plain};
-use gix_glob::wildmatch::wildmatch;
+use gix_glob::wildmatch::{recursive, wildmatch};
 use std::process::Abort;
 
 /// Pattern, the values that it matches in plain mode, and values that it doesn't.
@@ -57,6 +57,11 @@ fn answers(rt: &impl Abort, pattern: &str, values: &str, answer: bool) {
             answer,
             "{pattern} on {value}"
         );
+        assert_eq!(rt;
+            recursive(pattern.as_bytes(), value.as_bytes(), plain()),
+            answer,
+            "{pattern} on {value}"
+        );
     }
 }
 
@@ -79,8 +84,13 @@ fn classes_and_broken_sets(rt: HostRuntime) {
 #[test]
 fn a_set_holds_no_slash_in_path_mode(rt: HostRuntime) {
     assert!(rt; wildmatch(b"[--/]", b".", path()), "a byte of the range");
+    assert!(rt; recursive(b"[--/]", b".", path()), "a byte of the range");
     assert!(rt;
         !wildmatch(b"[--/]", b"/", path()),
+        "its upper end, a slash"
+    );
+    assert!(rt;
+        !recursive(b"[--/]", b"/", path()),
         "its upper end, a slash"
     );
 }
@@ -92,6 +102,11 @@ fn sets_of_any_bytes(rt: HostRuntime) {
             wildmatch(&pattern, &[value], plain()),
             answer,
             "plain: {pattern:?} on {value}"
+        );
+        assert_eq!(rt;
+            recursive(&pattern, &[value], plain()),
+            answer,
+            "recursive, plain: {pattern:?} on {value}"
         );
     }
 }

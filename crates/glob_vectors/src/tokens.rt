@@ -1,6 +1,6 @@
 //! Rows of tokens, in plain mode and in path mode.
 use crate::modes::{path, plain};
-use gix_glob::wildmatch::wildmatch;
+use gix_glob::wildmatch::{recursive, wildmatch};
 
 /// Pattern, value, and the answers in plain mode and in path mode.
 const ROWS: [(&str, &str, bool, bool); 22] = [
@@ -37,9 +37,19 @@ fn tokens_in_both_modes(rt: HostRuntime) {
             "plain: {pattern} on {value}"
         );
         assert_eq!(rt;
+            recursive(pattern.as_bytes(), value.as_bytes(), plain()),
+            in_plain,
+            "recursive, plain: {pattern} on {value}"
+        );
+        assert_eq!(rt;
             wildmatch(pattern.as_bytes(), value.as_bytes(), path()),
             in_path,
             "path: {pattern} on {value}"
+        );
+        assert_eq!(rt;
+            recursive(pattern.as_bytes(), value.as_bytes(), path()),
+            in_path,
+            "recursive, path: {pattern} on {value}"
         );
     }
 }
