@@ -8,7 +8,7 @@ use gix_glob::wildmatch::Mode;
 use gix_glob::{Pattern, parse};
 use glob_lines::{EngineFault, PlainLines, run_list, run_wild};
 use std::alloc::{AllocError, Global};
-use std::{fs, process};
+use std::{env, fs, process};
 
 const LINES: &[u8] = b"*.rs\n\n!src/\n";
 
@@ -91,7 +91,9 @@ fn a_list_is_read_from_a_reader(rt: HostRuntime) {
 /// A file of the lines, or nothing where there is no memory to make it.
 fn file_of_lines(rt: &HostRuntime) -> Option<String> {
     let number = process::id(rt.process());
-    let path = format!(in rt.alloc(); "/tmp/glob_vectors-lines-{number}").ok()?;
+    let folder = env::temp_dir(rt).ok()?;
+    let folder = folder.as_str();
+    let path = format!(in rt.alloc(); "{folder}/glob_vectors-lines-{number}").ok()?;
     fs::write(rt, path.as_str(), LINES).ok()?;
     Some(path)
 }

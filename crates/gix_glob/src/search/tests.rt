@@ -4,7 +4,7 @@ use super::{LoadFault, Pattern, Watched, add_patterns_file, has_file_part};
 use std::alloc::{AllocError, Global};
 use std::io::{ErrorKind, Read};
 use std::test::Fail;
-use std::{fs, io};
+use std::{env, fs, io};
 
 /// A parser that reads all bytes as one pattern.
 #[derive(Debug, Clone, Copy, Default, PartialEq, Eq, Hash, PartialOrd, Ord)]
@@ -218,7 +218,9 @@ fn files_that_are_not_there(rt: HostRuntime) -> Result<(), Fail> {
 #[test]
 fn a_real_file(rt: HostRuntime) -> Result<(), Fail> {
     let number = std::process::id(rt.process());
-    let path = format!(in rt.alloc(); "/tmp/gix_glob-patterns-{number}")?;
+    let folder = env::temp_dir(&rt)?;
+    let folder = folder.as_str();
+    let path = format!(in rt.alloc(); "{folder}/gix_glob-patterns-{number}")?;
     fs::write(&rt, path.as_str(), "!*.rs")?;
     let mut buf = Vec::from_slice(rt.alloc(), b"old")?;
     let list = List::from_file(&rt, rt.alloc(), path.clone()?, None, &mut buf, Whole)?;

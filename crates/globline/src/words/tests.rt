@@ -4,7 +4,7 @@ use gix_glob::search::Watched;
 use std::alloc::{AllocError, Global};
 use std::io::{ErrorKind, Read, Write};
 use std::test::Fail;
-use std::{fs, io, process};
+use std::{env, fs, io, process};
 
 const USAGE: &str = "usage: globline wild plain|fold|path|path-fold PATTERN
        globline list sensitive|fold FILE ROOT
@@ -175,16 +175,18 @@ fn failing_errors_change_no_status(rt: HostRuntime) -> Result<(), Fail> {
 #[test]
 fn list_answers_each_path(rt: HostRuntime) -> Result<(), Fail> {
     let number = process::id(rt.process());
-    let file = format!(in rt.alloc(); "/tmp/globline-patterns-{number}")?;
+    let folder = env::temp_dir(&rt)?;
+    let folder = folder.as_str();
+    let file = format!(in rt.alloc(); "{folder}/globline-patterns-{number}")?;
     let file = file.as_str();
     fs::write(&rt, file, "*.rs\n\nsrc/\n")?;
     let paths: &[u8] = b"src/lib.rs\nsrc/\na//b\nx\nsrc\n";
-    let paths_in_tmp: &[u8] = b"tmp/src/lib.rs\ntmp/SRC/\nsrc/\n";
+    let paths_in_another_case: &[u8] = b"SRC/\nLIB.RS\n";
     let rows: [(&str, &str, &[u8], &[u8]); 6] = [
         ("sensitive", "-", paths, b"1\n3\n!\n\n\n"),
-        ("sensitive", "/tmp", paths, b"1\n3\n!\n\n\n"),
-        ("sensitive", "/", paths_in_tmp, b"1\n\n\n"),
-        ("fold", "/", paths_in_tmp, b"1\n3\n\n"),
+        ("sensitive", folder, paths, b"1\n3\n!\n\n\n"),
+        ("sensitive", folder, paths_in_another_case, b"\n\n"),
+        ("fold", folder, paths_in_another_case, b"3\n1\n"),
         ("sensitive", "", paths, b"\n\n!\n\n\n"),
         ("sensitive", "-", b"", b""),
     ];
@@ -217,7 +219,7 @@ fn list_answers_each_path(rt: HostRuntime) -> Result<(), Fail> {
 
 #[test]
 fn a_file_that_cannot_be_read_is_told(rt: HostRuntime) -> Result<(), Fail> {
-    for file in ["/tmp/globline/missing", "/tmp", "/dev/null/f"] {
+    for file in ["no/such/file", ".", "/dev/null/f"] {
         let words = words_of(rt.alloc(), &["list", "sensitive", file, "-"])?;
         let mut input = Watched::new(b"a\n".as_slice());
         let mut output = Watched::new(Vec::new(rt.alloc()));
