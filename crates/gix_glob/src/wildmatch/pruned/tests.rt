@@ -1,7 +1,9 @@
-//! Worked rows of the pruned recursive engine, and its agreement with the plain program on short patterns and values.
+//! Worked rows of the pruned recursive engine, and the agreement of both engines with the plain program on short patterns
+//! and values.
 ghost use Rattle.std.specs.Prelude.{◌<◌, ◌≤◌, length};
 
 use super::super::plain::splits_from;
+use super::super::wildmatch;
 use super::*;
 use bitflags::Flags;
 use std::alloc::AllocError;
@@ -142,8 +144,13 @@ fn says_no(answer: &Answer, value: &[u8], at: usize, k: usize) -> bool
     }
 }
 
-/// Each attempt on this pattern and value agrees with the plain program.
+/// Both engines agree with the plain program on this pattern and value, the recursive one at each start and place.
 fn agrees(rt: &impl Abort, pattern: &[u8], value: &[u8], mode: Mode) {
+    assert_eq!(rt;
+        wildmatch(pattern, value, mode),
+        splits_from(pattern, 0, value, 0, mode),
+        "{pattern:?} on {value:?}, by two marks"
+    );
     for from in 0..pattern.len() + 1 {
         if !is_start(pattern, from, mode) {
             continue;
