@@ -14,14 +14,7 @@ fn the_lines_of_a_file_are_mappings(rt: HostRuntime) -> Result<(), Fail> {
     let path = format!(in rt.alloc(); "{folder}/glob_vectors-patterns-{number}")?;
     fs::write(&rt, path.as_str(), "*.rs\n\nsrc/\n")?;
     let mut buf = Vec::new(rt.alloc());
-    let list = List::from_file(
-        &rt,
-        rt.alloc(),
-        path.clone()?,
-        Some(folder),
-        &mut buf,
-        PlainLines,
-    )?;
+    let list = List::from_file(&rt, rt.alloc(), path.clone()?, None, &mut buf, PlainLines)?;
     fs::remove_file(&rt, path.as_str())?;
     let list = list.ok_or("no list")?;
     let [first, second] = list.patterns.as_slice() else {
@@ -33,7 +26,7 @@ fn the_lines_of_a_file_are_mappings(rt: HostRuntime) -> Result<(), Fail> {
     assert_eq!(rt; second.sequence_number, 3);
     assert_eq!(rt; second.pattern.text(), b"src".as_slice());
     assert!(rt; second.pattern.mode() == Mode::NO_SUB_DIR.union(Mode::MUST_BE_DIR));
-    assert!(rt; list.base.is_none(), "the file lies in the root itself");
+    assert!(rt; list.base.is_none(), "there is no root");
     assert_eq!(rt; buf.as_slice(), b"*.rs\n\nsrc/\n".as_slice());
     Ok(())
 }
