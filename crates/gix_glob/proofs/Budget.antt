@@ -224,12 +224,12 @@ cost_all mode v (t ∷ ts) x =
     cost_all mode v ts (onward mode v (separates mode t) x) in
     omega (arith, cost-cons mode v t ts x)
 
-cost_limit : (mode : Mode) (p v : List ℕ) (ts : List Token) → Tokens mode p ts → cost mode v ts 0 ≤ step_limit (length p) (length v)
+cost_limit : (mode : Mode) (p v : List ℕ) (ts : List Token) → Tokens mode p ts → cost mode v ts 0 + 1 ≤ step_limit (length p) (length v)
 cost_limit mode p v ts read =
     let few : 0 + length ts ≤ length p = From-short mode p 0 ts read in
-    let low : 2 * length ts + 1 ≤ 2 * (length p + 1) = omega arith in
+    let low : 2 * length ts + 1 ≤ 2 * length p + 1 = omega arith in
     let all : cost mode v ts 0 ≤ (2 * length ts + 1) * (length v + 1) = cost_all mode v ts 0 in
-    let most : (2 * length ts + 1) * (length v + 1) ≤ 2 * (length p + 1) * (length v + 1) = mul-le-mul_right (length v + 1) low in
+    let most : (2 * length ts + 1) * (length v + 1) ≤ (2 * length p + 1) * (length v + 1) = mul-le-mul_right (length v + 1) low in
     omega arith
 
 -- the tokens after the first
@@ -240,12 +240,12 @@ from_head mode p i t k (u ∷ us) read here =
     let same = TokenAt-unique mode p i u t read.0 k read.1 here in
     (us, ap (λ (x : Token). x ∷ us) same.0, subst (λ (n : ℕ). From mode p n us) same.1 read.2)
 
--- the engine at its start
-pub allows_start : (mode : Mode) (p v : List ℕ) (s n : ℕ) → s + step_limit (length p) (length v) ≤ n
+-- the engine at its start, after one step at most
+pub allows_start : (mode : Mode) (p v : List ℕ) (s n : ℕ) → s + step_limit (length p) (length v) ≤ n + 1
     → Allows mode p v 0 0 crossing.Unmet None s n
 allows_start mode p v s n enough = record {
   all = λ ts read.
-      let most : cost mode v ts 0 ≤ step_limit (length p) (length v) = cost_limit mode p v ts read in
+      let most : cost mode v ts 0 + 1 ≤ step_limit (length p) (length v) = cost_limit mode p v ts read in
       let hopped : cost mode v ts (next_component mode v 0) ≤ cost mode v ts (hop mode v ts 0) = cost_hop mode v ts 0 in
       record {
         tokens = ts;

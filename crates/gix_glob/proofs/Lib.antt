@@ -31,3 +31,5 @@ pub mod Existence
 pub mod ForwardReading
 pub mod OneMoreStar
 pub mod Budget
+pub mod Seeking
+pub mod LastByte

@@ -281,10 +281,10 @@ free_known mode p v i k here k_low more = record {
   far false plain x e past t n token apart =
       let one : next_component mode v x ≡ x + 1 = next_plain mode v x plain in omega arith
 
-abbrev mark_of : ℕ → ℕ → Mark
+abbrev pub mark_of : ℕ → ℕ → Mark
 mark_of place at = record { place = place; at = at }
 
-mark_eq : (m : Mark) (place at : ℕ) → m.place ≡ place → m.at ≡ at → mark_of place at ≡ m
+pub mark_eq : (m : Mark) (place at : ℕ) → m.place ≡ place → m.at ≡ at → mark_of place at ≡ m
 mark_eq m place at e f = sym (ap (λ (n : ℕ). mark_of n m.at) e ∙ ap (λ (n : ℕ). mark_of place n) f)
 
 free_from : (mode : Mode) (p v : List ℕ) (i k j e : ℕ) → TokenAt mode p i Free k → j ≤ e → e ≤ length v

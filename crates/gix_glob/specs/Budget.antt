@@ -100,19 +100,29 @@ pub record OwesLeft (mode : Mode) (p v : List ℕ) (c : Crossing) (s n : ℕ) : 
 pub record AllowsLeft (mode : Mode) (p v : List ℕ) (c : Crossing) (s n : ℕ) : Type 0 where
   pub all : (ts : List Token) → Tokens mode p ts → OwesLeft mode p v c s n
 
+-- One step ago the engine stood here, and n are enough.
+pub record AllowsMissed (mode : Mode) (p v : List ℕ) (state : State) (s n : ℕ) : Type 0 where
+  pub before : ℕ
+  pub one : s ≡ before + 1
+  pub allows : AllowsAt mode p v state before n
+
 -- What a turn, and going back to a mark, leave of the steps.
 abbrev pub AllowsOutcome : Mode → List ℕ → List ℕ → Turn → ℕ → ℕ → Type 0
 AllowsOutcome mode p v turn.Match s n = s ≤ n
 AllowsOutcome mode p v turn.NoMatch s n = s ≤ n
-AllowsOutcome mode p v turn.Miss s n = Unit {0}
+AllowsOutcome mode p v (turn.Miss state) s n = AllowsMissed mode p v state s n
 AllowsOutcome mode p v (turn.On next) s n = AllowsAt mode p v next s n
 
 abbrev pub CountsOutcome : Turn → ℕ → ℕ → Type 0
 CountsOutcome turn.Match before after = Unit {0}
 CountsOutcome turn.NoMatch before after = Unit {0}
-CountsOutcome turn.Miss before after = after ≡ before + 1
+CountsOutcome (turn.Miss state) before after = before < after
 CountsOutcome (turn.On next) before after = before < after
 
 abbrev pub AllowsResumed : Mode → List ℕ → List ℕ → Option State → ℕ → ℕ → Type 0
 AllowsResumed mode p v None s n = s ≤ n
 AllowsResumed mode p v (Some next) s n = AllowsAt mode p v next s n
+
+abbrev pub AllowsWithin : Mode → List ℕ → List ℕ → Crossing → Option State → ℕ → ℕ → Type 0
+AllowsWithin mode p v c None s n = AllowsLeft mode p v c s n
+AllowsWithin mode p v c (Some next) s n = AllowsAt mode p v next s n

@@ -19,5 +19,6 @@ pub mod Loaded
 pub mod WholeLine
 pub mod Steps
 pub mod Components
+pub mod Seeking
 pub mod Marks
 pub mod Budget

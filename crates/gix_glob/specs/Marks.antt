@@ -1,6 +1,6 @@
 -- What the functions of the engine with two marks say of its state to one another: a match is found here, or at a later place
 -- of a mark. Nothing public cites it.
-use Rattle.std.specs.Prelude.{◌≡◌, ◌⊎◌, ℕ, ◌+◌, ◌-◌, ◌<◌, ◌≤◌, false, IsTrue, List, length, slice_index, Option, Some, None}
+use Rattle.std.specs.Prelude.{◌≡◌, ◌⊎◌, ℕ, ◌+◌, ◌-◌, ◌*◌, ◌<◌, ◌≤◌, false, IsTrue, List, length, slice_index, Option, Some, None}
 use Rattle.gix_glob.specs.declared.wildmatch.mode.Mode.{Mode}
 use Rattle.gix_glob.specs.declared.wildmatch.counted.Mark.{Mark}
 use Rattle.gix_glob.specs.declared.wildmatch.marks.Crossing.{Crossing}
@@ -9,9 +9,12 @@ use Rattle.gix_glob.specs.declared.wildmatch.marks.State.{State}
 use Rattle.gix_glob.specs.declared.wildmatch.marks.Turn.{Turn}
 use Rattle.gix_glob.specs.declared.wildmatch.marks.Turn.TheVariants as turn
 use Rattle.gix_glob.specs.Bytes.{is_path, slash}
-use Rattle.gix_glob.specs.Tokens.{Token, TokenAt, IsAfterSlash}
+use Rattle.gix_glob.specs.declared.wildmatch.seeking.Sought.{Sought}
+use Rattle.gix_glob.specs.declared.wildmatch.seeking.Sought.TheVariants as sought
+use Rattle.gix_glob.specs.Tokens.{Token, Byte, TokenAt, IsAfterSlash}
 use Rattle.gix_glob.specs.Matching.{SplitsFrom}
-use Rattle.gix_glob.specs.Reader.{NoSlash, AfterSlash}
+use Rattle.gix_glob.specs.Reader.{Fits, NoSlash, AfterSlash}
+use Rattle.gix_glob.specs.Seeking.{IsBare, last_steps, reached_by}
 use Rattle.gix_glob.specs.Components.{ends, separates, next_component}
 
 -- the pattern matches the value
@@ -120,17 +123,44 @@ abbrev pub IsInner : Mode → List ℕ → ℕ → Option Mark → Type 0
 IsInner mode v j None = Unit {0}
 IsInner mode v j (Some m) = ends mode (slice_index v j) ≡ false
 
+-- the engine stands here, and the token does not fit
+pub record IsMissed (mode : Mode) (p v : List ℕ) (s : State) : Type 0 where
+  pub stands : StandsAt mode p v s
+  pub missed : ¬ SplitsFrom v s.at p s.place mode
+
 -- what a turn comes to
-abbrev pub IsOutcome : Mode → List ℕ → List ℕ → State → Turn → Type 0
-IsOutcome mode p v s turn.Match = Whole mode p v
-IsOutcome mode p v s turn.NoMatch = ¬ Whole mode p v
-IsOutcome mode p v s turn.Miss = ¬ SplitsFrom v s.at p s.place mode
-IsOutcome mode p v s (turn.On next) = StandsAt mode p v next
+abbrev pub IsOutcome : Mode → List ℕ → List ℕ → Turn → Type 0
+IsOutcome mode p v turn.Match = Whole mode p v
+IsOutcome mode p v turn.NoMatch = ¬ Whole mode p v
+IsOutcome mode p v (turn.Miss s) = IsMissed mode p v s
+IsOutcome mode p v (turn.On next) = StandsAt mode p v next
 
 -- where going back to a mark leads: to a state, or nowhere
 abbrev pub Resumes : Mode → List ℕ → List ℕ → Option State → Type 0
 Resumes mode p v None = ¬ Whole mode p v
 Resumes mode p v (Some next) = StandsAt mode p v next
+
+-- where going back to the local mark leads: to a state, or to the crossing mark
+abbrev pub ResumesWithin : Mode → List ℕ → List ℕ → Crossing → Option State → Type 0
+ResumesWithin mode p v c None = IsLeft mode p v c
+ResumesWithin mode p v c (Some next) = StandsAt mode p v next
+
+-- what was met at the place that a look ahead has come to
+abbrev pub IsMet : Mode → List ℕ → List ℕ → Sought → Type 0
+IsMet mode p v (sought.Found m) =
+    (m.place < length p) × IsBare (slice_index p m.place) × (m.at < length v)
+    × Fits mode (Byte (slice_index p m.place)) (slice_index v m.at)
+IsMet mode p v (sought.Stuck m) = (m.at < length v) × (slice_index v m.at ≡ slash) × ¬ SplitsFrom v m.at p m.place mode
+IsMet mode p v (sought.On m) = Unit {0}
+
+-- A look ahead from a mark: at no place before does the rest of the pattern split the rest of the value.
+pub record IsSoughtFor (mode : Mode) (p v : List ℕ) (from : Mark) (s : Sought) (before after : ℕ) : Type 0 where
+  pub same : (reached_by s).place ≡ from.place
+  pub low : from.at ≤ (reached_by s).at
+  pub inside : (reached_by s).at ≤ length v
+  pub missed : (k : ℕ) → from.at ≤ k → k < (reached_by s).at → ¬ SplitsFrom v k p from.place mode
+  pub met : IsMet mode p v s
+  pub count : after + 2 * from.at ≡ before + 2 * (reached_by s).at + last_steps s
 
 -- a mark is moved to the next place after a slash
 pub record IsNextFolder (v : List ℕ) (from to : Mark) : Type 0 where

@@ -3,14 +3,18 @@ ghost use Rattle.std.specs.Prelude.{◌≡◌, ◌<◌};
 ghost use Rattle.gix_glob.specs.Matching.{Splits, Holds};
 
 mod counted;
+mod follow;
 mod marks;
 mod mode;
 #[cfg(test)]
 mod plain;
 mod pruned;
+mod returns;
+mod seeking;
 mod sets;
 mod steps;
 pub(crate) mod tokens;
+mod turns;
 
 pub use marks::marked;
 pub use mode::Mode;

@@ -1,10 +1,12 @@
 //! The value as the engine with two marks sees it: its bytes are read by the functions of this module alone, and each call
 //! counts one step.
-ghost use Rattle.std.specs.Prelude.{◌≡◌, ◌≢◌, ◌↔◌, ◌⊎◌, ℕ, ◌+◌, ◌<◌, ◌≤◌, IsTrue, IfSome, IfNone, length, slice_index};
+ghost use Rattle.std.specs.Prelude.{◌≡◌, ◌≢◌, ◌↔◌, ◌⊎◌, ℕ, ◌+◌, ◌-◌, ◌<◌, ◌≤◌, IsTrue, IfSome, IfNone, length, slice_index};
 ghost use Rattle.gix_glob.specs.Bytes.{slash};
 ghost use Rattle.gix_glob.specs.Tokens.{Token, Byte, TokenAt};
 ghost use Rattle.gix_glob.specs.Reader.{shape_of, Fits};
+ghost use Rattle.gix_glob.specs.Seeking.{Suits};
 
+use super::follow::Follow;
 use super::mode::Mode;
 use super::steps::Steps;
 use super::tokens::Shape;
@@ -92,6 +94,17 @@ impl<'a> Counted<'a> {
         at < self.bytes.len() && mode.fold(self.bytes[at]) == mode.fold(wanted)
     }
 
+    /// Tests the pattern's last token, where it is this byte: whether it takes the value's last byte.
+    #[inline(always)]
+    pub fn ends_in<L: Ledger>(&self, wanted: u8, mode: Mode, steps: &mut Steps<L>) -> bool
+        ensures answer { IsTrue result ↔ ((0 < length self.now) × Fits mode (Byte wanted) (slice_index self.now (length self.now - 1))) }
+        ensures count { steps.new ≡ steps.old + 1 }
+    {
+        steps.tick();
+        let len = self.bytes.len();
+        len > 0 && mode.fold(self.bytes[len - 1]) == mode.fold(wanted)
+    }
+
     /// Tests the token of this shape at a place of the pattern.
     #[inline(always)]
     pub fn takes<L: Ledger>(
@@ -140,6 +153,45 @@ impl<'a> Counted<'a> {
     {
         steps.tick();
         if mark.at >= self.bytes.len() || self.bytes[mark.at] == b'/' {
+            return None;
+        }
+        Some(Mark {
+            place: mark.place,
+            at: mark.at + 1,
+        })
+    }
+
+    /// Whether the value has so many bytes from the mark on. No byte is read.
+    #[inline(always)]
+    pub fn holds(&self, mark: Mark, count: usize) -> bool
+        requires { mark.at ≤ length self.now }
+        ensures { IsTrue result ↔ (mark.at + count ≤ length self.now) }
+    {
+        self.bytes.len() - mark.at >= count
+    }
+
+    /// Tests what follows a star at the place of its mark, which is inside the value.
+    #[inline(always)]
+    pub fn suits<L: Ledger>(&self, mark: Mark, follow: Follow, steps: &mut Steps<L>) -> bool
+        requires { mark.at < length self.now }
+        ensures answer { IsTrue result ↔ Suits follow (slice_index self.now mark.at) }
+        ensures room { mark.at < usize.MAX }
+        ensures count { steps.new ≡ steps.old + 1 }
+    {
+        steps.tick();
+        follow.takes(self.bytes[mark.at])
+    }
+
+    /// Moves a mark inside the value by one byte that is not a slash; `None` where it is at a slash.
+    #[inline(always)]
+    pub fn pass_bare<L: Ledger>(&self, mark: Mark, steps: &mut Steps<L>) -> Option<Mark>
+        requires { mark.at < length self.now }
+        ensures moved { IfSome result (λ x. (x.place ≡ mark.place) × (x.at ≡ mark.at + 1) × (slice_index self.now mark.at ≢ slash)) }
+        ensures unable { IfNone result (slice_index self.now mark.at ≡ slash) }
+        ensures count { steps.new ≡ steps.old + 1 }
+    {
+        steps.tick();
+        if self.bytes[mark.at] == b'/' {
             return None;
         }
         Some(Mark {

@@ -3,18 +3,18 @@
 //! One mark belongs to the last token met that crosses slashes, the other to the last run of stars within a component met
 //! after it. Where a token does not fit, the local mark moves by one byte, or, where that would pass a slash, the crossing
 //! mark moves to its next place. A crossing token that is newly met forgets both marks, and a slash the local one.
-ghost use Rattle.std.specs.Prelude.{◌≡◌, ◌≢◌, ◌↔◌, ℕ, ◌+◌, ◌<◌, ◌≤◌, false, IsTrue, IfSome, IfNone, OnSome, List, length};
-ghost use Rattle.gix_glob.specs.Bytes.{backslash, open_bracket, question_mark, star};
+//!
+//! The turns of the engine are in `turns`, the ways back to a mark in `returns`, and the looks ahead from one in `seeking`.
+ghost use Rattle.std.specs.Prelude.{◌≡◌, ◌≢◌, ◌↔◌, ◌+◌, ◌<◌, ◌≤◌, true, IsTrue, length};
+ghost use Rattle.gix_glob.specs.Bytes.{close_bracket, question_mark, slash, star};
 ghost use Rattle.gix_glob.specs.Matching.{SplitsFrom, Splits, Holds};
-ghost use Rattle.gix_glob.specs.Reader.{IsToken, NoSlash, is_star};
 ghost use Rattle.gix_glob.specs.Steps.{step_bound, step_limit};
-ghost use Rattle.gix_glob.specs.Marks.{IsLeft, IsNextFolder, IsOutcome, Resumes, StandsAt};
-ghost use Rattle.gix_glob.specs.Budget.{AllowsAt, AllowsLeft, AllowsOutcome, AllowsResumed, CountsOutcome};
 
 use super::counted::{Counted, Mark};
 use super::mode::Mode;
+use super::returns::resume;
 use super::steps::Steps;
-use super::tokens::{Shape, token_at};
+use super::turns::take_turn;
 use std::sync::ledger::Ledger;
 
 /// The mark of the last token met that crosses slashes.
@@ -31,10 +31,14 @@ pub enum Crossing {
 /// Where the engine stands: a place of the pattern, a place of the value, and the two marks.
 #[derive(Copy, Clone)]
 pub struct State {
-    place: usize,
-    at: usize,
-    crossing: Crossing,
-    local: Option<Mark>,
+    /// The place of the pattern.
+    pub(super) place: usize,
+    /// The place of the value.
+    pub(super) at: usize,
+    /// The mark of the last token met that crosses slashes.
+    pub(super) crossing: Crossing,
+    /// The mark of the last run of stars within a component met after it.
+    pub(super) local: Option<Mark>,
 }
 
 /// What one turn of the engine comes to.
@@ -44,232 +48,37 @@ pub enum Turn {
     Match,
     /// The pattern does not match.
     NoMatch,
-    /// The token does not fit here; a mark may help.
-    Miss,
+    /// The token there does not fit; a mark may help.
+    Miss(State),
     /// The engine goes on from there.
     On(State),
 }
 
-/// Whether a byte begins a token that is not that byte itself.
+/// Whether a byte at the pattern's end is the last token: it ends no star token, question mark or set.
 #[inline(always)]
-fn is_special(byte: u8) -> bool
-    ensures { result ≡ false → (byte ≢ star) × (byte ≢ question_mark) × (byte ≢ open_bracket) × (byte ≢ backslash) }
+fn is_alone(byte: u8) -> bool
+    ensures { IsTrue result → (byte ≢ star) × (byte ≢ question_mark) × (byte ≢ close_bracket) × (byte ≢ slash) }
 {
-    matches!(byte, b'*' | b'?' | b'[' | b'\\')
+    !matches!(byte, b'*' | b'?' | b']' | b'/')
 }
 
-/// Moves a mark to the next place after a slash.
+/// Whether the pattern ends in a byte that is a token by itself and that the value does not end in.
 #[inline(always)]
-fn next_folder<L: Ledger>(value: &Counted<'_>, mark: Mark, steps: &mut Steps<L>) -> Option<Mark>
-    ensures moved { IfSome result (λ m. IsNextFolder value.now mark m) }
-    ensures moves { IfSome result (λ m. steps.new + mark.at ≡ steps.old + m.at) }
-    ensures unable { IfNone result (NoSlash value.now mark.at (length value.now)) }
-    ensures count { IfNone result (mark.at ≤ length value.now → steps.new + mark.at ≡ steps.old + length value.now + 1) }
-{
-    let mut reached = mark;
-    'bytes: while let Some((moved, byte)) = value.pass(reached, steps) {
-        reached = moved;
-        if byte == b'/' {
-            return Some(reached);
-        }
-    }
-    None
-}
-
-/// Goes back to the crossing mark, at its next place.
-#[inline(always)]
-fn from_crossing<L: Ledger>(
-    value: &Counted<'_>,
-    crossing: Crossing,
-    steps: &mut Steps<L>,
-) -> Option<State>
-    ensures meaning { (mode : Mode) (p : List ℕ) → IsLeft mode p value.now crossing → Resumes mode p value.now result }
-    ensures allows { (mode : Mode) (p : List ℕ) (n : ℕ) → AllowsLeft mode p value.now crossing steps.old n
-        → AllowsResumed mode p value.now result steps.new n }
-    ensures progress { OnSome result (steps.old < steps.new) }
-{
-    match crossing {
-        Crossing::Unmet => None,
-        Crossing::Free(mark) => match value.pass(mark, steps) {
-            None => None,
-            Some((moved, _)) => Some(State {
-                place: moved.place(),
-                at: moved.at(),
-                crossing: Crossing::Free(moved),
-                local: None,
-            }),
-        },
-        Crossing::Dirs(mark) => match next_folder(value, mark, steps) {
-            None => None,
-            Some(moved) => Some(State {
-                place: moved.place(),
-                at: moved.at(),
-                crossing: Crossing::Dirs(moved),
-                local: None,
-            }),
-        },
-    }
-}
-
-/// Goes back to a mark, where the token does not fit: to the local one if it can move, else to the crossing one.
-#[inline(always)]
-fn resume<L: Ledger>(value: &Counted<'_>, state: State, steps: &mut Steps<L>) -> Option<State>
-    ensures meaning { (mode : Mode) (p : List ℕ) → StandsAt mode p value.now state
-        → ¬ SplitsFrom value.now state.at p state.place mode → Resumes mode p value.now result }
-    ensures allows { (mode : Mode) (p : List ℕ) (s n : ℕ) → steps.old ≡ s + 1 → StandsAt mode p value.now state
-        → AllowsAt mode p value.now state s n → AllowsResumed mode p value.now result steps.new n }
-    ensures progress { OnSome result (steps.old < steps.new) }
-{
-    match state.local {
-        None => from_crossing(value, state.crossing, steps),
-        Some(mark) => match value.pass_within(mark, steps) {
-            None => from_crossing(value, state.crossing, steps),
-            Some(moved) => Some(State {
-                place: moved.place(),
-                at: moved.at(),
-                crossing: state.crossing,
-                local: Some(moved),
-            }),
-        },
-    }
-}
-
-/// A turn at a token of one byte that is spelled by more than itself, or that holds other bytes.
-#[inline(always)]
-fn single_turn<L: Ledger>(
+fn ends_otherwise<L: Ledger>(
     pattern: &[u8],
     value: &Counted<'_>,
     mode: Mode,
-    state: State,
-    shape: Shape,
-    after: usize,
     steps: &mut Steps<L>,
-) -> Turn
-    requires stands { StandsAt mode pattern.now value.now state }
-    requires token { IsToken mode pattern.now state.place shape after }
-    requires single { is_star shape ≡ false }
-    requires place { state.place < length pattern.now }
-    ensures meaning { IsOutcome mode pattern.now value.now state result }
-    ensures allows { (n : ℕ) → AllowsAt mode pattern.now value.now state steps.old n
-        → AllowsOutcome mode pattern.now value.now result steps.new n }
-    ensures counts { CountsOutcome result steps.old steps.new }
+) -> bool
+    ensures meaning { IsTrue result → ¬ SplitsFrom value.now 0 pattern.now 0 mode }
+    ensures count { steps.new ≤ steps.old + 1 }
 {
-    if !value.takes(state.at, pattern, state.place, shape, mode, steps) {
-        return Turn::Miss;
+    let len = pattern.len();
+    if len == 0 {
+        return false;
     }
-    if shape.is_slash() {
-        return Turn::On(State {
-            place: after,
-            at: state.at + 1,
-            crossing: state.crossing,
-            local: None,
-        });
-    }
-    Turn::On(State {
-        place: after,
-        at: state.at + 1,
-        crossing: state.crossing,
-        local: state.local,
-    })
-}
-
-/// A turn at a token that does not begin with the byte that it is.
-#[inline(always)]
-fn special_turn<L: Ledger>(
-    pattern: &[u8],
-    value: &Counted<'_>,
-    mode: Mode,
-    state: State,
-    steps: &mut Steps<L>,
-) -> Turn
-    requires stands { StandsAt mode pattern.now value.now state }
-    requires place { state.place < length pattern.now }
-    ensures meaning { IsOutcome mode pattern.now value.now state result }
-    ensures allows { (n : ℕ) → AllowsAt mode pattern.now value.now state steps.old n
-        → AllowsOutcome mode pattern.now value.now result steps.new n }
-    ensures counts { CountsOutcome result steps.old steps.new }
-{
-    let (shape, after) = token_at(pattern, state.place, mode);
-    match shape {
-        Shape::Free => {
-            if after == pattern.len() {
-                return Turn::Match;
-            }
-            let mark = Mark::set(after, state.at, steps);
-            Turn::On(State {
-                place: after,
-                at: state.at,
-                crossing: Crossing::Free(mark),
-                local: None,
-            })
-        }
-        Shape::Dirs => {
-            let mark = Mark::set(after, state.at, steps);
-            Turn::On(State {
-                place: after,
-                at: state.at,
-                crossing: Crossing::Dirs(mark),
-                local: None,
-            })
-        }
-        Shape::Local => {
-            let mark = Mark::set(after, state.at, steps);
-            Turn::On(State {
-                place: after,
-                at: state.at,
-                crossing: state.crossing,
-                local: Some(mark),
-            })
-        }
-        Shape::Nothing => Turn::NoMatch,
-        Shape::Byte(_) | Shape::Any | Shape::Set => {
-            single_turn(pattern, value, mode, state, shape, after, steps)
-        }
-    }
-}
-
-/// One turn: the token at this place of the pattern, or the pattern's end, is tested at this place of the value.
-#[inline(always)]
-fn take_turn<L: Ledger>(
-    pattern: &[u8],
-    value: &Counted<'_>,
-    mode: Mode,
-    state: State,
-    steps: &mut Steps<L>,
-) -> Turn
-    requires { StandsAt mode pattern.now value.now state }
-    ensures meaning { IsOutcome mode pattern.now value.now state result }
-    ensures allows { (n : ℕ) → AllowsAt mode pattern.now value.now state steps.old n
-        → AllowsOutcome mode pattern.now value.now result steps.new n }
-    ensures counts { CountsOutcome result steps.old steps.new }
-{
-    if state.place >= pattern.len() {
-        if value.ends_at(state.at, steps) {
-            return Turn::Match;
-        }
-        return Turn::Miss;
-    }
-    let byte = pattern[state.place];
-    if is_special(byte) {
-        return special_turn(pattern, value, mode, state, steps);
-    }
-    if !value.has(state.at, byte, mode, steps) {
-        return Turn::Miss;
-    }
-    if byte == b'/' {
-        return Turn::On(State {
-            place: state.place + 1,
-            at: state.at + 1,
-            crossing: state.crossing,
-            local: None,
-        });
-    }
-    Turn::On(State {
-        place: state.place + 1,
-        at: state.at + 1,
-        crossing: state.crossing,
-        local: state.local,
-    })
+    let last = pattern[len - 1];
+    is_alone(last) && !value.ends_in(last, mode, steps)
 }
 
 /// Whether the pattern matches the value.
@@ -278,6 +87,9 @@ fn search<L: Ledger>(pattern: &[u8], value: &Counted<'_>, mode: Mode, steps: &mu
     ensures exact { IsTrue result ↔ SplitsFrom value.now 0 pattern.now 0 mode }
     ensures count { steps.new ≤ steps.old + step_limit (length pattern.now) (length value.now) }
 {
+    if ends_otherwise(pattern, value, mode, steps) {
+        return false;
+    }
     let mut state = State {
         place: 0,
         at: 0,
@@ -289,7 +101,7 @@ fn search<L: Ledger>(pattern: &[u8], value: &Counted<'_>, mode: Mode, steps: &mu
             Turn::Match => return true,
             Turn::NoMatch => return false,
             Turn::On(next) => state = next,
-            Turn::Miss => match resume(value, state, steps) {
+            Turn::Miss(missed) => match resume(pattern, value, mode, missed, steps) {
                 None => return false,
                 Some(next) => state = next,
             },

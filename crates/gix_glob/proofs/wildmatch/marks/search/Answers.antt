@@ -8,8 +8,9 @@ pub turns-init : goal.turns-init
 turns-init g c = record {
   stands = stands_start c.args.mode c.args.pattern.now c.args.value.now;
   allows =
-      allows_start c.args.mode c.args.pattern.now c.args.value.now c.args.steps.now
-      (c.args.steps.now + step_limit (length c.args.pattern.now) (length c.args.value.now)) (omega arith);
+      allows_start c.args.mode c.args.pattern.now c.args.value.now c.ends_otherwise.new.steps
+      (c.args.steps.now + step_limit (length c.args.pattern.now) (length c.args.value.now))
+      (omega (arith, c.ends_otherwise.ensures.count));
 }
 
 pub turns-smaller-in-On : goal.turns-smaller-in-On
@@ -24,12 +25,8 @@ turns-smaller-in-On g c =
 pub turns-smaller : goal.turns-smaller
 turns-smaller g c =
     let all = c.args.steps.now + step_limit (length c.args.pattern.now) (length c.args.value.now) in
-    let miss = c.in-Miss.ensures in
-    let stands = c.in-Some.ensures.meaning c.args.mode c.args.pattern.now c.turns.invariant.stands miss.meaning in
-    let allows =
-    c.in-Some.ensures.allows c.args.mode c.args.pattern.now c.turns.steps all miss.counts c.turns.invariant.stands
-    c.turns.invariant.allows in
+    let allows = c.in-Some.ensures.allows all (c.in-Miss.ensures.allows all c.turns.invariant.allows) in
     let one =
     allows_one c.args.mode c.args.pattern.now c.args.value.now c.in-Some.next.place c.in-Some.next.at c.in-Some.next.crossing
-    c.in-Some.next.local c.resume.new.steps all stands.inside allows in
-    omega (arith, one, c.in-Some.ensures.progress, miss.counts)
+    c.in-Some.next.local c.resume.new.steps all c.in-Some.ensures.meaning.inside allows in
+    omega (arith, one, c.in-Some.ensures.progress, c.in-Miss.ensures.counts)

@@ -1,7 +1,7 @@
 -- No slash was passed so far, and each byte passed is counted.
 use Rattle.std.proofs.Common.{◌≡◌, ◌+◌, ◌-◌, ◌≤◌, length}
 use Rattle.gix_glob.specs.Reader.{NoSlash}
-use Rattle.gix_glob.proofs.wildmatch.marks.next_folder.Given as goal
+use Rattle.gix_glob.proofs.wildmatch.returns.next_folder.Given as goal
 
 abbrev pub invariant-bytes : goal.invariant-bytes
 invariant-bytes g l = record {

@@ -4,14 +4,17 @@ use Rattle.gix_glob.specs.Tokens.{Byte}
 use Rattle.gix_glob.specs.Reader.{shape_of}
 use Rattle.gix_glob.proofs.Marks.{stands_on, stands_past_slash, misses_byte, shape_slash, inner_of}
 use Rattle.gix_glob.proofs.Budget.{allows_on, allows_past_slash, counted_on}
-use Rattle.gix_glob.proofs.wildmatch.marks.single_turn.Goals as goal
+use Rattle.gix_glob.proofs.wildmatch.turns.single_turn.Goals as goal
 
 pub returns-then-not-takes-clause-meaning : goal.returns-then-not-takes-clause-meaning
-returns-then-not-takes-clause-meaning g c =
-    let x = c.requires.token in
-    misses_byte c.args.mode c.args.pattern.now c.args.value.now c.args.state.place c.args.shape c.args.after c.args.state.at x
-    c.requires.single c.requires.stands.inside
-    (λ fits. let wrong : false ≡ true = (c.if-not-takes.ensures.answer x.token c.args.after x.here x.shown).1 fits in cc)
+returns-then-not-takes-clause-meaning g c = record {
+  stands = c.requires.stands;
+  missed =
+      let x = c.requires.token in
+      misses_byte c.args.mode c.args.pattern.now c.args.value.now c.args.state.place c.args.shape c.args.after c.args.state.at x
+      c.requires.single c.requires.stands.inside
+      (λ fits. let wrong : false ≡ true = (c.if-not-takes.ensures.answer x.token c.args.after x.here x.shown).1 fits in cc);
+}
 
 pub returns-then-is_slash-clause-meaning : goal.returns-then-is_slash-clause-meaning
 returns-then-is_slash-clause-meaning g c =

@@ -1,0 +1,59 @@
+//! What follows a star in the pattern, where the engine with two marks can look for it byte by byte.
+ghost use Rattle.std.specs.Prelude.{◌≡◌, ◌≢◌, ◌↔◌, ℕ, ◌<◌, ◌≤◌, false, true, IsTrue, IfSome, length};
+ghost use Rattle.gix_glob.specs.Bytes.{backslash, open_bracket, question_mark, star, slash};
+ghost use Rattle.gix_glob.specs.Seeking.{Follows, IsBare, Suits};
+
+use super::mode::Mode;
+
+/// What follows a star: a byte that is a token by itself, or the pattern's end.
+#[derive(Copy, Clone)]
+pub enum Follow {
+    /// This byte, where case counts.
+    Byte(u8),
+    /// This byte, where case does not count.
+    Folded(u8),
+    /// The pattern's end.
+    End,
+}
+
+impl Follow {
+    /// Whether a byte of the value is what follows. The pattern's end is at no byte.
+    #[inline(always)]
+    pub fn takes(self, byte: u8) -> bool
+        ensures { IsTrue result ↔ Suits self byte }
+    {
+        match self {
+            Follow::Byte(wanted) => byte == wanted,
+            Follow::Folded(wanted) => byte.to_ascii_lowercase() == wanted.to_ascii_lowercase(),
+            Follow::End => false,
+        }
+    }
+}
+
+/// Whether a byte begins no token but the one that it is by itself.
+#[inline(always)]
+pub fn is_bare(byte: u8) -> bool
+    ensures { IsTrue result ↔ IsBare byte }
+{
+    !matches!(byte, b'*' | b'?' | b'[' | b'\\')
+}
+
+/// What follows at this place of the pattern; `None` where it is a token of another kind.
+#[inline(always)]
+pub fn follow_at(pattern: &[u8], place: usize, mode: Mode) -> Option<Follow>
+    requires { place ≤ length pattern.now }
+    ensures { IfSome result (λ follow. Follows mode pattern.now place follow) }
+{
+    if place >= pattern.len() {
+        return Some(Follow::End);
+    }
+    let byte = pattern[place];
+    if !is_bare(byte) {
+        return None;
+    }
+    if mode.folds() {
+        Some(Follow::Folded(byte))
+    } else {
+        Some(Follow::Byte(byte))
+    }
+}

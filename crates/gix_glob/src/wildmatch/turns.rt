@@ -1,0 +1,209 @@
+//! The turns of the engine with two marks: the token at a place of the pattern is tested at a place of the value.
+ghost use Rattle.std.specs.Prelude.{◌≡◌, ◌≢◌, ℕ, ◌+◌, ◌<◌, false, length, slice_index};
+ghost use Rattle.gix_glob.specs.Bytes.{slash};
+ghost use Rattle.gix_glob.specs.Reader.{IsToken, is_star};
+ghost use Rattle.gix_glob.specs.Seeking.{IsBare};
+ghost use Rattle.gix_glob.specs.Marks.{IsOutcome, StandsAt};
+ghost use Rattle.gix_glob.specs.Budget.{AllowsAt, AllowsOutcome, CountsOutcome};
+
+use super::counted::{Counted, Mark};
+use super::follow::is_bare;
+use super::marks::{Crossing, State, Turn};
+use super::mode::Mode;
+use super::steps::Steps;
+use super::tokens::{Shape, token_at};
+use std::sync::ledger::Ledger;
+
+/// A turn at a token of one byte that is spelled by more than itself, or that holds other bytes.
+#[inline(always)]
+fn single_turn<L: Ledger>(
+    pattern: &[u8],
+    value: &Counted<'_>,
+    mode: Mode,
+    state: State,
+    shape: Shape,
+    after: usize,
+    steps: &mut Steps<L>,
+) -> Turn
+    requires stands { StandsAt mode pattern.now value.now state }
+    requires token { IsToken mode pattern.now state.place shape after }
+    requires single { is_star shape ≡ false }
+    requires place { state.place < length pattern.now }
+    ensures meaning { IsOutcome mode pattern.now value.now result }
+    ensures allows { (n : ℕ) → AllowsAt mode pattern.now value.now state steps.old n
+        → AllowsOutcome mode pattern.now value.now result steps.new n }
+    ensures counts { CountsOutcome result steps.old steps.new }
+{
+    if !value.takes(state.at, pattern, state.place, shape, mode, steps) {
+        return Turn::Miss(state);
+    }
+    if shape.is_slash() {
+        return Turn::On(State {
+            place: after,
+            at: state.at + 1,
+            crossing: state.crossing,
+            local: None,
+        });
+    }
+    Turn::On(State {
+        place: after,
+        at: state.at + 1,
+        crossing: state.crossing,
+        local: state.local,
+    })
+}
+
+/// A turn at a token that does not begin with the byte that it is.
+#[inline(always)]
+fn special_turn<L: Ledger>(
+    pattern: &[u8],
+    value: &Counted<'_>,
+    mode: Mode,
+    state: State,
+    steps: &mut Steps<L>,
+) -> Turn
+    requires stands { StandsAt mode pattern.now value.now state }
+    requires place { state.place < length pattern.now }
+    ensures meaning { IsOutcome mode pattern.now value.now result }
+    ensures allows { (n : ℕ) → AllowsAt mode pattern.now value.now state steps.old n
+        → AllowsOutcome mode pattern.now value.now result steps.new n }
+    ensures counts { CountsOutcome result steps.old steps.new }
+{
+    let (shape, after) = token_at(pattern, state.place, mode);
+    match shape {
+        Shape::Free => {
+            if after == pattern.len() {
+                return Turn::Match;
+            }
+            let mark = Mark::set(after, state.at, steps);
+            Turn::On(State {
+                place: after,
+                at: state.at,
+                crossing: Crossing::Free(mark),
+                local: None,
+            })
+        }
+        Shape::Dirs => {
+            let mark = Mark::set(after, state.at, steps);
+            Turn::On(State {
+                place: after,
+                at: state.at,
+                crossing: Crossing::Dirs(mark),
+                local: None,
+            })
+        }
+        Shape::Local => {
+            let mark = Mark::set(after, state.at, steps);
+            Turn::On(State {
+                place: after,
+                at: state.at,
+                crossing: state.crossing,
+                local: Some(mark),
+            })
+        }
+        Shape::Nothing => Turn::NoMatch,
+        Shape::Byte(_) | Shape::Any | Shape::Set => {
+            single_turn(pattern, value, mode, state, shape, after, steps)
+        }
+    }
+}
+
+/// A turn at a slash.
+#[inline(always)]
+fn slash_turn<L: Ledger>(
+    pattern: &[u8],
+    value: &Counted<'_>,
+    mode: Mode,
+    state: State,
+    steps: &mut Steps<L>,
+) -> Turn
+    requires stands { StandsAt mode pattern.now value.now state }
+    requires place { state.place < length pattern.now }
+    requires is { slice_index pattern.now state.place ≡ slash }
+    ensures meaning { IsOutcome mode pattern.now value.now result }
+    ensures allows { (n : ℕ) → AllowsAt mode pattern.now value.now state steps.old n
+        → AllowsOutcome mode pattern.now value.now result steps.new n }
+    ensures counts { CountsOutcome result steps.old steps.new }
+{
+    if !value.has(state.at, pattern[state.place], mode, steps) {
+        return Turn::Miss(state);
+    }
+    Turn::On(State {
+        place: state.place + 1,
+        at: state.at + 1,
+        crossing: state.crossing,
+        local: None,
+    })
+}
+
+/// Turns at bytes that are tokens by themselves, up to a slash or another token: the marks stay.
+#[inline(always)]
+fn literal_turns<L: Ledger>(
+    pattern: &[u8],
+    value: &Counted<'_>,
+    mode: Mode,
+    state: State,
+    steps: &mut Steps<L>,
+) -> Turn
+    requires stands { StandsAt mode pattern.now value.now state }
+    requires place { state.place < length pattern.now }
+    requires bare { IsBare (slice_index pattern.now state.place) }
+    requires other { slice_index pattern.now state.place ≢ slash }
+    ensures meaning { IsOutcome mode pattern.now value.now result }
+    ensures allows { (n : ℕ) → AllowsAt mode pattern.now value.now state steps.old n
+        → AllowsOutcome mode pattern.now value.now result steps.new n }
+    ensures counts { CountsOutcome result steps.old steps.new }
+{
+    let mut place = state.place;
+    let mut at = state.at;
+    'bytes: while place < pattern.len() && pattern[place] != b'/' && is_bare(pattern[place]) {
+        if !value.has(at, pattern[place], mode, steps) {
+            return Turn::Miss(State {
+                place,
+                at,
+                crossing: state.crossing,
+                local: state.local,
+            });
+        }
+        place += 1;
+        at += 1;
+    }
+    Turn::On(State {
+        place,
+        at,
+        crossing: state.crossing,
+        local: state.local,
+    })
+}
+
+/// The token at this place of the pattern, or the pattern's end, is tested at this place of the value; and so are the bytes
+/// that come after a byte and are tokens by themselves.
+#[inline(always)]
+pub fn take_turn<L: Ledger>(
+    pattern: &[u8],
+    value: &Counted<'_>,
+    mode: Mode,
+    state: State,
+    steps: &mut Steps<L>,
+) -> Turn
+    requires { StandsAt mode pattern.now value.now state }
+    ensures meaning { IsOutcome mode pattern.now value.now result }
+    ensures allows { (n : ℕ) → AllowsAt mode pattern.now value.now state steps.old n
+        → AllowsOutcome mode pattern.now value.now result steps.new n }
+    ensures counts { CountsOutcome result steps.old steps.new }
+{
+    if state.place >= pattern.len() {
+        if value.ends_at(state.at, steps) {
+            return Turn::Match;
+        }
+        return Turn::Miss(state);
+    }
+    let byte = pattern[state.place];
+    if byte == b'/' {
+        return slash_turn(pattern, value, mode, state, steps);
+    }
+    if !is_bare(byte) {
+        return special_turn(pattern, value, mode, state, steps);
+    }
+    literal_turns(pattern, value, mode, state, steps)
+}
