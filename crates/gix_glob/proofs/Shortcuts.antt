@@ -37,6 +37,15 @@ not_true : (b : Bool) → not b ≡ true → b ≡ false
 not_true true h = absurd (false≢true h)
 not_true false h = refl
 
+-- a value that doesn't end in the literal after a star doesn't match
+pub end_refused : (answer : Bool) (p v : List ℕ) (mode : Mode) → is_star_and_literal p ≡ true → answer ≡ false
+    → IsTrue answer ↔ EndsAlike mode v (drop 1 p) → Holds false (Splits v p mode) p
+end_refused answer p v mode shape refused exact =
+    exact_holds false (Splits v p mode) p (
+      λ yes. absurd (false≢true yes),
+      λ s. (let out = star_literal_out p v mode shape s in sym refused ∙ exact.1 (record { fits = out.0; alike = out.1 })),
+    )
+
 -- a star and a literal are compared with the value's end, where the star may take all bytes of the value
 pub end_holds : (answer : Bool) (p v : List ℕ) (mode : Mode) → is_star_and_literal p ≡ true → (not (is_path mode) || not (list_any (λ b. b == slash) v)) ≡ true
     → IsTrue answer ↔ EndsAlike mode v (drop 1 p) → Holds answer (Splits v p mode) p

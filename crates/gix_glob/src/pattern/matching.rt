@@ -22,6 +22,7 @@ impl Pattern {
 }
 
 /// Whether a star may take all bytes of the value: in plain mode, and where the value has no slash.
+#[inline(always)]
 pub(super) fn is_one_component(value: &[u8], mode: wildmatch::Mode) -> bool
     ensures { result ≡ (not (is_path mode) || not (has_slash value.now)) }
 {
@@ -29,6 +30,7 @@ pub(super) fn is_one_component(value: &[u8], mode: wildmatch::Mode) -> bool
 }
 
 /// Whether the two texts are equal, up to case where the mode folds.
+#[inline(always)]
 pub(super) fn are_alike(a: &[u8], b: &[u8], mode: wildmatch::Mode) -> bool
     ensures { IsTrue result ↔ AreAlike mode a.now b.now }
 {
@@ -40,6 +42,7 @@ pub(super) fn are_alike(a: &[u8], b: &[u8], mode: wildmatch::Mode) -> bool
 }
 
 /// Whether the value begins with the text, up to case where the mode folds.
+#[inline(always)]
 pub(super) fn begins_alike(front: &[u8], value: &[u8], mode: wildmatch::Mode) -> bool
     ensures { IsTrue result ↔ BeginsAlike mode value.now front.now }
 {
@@ -50,6 +53,7 @@ pub(super) fn begins_alike(front: &[u8], value: &[u8], mode: wildmatch::Mode) ->
 }
 
 /// Whether the value ends in the text, up to case where the mode folds.
+#[inline(always)]
 pub(super) fn ends_alike(end: &[u8], value: &[u8], mode: wildmatch::Mode) -> bool
     ensures { IsTrue result ↔ EndsAlike mode value.now end.now }
 {

@@ -26,6 +26,7 @@ pub struct PatternView<'a> {
 }
 
 /// What follows the first byte of a text.
+#[inline(always)]
 fn past_star(text: &[u8]) -> &[u8]
     ensures { result.now ≡ drop 1 text.now }
 {
@@ -36,6 +37,7 @@ fn past_star(text: &[u8]) -> &[u8]
 }
 
 /// The bytes of a text before a place, or all of them where the place is past the end.
+#[inline(always)]
 fn front(text: &[u8], pos: usize) -> &[u8]
     ensures { result.now ≡ take pos text.now }
 {
@@ -60,6 +62,7 @@ impl<'a> PatternView<'a> {
     /// Whether the text matches the value, as [`super::Pattern::matches`] answers.
     ///
     /// A text without special bytes, a literal front, and a star before a literal are decided without the matcher.
+    #[inline(always)]
     pub fn matches(self, value: &[u8], mode: wildmatch::Mode) -> bool
         ensures { IsPattern self.entry.text.now self.entry.mode self.entry.first_wildcard_pos →
             Holds result (Splits value.now self.entry.text.now mode) self.entry.text.now }
@@ -67,10 +70,14 @@ impl<'a> PatternView<'a> {
         let Some(pos) = self.first_wildcard_pos else {
             return are_alike(self.text, value, mode);
         };
-        if self.mode.contains(Mode::ENDS_WITH) && is_one_component(value, mode) {
-            return ends_alike(past_star(self.text), value, mode);
-        }
-        if !begins_alike(front(self.text, pos), value, mode) {
+        if self.mode.contains(Mode::ENDS_WITH) {
+            if !ends_alike(past_star(self.text), value, mode) {
+                return false;
+            }
+            if is_one_component(value, mode) {
+                return true;
+            }
+        } else if !begins_alike(front(self.text, pos), value, mode) {
             return false;
         }
         wildmatch::wildmatch(self.text, value, mode)
