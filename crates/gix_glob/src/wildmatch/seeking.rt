@@ -3,6 +3,9 @@ ghost use Rattle.std.specs.Prelude.{◌≡◌, ◌+◌, ◌*◌, ◌<◌, ◌≤
 ghost use Rattle.gix_glob.specs.Reader.{NoSlash};
 ghost use Rattle.gix_glob.specs.Seeking.{IsFoundBelow, IsSought, IsUnstuck, MovesBy, last_steps, reached_by};
 
+#[cfg(test)]
+mod tests;
+
 use super::counted::{Counted, Mark};
 use super::follow::Follow;
 use super::steps::Steps;
