@@ -5,7 +5,7 @@ use Rattle.std.proofs.lemmas.Bool.{cases_lt}
 use Rattle.std.proofs.Math.ListN.{drop_of_length-le}
 use Rattle.gix_glob.specs.declared.wildmatch.mode.Mode.{Mode}
 use Rattle.gix_glob.specs.declared.wildmatch.pruned.Answer.{Answer}
-use Rattle.gix_glob.specs.declared.wildmatch.pruned.Answer.TheVariants.{Match, NoMatch, AbortAll, RecursionLimitReached}
+use Rattle.gix_glob.specs.declared.wildmatch.pruned.Answer.TheVariants.{Match, NoMatch, AbortAll}
 use Rattle.gix_glob.specs.Bytes.{HasByte, star}
 use Rattle.gix_glob.specs.Tokens.{Token, Free, Dirs, Nothing, TokenAt, From}
 use Rattle.gix_glob.specs.Matching.{Splits, SplitsFrom, Holds, star_count}

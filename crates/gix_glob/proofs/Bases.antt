@@ -1,9 +1,9 @@
 -- The base of a source by the parts that lie below the root.
-use Rattle.std.proofs.Common.{◌≡◌, ◌≢◌, ℕ, ◌+◌, ◌-◌, ◌≤◌, List, [], ◌∷◌, ◌++◌, length, Option, Some, None, ◌⊎◌, inl, inr, refl, sym, ap, ◌∙◌, subst, arith, length-append, append_assoc, append-nil, codes, Bool, true, false, if◌then◌else◌, Result, IfOk, option_map, Vec, Global}
+use Rattle.std.proofs.Common.{◌≡◌, ◌≢◌, ℕ, ◌-◌, ◌≤◌, List, [], ◌∷◌, ◌++◌, length, Option, Some, None, ◌⊎◌, inl, inr, refl, sym, ap, ◌∙◌, subst, arith, length-append, append_assoc, append-nil, codes, Bool, true, false, if◌then◌else◌, Result, IfOk, option_map, Vec, Global}
 use Rattle.std.specs.Vec.{vec_items}
 use Rattle.std.proofs.lemmas.Result.{IfOk-weaker}
 use Rattle.std.proofs.lemmas.Slice.Eq.{bytes_eq-Decides}
-use Rattle.gix_glob.specs.Paths.{parts, without_last, folder, folders, LiesBetween, HasBase, Base, base_below, EndsInSlash}
+use Rattle.gix_glob.specs.Paths.{parts, without_last, folder, folders, LiesBetween, Base, base_below, EndsInSlash}
 use Rattle.std.specs.Str.{bytes_eq}
 
 -- a list is empty, or it has a last element

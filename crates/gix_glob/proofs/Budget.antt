@@ -1,23 +1,19 @@
 -- The engine with two marks: how many steps are left. Each pair of a token and a place of the value is tested at most once,
 -- since a star between two slashes of the pattern looks at one component of the value.
-use Rattle.std.proofs.Common.{◌≡◌, ◌≢◌, ◌⊎◌, inl, inr, ℕ, suc, ◌+◌, ◌-◌, ◌*◌, ◌<◌, ◌≤◌, Bool, true, false, IsTrue, List, [], ◌∷◌, length, get_or, Option, Some, None, refl, sym, ◌∙◌, ap, subst, arith, if◌then◌else◌}
+use Rattle.std.proofs.Common.{◌≡◌, ◌≢◌, ◌⊎◌, inl, inr, ℕ, ◌+◌, ◌-◌, ◌*◌, ◌<◌, ◌≤◌, Bool, true, false, List, [], ◌∷◌, length, get_or, Option, Some, None, refl, sym, ◌∙◌, ap, subst, arith, if◌then◌else◌}
 use Rattle.std.proofs.lemmas.Bool.{cases_lt}
 use Rattle.std.proofs.Math.Nat.{mul-le-mul_right}
 use Rattle.gix_glob.specs.declared.wildmatch.mode.Mode.{Mode}
-use Rattle.gix_glob.specs.declared.wildmatch.tokens.Shape.{Shape}
 use Rattle.gix_glob.specs.declared.wildmatch.counted.Mark.{Mark}
 use Rattle.gix_glob.specs.declared.wildmatch.marks.Crossing.{Crossing}
 use Rattle.gix_glob.specs.declared.wildmatch.marks.Crossing.TheVariants as crossing
-use Rattle.gix_glob.specs.declared.wildmatch.marks.State.{State}
-use Rattle.gix_glob.specs.declared.wildmatch.marks.Turn.{Turn}
-use Rattle.gix_glob.specs.declared.wildmatch.marks.Turn.TheVariants as turn
-use Rattle.gix_glob.specs.Bytes.{is_path, slash}
+use Rattle.gix_glob.specs.Bytes.{slash}
 use Rattle.gix_glob.specs.Tokens.{Token, Byte, Any, OneOf, Free, Local, Dirs, Nothing, TokenAt, From, Tokens}
 use Rattle.gix_glob.specs.Reader.{Fits}
 use Rattle.gix_glob.specs.Steps.{step_limit}
 use Rattle.gix_glob.specs.Components.{ends, separates, next_component}
 use Rattle.gix_glob.specs.Marks.{FreeKnown, IsInner, IsNextFolder}
-use Rattle.gix_glob.specs.Budget.{extra, onward, left, cost, hop, stretch, FreeRest, DirsRest, CrossingRest, LocalRest, WithinRest, Owes, Allows, AllowsAt, OwesLeft, AllowsLeft, AllowsOutcome, CountsOutcome, AllowsResumed}
+use Rattle.gix_glob.specs.Budget.{extra, onward, left, cost, hop, stretch, FreeRest, DirsRest, LocalRest, WithinRest, Owes, Allows, OwesLeft, AllowsLeft}
 use Rattle.gix_glob.proofs.TokenLemmas.{TokenAt-unique, TokenAt-inside}
 use Rattle.gix_glob.proofs.Existence.{settle, From-short}
 use Rattle.gix_glob.proofs.Components.{separates-fits, slash_ends, ends_or_not, next-end, next-past, next-inner, next_past, next_high, next_mono, next_before_end}

@@ -7,7 +7,6 @@ use Rattle.std.proofs.lemmas.Str.Ascii.{lowercase_is}
 use Rattle.std.specs.Char.{to_ascii_lowercase}
 use Rattle.gix_glob.specs.declared.wildmatch.mode.Mode.{Mode}
 use Rattle.gix_glob.specs.Bytes.{fold, folds, is_path, slash}
-use Rattle.gix_glob.specs.Sets.{set_holds}
 use Rattle.gix_glob.specs.Tokens.{Token, Byte, Any, OneOf, Free, Local, Dirs, Nothing}
 use Rattle.gix_glob.specs.Reader.{Fits}
 use Rattle.gix_glob.specs.Components.{ends_by, ends, separates_by, separates, reach, next_component}

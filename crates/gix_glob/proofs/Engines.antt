@@ -1,12 +1,11 @@
 -- What every engine uses of the cuttings: a step by the shape that the reader answers.
-use Rattle.std.proofs.Common.{◌≡◌, ◌≢◌, ◌⊎◌, inl, inr, ℕ, ◌+◌, ◌<◌, ◌≤◌, Bool, true, false, IsTrue, ◌↔◌, List, length, get_or, refl, sym, subst, arith}
+use Rattle.std.proofs.Common.{◌≡◌, ◌⊎◌, inl, inr, ℕ, ◌+◌, ◌<◌, ◌≤◌, Bool, true, false, IsTrue, ◌↔◌, List, length, get_or, sym, subst, arith}
 use Rattle.gix_glob.specs.declared.wildmatch.mode.Mode.{Mode}
 use Rattle.gix_glob.specs.declared.wildmatch.tokens.Shape.{Shape}
-use Rattle.gix_glob.specs.declared.wildmatch.tokens.Shape.TheVariants as shape
 use Rattle.gix_glob.specs.Tokens.{Token, Byte, Any, OneOf, Free, Local, Dirs, Nothing, TokenAt}
 use Rattle.gix_glob.specs.Matching.{Splits, SplitsFrom, Holds}
-use Rattle.gix_glob.specs.Reader.{IsToken, Fits, Spans, NoSlash, AfterSlash, is_star, shape_of}
-use Rattle.gix_glob.proofs.CutLemmas.{IsOne, one_in, one_out, free_in, free_out, local_in, local_out, dirs_in_empty, dirs_in, dirs_out, nothing_out}
+use Rattle.gix_glob.specs.Reader.{IsToken, Fits, Spans, AfterSlash, is_star, shape_of}
+use Rattle.gix_glob.proofs.CutLemmas.{one_in, one_out, free_in, free_out, local_in, local_out, dirs_in_empty, dirs_in, dirs_out, nothing_out}
 
 -- a star token that takes this stretch, and then a cutting of the rest
 token_star_in : (mode : Mode) (p v : List ℕ) (i j k e : ℕ) (t : Token) → TokenAt mode p i t j → k ≤ e → e ≤ length v

@@ -1,12 +1,12 @@
 -- Each pattern has a reading: from each place inside it some token is spelled. It is said so that it needs no decision
 -- whether a bracket begins a set: what follows from each reading, where it is an order of numbers, holds.
-use Rattle.std.proofs.Common.{◌≡◌, ◌≢◌, ◌⊎◌, inl, inr, ℕ, zero, suc, ◌+◌, ◌-◌, ◌<◌, ◌≤◌, Bool, true, false, IsTrue, List, [], ◌∷◌, length, get_or, Option, refl, sym, ◌∙◌, ap, subst, arith, if◌then◌else◌}
+use Rattle.std.proofs.Common.{◌≡◌, inl, inr, ℕ, zero, suc, ◌+◌, ◌<◌, ◌≤◌, Bool, true, false, List, [], ◌∷◌, length, get_or, Option, refl, sym, ◌∙◌, subst, arith, if◌then◌else◌}
 use Rattle.std.proofs.lemmas.Bool.{cases_lt}
 use Rattle.std.proofs.lemmas.Bool.Decides.{eqb_tells}
 use Rattle.gix_glob.specs.declared.wildmatch.mode.Mode.{Mode}
 use Rattle.gix_glob.specs.declared.wildmatch.sets.Item.{Item}
 use Rattle.gix_glob.specs.declared.wildmatch.sets.Item.TheVariants as item
-use Rattle.gix_glob.specs.Bytes.{HasByte, is_path, star, question_mark, open_bracket, close_bracket, backslash, slash}
+use Rattle.gix_glob.specs.Bytes.{HasByte, is_path, star, question_mark, open_bracket, close_bracket, backslash}
 use Rattle.gix_glob.specs.Sets.{Set, SetAt, ItemAt, ItemsAt, IsUpperEnd, member_of}
 use Rattle.gix_glob.specs.Tokens.{Token, Byte, Any, OneOf, Free, Local, Dirs, Nothing, TokenAt, IsRun, IsBounded, From, Tokens}
 use Rattle.gix_glob.proofs.TokenLemmas.{TokenAt-inside}

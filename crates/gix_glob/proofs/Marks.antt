@@ -1,5 +1,5 @@
 -- The engine with two marks: what its state means. A match is found here, or at a later place of a mark.
-use Rattle.std.proofs.Common.{◌≡◌, ◌≢◌, ◌⊎◌, inl, inr, ℕ, suc, ◌+◌, ◌-◌, ◌<◌, ◌≤◌, Bool, true, false, IsTrue, List, [], ◌∷◌, length, get_or, Option, Some, None, refl, sym, ◌∙◌, ap, subst, arith}
+use Rattle.std.proofs.Common.{◌≡◌, ◌≢◌, ◌⊎◌, inl, inr, ℕ, ◌+◌, ◌-◌, ◌<◌, ◌≤◌, Bool, true, false, IsTrue, List, length, get_or, Option, Some, None, refl, sym, ◌∙◌, ap, subst, arith}
 use Rattle.std.proofs.lemmas.Bool.{cases_lt}
 use Rattle.gix_glob.specs.declared.wildmatch.mode.Mode.{Mode}
 use Rattle.gix_glob.specs.declared.wildmatch.tokens.Shape.{Shape}
@@ -7,22 +7,18 @@ use Rattle.gix_glob.specs.declared.wildmatch.tokens.Shape.TheVariants as shape
 use Rattle.gix_glob.specs.declared.wildmatch.counted.Mark.{Mark}
 use Rattle.gix_glob.specs.declared.wildmatch.marks.Crossing.{Crossing}
 use Rattle.gix_glob.specs.declared.wildmatch.marks.Crossing.TheVariants as crossing
-use Rattle.gix_glob.specs.declared.wildmatch.marks.State.{State}
-use Rattle.gix_glob.specs.declared.wildmatch.marks.Turn.{Turn}
-use Rattle.gix_glob.specs.declared.wildmatch.marks.Turn.TheVariants as turn
-use Rattle.gix_glob.specs.Bytes.{HasByte, IsEscaped, is_path, slash, star, question_mark, open_bracket, close_bracket, backslash}
-use Rattle.gix_glob.specs.Sets.{Set, SetAt, ItemsAt}
-use Rattle.gix_glob.specs.Tokens.{Token, Byte, Any, OneOf, Free, Local, Dirs, Nothing, TokenAt, IsRun, IsBounded, IsAfterSlash, IsBeforeSlash}
+use Rattle.gix_glob.specs.Bytes.{HasByte, is_path, slash, star, question_mark, open_bracket, close_bracket, backslash}
+use Rattle.gix_glob.specs.Tokens.{Token, Byte, Any, OneOf, Free, Local, Dirs, Nothing, TokenAt, IsRun, IsAfterSlash, IsBeforeSlash}
 use Rattle.gix_glob.specs.Matching.{SplitsFrom}
 use Rattle.gix_glob.specs.Reader.{IsToken, Fits, NoSlash, AfterSlash, is_star, shape_of}
 use Rattle.gix_glob.specs.Components.{ends, separates, next_component}
-use Rattle.gix_glob.specs.Marks.{Whole, LaterFree, LaterDirs, LaterLocal, LaterCrossing, LaterWithin, Ahead, Far, Near, FreeKnown, CrossingKnown, LocalKnown, WithinKnown, Stands, StandsAt, IsLeft, IsInner, IsOutcome, Resumes, IsNextFolder}
+use Rattle.gix_glob.specs.Marks.{Whole, LaterFree, LaterDirs, LaterLocal, LaterCrossing, LaterWithin, Ahead, Far, Near, FreeKnown, LocalKnown, WithinKnown, Stands, IsLeft, IsInner, IsNextFolder}
 use Rattle.gix_glob.proofs.SetLemmas.{HasByte-unique, two_bytes}
 use Rattle.gix_glob.proofs.TokenLemmas.{TokenAt-unique}
 use Rattle.gix_glob.proofs.CutLemmas.{free_in, free_out, local_in, local_out, dirs_in_empty, dirs_in, dirs_out, nothing_out, end_in, end_out}
 use Rattle.gix_glob.proofs.Engines.{byte_in, byte_out}
 use Rattle.gix_glob.proofs.Existence.{items_close}
-use Rattle.gix_glob.proofs.Components.{separates-fits, separates-slash, fold-slash, ends_plain, ends_slash, no_end, inner, slash_ends, ends_or_not, next-end, next-past, next-inner, next_past, next_before_end, next_plain}
+use Rattle.gix_glob.proofs.Components.{separates-fits, separates-slash, fold-slash, inner, slash_ends, ends_or_not, next-inner, next_past, next_before_end, next_plain}
 
 -- the engine at its start
 pub stands_start : (mode : Mode) (p v : List ℕ) → Stands mode p v 0 0 crossing.Unmet None

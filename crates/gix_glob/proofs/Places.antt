@@ -1,5 +1,5 @@
 -- Places in a path, and the same places in what follows a base.
-use Rattle.std.proofs.Common.{◌≡◌, ◌==◌, ℕ, ◌+◌, ◌-◌, ◌<◌, ◌≤◌, Bool, true, false, ◌⊎◌, inl, inr, List, [], ◌∷◌, ◌++◌, length, map, slice_index, codes, if◌then◌else◌, refl, sym, ap, ◌∙◌, subst, arith, length-append, Option, Some, None, MatchOption, get_or}
+use Rattle.std.proofs.Common.{◌≡◌, ◌==◌, ℕ, ◌+◌, ◌-◌, ◌<◌, ◌≤◌, Bool, true, false, inl, inr, List, [], ◌++◌, length, slice_index, codes, if◌then◌else◌, refl, sym, ap, ◌∙◌, subst, arith, length-append, Option, Some, None}
 use Rattle.std.specs.Char.{to_ascii_lowercase}
 use Rattle.std.proofs.lemmas.List.{get_or-map, get_or-append-add, get_or_append_left}
 use Rattle.std.proofs.lemmas.Bool.{cases_lt, eqb-true}

@@ -1,10 +1,10 @@
 -- What the reader of tokens answers, token by token.
-use Rattle.std.proofs.Common.{◌≡◌, ◌≢◌, ◌⊎◌, inl, inr, ℕ, ◌+◌, ◌<◌, ◌≤◌, Bool, true, false, IsTrue, List, length, refl, arith}
+use Rattle.std.proofs.Common.{◌≡◌, ◌≢◌, inl, inr, ℕ, ◌+◌, ◌<◌, ◌≤◌, false, IsTrue, List, length, refl, arith}
 use Rattle.gix_glob.specs.declared.wildmatch.mode.Mode.{Mode}
 use Rattle.gix_glob.specs.declared.wildmatch.tokens.Shape.TheVariants as shape
 use Rattle.gix_glob.specs.Bytes.{HasByte, IsEscaped, is_path, star, question_mark, open_bracket, backslash, slash}
 use Rattle.gix_glob.specs.Sets.{Set, SetAt}
-use Rattle.gix_glob.specs.Tokens.{Byte, Any, OneOf, Free, Local, Dirs, Nothing, ByteAt, IsRun, IsBounded, IsBroken}
+use Rattle.gix_glob.specs.Tokens.{Byte, Any, OneOf, Free, Local, Dirs, Nothing, IsRun, IsBounded, IsBroken}
 use Rattle.gix_glob.specs.Reader.{IsToken}
 
 pub escaped_token : (mode : Mode) (p : List ℕ) (i b : ℕ) → IsEscaped p i b → IsToken mode p i (shape.Byte b) (i + 2)

@@ -1,9 +1,8 @@
 -- The looks ahead from a mark: what they pass over, the engine need not test in turn.
-use Rattle.std.proofs.Common.{◌≡◌, ◌≢◌, ◌⊎◌, inl, inr, ℕ, zero, suc, ◌+◌, ◌-◌, ◌*◌, ◌<◌, ◌≤◌, Bool, true, false, IsTrue, List, [], ◌∷◌, length, get_or, Option, Some, None, refl, sym, ◌∙◌, ap, subst, arith, if◌then◌else◌}
+use Rattle.std.proofs.Common.{◌≡◌, ◌≢◌, ◌⊎◌, inl, inr, ℕ, zero, suc, ◌+◌, ◌-◌, ◌*◌, ◌<◌, ◌≤◌, Bool, true, false, IsTrue, List, length, get_or, Option, Some, None, refl, sym, ◌∙◌, ap, subst, arith, if◌then◌else◌}
 use Rattle.std.proofs.lemmas.Bool.{cases_lt}
 use Rattle.std.specs.Char.{to_ascii_lowercase}
 use Rattle.gix_glob.specs.declared.wildmatch.mode.Mode.{Mode}
-use Rattle.gix_glob.specs.declared.wildmatch.tokens.Shape.TheVariants as shape
 use Rattle.gix_glob.specs.declared.wildmatch.counted.Mark.{Mark}
 use Rattle.gix_glob.specs.declared.wildmatch.follow.Follow.{Follow}
 use Rattle.gix_glob.specs.declared.wildmatch.follow.Follow.TheVariants as follow
@@ -13,12 +12,12 @@ use Rattle.std.specs.Prelude.{OnSome}
 use Rattle.gix_glob.specs.declared.wildmatch.marks.State.{State}
 use Rattle.gix_glob.specs.declared.wildmatch.marks.Crossing.{Crossing}
 use Rattle.gix_glob.specs.declared.wildmatch.marks.Crossing.TheVariants as crossing
-use Rattle.gix_glob.specs.Bytes.{HasByte, fold, folds, is_path, slash}
+use Rattle.gix_glob.specs.Bytes.{fold, folds, is_path, slash}
 use Rattle.gix_glob.specs.Tokens.{Byte}
 use Rattle.gix_glob.specs.Matching.{SplitsFrom}
-use Rattle.gix_glob.specs.Reader.{IsToken, Fits, NoSlash}
+use Rattle.gix_glob.specs.Reader.{Fits, NoSlash}
 use Rattle.gix_glob.specs.Seeking.{Follows, IsBare, IsSought, Passed, Suits, last_steps, reached_by}
-use Rattle.gix_glob.specs.Marks.{IsLeft, IsMet, IsSoughtFor, Stands}
+use Rattle.gix_glob.specs.Marks.{IsMet, IsSoughtFor, Stands}
 use Rattle.gix_glob.specs.Budget.{Allows}
 use Rattle.gix_glob.proofs.Components.{inner}
 use Rattle.gix_glob.proofs.Marks.{end_missed, free_moved, inner_of, left_without, literal_token, local_moved, mark_of, mark_eq, misses_byte, stands_on, stands_past_slash}

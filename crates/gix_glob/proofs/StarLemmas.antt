@@ -13,7 +13,7 @@ use Rattle.gix_glob.specs.Reader.{IsToken, NoSlash, AfterSlash, shape_of}
 use Rattle.gix_glob.specs.Pruning.{HasRoom, BeginsCrossing, IsAttempt}
 use Rattle.gix_glob.specs.StarSearch.{literal_of, Skips, IsComponentEnd, IsCrossing, IsWithin, IsDescent}
 use Rattle.gix_glob.proofs.TokenLemmas.{TokenAt-unique, TokenAt-inside, run_lead}
-use Rattle.gix_glob.proofs.CutLemmas.{IsOne, one_in, one_out, free_in, free_out, local_in, local_out, dirs_in_empty, dirs_in, dirs_out, end_in, end_out, nothing_out}
+use Rattle.gix_glob.proofs.CutLemmas.{IsOne, one_in, one_out, free_in, free_out, local_in, local_out, dirs_in_empty, dirs_in, dirs_out, end_out, nothing_out}
 use Rattle.gix_glob.proofs.SplitLemmas.{IsStarToken, slash_token, no_slash_join}
 use Rattle.gix_glob.proofs.SlashLemmas.{fold_slash}
 use Rattle.gix_glob.proofs.Starts.{dirs_slash}

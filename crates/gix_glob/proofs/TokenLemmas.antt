@@ -1,7 +1,7 @@
 -- A pattern is read in one way: a place decides its token and where that ends, and so the tokens from it on.
-use Rattle.std.proofs.Common.{◌≡◌, ◌≢◌, ◌⊎◌, inl, inr, ℕ, suc, ◌+◌, ◌-◌, ◌<◌, ◌≤◌, IsTrue, List, [], ◌∷◌, length, refl, sym, ◌∙◌, ap, subst, arith}
+use Rattle.std.proofs.Common.{◌≡◌, ◌⊎◌, inl, inr, ℕ, ◌+◌, ◌<◌, List, [], ◌∷◌, length, refl, sym, ◌∙◌, ap, subst, arith}
 use Rattle.gix_glob.specs.declared.wildmatch.mode.Mode.{Mode}
-use Rattle.gix_glob.specs.Bytes.{HasByte, IsEscaped, is_path, star, question_mark, open_bracket, backslash, slash}
+use Rattle.gix_glob.specs.Bytes.{HasByte, star, question_mark, open_bracket, backslash, slash}
 use Rattle.gix_glob.specs.Sets.{Set, SetAt}
 use Rattle.gix_glob.specs.Tokens.{Token, Byte, Any, OneOf, Free, Local, Dirs, Nothing, TokenAt, ByteAt, FreeAt, LocalAt, DirsAt, IsRun, IsBounded, IsBroken, From}
 use Rattle.gix_glob.proofs.SetLemmas.{HasByte-unique, IsEscaped-unique, two_bytes, SetAt-unique}

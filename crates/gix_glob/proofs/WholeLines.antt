@@ -1,5 +1,5 @@
 -- The entry of a line is that of its reading.
-use Rattle.std.proofs.Common.{◌≡◌, ℕ, ◌-◌, Bool, true, false, List, [], ◌∷◌, ◌++◌, length, take, drop, Option, refl, sym, ap, ◌∙◌, length-append, inl, inr, drop_at, take_at, arith}
+use Rattle.std.proofs.Common.{◌≡◌, ℕ, ◌-◌, true, false, List, [], ◌∷◌, ◌++◌, length, take, drop, Option, refl, sym, ap, ◌∙◌, length-append, inl, inr, drop_at, take_at, arith}
 use Rattle.std.proofs.lemmas.Bool.{cases_Bool}
 use Rattle.gix_glob.specs.declared.pattern.mode.Mode.{Mode}
 use Rattle.gix_glob.specs.Lists.{Entry}

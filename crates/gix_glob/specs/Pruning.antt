@@ -1,9 +1,9 @@
 -- The pruned recursive engine: where an attempt may begin, what its answers mean, and where an abort must come.
-use Rattle.std.specs.Prelude.{◌≡◌, ◌≢◌, ◌↔◌, ◌⊎◌, ℕ, ◌+◌, ◌<◌, ◌≤◌, ⊤, IsTrue, List, [], ◌∷◌, ◌++◌, length, drop, slice_index}
+use Rattle.std.specs.Prelude.{◌≡◌, ◌≢◌, ◌↔◌, ◌⊎◌, ℕ, ◌+◌, ◌≤◌, ⊤, IsTrue, List, [], ◌∷◌, ◌++◌, length, drop}
 use Rattle.gix_glob.specs.declared.wildmatch.mode.Mode.{Mode}
 use Rattle.gix_glob.specs.declared.wildmatch.pruned.Answer.{Answer}
 use Rattle.gix_glob.specs.declared.wildmatch.pruned.Answer.TheVariants.{Match, NoMatch, AbortAll, AbortToStarStar, RecursionLimitReached}
-use Rattle.gix_glob.specs.Bytes.{HasByte, is_path, star, slash}
+use Rattle.gix_glob.specs.Bytes.{HasByte, is_path, star}
 use Rattle.gix_glob.specs.Tokens.{Token, Byte, Any, OneOf, Free, Dirs, TokenAt, DirsAt, From}
 use Rattle.gix_glob.specs.Reader.{NoSlash}
 use Rattle.gix_glob.specs.Matching.{IsCut, SplitsFrom, star_count}

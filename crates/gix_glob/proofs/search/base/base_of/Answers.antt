@@ -1,4 +1,4 @@
-use Rattle.std.proofs.Common.{◌≡◌, ◌≢◌, ◌++◌, ℕ, List, rules, sym, ap, ◌∙◌}
+use Rattle.std.proofs.Common.{◌≡◌, ◌≢◌, ◌++◌, ℕ, List, rules}
 use Rattle.gix_glob.specs.Paths.{parts}
 use Rattle.gix_glob.specs.PartsLeft.{parts_left}
 use Rattle.gix_glob.proofs.Bases.{Base-answered, Base-aside}

@@ -1,4 +1,4 @@
-use Rattle.std.proofs.Common.{◌≡◌, ◌∙◌, Bool, not, true, false, ap, sym, arith, refl}
+use Rattle.std.proofs.Common.{◌≡◌, ◌∙◌, not, true, false, ap, sym, arith, refl}
 use Rattle.gix_glob.proofs.LastByte.{ends_in_last}
 use Rattle.gix_glob.proofs.wildmatch.marks.ends_otherwise.Goals as goal
 

@@ -1,4 +1,4 @@
-use Rattle.std.proofs.Common.{◌≡◌, ◌<◌, ℕ, length, arith, refl, false, true, sym, eq-eqb, eqb-true}
+use Rattle.std.proofs.Common.{◌≡◌, ◌<◌, length, arith, refl, sym, eq-eqb, eqb-true}
 use Rattle.gix_glob.proofs.CutLemmas.{end_in, end_out}
 use Rattle.gix_glob.proofs.Engines.{star_in, star_out, byte_in, byte_out}
 use Rattle.gix_glob.proofs.wildmatch.plain.+splits_from.Goals as goal

@@ -3,7 +3,7 @@ use Rattle.gix_glob.specs.declared.wildmatch.seeking.Sought.TheVariants as sough
 use Rattle.gix_glob.proofs.Marks.{known_local, known_places, left_stuck}
 use Rattle.gix_glob.proofs.Budget as budget
 use Rattle.gix_glob.proofs.Budget.{left_miss, left_stuck_steps, counted_on, counted_left}
-use Rattle.gix_glob.proofs.Seeking.{IsKept, local_found, local_found_steps, local_sought, local_sought_steps, none_of}
+use Rattle.gix_glob.proofs.Seeking.{local_found, local_found_steps, local_sought, local_sought_steps, none_of}
 use Rattle.gix_glob.proofs.wildmatch.returns.from_local.Goals as goal
 
 pub returns-in_default-clause-allows : goal.returns-in_default-clause-allows

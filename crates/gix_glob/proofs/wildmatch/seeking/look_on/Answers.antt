@@ -1,4 +1,4 @@
-use Rattle.std.proofs.Common.{◌+◌, ◌*◌, arith}
+use Rattle.std.proofs.Common.{arith}
 use Rattle.gix_glob.proofs.Seeking.{passed_on, bare_on}
 use Rattle.gix_glob.proofs.wildmatch.seeking.look_on.Goals as goal
 

@@ -1,5 +1,5 @@
 -- No byte so far is what follows or a slash, two steps were taken for each, and the rest of the stride is inside the value.
-use Rattle.std.proofs.Common.{◌≡◌, ◌+◌, ◌-◌, ◌*◌, length}
+use Rattle.std.proofs.Common.{◌≡◌, ◌+◌, ◌*◌}
 use Rattle.gix_glob.specs.Reader.{NoSlash}
 use Rattle.gix_glob.specs.Seeking.{Passed}
 use Rattle.gix_glob.proofs.wildmatch.seeking.look_on.Given as goal

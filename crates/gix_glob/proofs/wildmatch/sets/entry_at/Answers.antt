@@ -1,4 +1,3 @@
-use Rattle.std.proofs.Common.{IsTrue}
 use Rattle.gix_glob.proofs.Walks.{no_items_outside, no_items_here}
 use Rattle.gix_glob.proofs.wildmatch.sets.entry_at.Goals as goal
 

@@ -1,4 +1,4 @@
-use Rattle.std.proofs.Common.{◌≡◌, sym, arith, subst, ℕ, Option, false}
+use Rattle.std.proofs.Common.{sym, subst, ℕ, Option, false}
 use Rattle.gix_glob.specs.Sets.{item_holds}
 use Rattle.gix_glob.proofs.Walks.{IsYetUnheld, unheld_next, held_now, unheld_end}
 use Rattle.gix_glob.proofs.wildmatch.sets.items_hold.Goals as goal

@@ -1,5 +1,5 @@
-use Rattle.std.proofs.Common.{[], ◌≡◌, ◌<◌, ◌≤◌, ◌+◌, length, sym, arith, subst, ℕ, Option}
-use Rattle.gix_glob.proofs.Walks.{IsUnderway, underway_next, set_in, set_out}
+use Rattle.std.proofs.Common.{[], ◌<◌, length, sym, arith, subst, ℕ, Option}
+use Rattle.gix_glob.proofs.Walks.{IsUnderway, underway_next, set_in}
 use Rattle.gix_glob.proofs.wildmatch.sets.set_end.Goals as goal
 
 pub items-preserved : goal.items-preserved

@@ -1,5 +1,4 @@
-use Rattle.std.proofs.Common.{◌≡◌, ◌+◌, ℕ, false, true, refl, arith}
-use Rattle.gix_glob.specs.Tokens.{Byte}
+use Rattle.std.proofs.Common.{◌≡◌, ◌+◌, false, true, refl, arith}
 use Rattle.gix_glob.proofs.Marks.{inner_of, literal_token, misses_byte, stands_on}
 use Rattle.gix_glob.proofs.Budget.{allows_on, counted_on}
 use Rattle.gix_glob.proofs.Seeking.{byte_of}

@@ -1,6 +1,4 @@
 use Rattle.std.proofs.Common.{◌≡◌, ◌∙◌, false, true, ap, refl, sym}
-use Rattle.gix_glob.specs.Bytes.{slash}
-use Rattle.gix_glob.specs.Tokens.{Byte}
 use Rattle.gix_glob.specs.Reader.{shape_of}
 use Rattle.gix_glob.proofs.Marks.{stands_on, stands_past_slash, misses_byte, shape_slash, inner_of}
 use Rattle.gix_glob.proofs.Budget.{allows_on, allows_past_slash, counted_on}

@@ -1,5 +1,4 @@
-use Rattle.std.proofs.Common.{◌≡◌, ◌≢◌, ◌+◌, ◌∙◌, ℕ, false, true, ap, refl, sym, arith}
-use Rattle.gix_glob.specs.Bytes.{slash}
+use Rattle.std.proofs.Common.{◌≡◌, ◌+◌, false, true, ap, refl}
 use Rattle.gix_glob.specs.Tokens.{Byte}
 use Rattle.gix_glob.proofs.Marks.{literal_token, misses_byte, stands_past_slash}
 use Rattle.gix_glob.proofs.Budget.{allows_past_slash, counted_on}

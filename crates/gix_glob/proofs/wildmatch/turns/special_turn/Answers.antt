@@ -1,5 +1,5 @@
 use Rattle.std.proofs.Common.{◌∙◌, arith, subst, sym}
-use Rattle.gix_glob.specs.Tokens.{Token, Free, Local, Dirs, Nothing, TokenAt}
+use Rattle.gix_glob.specs.Tokens.{Token, Free, Local, Dirs, TokenAt}
 use Rattle.gix_glob.proofs.Marks.{shape_free, shape_local, shape_dirs, shape_nothing, free_last, free_known, free_met, dirs_met, local_met, nothing_met}
 use Rattle.gix_glob.proofs.Budget.{allows_one, allows_free, allows_dirs, allows_local, counted_on}
 use Rattle.gix_glob.proofs.wildmatch.turns.special_turn.Goals as goal

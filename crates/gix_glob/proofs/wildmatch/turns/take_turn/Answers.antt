@@ -1,4 +1,4 @@
-use Rattle.std.proofs.Common.{◌≡◌, ◌+◌, ◌≤◌, length, false, true, arith}
+use Rattle.std.proofs.Common.{◌≡◌, ◌≤◌, length, false, true, arith}
 use Rattle.gix_glob.proofs.Marks.{end_missed}
 use Rattle.gix_glob.proofs.Budget.{allows_one}
 use Rattle.gix_glob.proofs.wildmatch.turns.take_turn.Goals as goal

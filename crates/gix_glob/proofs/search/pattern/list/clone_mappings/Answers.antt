@@ -1,4 +1,4 @@
-use Rattle.std.proofs.Common.{◌≡◌, ◌<◌, length, get_or, ap, rules, arith}
+use Rattle.std.proofs.Common.{◌≡◌, ◌<◌, length, get_or, ap, arith}
 use Rattle.gix_glob.proofs.Copies.{equal_mappings, pointwise-next}
 use Rattle.gix_glob.proofs.search.pattern.list.clone_mappings.Goals as goal
 

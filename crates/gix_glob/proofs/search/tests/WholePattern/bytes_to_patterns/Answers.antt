@@ -1,4 +1,4 @@
-use Rattle.std.proofs.Common.{◌≡◌, true, rules}
+use Rattle.std.proofs.Common.{◌≡◌, true}
 use Rattle.gix_glob.specs.PatternParts.{text_of, mode_of, place_of}
 use Rattle.gix_glob.specs.Patterns.{Reads, is_blank, without_negation}
 use Rattle.gix_glob.proofs.WholeLines.{whole-pattern}
