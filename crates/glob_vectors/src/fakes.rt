@@ -43,7 +43,8 @@ pub(crate) struct Sink {
 }
 
 impl Sink {
-    /// Takes at most `piece` bytes a write, onto `taken`. So many writes succeed, and each later one fails.
+    /// Takes at most `piece` bytes a write, onto `taken`. So many writes succeed, and each later one fails, as a flush does
+    /// then.
     pub(crate) fn new(taken: Vec<u8>, piece: usize, successes: usize) -> Sink {
         Sink {
             taken,
@@ -70,6 +71,9 @@ impl Write for Sink {
     }
 
     fn flush(&mut self) -> io::Result<()> {
+        if self.calls_left == 0 {
+            return Err(io::Error::from(ErrorKind::Other));
+        }
         Ok(())
     }
 }

@@ -22,4 +22,6 @@ mod stars;
 #[cfg(test)]
 mod tokens;
 #[cfg(test)]
+mod watched;
+#[cfg(test)]
 mod wild_rows;

@@ -1,5 +1,5 @@
 //! Reading a source whole, by a loop of reads that tries none of them again.
-ghost use Rattle.std.specs.Prelude.{◌≡◌, ◌||◌, false, OnOk, IsOk, IfSome};
+ghost use Rattle.std.specs.Prelude.{◌≡◌, ◌||◌, OnOk, IfSome};
 ghost use Rattle.gix_glob.specs.Watched.{has_failed, inner};
 ghost use Rattle.gix_glob.specs.Loading.{IsBeginningOf, is_read_fault};
 

@@ -1,6 +1,5 @@
 //! What follows a star in the pattern, where the engine with two marks can look for it byte by byte.
-ghost use Rattle.std.specs.Prelude.{◌≡◌, ◌≢◌, ◌↔◌, ℕ, ◌<◌, ◌≤◌, false, true, IsTrue, IfSome, length};
-ghost use Rattle.gix_glob.specs.Bytes.{backslash, open_bracket, question_mark, star, slash};
+ghost use Rattle.std.specs.Prelude.{◌↔◌, ◌<◌, ◌≤◌, IsTrue, IfSome, IfNone, length, slice_index};
 ghost use Rattle.gix_glob.specs.Seeking.{Follows, IsBare, Suits};
 
 use super::mode::Mode;
@@ -42,7 +41,8 @@ pub fn is_bare(byte: u8) -> bool
 #[inline(always)]
 pub fn follow_at(pattern: &[u8], place: usize, mode: Mode) -> Option<Follow>
     requires { place ≤ length pattern.now }
-    ensures { IfSome result (λ follow. Follows mode pattern.now place follow) }
+    ensures follows { IfSome result (λ follow. Follows mode pattern.now place follow) }
+    ensures other { IfNone result ((place < length pattern.now) × ¬ IsBare (slice_index pattern.now place)) }
 {
     if place >= pattern.len() {
         return Some(Follow::End);

@@ -5,7 +5,7 @@
 //! mark moves to its next place. A crossing token that is newly met forgets both marks, and a slash the local one.
 //!
 //! The turns of the engine are in `turns`, the ways back to a mark in `returns`, and the looks ahead from one in `seeking`.
-ghost use Rattle.std.specs.Prelude.{◌≡◌, ◌≢◌, ◌↔◌, ◌+◌, ◌<◌, ◌≤◌, true, IsTrue, length};
+ghost use Rattle.std.specs.Prelude.{◌≢◌, ◌↔◌, ◌+◌, ◌<◌, ◌≤◌, true, IsTrue, length};
 ghost use Rattle.gix_glob.specs.Bytes.{close_bracket, question_mark, slash, star};
 ghost use Rattle.gix_glob.specs.Matching.{SplitsFrom, Splits, Holds};
 ghost use Rattle.gix_glob.specs.Steps.{step_bound, step_limit};

@@ -1,6 +1,6 @@
 //! The pruned recursive engine: one alignment of pattern and value at a time, and aborts that spare the rest.
-ghost use Rattle.std.specs.Prelude.{◌≡◌, ◌≢◌, ◌↔◌, ℕ, ◌+◌, ◌<◌, ◌≤◌, IsTrue, IfSome, IfNone, Some, length};
-ghost use Rattle.gix_glob.specs.Bytes.{HasByte, fold, star};
+ghost use Rattle.std.specs.Prelude.{◌≡◌, ◌↔◌, ℕ, ◌+◌, ◌<◌, ◌≤◌, IsTrue, IfSome, IfNone, Some, length};
+ghost use Rattle.gix_glob.specs.Bytes.{HasByte, star};
 ghost use Rattle.gix_glob.specs.Tokens.{DirsAt};
 ghost use Rattle.gix_glob.specs.Matching.{Splits, Holds};
 ghost use Rattle.gix_glob.specs.Pruning.{IsStart, IsBoundary, IsAttempt};

@@ -1,5 +1,4 @@
 //! Agreement with the plain program on values of more than a stride, with what follows a star at each place.
-ghost use Rattle.std.specs.Prelude.{◌<◌, ◌≤◌, length};
 
 use super::super::mode::Mode;
 use super::super::plain::splits_from;

@@ -10,7 +10,7 @@ returns-in-Some-Byte-clause-meaning g c =
     sought_for c.args.mode c.args.pattern.now c.args.value.now (follow.Byte c.in-Some-Byte.wanted) c.args.mark c.seek.result
     c.args.steps.now c.seek.new.steps
     (subst (λ (x : Follow). Follows c.args.mode c.args.pattern.now c.args.mark.place x) c.in-Some-Byte.field-0-is
-    (subst (λ (i : ℕ). Follows c.args.mode c.args.pattern.now i c.in-Some-Byte.field-0) c.place.ensures c.in-Some-Byte.ensures))
+    (subst (λ (i : ℕ). Follows c.args.mode c.args.pattern.now i c.in-Some-Byte.field-0) c.place.ensures c.in-Some-Byte.ensures.follows))
     c.seek.ensures.meaning c.seek.ensures.count
 
 pub returns-in-Some-Folded-clause-meaning : goal.returns-in-Some-Folded-clause-meaning
@@ -18,5 +18,5 @@ returns-in-Some-Folded-clause-meaning g c =
     sought_for c.args.mode c.args.pattern.now c.args.value.now (follow.Folded c.in-Some-Folded.wanted) c.args.mark c.seek-in-Some-Folded.result
     c.args.steps.now c.seek-in-Some-Folded.new.steps
     (subst (λ (x : Follow). Follows c.args.mode c.args.pattern.now c.args.mark.place x) c.in-Some-Folded.field-0-is
-    (subst (λ (i : ℕ). Follows c.args.mode c.args.pattern.now i c.in-Some-Folded.field-0) c.place.ensures c.in-Some-Folded.ensures))
+    (subst (λ (i : ℕ). Follows c.args.mode c.args.pattern.now i c.in-Some-Folded.field-0) c.place.ensures c.in-Some-Folded.ensures.follows))
     c.seek-in-Some-Folded.ensures.meaning c.seek-in-Some-Folded.ensures.count
