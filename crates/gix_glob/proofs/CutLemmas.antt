@@ -4,9 +4,9 @@ use Rattle.std.proofs.Math.Seq.{drop-append_seam, get_or-append_seam, take-suc}
 use Rattle.std.proofs.Math.ListN.{drop_of_length-le, get_or-append}
 use Rattle.std.proofs.lemmas.List.{take-append-drop, drop-drop, get_or-drop, length-take}
 use Rattle.gix_glob.specs.declared.wildmatch.mode.Mode.{Mode}
-use Rattle.gix_glob.specs.Bytes.{slash}
+use Rattle.gix_glob.specs.Bytes.{EndsInSlash, slash}
 use Rattle.gix_glob.specs.Tokens.{Token, Byte, Any, OneOf, Free, Local, Dirs, Nothing, TokenAt, From}
-use Rattle.gix_glob.specs.Matching.{OneByte, HasNoSlash, EndsInSlash, Lang, IsCut, SplitsFrom}
+use Rattle.gix_glob.specs.Matching.{OneByte, HasNoSlash, Lang, IsCut, SplitsFrom}
 use Rattle.gix_glob.specs.Reader.{Fits, NoSlash, AfterSlash}
 use Rattle.gix_glob.proofs.TokenLemmas.{TokenAt-unique, TokenAt-inside}
 
@@ -211,11 +211,12 @@ ends_in_slash v k e after =
     let inside : e - 1 - k < length (drop k v) = simp length-drop (omega arith) in
     let place : k + (e - 1 - k) ≡ e - 1 = omega arith in
     let last : get_or (drop k v) (e - 1 - k) 0 ≡ slash =
-    get_or-drop k v (e - 1 - k) 0 ∙ (ap (λ (n : ℕ). get_or v n 0) place ∙ after.slash) in (
-      take (e - 1 - k) (drop k v),
-      ap (λ (n : ℕ). take n (drop k v)) one
-          ∙ (take-suc (drop k v) (e - 1 - k) 0 inside ∙ ap (λ (b : ℕ). take (e - 1 - k) (drop k v) ++ b ∷ []) last),
-    )
+    get_or-drop k v (e - 1 - k) 0 ∙ (ap (λ (n : ℕ). get_or v n 0) place ∙ after.slash) in record {
+      front = take (e - 1 - k) (drop k v);
+      joined =
+          ap (λ (n : ℕ). take n (drop k v)) one
+          ∙ (take-suc (drop k v) (e - 1 - k) 0 inside ∙ ap (λ (b : ℕ). take (e - 1 - k) (drop k v) ++ b ∷ []) last);
+    }
 
 -- the place after a piece of that language
 slash_before : (v : List ℕ) (k e : ℕ) (piece : List ℕ) → IsPiece v k e piece → (piece ≡ []) ⊎ EndsInSlash piece
@@ -227,13 +228,13 @@ slash_before v k e piece x (inl is) =
     inl (omega arith)
 slash_before v k e piece x (inr ends) =
     let long : length piece ≡ e - k = x.long in
-    let sum : length piece ≡ length ends.0 + 1 = ap (λ (xs : List ℕ). length xs) ends.1 ∙ length-append ends.0 (slash ∷ []) in
+    let sum : length piece ≡ length ends.front + 1 = ap (λ (xs : List ℕ). length xs) ends.joined ∙ length-append ends.front (slash ∷ []) in
     let low : k ≤ e = x.low in
-    let place : k + length ends.0 ≡ e - 1 = omega arith in
-    let last : get_or piece (length ends.0) 0 ≡ slash =
-    ap (λ (xs : List ℕ). get_or xs (length ends.0) 0) ends.1 ∙ get_or-append_seam ends.0 slash [] 0 in
+    let place : k + length ends.front ≡ e - 1 = omega arith in
+    let last : get_or piece (length ends.front) 0 ≡ slash =
+    ap (λ (xs : List ℕ). get_or xs (length ends.front) 0) ends.joined ∙ get_or-append_seam ends.front slash [] 0 in
     let byte : get_or v (e - 1) 0 ≡ slash =
-    ap (λ (n : ℕ). get_or v n 0) (sym place) ∙ (sym (piece_at v k e piece x (length ends.0) (omega arith)) ∙ last) in
+    ap (λ (n : ℕ). get_or v n 0) (sym place) ∙ (sym (piece_at v k e piece x (length ends.front) (omega arith)) ∙ last) in
     inr (record { past = omega arith; inside = x.high; slash = byte })
 
 pub dirs_in_empty : (mode : Mode) (p v : List ℕ) (i j k : ℕ) → TokenAt mode p i Dirs j → k ≤ length v

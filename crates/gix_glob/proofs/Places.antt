@@ -7,10 +7,10 @@ use Rattle.std.proofs.Math.Seq.{get_or-append_seam}
 use Rattle.std.proofs.lemmas.Bool.Decides.{eqb_tells}
 use Rattle.gix_glob.specs.declared.pattern.case.Case.{Case}
 use Rattle.gix_glob.specs.declared.pattern.case.Case.TheVariants.{Sensitive, Fold}
-use Rattle.gix_glob.specs.Bytes.{HasByte, slash}
+use Rattle.gix_glob.specs.Bytes.{EndsInSlash, HasByte, slash}
 use Rattle.gix_glob.specs.RepositoryPaths.{IsAfterLastSlash, IsBasenameStart}
 use Rattle.gix_glob.specs.Stripping.{compared, Rest, stripped_place}
-use Rattle.gix_glob.specs.Paths.{IsFolder, EndsInSlash}
+use Rattle.gix_glob.specs.Paths.{IsFolder}
 use Rattle.gix_glob.proofs.Rests.{Rest-front, length-compared}
 
 -- a byte of the rest is a byte of the path, so much further on

@@ -2,7 +2,7 @@
 use Rattle.std.specs.Prelude.{◌≡◌, ◌≢◌, ◌⊎◌, ℕ, ◌+◌, ◌≤◌, ⊤, Bool, IsTrue, List, [], ◌∷◌, ◌++◌, drop}
 use Rattle.std.specs.List.{AllByRecursion}
 use Rattle.gix_glob.specs.declared.wildmatch.mode.Mode.{Mode}
-use Rattle.gix_glob.specs.Bytes.{fold, is_path, slash}
+use Rattle.gix_glob.specs.Bytes.{EndsInSlash, fold, is_path, slash}
 use Rattle.gix_glob.specs.Sets.{set_holds}
 use Rattle.gix_glob.specs.Tokens.{Token, Byte, Any, OneOf, Free, Local, Dirs, Nothing, From, Tokens}
 
@@ -13,10 +13,6 @@ OneByte P bytes = (b : ℕ) × (bytes ≡ b ∷ []) × P b
 -- no byte is a slash
 abbrev pub HasNoSlash : List ℕ → Type 0
 HasNoSlash bytes = AllByRecursion (λ b. b ≢ slash) bytes
-
--- the last byte is a slash
-abbrev pub EndsInSlash : List ℕ → Type 0
-EndsInSlash bytes = (front : List ℕ) × (bytes ≡ front ++ slash ∷ [])
 
 -- The byte strings of a token.
 abbrev pub Lang : Mode → Token → List ℕ → Type 0

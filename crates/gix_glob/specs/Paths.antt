@@ -2,7 +2,7 @@
 use Rattle.std.specs.Prelude.{◌≡◌, ◌≢◌, ◌⊎◌, ℕ, Bool, ◌||◌, ◌==◌, not, if◌then◌else◌, List, [], ◌∷◌, ◌++◌, filter, Option, None, Some, codes}
 use Rattle.std.specs.List.{slice_split, list_any}
 use Rattle.std.specs.Str.{bytes_eq}
-use Rattle.gix_glob.specs.Bytes.{slash}
+use Rattle.gix_glob.specs.Bytes.{EndsInSlash, slash}
 
 -- the pieces between slashes
 abbrev pub pieces : List ℕ → List (List ℕ)
@@ -75,11 +75,6 @@ abbrev pub base_below : List (List ℕ) → Option (List ℕ)
 base_below [] = None
 base_below (file ∷ []) = None
 base_below (part ∷ next ∷ more) = Some (folders (without_last (part ∷ next ∷ more)))
-
--- the text ends in a slash
-pub record EndsInSlash (text : List ℕ) : Type 0 where
-  pub front : List ℕ
-  pub joined : text ≡ front ++ codes "/"
 
 -- the text names the folder that a path begins with: it is empty, or ends in a slash
 abbrev pub IsFolder : List ℕ → Type 0

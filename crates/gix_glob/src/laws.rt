@@ -1,9 +1,9 @@
 //! Laws over the definitions: each is a call with an empty body, which a caller makes to know what it ensures.
 ghost use Rattle.std.specs.Prelude.{◌≡◌, ◌≤◌, ℕ, List, length, Option, Some};
 ghost use Rattle.std.specs.List.{join_with_byte};
-ghost use Rattle.gix_glob.specs.Bytes.{slash};
+ghost use Rattle.gix_glob.specs.Bytes.{EndsInSlash, slash};
 ghost use Rattle.gix_glob.specs.declared.pattern.case.Case.{Case};
-ghost use Rattle.gix_glob.specs.Paths.{pieces, Base, EndsInSlash, IsFolder};
+ghost use Rattle.gix_glob.specs.Paths.{pieces, Base, IsFolder};
 ghost use Rattle.gix_glob.specs.RepositoryPaths.{IsAfterLastSlash, IsBasenameStart};
 ghost use Rattle.gix_glob.specs.Stripping.{Rest, stripped_place};
 

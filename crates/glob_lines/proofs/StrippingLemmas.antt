@@ -7,8 +7,8 @@ use Rattle.std.proofs.lemmas.List.{get_or_append_left, get_or-append-add, map-ap
 use Rattle.std.proofs.lemmas.Bool.{cases_eq}
 use Rattle.gix_glob.specs.declared.pattern.case.Case.{Case}
 use Rattle.gix_glob.specs.declared.pattern.case.Case.TheVariants.{Sensitive, Fold}
-use Rattle.gix_glob.specs.Bytes.{HasByte, slash}
-use Rattle.gix_glob.specs.Paths.{EndsInSlash, IsFolder}
+use Rattle.gix_glob.specs.Bytes.{EndsInSlash, HasByte, slash}
+use Rattle.gix_glob.specs.Paths.{IsFolder}
 use Rattle.gix_glob.specs.RepositoryPaths.{IsAfterLastSlash, IsBasenameStart}
 use Rattle.gix_glob.specs.Stripping.{IsPlaced, Rest, RestOf, compared}
 use Rattle.glob_lines.specs.Paths.{IsPlainPath, MarksDirectory}

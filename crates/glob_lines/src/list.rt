@@ -3,9 +3,9 @@ ghost use Rattle.std.specs.Prelude.{◌≡◌, ◌↔◌, ◌||◌, false, map, 
 ghost use Rattle.std.specs.Option.{ForSome, option_copied};
 ghost use Rattle.std.specs.Vec.{vec_items};
 ghost use Rattle.std.specs.Io.KnownBytes.{Appends};
-ghost use Rattle.gix_glob.specs.Bytes.{HasByte};
+ghost use Rattle.gix_glob.specs.Bytes.{EndsInSlash, HasByte};
 ghost use Rattle.gix_glob.specs.Lists.{entry_of};
-ghost use Rattle.gix_glob.specs.Paths.{EndsInSlash, has_file_part};
+ghost use Rattle.gix_glob.specs.Paths.{has_file_part};
 ghost use Rattle.gix_glob.specs.RepositoryPaths.{IsBasenameStart};
 ghost use Rattle.gix_glob.specs.Stripping.{NothingLeft, RestOf};
 ghost use Rattle.gix_glob.specs.Watched.{has_failed, inner};
