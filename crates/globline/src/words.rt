@@ -1,5 +1,5 @@
 //! The words of the command line: what they ask for, and the status that the program ends with.
-ghost use Rattle.std.specs.Prelude.{◌≡◌, ◌≤◌, ◌↔◌, false, map, string_bytes, OnOk};
+ghost use Rattle.std.specs.Prelude.{◌≡◌, ◌≢◌, ◌≤◌, ◌↔◌, false, map, string_bytes, OnOk};
 ghost use Rattle.gix_glob.specs.Watched.{has_failed, inner};
 ghost use Rattle.globline.specs.Words.{AnsweredWords, AreWrong, CanRun, CarriesOut};
 
@@ -58,7 +58,8 @@ pub fn run_words<F: Files, I: Read, O: Write, E: Write>(
 
 /// The status where the words could not be had, for want of memory or because they are no text.
 pub(crate) fn without_words<E: Write>(refused: ErrorKind, errors: &mut E) -> u8
-    ensures { result ≤ 2 }
+    ensures memory { refused ≡ ErrorKind.OutOfMemory → result ≡ 1 }
+    ensures other { refused ≢ ErrorKind.OutOfMemory → result ≡ 2 }
 {
     match refused {
         ErrorKind::OutOfMemory => failed(EngineFault::Memory, errors),
