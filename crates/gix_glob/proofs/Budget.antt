@@ -1,5 +1,5 @@
--- The engine with two marks: how many steps are left. Each pair of a token and a place of the value is tested at most once,
--- since a star between two slashes of the pattern looks at one component of the value.
+-- The engine with two marks: how many steps are left. After the look at the last byte, which is one step, each pair of a token
+-- and a place of the value is tested at most once, since a star between two slashes of the pattern looks at one component of the value.
 use Rattle.std.proofs.Common.{◌≡◌, ◌≢◌, ◌⊎◌, inl, inr, ℕ, ◌+◌, ◌-◌, ◌*◌, ◌<◌, ◌≤◌, Bool, true, false, List, [], ◌∷◌, length, get_or, Option, Some, None, refl, sym, ◌∙◌, ap, subst, arith, if◌then◌else◌}
 use Rattle.std.proofs.lemmas.Bool.{cases_lt}
 use Rattle.std.proofs.Math.Nat.{mul-le-mul_right}
@@ -12,11 +12,11 @@ use Rattle.gix_glob.specs.Tokens.{Token, Byte, Any, OneOf, Free, Local, Dirs, No
 use Rattle.gix_glob.specs.Reader.{Fits}
 use Rattle.gix_glob.specs.Steps.{step_limit}
 use Rattle.gix_glob.specs.Components.{ends, separates, next_component}
-use Rattle.gix_glob.specs.Marks.{FreeKnown, IsInner, IsNextFolder}
+use Rattle.gix_glob.specs.Marks.{FreeKnown, IsNextFolder}
 use Rattle.gix_glob.specs.Budget.{extra, onward, left, cost, hop, stretch, FreeRest, DirsRest, LocalRest, WithinRest, Owes, Allows, OwesLeft, AllowsLeft}
 use Rattle.gix_glob.proofs.TokenLemmas.{TokenAt-unique, TokenAt-inside}
 use Rattle.gix_glob.proofs.Existence.{settle, From-short}
-use Rattle.gix_glob.proofs.Components.{separates-fits, slash_ends, ends_or_not, next-end, next-past, next-inner, next_past, next_high, next_mono, next_before_end}
+use Rattle.gix_glob.proofs.Components.{IsInner, separates-fits, slash_ends, ends_or_not, next-end, next-past, next-inner, next_past, next_high, next_mono, next_before_end}
 
 extra_mono : (t : Token) (y z : ℕ) → y ≤ z → extra t y ≤ extra t z
 unfolding extra

@@ -1,15 +1,21 @@
 -- Components of a value: where one ends, and where the next begins. In plain mode each byte is a component of its own.
-use Rattle.std.proofs.Common.{◌≡◌, ◌≢◌, ◌⊎◌, inl, inr, ℕ, zero, suc, ◌+◌, ◌-◌, ◌<◌, ◌≤◌, Bool, true, false, not, ◌==◌, IsTrue, List, [], ◌∷◌, length, get_or, drop, refl, sym, ◌∙◌, ap, subst, arith, add-one, add-zero, drop-cons, if◌then◌else◌, eq-eqb, eqb-true, ne_eqb, ◌&&◌, length-drop}
+use Rattle.std.proofs.Common.{◌≡◌, ◌≢◌, ◌⊎◌, inl, inr, ℕ, zero, suc, ◌+◌, ◌-◌, ◌<◌, ◌≤◌, Bool, true, false, not, ◌==◌, IsTrue, List, [], ◌∷◌, length, get_or, drop, refl, sym, ◌∙◌, ap, subst, arith, add-one, add-zero, drop-cons, if◌then◌else◌, eq-eqb, eqb-true, ne_eqb, ◌&&◌, length-drop, Option, Some, None}
 use Rattle.std.proofs.Math.ListN.{drop_of_length-le}
 use Rattle.std.proofs.lemmas.Bool.{cases_lt, eqb-false}
 use Rattle.std.proofs.lemmas.Bool.Decides.{eqb_tells}
 use Rattle.std.proofs.lemmas.Str.Ascii.{lowercase_is}
 use Rattle.std.specs.Char.{to_ascii_lowercase}
 use Rattle.gix_glob.specs.declared.wildmatch.mode.Mode.{Mode}
+use Rattle.gix_glob.specs.declared.wildmatch.counted.Mark.{Mark}
 use Rattle.gix_glob.specs.Bytes.{fold, folds, is_path, slash}
 use Rattle.gix_glob.specs.Tokens.{Token, Byte, Any, OneOf, Free, Local, Dirs, Nothing}
 use Rattle.gix_glob.specs.Reader.{Fits}
 use Rattle.gix_glob.specs.Components.{ends_by, ends, separates_by, separates, reach, next_component}
+
+-- with a local mark: the byte here ends no component
+abbrev pub IsInner : Mode → List ℕ → ℕ → Option Mark → Type 0
+IsInner mode v j None = Unit {0}
+IsInner mode v j (Some m) = ends mode (get_or v j 0) ≡ false
 
 ends_plain_by : (path : Bool) (b : ℕ) → path ≡ false → ends_by path b ≡ true
 ends_plain_by true b plain = cc

@@ -1,4 +1,4 @@
--- The pattern's last byte: where it ends no star token, question mark or set, it is the last token, and the value ends in it.
+-- The pattern's last byte: where it ends no star token, question mark or set, each value that is split ends in it.
 use Rattle.std.proofs.Common.{◌≡◌, ◌≢◌, ◌⊎◌, inl, inr, ℕ, zero, suc, ◌+◌, ◌-◌, ◌<◌, ◌≤◌, List, [], ◌∷◌, length, get_or, refl, sym, ◌∙◌, ap, subst, arith}
 use Rattle.std.proofs.lemmas.Bool.{cases_lt}
 use Rattle.gix_glob.specs.declared.wildmatch.mode.Mode.{Mode}

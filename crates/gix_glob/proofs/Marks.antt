@@ -12,13 +12,13 @@ use Rattle.gix_glob.specs.Tokens.{Token, Byte, Any, OneOf, Free, Local, Dirs, No
 use Rattle.gix_glob.specs.Matching.{SplitsFrom}
 use Rattle.gix_glob.specs.Reader.{IsToken, Fits, NoSlash, AfterSlash, is_star, shape_of}
 use Rattle.gix_glob.specs.Components.{ends, separates, next_component}
-use Rattle.gix_glob.specs.Marks.{Whole, LaterFree, LaterDirs, LaterLocal, LaterCrossing, LaterWithin, Ahead, Far, Near, FreeKnown, LocalKnown, WithinKnown, Stands, IsLeft, IsInner, IsNextFolder}
+use Rattle.gix_glob.specs.Marks.{Whole, LaterFree, LaterDirs, LaterLocal, LaterCrossing, LaterWithin, Ahead, Far, Near, FreeKnown, LocalKnown, WithinKnown, Stands, IsLeft, IsNextFolder}
 use Rattle.gix_glob.proofs.SetLemmas.{HasByte-unique, two_bytes}
 use Rattle.gix_glob.proofs.TokenLemmas.{TokenAt-unique}
 use Rattle.gix_glob.proofs.CutLemmas.{free_in, free_out, local_in, local_out, dirs_in_empty, dirs_in, dirs_out, nothing_out, end_in, end_out}
 use Rattle.gix_glob.proofs.Engines.{byte_in, byte_out}
 use Rattle.gix_glob.proofs.Existence.{items_close}
-use Rattle.gix_glob.proofs.Components.{separates-fits, separates-slash, fold-slash, inner, slash_ends, ends_or_not, next-inner, next_past, next_before_end, next_plain}
+use Rattle.gix_glob.proofs.Components.{IsInner, separates-fits, separates-slash, fold-slash, inner, slash_ends, ends_or_not, next-inner, next_past, next_before_end, next_plain}
 
 -- the engine at its start
 pub stands_start : (mode : Mode) (p v : List ℕ) → Stands mode p v 0 0 crossing.Unmet None

@@ -1,6 +1,6 @@
--- What the functions of the engine with two marks say of its steps to one another: how many are left at a state. Each pair of a
--- token and a place of the value is tested at most once, since a star between two slashes of the pattern looks at one component
--- of the value. Nothing public cites it.
+-- What the functions of the engine with two marks say of its steps to one another: how many are left at a state. After the
+-- look at the last byte, which is one step, each pair of a token and a place of the value is tested at most once, since a star
+-- between two slashes of the pattern looks at one component of the value. Nothing public cites it.
 use Rattle.std.specs.Prelude.{◌≡◌, ℕ, ◌+◌, ◌-◌, ◌<◌, ◌≤◌, Bool, List, [], ◌∷◌, length, Option, Some, None, if◌then◌else◌}
 use Rattle.gix_glob.specs.declared.wildmatch.mode.Mode.{Mode}
 use Rattle.gix_glob.specs.declared.wildmatch.counted.Mark.{Mark}

@@ -15,7 +15,7 @@ use Rattle.gix_glob.specs.Tokens.{Token, Byte, TokenAt, IsAfterSlash}
 use Rattle.gix_glob.specs.Matching.{SplitsFrom}
 use Rattle.gix_glob.specs.Reader.{Fits, NoSlash, AfterSlash}
 use Rattle.gix_glob.specs.Seeking.{IsBare, last_steps, reached_by}
-use Rattle.gix_glob.specs.Components.{ends, separates, next_component}
+use Rattle.gix_glob.specs.Components.{separates, next_component}
 
 -- the pattern matches the value
 abbrev pub Whole : Mode → List ℕ → List ℕ → Type 0
@@ -118,11 +118,6 @@ pub record IsLeft (mode : Mode) (p v : List ℕ) (c : Crossing) : Type 0 where
   pub complete : Whole mode p v → LaterCrossing mode p v c
   pub crossing : CrossingKnown mode p v c
 
--- with a local mark: the byte here ends no component
-abbrev pub IsInner : Mode → List ℕ → ℕ → Option Mark → Type 0
-IsInner mode v j None = Unit {0}
-IsInner mode v j (Some m) = ends mode (slice_index v j) ≡ false
-
 -- the engine stands here, and the token does not fit
 pub record IsMissed (mode : Mode) (p v : List ℕ) (s : State) : Type 0 where
   pub stands : StandsAt mode p v s
@@ -153,7 +148,7 @@ IsMet mode p v (sought.Found m) =
 IsMet mode p v (sought.Stuck m) = (m.at < length v) × (slice_index v m.at ≡ slash) × ¬ SplitsFrom v m.at p m.place mode
 IsMet mode p v (sought.On m) = Unit {0}
 
--- A look ahead from a mark: at no place before does the rest of the pattern split the rest of the value.
+-- A look ahead from a mark: at no place before the one it has come to does the rest of the pattern split the rest of the value.
 pub record IsSoughtFor (mode : Mode) (p v : List ℕ) (from : Mark) (s : Sought) (before after : ℕ) : Type 0 where
   pub same : (reached_by s).place ≡ from.place
   pub low : from.at ≤ (reached_by s).at

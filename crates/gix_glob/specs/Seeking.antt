@@ -63,7 +63,7 @@ IsFoundBelow limit (sought.Found m) = m.at < limit
 IsFoundBelow limit (sought.Stuck m) = Unit {0}
 IsFoundBelow limit (sought.On m) = Unit {0}
 
--- only a slash of a component stops a look ahead
+-- the look ahead was not stopped by a slash
 abbrev pub IsUnstuck : Sought → Type 0
 IsUnstuck (sought.Found m) = Unit {0}
 IsUnstuck (sought.Stuck m) = ⊥

@@ -1,4 +1,5 @@
-//! Laws over the definitions: each is a call with an empty body, which a caller makes to know what it ensures.
+//! Laws over the definitions: each is a call that does nothing, or that only reads its pattern, which a caller makes to know
+//! what it ensures.
 ghost use Rattle.std.specs.Prelude.{◌≡◌, ◌≤◌, ℕ, List, length, Option, Some};
 ghost use Rattle.std.specs.List.{join_with_byte};
 ghost use Rattle.gix_glob.specs.Bytes.{EndsInSlash, slash};

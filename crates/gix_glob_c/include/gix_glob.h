@@ -11,7 +11,8 @@
 #include <stdint.h>
 
 /* Bits of a match mode. Other bits change no answer. */
-#define GIX_GLOB_NO_MATCH_SLASH_LITERAL 1 /* path mode: a wildcard matches no slash */
+#define GIX_GLOB_NO_MATCH_SLASH_LITERAL 1 /* path mode: a wildcard matches no slash, save a double star
+                                             that stands alone between slashes or ends of the pattern */
 #define GIX_GLOB_IGNORE_CASE 2            /* the case of ASCII letters doesn't count */
 
 /* Bits of what is known of a pattern's text. */

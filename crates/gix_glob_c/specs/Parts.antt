@@ -7,7 +7,7 @@ use Rattle.gix_glob.specs.Matching.{Holds}
 use Rattle.gix_glob.specs.Patterns.{Reads}
 use Rattle.gix_glob.specs.RepositoryPaths.{Answers, IsBasenameStart}
 
--- whether case counts
+-- the case that the flag asks for
 abbrev pub case_of : Bool → Case
 case_of fold = if fold then Fold else Sensitive
 

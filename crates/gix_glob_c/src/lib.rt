@@ -11,7 +11,8 @@ use bitflags::Flags;
 use gix_glob::pattern::{self, Case, PatternView, basename_start};
 use gix_glob::wildmatch::{Mode, wildmatch};
 
-/// Whether the pattern matches the whole of the value. Bit 1 of `mode` is path mode, bit 2 folds; others don't count.
+/// Whether the pattern matches the whole of the value. The bit of value 1 in `mode` is path
+/// mode, that of value 2 folds; other bits don't count.
 #[unsafe(no_mangle)]
 pub extern "C" fn gix_glob_wildmatch(pattern: &[u8], value: &[u8], mode: u8) -> bool
     ensures { Holds result (Splits value.now pattern.now (record { 0 = mode })) pattern.now }
@@ -74,7 +75,7 @@ fn place_in(text: &[u8], place: usize) -> Option<usize>
     }
 }
 
-/// Whether case counts.
+/// The case that `fold` asks for.
 fn case_for(fold: bool) -> Case
     ensures { result ≡ case_of fold }
 {

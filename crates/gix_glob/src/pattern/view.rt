@@ -61,7 +61,8 @@ impl<'a> PatternView<'a> {
 
     /// Whether the text matches the value, as [`super::Pattern::matches`] answers.
     ///
-    /// A text without special bytes, a literal front, and a star before a literal are decided without the matcher.
+    /// A text without special bytes is decided without the matcher; a literal front, and the literal after a star, refuse
+    /// without it.
     #[inline(always)]
     pub fn matches(self, value: &[u8], mode: wildmatch::Mode) -> bool
         ensures { IsPattern self.entry.text.now self.entry.mode self.entry.first_wildcard_pos →

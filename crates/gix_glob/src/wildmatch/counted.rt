@@ -1,5 +1,5 @@
 //! The value as the engine with two marks sees it: its bytes are read by the functions of this module alone, and each call
-//! counts one step.
+//! that reads one counts one step. `holds` looks at the length alone, and counts none.
 ghost use Rattle.std.specs.Prelude.{◌≡◌, ◌≢◌, ◌↔◌, ◌⊎◌, ℕ, ◌+◌, ◌-◌, ◌<◌, ◌≤◌, IsTrue, IfSome, IfNone, length, slice_index};
 ghost use Rattle.gix_glob.specs.Bytes.{slash};
 ghost use Rattle.gix_glob.specs.Tokens.{Token, Byte, TokenAt};

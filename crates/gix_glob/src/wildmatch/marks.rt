@@ -54,7 +54,7 @@ pub enum Turn {
     On(State),
 }
 
-/// Whether a byte at the pattern's end is the last token: it ends no star token, question mark or set.
+/// Whether a byte at the pattern's end ends no star token, question mark or set: a value that matches ends in it then.
 #[inline(always)]
 fn is_alone(byte: u8) -> bool
     ensures { IsTrue result → (byte ≢ star) × (byte ≢ question_mark) × (byte ≢ close_bracket) × (byte ≢ slash) }
@@ -62,7 +62,7 @@ fn is_alone(byte: u8) -> bool
     !matches!(byte, b'*' | b'?' | b']' | b'/')
 }
 
-/// Whether the pattern ends in a byte that is a token by itself and that the value does not end in.
+/// Whether the pattern ends in such a byte, and the value does not end in it.
 #[inline(always)]
 fn ends_otherwise<L: Ledger>(
     pattern: &[u8],

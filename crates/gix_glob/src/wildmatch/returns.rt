@@ -143,7 +143,7 @@ fn sought_within<L: Ledger>(
     }
 }
 
-/// The local mark past the byte after it: a slash forgets it.
+/// The local mark once the byte after its star is matched: where that is a slash, the mark is forgotten.
 #[inline(always)]
 fn kept(pattern: &[u8], mark: Mark) -> Option<Mark>
     requires { mark.place < length pattern.now }

@@ -72,7 +72,7 @@ fn look<L: Ledger>(value: &Counted<'_>, mark: Mark, follow: Follow, steps: &mut 
     }
 }
 
-/// Looks at as many bytes as the stride has, all of which the value holds.
+/// Looks at bytes one after the other, at most as many as the stride has, all of which the value holds.
 #[inline(always)]
 fn look_on<L: Ledger>(
     value: &Counted<'_>,

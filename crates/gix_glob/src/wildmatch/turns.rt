@@ -1,4 +1,5 @@
-//! The turns of the engine with two marks: the token at a place of the pattern is tested at a place of the value.
+//! The turns of the engine with two marks: the token at a place of the pattern is tested at a place of the value, and after a
+//! literal byte the ones that follow it, up to a slash.
 ghost use Rattle.std.specs.Prelude.{◌≡◌, ◌≢◌, ℕ, ◌+◌, ◌<◌, false, length, slice_index};
 ghost use Rattle.gix_glob.specs.Bytes.{slash};
 ghost use Rattle.gix_glob.specs.Reader.{IsToken, is_star};
@@ -14,7 +15,7 @@ use super::steps::Steps;
 use super::tokens::{Shape, token_at};
 use std::sync::ledger::Ledger;
 
-/// A turn at a token of one byte that is spelled by more than itself, or that holds other bytes.
+/// A turn at a question mark, a set or an escaped byte.
 #[inline(always)]
 fn single_turn<L: Ledger>(
     pattern: &[u8],
@@ -53,7 +54,7 @@ fn single_turn<L: Ledger>(
     })
 }
 
-/// A turn at a token that does not begin with the byte that it is.
+/// A turn at a star, a question mark, a set or an escape.
 #[inline(always)]
 fn special_turn<L: Ledger>(
     pattern: &[u8],
@@ -176,8 +177,8 @@ fn literal_turns<L: Ledger>(
     })
 }
 
-/// The token at this place of the pattern, or the pattern's end, is tested at this place of the value; and so are the bytes
-/// that come after a byte and are tokens by themselves.
+/// The token at this place of the pattern, or the pattern's end, is tested at this place of the value. After a byte that is a
+/// token by itself, the ones that follow it are tested too, up to a slash.
 #[inline(always)]
 pub fn take_turn<L: Ledger>(
     pattern: &[u8],

@@ -6,7 +6,7 @@ use super::super::wildmatch;
 use bitflags::Flags;
 use std::process::Abort;
 
-/// The lengths of the values, two strides and more.
+/// One more than the length of the longest value, which is two strides and more.
 const LONGEST: usize = 19;
 
 /// The matcher agrees with the plain program on this pattern and value, in each mode.
@@ -21,7 +21,7 @@ fn agrees(rt: &impl Abort, pattern: &[u8], value: &[u8]) {
     }
 }
 
-/// It agrees on values of `a` with a `b` and a slash at each two places.
+/// It agrees on values of `a`, with a `b` and a slash at each pair of places.
 fn agrees_on_long_values(rt: &impl Abort, pattern: &[u8]) {
     for len in 0..LONGEST {
         let mut value = [b'a'; LONGEST];
