@@ -9,7 +9,7 @@ use Rattle.gix_glob.specs.Reader.{Fits}
 use Rattle.gix_glob.proofs.CutLemmas.{step_out, one_out, end_out, nothing_out}
 use Rattle.gix_glob.proofs.Existence.{items_close, From-short, TokenAt-past}
 
--- a byte that ends a token of more than one byte, or one that is not that byte
+-- a byte that ends no star token, question mark or set
 abbrev pub IsAlone : ℕ → Type 0
 IsAlone b = (b ≢ star) × (b ≢ question_mark) × (b ≢ close_bracket) × (b ≢ slash)
 
@@ -37,11 +37,11 @@ last_token mode p i Dirs j e end alone = absurd (alone.3 (last_is p e.at slash (
 last_token mode p i Nothing j e end alone = inr refl
 
 -- the value ends in the pattern's last byte
-abbrev EndsAlike : Mode → List ℕ → List ℕ → Type 0
-EndsAlike mode p v = (0 < length v) × Fits mode (Byte (last p)) (get_or v (length v - 1) 0)
+abbrev pub EndsInLast : Mode → List ℕ → List ℕ → Type 0
+EndsInLast mode p v = (0 < length v) × Fits mode (Byte (last p)) (get_or v (length v - 1) 0)
 
 ends_here : (mode : Mode) (p v : List ℕ) (i j : ℕ) (t : Token) (k : ℕ) → TokenAt mode p i t k → k ≡ length p → j ≤ length v
-    → IsAlone (last p) → SplitsFrom v j p i mode → EndsAlike mode p v
+    → IsAlone (last p) → SplitsFrom v j p i mode → EndsInLast mode p v
 ends_here mode p v i j t k here end inside alone all = elim (last_token mode p i t k here end alone) [
   | inl is ↦
       let byte : TokenAt mode p i (Byte (last p)) k = subst (λ (x : Token). TokenAt mode p i x k) is here in
@@ -53,8 +53,8 @@ ends_here mode p v i j t k here end inside alone all = elim (last_token mode p i
 ]
 
 ends_later : (mode : Mode) (p v : List ℕ) (i j : ℕ) (ts : List Token) → From mode p i ts → i < length p → j ≤ length v → IsAlone (last p)
-    → ((k e : ℕ) → i < k → k < length p → e ≤ length v → SplitsFrom v e p k mode → EndsAlike mode p v)
-    → SplitsFrom v j p i mode → EndsAlike mode p v
+    → ((k e : ℕ) → i < k → k < length p → e ≤ length v → SplitsFrom v e p k mode → EndsInLast mode p v)
+    → SplitsFrom v j p i mode → EndsInLast mode p v
 ends_later mode p v i j [] read low inside alone later all = absurd (omega (arith, read))
 ends_later mode p v i j (t ∷ ts) read low inside alone later all =
     let out = step_out mode p v i read.0 j t read.1 inside all in
@@ -66,13 +66,12 @@ ends_later mode p v i j (t ∷ ts) read low inside alone later all =
     ]
 
 ends_from : (d : ℕ) (mode : Mode) (p v : List ℕ) (i j : ℕ) → length p ≤ i + d → i < length p → j ≤ length v → IsAlone (last p)
-    → SplitsFrom v j p i mode → EndsAlike mode p v
+    → SplitsFrom v j p i mode → EndsInLast mode p v
 ends_from zero mode p v i j enough low inside alone all = absurd (omega arith)
 ends_from (suc d) mode p v i j enough low inside alone all =
     ends_later mode p v i j all.tokens all.read low inside alone
     (λ k e past more in_value rest. ends_from d mode p v k e (omega arith) more in_value alone rest) all
 
 -- A value that is split ends in the pattern's last byte.
-pub ends_in_last : (mode : Mode) (p v : List ℕ) → 0 < length p → IsAlone (last p) → SplitsFrom v 0 p 0 mode
-    → (0 < length v) × Fits mode (Byte (last p)) (get_or v (length v - 1) 0)
+pub ends_in_last : (mode : Mode) (p v : List ℕ) → 0 < length p → IsAlone (last p) → SplitsFrom v 0 p 0 mode → EndsInLast mode p v
 ends_in_last mode p v some alone all = ends_from (length p) mode p v 0 0 (omega arith) some (omega arith) alone all

@@ -380,19 +380,20 @@ dirs_met mode p v i k j c l m st here k_low e f =
         local = tt;
       }
 
+-- two stretches without slash, one after the other
+pub bare_on : (v : List ℕ) (a b c : ℕ) → NoSlash v a b → NoSlash v b c → NoSlash v a c
+bare_on v a b c x y = record {
+  at = λ k low below. elim (cases_lt k b) [
+    | inl before ↦ x.at k low before
+    | inr later ↦ y.at k later below
+  ];
+}
+
 -- A run of stars within a component: its mark is set, and the crossing mark stays.
 pub local_met : (mode : Mode) (p v : List ℕ) (i k j : ℕ) (c : Crossing) (l : Option Mark) (m : Mark) → Stands mode p v i j c l
     → TokenAt mode p i Local k → k ≤ length p → m.place ≡ k → m.at ≡ j → Stands mode p v k j c (Some m)
 local_met mode p v i k j c l m st here k_low e f =
     subst (λ (n : Mark). Stands mode p v k j c (Some n)) (mark_eq m k j e f) made where
-      bare_both : (a b e : ℕ) → NoSlash v a b → NoSlash v b e → NoSlash v a e
-      bare_both a b e x y = record {
-        at = λ n from below. elim (cases_lt n b) [
-          | inl before ↦ x.at n from before
-          | inr later ↦ y.at n later below
-        ];
-      }
-
       split : (e : ℕ) → j ≤ e → e ≤ length v → NoSlash v j e → SplitsFrom v e p k mode
           → SplitsFrom v j p k mode ⊎ (LaterLocal mode p v k j ⊎ LaterCrossing mode p v c)
       split e low inside bare all = elim (cases_lt j e) [
@@ -403,7 +404,7 @@ local_met mode p v i k j c l m st here k_low e f =
       from_near : Near mode p v i j → SplitsFrom v j p k mode ⊎ (LaterLocal mode p v k j ⊎ LaterCrossing mode p v c)
       from_near n =
           let out = local_out mode p v i k n.e here n.inside n.splits in
-          split out.0 (omega (arith, n.low, out.1)) out.2 (bare_both j n.e out.0 n.bare out.3) out.4
+          split out.0 (omega (arith, n.low, out.1)) out.2 (bare_on v j n.e out.0 n.bare out.3) out.4
 
       far : LaterCrossing mode p v c → Far mode p v k j
       far later =

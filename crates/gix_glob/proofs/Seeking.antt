@@ -16,7 +16,7 @@ use Rattle.gix_glob.specs.Bytes.{fold, folds, is_path, slash}
 use Rattle.gix_glob.specs.Tokens.{Byte}
 use Rattle.gix_glob.specs.Matching.{SplitsFrom}
 use Rattle.gix_glob.specs.Reader.{Fits, NoSlash}
-use Rattle.gix_glob.specs.Seeking.{Follows, IsBare, IsSought, Passed, Suits, last_steps, reached_by}
+use Rattle.gix_glob.specs.Seeking.{Follows, StandsForItself, IsSought, Passed, Suits, last_steps, reached_by}
 use Rattle.gix_glob.specs.Marks.{IsMet, IsSoughtFor, Stands}
 use Rattle.gix_glob.specs.Budget.{Allows}
 use Rattle.gix_glob.proofs.Components.{inner}
@@ -40,15 +40,15 @@ fold_lower mode b on = ap (λ (x : Bool). if x then to_ascii_lowercase b else b)
 
 -- a byte that is what follows is taken by the token there
 pub suited : (mode : Mode) (p : List ℕ) (i : ℕ) (f : Follow) (c : ℕ) → Follows mode p i f → Suits f c
-    → (i < length p) × IsBare (get_or p i 0) × Fits mode (Byte (get_or p i 0)) c
+    → (i < length p) × StandsForItself (get_or p i 0) × Fits mode (Byte (get_or p i 0)) c
 suited mode p i (follow.Byte b) c is suits = (
   is.0.inside,
-  subst IsBare (sym is.0.is) is.1,
+  subst StandsForItself (sym is.0.is) is.1,
   ap (fold mode) (suits ∙ sym is.0.is),
 )
 suited mode p i (follow.Folded b) c is suits = (
   is.0.inside,
-  subst IsBare (sym is.0.is) is.1,
+  subst StandsForItself (sym is.0.is) is.1,
   fold_lower mode c is.2 ∙ (suits ∙ (sym (fold_lower mode b is.2) ∙ ap (fold mode) (sym is.0.is))),
 )
 suited mode p i follow.End c is suits = absurd suits
@@ -57,10 +57,10 @@ suited mode p i follow.End c is suits = absurd suits
 pub unsuited : (mode : Mode) (p v : List ℕ) (i j : ℕ) (f : Follow) → Follows mode p i f → j < length v → ¬ Suits f (get_or v j 0)
     → ¬ SplitsFrom v j p i mode
 unsuited mode p v i j (follow.Byte b) is inside other =
-    misses_byte mode p v i _ (i + 1) j (literal_token mode p i is.0.inside (subst IsBare (sym is.0.is) is.1)) refl (omega arith)
+    misses_byte mode p v i _ (i + 1) j (literal_token mode p i is.0.inside (subst StandsForItself (sym is.0.is) is.1)) refl (omega arith)
     (λ fits. other (sym (fold_exact mode (get_or v j 0) is.2) ∙ (fits.1 ∙ (fold_exact mode (get_or p i 0) is.2 ∙ is.0.is))))
 unsuited mode p v i j (follow.Folded b) is inside other =
-    misses_byte mode p v i _ (i + 1) j (literal_token mode p i is.0.inside (subst IsBare (sym is.0.is) is.1)) refl (omega arith)
+    misses_byte mode p v i _ (i + 1) j (literal_token mode p i is.0.inside (subst StandsForItself (sym is.0.is) is.1)) refl (omega arith)
     (λ fits.
     other
     (sym (fold_lower mode (get_or v j 0) is.2)
@@ -261,14 +261,6 @@ passed_on v f a b c x y = record {
   ];
 }
 
-pub bare_on : (v : List ℕ) (a b c : ℕ) → NoSlash v a b → NoSlash v b c → NoSlash v a c
-bare_on v a b c x y = record {
-  at = λ k low below. elim (cases_lt k b) [
-    | inl before ↦ x.at k low before
-    | inr later ↦ y.at k later below
-  ];
-}
-
 -- no mark, where it is none of all
 pub none_of : (l : Option Mark) → ((m : Mark) → l ≡ Some m → ⊥) → l ≡ None
 none_of None other = refl
@@ -299,5 +291,5 @@ pub progress_on : (x : Option State) (a b c : ℕ) → a ≤ b → OnSome x (b <
 progress_on None a b c low more = more
 progress_on (Some s) a b c low more = omega arith
 
-pub slash_is_bare : (b : ℕ) → b ≡ slash → IsBare b
-slash_is_bare b is = (λ e. omega arith, λ e. omega arith, λ e. omega arith, λ e. omega arith)
+pub slash_is_itself : (b : ℕ) → b ≡ slash → StandsForItself b
+slash_is_itself b is = (λ e. omega arith, λ e. omega arith, λ e. omega arith, λ e. omega arith)

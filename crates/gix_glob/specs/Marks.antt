@@ -14,7 +14,7 @@ use Rattle.gix_glob.specs.declared.wildmatch.seeking.Sought.TheVariants as sough
 use Rattle.gix_glob.specs.Tokens.{Token, Byte, TokenAt, IsAfterSlash}
 use Rattle.gix_glob.specs.Matching.{SplitsFrom}
 use Rattle.gix_glob.specs.Reader.{Fits, NoSlash, AfterSlash}
-use Rattle.gix_glob.specs.Seeking.{IsBare, last_steps, reached_by}
+use Rattle.gix_glob.specs.Seeking.{StandsForItself, last_steps, reached_by}
 use Rattle.gix_glob.specs.Components.{separates, next_component}
 
 -- the pattern matches the value
@@ -143,7 +143,7 @@ ResumesWithin mode p v c (Some next) = StandsAt mode p v next
 -- what was met at the place that a look ahead has come to
 abbrev pub IsMet : Mode → List ℕ → List ℕ → Sought → Type 0
 IsMet mode p v (sought.Found m) =
-    (m.place < length p) × IsBare (slice_index p m.place) × (m.at < length v)
+    (m.place < length p) × StandsForItself (slice_index p m.place) × (m.at < length v)
     × Fits mode (Byte (slice_index p m.place)) (slice_index v m.at)
 IsMet mode p v (sought.Stuck m) = (m.at < length v) × (slice_index v m.at ≡ slash) × ¬ SplitsFrom v m.at p m.place mode
 IsMet mode p v (sought.On m) = Unit {0}

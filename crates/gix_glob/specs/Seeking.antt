@@ -10,14 +10,14 @@ use Rattle.gix_glob.specs.declared.wildmatch.seeking.Sought.{Sought}
 use Rattle.gix_glob.specs.declared.wildmatch.seeking.Sought.TheVariants as sought
 use Rattle.gix_glob.specs.Bytes.{HasByte, folds, star, question_mark, open_bracket, backslash, slash}
 
--- a byte that begins no token but the one that it is by itself
-abbrev pub IsBare : ℕ → Type 0
-IsBare b = (b ≢ star) × (b ≢ question_mark) × (b ≢ open_bracket) × (b ≢ backslash)
+-- a byte that is a token by itself: it begins no other
+abbrev pub StandsForItself : ℕ → Type 0
+StandsForItself b = (b ≢ star) × (b ≢ question_mark) × (b ≢ open_bracket) × (b ≢ backslash)
 
 -- this follows at place i of the pattern
 abbrev pub Follows : Mode → List ℕ → ℕ → Follow → Type 0
-Follows mode p i (follow.Byte b) = HasByte p i b × IsBare b × (folds mode ≡ false)
-Follows mode p i (follow.Folded b) = HasByte p i b × IsBare b × (folds mode ≡ true)
+Follows mode p i (follow.Byte b) = HasByte p i b × StandsForItself b × (folds mode ≡ false)
+Follows mode p i (follow.Folded b) = HasByte p i b × StandsForItself b × (folds mode ≡ true)
 Follows mode p i follow.End = i ≡ length p
 
 -- a byte of the value is what follows

@@ -1,6 +1,6 @@
 //! What follows a star in the pattern, where the engine with two marks can look for it byte by byte.
 ghost use Rattle.std.specs.Prelude.{◌↔◌, ◌<◌, ◌≤◌, IsTrue, IfSome, IfNone, length, slice_index};
-ghost use Rattle.gix_glob.specs.Seeking.{Follows, IsBare, Suits};
+ghost use Rattle.gix_glob.specs.Seeking.{Follows, StandsForItself, Suits};
 
 use super::mode::Mode;
 
@@ -29,10 +29,10 @@ impl Follow {
     }
 }
 
-/// Whether a byte begins no token but the one that it is by itself.
+/// Whether a byte is a token by itself: it begins no other.
 #[inline(always)]
-pub fn is_bare(byte: u8) -> bool
-    ensures { IsTrue result ↔ IsBare byte }
+pub fn stands_for_itself(byte: u8) -> bool
+    ensures { IsTrue result ↔ StandsForItself byte }
 {
     !matches!(byte, b'*' | b'?' | b'[' | b'\\')
 }
@@ -42,13 +42,13 @@ pub fn is_bare(byte: u8) -> bool
 pub fn follow_at(pattern: &[u8], place: usize, mode: Mode) -> Option<Follow>
     requires { place ≤ length pattern.now }
     ensures follows { IfSome result (λ follow. Follows mode pattern.now place follow) }
-    ensures other { IfNone result ((place < length pattern.now) × ¬ IsBare (slice_index pattern.now place)) }
+    ensures other { IfNone result ((place < length pattern.now) × ¬ StandsForItself (slice_index pattern.now place)) }
 {
     if place >= pattern.len() {
         return Some(Follow::End);
     }
     let byte = pattern[place];
-    if !is_bare(byte) {
+    if !stands_for_itself(byte) {
         return None;
     }
     if mode.folds() {

@@ -57,7 +57,7 @@ pub enum Turn {
 /// Whether a byte at the pattern's end ends no star token, question mark or set: a value that matches ends in it then.
 #[inline(always)]
 fn is_alone(byte: u8) -> bool
-    ensures { IsTrue result → (byte ≢ star) × (byte ≢ question_mark) × (byte ≢ close_bracket) × (byte ≢ slash) }
+    ensures { IsTrue result ↔ ((byte ≢ star) × (byte ≢ question_mark) × (byte ≢ close_bracket) × (byte ≢ slash)) }
 {
     !matches!(byte, b'*' | b'?' | b']' | b'/')
 }

@@ -3,12 +3,12 @@
 ghost use Rattle.std.specs.Prelude.{◌≡◌, ◌≢◌, ℕ, ◌+◌, ◌<◌, false, length, slice_index};
 ghost use Rattle.gix_glob.specs.Bytes.{slash};
 ghost use Rattle.gix_glob.specs.Reader.{IsToken, is_star};
-ghost use Rattle.gix_glob.specs.Seeking.{IsBare};
+ghost use Rattle.gix_glob.specs.Seeking.{StandsForItself};
 ghost use Rattle.gix_glob.specs.Marks.{IsOutcome, StandsAt};
 ghost use Rattle.gix_glob.specs.Budget.{AllowsAt, AllowsOutcome, CountsOutcome};
 
 use super::counted::{Counted, Mark};
-use super::follow::is_bare;
+use super::follow::stands_for_itself;
 use super::marks::{Crossing, State, Turn};
 use super::mode::Mode;
 use super::steps::Steps;
@@ -148,7 +148,7 @@ fn literal_turns<L: Ledger>(
 ) -> Turn
     requires stands { StandsAt mode pattern.now value.now state }
     requires place { state.place < length pattern.now }
-    requires bare { IsBare (slice_index pattern.now state.place) }
+    requires literal { StandsForItself (slice_index pattern.now state.place) }
     requires other { slice_index pattern.now state.place ≢ slash }
     ensures meaning { IsOutcome mode pattern.now value.now result }
     ensures allows { (n : ℕ) → AllowsAt mode pattern.now value.now state steps.old n
@@ -157,7 +157,10 @@ fn literal_turns<L: Ledger>(
 {
     let mut place = state.place;
     let mut at = state.at;
-    'bytes: while place < pattern.len() && pattern[place] != b'/' && is_bare(pattern[place]) {
+    'bytes: while place < pattern.len()
+        && pattern[place] != b'/'
+        && stands_for_itself(pattern[place])
+    {
         if !value.has(at, pattern[place], mode, steps) {
             return Turn::Miss(State {
                 place,
@@ -203,7 +206,7 @@ pub fn take_turn<L: Ledger>(
     if byte == b'/' {
         return slash_turn(pattern, value, mode, state, steps);
     }
-    if !is_bare(byte) {
+    if !stands_for_itself(byte) {
         return special_turn(pattern, value, mode, state, steps);
     }
     literal_turns(pattern, value, mode, state, steps)

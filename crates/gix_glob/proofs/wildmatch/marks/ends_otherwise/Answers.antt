@@ -6,6 +6,6 @@ pub returns-then-is_alone-clause-meaning : goal.returns-then-is_alone-clause-mea
 returns-then-is_alone-clause-meaning g c = λ no all.
     let yes =
     c.ends_in.ensures.answer.1
-    (ends_in_last c.args.mode c.args.pattern.now c.args.value.now (omega (arith, c.if-len-eq0.false)) (c.if-is_alone.ensures refl) all) in
+    (ends_in_last c.args.mode c.args.pattern.now c.args.value.now (omega (arith, c.if-len-eq0.false)) (c.if-is_alone.ensures.0 refl) all) in
     let wrong : true ≡ false = sym no ∙ ap not yes in
     cc

@@ -1,5 +1,6 @@
 use Rattle.std.proofs.Common.{arith}
-use Rattle.gix_glob.proofs.Seeking.{passed_on, bare_on}
+use Rattle.gix_glob.proofs.Marks.{bare_on}
+use Rattle.gix_glob.proofs.Seeking.{passed_on}
 use Rattle.gix_glob.proofs.wildmatch.seeking.look_on.Goals as goal
 
 pub stride-preserved : goal.stride-preserved

@@ -9,14 +9,14 @@ returns-then-not-has-clause-meaning g c = record {
   stands = c.bytes.invariant.stands;
   missed =
       misses_byte c.args.mode c.args.pattern.now c.args.value.now c.bytes.place _ (c.bytes.place + 1) c.bytes.at
-      (literal_token c.args.mode c.args.pattern.now c.bytes.place c.bytes-test.true (c.if-is_bare.ensures.0 refl)) refl
+      (literal_token c.args.mode c.args.pattern.now c.bytes.place c.bytes-test.true (c.if-stands_for_itself.ensures.0 refl)) refl
       c.bytes.invariant.stands.inside
       (λ fits. let wrong : false ≡ true = c.if-not-has.ensures.answer.1 fits in cc);
 }
 
 pub bytes-preserved : goal.bytes-preserved
 bytes-preserved g c =
-    let token = literal_token c.args.mode c.args.pattern.now c.bytes.place c.bytes-test.true (c.if-is_bare.ensures.0 refl) in
+    let token = literal_token c.args.mode c.args.pattern.now c.bytes.place c.bytes-test.true (c.if-stands_for_itself.ensures.0 refl) in
     let fits = c.if-not-has.ensures.answer.0 refl in
     record {
       stands =
