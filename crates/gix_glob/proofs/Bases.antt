@@ -4,7 +4,7 @@ use Rattle.std.specs.Vec.{vec_items}
 use Rattle.std.proofs.lemmas.Result.{IfOk-weaker}
 use Rattle.std.proofs.lemmas.Slice.Eq.{bytes_eq-Decides}
 use Rattle.gix_glob.specs.Paths.{parts, without_last, folder, folders, LiesBetween, Base, base_below}
-use Rattle.gix_glob.specs.Bytes.{EndsInSlash}
+use Rattle.glob_matcher.specs.Bytes.{EndsInSlash}
 use Rattle.std.specs.Str.{bytes_eq}
 
 -- a list is empty, or it has a last element

@@ -3,7 +3,7 @@ use Rattle.std.proofs.Common.{◌≡◌, ℕ, ◌+◌, ◌<◌, ◌==◌, Bool, 
 use Rattle.std.proofs.Math.Seq.{take-suc}
 use Rattle.std.specs.Cmp.Lexicographic.{pointwise}
 use Rattle.gix_glob.specs.declared.search.pattern.mapping.Mapping.{Mapping}
-use Rattle.gix_glob.specs.contracts.pattern.PatternPartialEq.TheImpl.{ghosts as patterns}
+use Rattle.glob_patterns.specs.contracts.pattern.PatternPartialEq.TheImpl.{ghosts as patterns}
 
 -- what `==` says of two mappings
 abbrev pub equal_mappings : {V : Type 0} → (V → V → Bool) → Mapping V → Mapping V → Bool

@@ -6,7 +6,7 @@ use Rattle.std.proofs.lemmas.Grind.{common_steps}
 use Rattle.std.proofs.lemmas.List.Splits.{slice_split_first, slice_split_none, length-slice_split}
 use Rattle.std.proofs.lemmas.List.Sums.{prefix_len-le-length, fails_before_first}
 use Rattle.std.proofs.Math.ListN.{drop_of_length-le}
-use Rattle.gix_glob.specs.Bytes.{slash}
+use Rattle.glob_matcher.specs.Bytes.{slash}
 use Rattle.gix_glob.specs.Paths.{pieces, named, past_first, front_part, parts}
 
 -- where a test passes first

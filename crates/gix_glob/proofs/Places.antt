@@ -5,10 +5,10 @@ use Rattle.std.proofs.lemmas.List.{get_or-map, get_or-append-add, get_or_append_
 use Rattle.std.proofs.lemmas.Bool.{cases_lt, eqb-true}
 use Rattle.std.proofs.Math.Seq.{get_or-append_seam}
 use Rattle.std.proofs.lemmas.Bool.Decides.{eqb_tells}
-use Rattle.gix_glob.specs.declared.pattern.case.Case.{Case}
-use Rattle.gix_glob.specs.declared.pattern.case.Case.TheVariants.{Sensitive, Fold}
-use Rattle.gix_glob.specs.Bytes.{EndsInSlash, HasByte, slash}
-use Rattle.gix_glob.specs.RepositoryPaths.{IsAfterLastSlash, IsBasenameStart}
+use Rattle.glob_patterns.specs.declared.pattern.case.Case.{Case}
+use Rattle.glob_patterns.specs.declared.pattern.case.Case.TheVariants.{Sensitive, Fold}
+use Rattle.glob_matcher.specs.Bytes.{EndsInSlash, HasByte, slash}
+use Rattle.glob_patterns.specs.RepositoryPaths.{IsAfterLastSlash, IsBasenameStart}
 use Rattle.gix_glob.specs.Stripping.{compared, Rest, stripped_place}
 use Rattle.gix_glob.specs.Paths.{IsFolder}
 use Rattle.gix_glob.proofs.Rests.{Rest-front, length-compared}

@@ -1,9 +1,9 @@
 -- The entry of a line is that of its reading.
 use Rattle.std.proofs.Common.{◌≡◌, ℕ, ◌-◌, true, false, List, [], ◌∷◌, ◌++◌, length, take, drop, Option, refl, sym, ap, ◌∙◌, length-append, inl, inr, drop_at, take_at, arith}
 use Rattle.std.proofs.lemmas.Bool.{cases_Bool}
-use Rattle.gix_glob.specs.declared.pattern.mode.Mode.{Mode}
+use Rattle.glob_patterns.specs.declared.pattern.mode.Mode.{Mode}
 use Rattle.gix_glob.specs.Lists.{Entry}
-use Rattle.gix_glob.specs.Patterns.{Reads, bits_of, first_special, is_blank, sign_of, without_negation}
+use Rattle.glob_patterns.specs.Patterns.{Reads, bits_of, first_special, is_blank, sign_of, without_negation}
 use Rattle.gix_glob.specs.WholeLine.{lead_of, tail_of, before_tail, entry_with, entry_after_lead, entry_after_sign, entry_of_line, whole_line}
 
 before_tail-append : (body tail : List ℕ) → tail ≡ tail_of (body ++ tail) → before_tail (body ++ tail) ≡ body

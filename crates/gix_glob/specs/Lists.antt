@@ -1,8 +1,8 @@
 -- The entries of a list of patterns, as plain data.
 use Rattle.std.specs.Prelude.{ℕ, List, Option}
-use Rattle.gix_glob.specs.declared.pattern.mode.Mode.{Mode}
+use Rattle.glob_patterns.specs.declared.pattern.mode.Mode.{Mode}
 use Rattle.gix_glob.specs.declared.search.pattern.mapping.Mapping.{Mapping}
-use Rattle.gix_glob.specs.PatternParts.{text_of, mode_of, place_of}
+use Rattle.glob_patterns.specs.PatternParts.{text_of, mode_of, place_of}
 
 -- a pattern with its value and its number
 pub record Entry (V : Type 0) : Type 0 where

@@ -2,7 +2,7 @@
 use Rattle.std.specs.Prelude.{◌≡◌, ◌≢◌, ◌⊎◌, ℕ, Bool, ◌||◌, ◌==◌, not, if◌then◌else◌, List, [], ◌∷◌, ◌++◌, filter, Option, None, Some, codes}
 use Rattle.std.specs.List.{slice_split, list_any}
 use Rattle.std.specs.Str.{bytes_eq}
-use Rattle.gix_glob.specs.Bytes.{EndsInSlash, slash}
+use Rattle.glob_matcher.specs.Bytes.{EndsInSlash, slash}
 
 -- the pieces between slashes
 abbrev pub pieces : List ℕ → List (List ℕ)

@@ -2,8 +2,8 @@
 use Rattle.std.specs.Prelude.{◌≡◌, ◌==◌, ◌≤◌, ⊤, ℕ, ◌-◌, if◌then◌else◌, List, length, map, ◌++◌, Option, None, Some}
 use Rattle.std.specs.Char.{to_ascii_lowercase}
 use Rattle.std.specs.Option.{ForSome}
-use Rattle.gix_glob.specs.declared.pattern.case.Case.{Case}
-use Rattle.gix_glob.specs.declared.pattern.case.Case.TheVariants.{Sensitive, Fold}
+use Rattle.glob_patterns.specs.declared.pattern.case.Case.{Case}
+use Rattle.glob_patterns.specs.declared.pattern.case.Case.TheVariants.{Sensitive, Fold}
 
 -- the bytes that are compared: those of the text, with the case of letters or without
 abbrev pub compared : Case → List ℕ → List ℕ

@@ -2,7 +2,7 @@
 use Rattle.std.specs.Prelude.{ℕ, ◌-◌, nat_eq, if◌then◌else◌, true, List, [], ◌∷◌, length, take, drop, codes}
 use Rattle.std.specs.List.{starts_with, ends_with}
 use Rattle.gix_glob.specs.Lists.{Entry}
-use Rattle.gix_glob.specs.Patterns.{bits_of, first_special, is_blank, sign_of, slash_if, without_negation}
+use Rattle.glob_patterns.specs.Patterns.{bits_of, first_special, is_blank, sign_of, slash_if, without_negation}
 
 abbrev pub lead_of : List ℕ → List ℕ
 lead_of text = slash_if (starts_with nat_eq text (codes "/"))

@@ -2,29 +2,25 @@
 //! what it ensures.
 ghost use Rattle.std.specs.Prelude.{◌≡◌, ◌≤◌, ℕ, List, length, Option, Some};
 ghost use Rattle.std.specs.List.{join_with_byte};
-ghost use Rattle.gix_glob.specs.Bytes.{EndsInSlash, slash};
-ghost use Rattle.gix_glob.specs.declared.pattern.case.Case.{Case};
+ghost use Rattle.glob_matcher.specs.Bytes.{EndsInSlash, slash};
+ghost use Rattle.glob_patterns.specs.declared.pattern.case.Case.{Case};
 ghost use Rattle.gix_glob.specs.Paths.{pieces, Base, IsFolder};
-ghost use Rattle.gix_glob.specs.RepositoryPaths.{IsAfterLastSlash, IsBasenameStart};
+ghost use Rattle.glob_patterns.specs.RepositoryPaths.{IsAfterLastSlash, IsBasenameStart};
 ghost use Rattle.gix_glob.specs.Stripping.{Rest, stripped_place};
 
 mod lists;
-mod patterns;
-mod readings;
-mod stars;
 
-pub use lists::{list_order_agrees_with_equality, mapping_order_agrees_with_equality};
-pub use patterns::{
+pub use glob_matcher::laws::{
+    a_crossing_run_splits_from_before, a_double_star_splits_from_before,
+    a_local_run_splits_from_before, a_pattern_has_one_reading, each_pattern_has_a_reading,
+    one_more_star_changes_nothing_in_plain_mode, star_tokens_are_as_many_in_each_mode,
+};
+pub use glob_patterns::laws::{
     case_counts_by_default, flags_do_not_count, line_has_one_reading, literal_text_splits_itself,
     order_agrees_with_equality, shown_line_is_read_back, two_answers_agree,
     utf8_is_displayed_as_it_is,
 };
-pub use readings::each_pattern_has_a_reading;
-pub use stars::{
-    a_crossing_run_splits_from_before, a_double_star_splits_from_before,
-    a_local_run_splits_from_before, a_pattern_has_one_reading,
-    one_more_star_changes_nothing_in_plain_mode, star_tokens_are_as_many_in_each_mode,
-};
+pub use lists::{list_order_agrees_with_equality, mapping_order_agrees_with_equality};
 
 // ---- path texts and bases
 

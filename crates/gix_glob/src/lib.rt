@@ -2,9 +2,8 @@
 #![tactic(auto)]
 
 pub mod laws;
-pub mod parse;
-pub mod pattern;
 pub mod search;
-pub mod wildmatch;
 
-pub use pattern::Pattern;
+pub use glob_matcher::wildmatch;
+pub use glob_patterns::pattern::Pattern;
+pub use glob_patterns::{parse, pattern};

@@ -1,7 +1,7 @@
 -- A mode is its bits.
 use Rattle.std.proofs.Common.{◌≡◌, ℕ, ap}
-use Rattle.gix_glob.specs.declared.pattern.mode.Mode as pattern
-use Rattle.gix_glob.specs.declared.wildmatch.mode.Mode as wildmatch
+use Rattle.gix_glob.specs.declared.pattern.Mode as pattern
+use Rattle.gix_glob.specs.declared.wildmatch.Mode as wildmatch
 
 pub match_mode_of : (mode : wildmatch.Mode) (bits : ℕ) → mode.0 ≡ bits → mode ≡ record { 0 = bits }
 match_mode_of mode bits same = let make : ℕ → wildmatch.Mode = λ n. record { 0 = n } in ap make same

@@ -1,8 +1,8 @@
 -- What the numbers that cross from C stand for.
 use Rattle.std.specs.Prelude.{ℕ, Bool, true, List, length, nat_lt, Option, None, Some, if◌then◌else◌}
-use Rattle.gix_glob.specs.declared.pattern.case.Case.{Case}
-use Rattle.gix_glob.specs.declared.pattern.case.Case.TheVariants.{Sensitive, Fold}
-use Rattle.gix_glob.specs.declared.pattern.mode.Mode.{Mode}
+use Rattle.gix_glob.specs.declared.pattern.Case.{Case}
+use Rattle.gix_glob.specs.declared.pattern.Case.TheVariants.{Sensitive, Fold}
+use Rattle.gix_glob.specs.declared.pattern.Mode.{Mode}
 use Rattle.gix_glob.specs.Matching.{Holds}
 use Rattle.gix_glob.specs.Patterns.{Reads}
 use Rattle.gix_glob.specs.RepositoryPaths.{Answers, IsBasenameStart}

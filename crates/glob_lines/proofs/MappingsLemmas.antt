@@ -2,7 +2,7 @@
 use Rattle.std.proofs.Common.{◌≡◌, inl, inr, ℕ, Bool, true, false, List, [], ◌∷◌, ◌++◌, map, Option, refl, sym, ap, subst, ◌∙◌, append_assoc, append-nil}
 use Rattle.std.specs.Prelude.{decimal}
 use Rattle.std.proofs.lemmas.List.{map_push}
-use Rattle.gix_glob.specs.declared.pattern.case.Case.{Case}
+use Rattle.gix_glob.specs.declared.pattern.Case.{Case}
 use Rattle.gix_glob.specs.Paths.{Base}
 use Rattle.gix_glob.specs.Stripping.{NothingLeft, RestOf}
 use Rattle.glob_lines.specs.Mappings.{MappingsText, MatchesText, WritesMatches, WritesNumbers}

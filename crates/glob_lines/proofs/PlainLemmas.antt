@@ -5,7 +5,7 @@ use Rattle.std.specs.List.{cons_option, starts_with, ends_with}
 use Rattle.std.proofs.lemmas.Bool.{cases_Bool, false≢true, or_cases}
 use Rattle.std.proofs.lemmas.Bool.Decides.{Decides-eqb}
 use Rattle.std.proofs.lemmas.Slice.Eq.{starts_is, ends_is}
-use Rattle.gix_glob.specs.declared.pattern.mode.Mode.{Mode}
+use Rattle.gix_glob.specs.declared.pattern.Mode.{Mode}
 use Rattle.gix_glob.specs.Patterns.{Reads, HasReading, bits_of, first_special, is_blank, sign_of, slash_if}
 use Rattle.glob_lines.specs.Lines.{Lines, lines_of}
 use Rattle.glob_lines.specs.Plain.{IsReadingOf, Plain, PlainEntry, PlainFrom}

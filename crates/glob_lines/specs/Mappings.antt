@@ -1,7 +1,7 @@
 -- The text of mappings: what is written for path lines and the entries of a list.
 use Rattle.std.specs.Prelude.{◌≡◌, ◌⊎◌, ℕ, Bool, List, [], map, Option, Some, codes}
-use Rattle.gix_glob.specs.declared.pattern.case.Case.{Case}
-use Rattle.gix_glob.specs.declared.wildmatch.mode.Mode.{Mode}
+use Rattle.gix_glob.specs.declared.pattern.Case.{Case}
+use Rattle.gix_glob.specs.declared.wildmatch.Mode.{Mode}
 use Rattle.gix_glob.specs.Matching.{Holds}
 use Rattle.gix_glob.specs.Paths.{Base}
 use Rattle.gix_glob.specs.RepositoryPaths.{Answers, IsBasenameStart}

@@ -1,6 +1,6 @@
 -- The text of values: what is written for the lines of values and a pattern.
 use Rattle.std.specs.Prelude.{◌≡◌, ℕ, Bool, List, codes, if◌then◌else◌}
-use Rattle.gix_glob.specs.declared.wildmatch.mode.Mode.{Mode}
+use Rattle.gix_glob.specs.declared.wildmatch.Mode.{Mode}
 use Rattle.gix_glob.specs.Matching.{Holds, Splits}
 use Rattle.glob_lines.specs.Lines.{Lines, WritesEach}
 

@@ -1,8 +1,8 @@
 -- The words of a command by their number, and what the engines do for a command.
 use Rattle.std.proofs.Common.{◌≡◌, ◌<◌, ◌≤◌, ℕ, List, [], ◌∷◌, length, get_or, map, Option, arith}
 use Rattle.std.specs.Io.KnownBytes.{Appends}
-use Rattle.gix_glob.specs.declared.pattern.case.Case.{Case}
-use Rattle.gix_glob.specs.declared.wildmatch.mode.Mode.{Mode}
+use Rattle.gix_glob.specs.declared.pattern.Case.{Case}
+use Rattle.gix_glob.specs.declared.wildmatch.Mode.{Mode}
 use Rattle.glob_lines.specs.Mappings.{MappingsText, ReadsBoth}
 use Rattle.glob_lines.specs.Transfers.{ReadsWhole, Run}
 use Rattle.glob_lines.specs.Values.{ValuesText}

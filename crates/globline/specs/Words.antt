@@ -2,9 +2,9 @@
 use Rattle.std.specs.Prelude.{◌≡◌, ◌≢◌, ◌⊎◌, ⊤, ℕ, true, List, [], ◌∷◌, Option, None, Some, codes}
 use Rattle.std.specs.Io.KnownBytes.{Appends}
 use Rattle.std.specs.Option.{option_copied}
-use Rattle.gix_glob.specs.declared.pattern.case.Case.{Case}
-use Rattle.gix_glob.specs.declared.pattern.case.Case.TheVariants.{Sensitive, Fold}
-use Rattle.gix_glob.specs.declared.wildmatch.mode.Mode.{Mode}
+use Rattle.gix_glob.specs.declared.pattern.Case.{Case}
+use Rattle.gix_glob.specs.declared.pattern.Case.TheVariants.{Sensitive, Fold}
+use Rattle.gix_glob.specs.declared.wildmatch.Mode.{Mode}
 use Rattle.gix_glob.specs.Bytes.{bits}
 use Rattle.gix_glob.specs.Paths.{has_file_part}
 use Rattle.glob_lines.specs.Mappings.{MappingsText}

@@ -1,8 +1,8 @@
 //! What the words of the command line ask for.
 ghost use Rattle.std.specs.Prelude.{ℕ, List, Option, MatchOption, map, string_bytes};
 ghost use Rattle.std.specs.Option.{option_copied};
-ghost use Rattle.gix_glob.specs.declared.pattern.case.Case.{Case};
-ghost use Rattle.gix_glob.specs.declared.wildmatch.mode.Mode.{Mode};
+ghost use Rattle.gix_glob.specs.declared.pattern.Case.{Case};
+ghost use Rattle.gix_glob.specs.declared.wildmatch.Mode.{Mode};
 ghost use Rattle.globline.specs.Words.{AreWrong, Ask, AskList, AskWild, NamesCase, NamesMode, NamesRoot};
 
 use bitflags::Flags;

@@ -1,6 +1,6 @@
 //! The parts of a path text, one after the other.
 ghost use Rattle.std.specs.Prelude.{◌≡◌, ◌==◌, position};
-ghost use Rattle.gix_glob.specs.Bytes.{slash};
+ghost use Rattle.glob_matcher.specs.Bytes.{slash};
 
 /// The parts of a path text, in order; the rule is in `docs/PATTERNS.md`, "Parts of a path".
 #[derive(Drop)]

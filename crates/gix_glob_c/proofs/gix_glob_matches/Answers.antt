@@ -1,7 +1,7 @@
 -- The parts are those that were handed over.
 use Rattle.std.proofs.Common.{ℕ, Option, sym, subst}
-use Rattle.gix_glob.specs.declared.pattern.mode.Mode as pattern
-use Rattle.gix_glob.specs.declared.wildmatch.mode.Mode as wildmatch
+use Rattle.gix_glob.specs.declared.pattern.Mode as pattern
+use Rattle.gix_glob.specs.declared.wildmatch.Mode as wildmatch
 use Rattle.gix_glob.specs.Matching.{Holds, Splits}
 use Rattle.gix_glob.specs.Patterns.{IsPattern}
 use Rattle.gix_glob_c.proofs.Bits.{match_mode_of, pattern_mode_of}

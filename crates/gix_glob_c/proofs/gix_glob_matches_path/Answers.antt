@@ -1,6 +1,6 @@
 -- The line was read, and the path looked at from its last slash on.
 use Rattle.std.proofs.Common.{subst, Some}
-use Rattle.gix_glob.specs.declared.pattern.case.Case.{Case}
+use Rattle.gix_glob.specs.declared.pattern.Case.{Case}
 use Rattle.gix_glob.specs.Matching.{Holds}
 use Rattle.gix_glob.specs.RepositoryPaths.{Answers}
 use Rattle.gix_glob_c.proofs.gix_glob_matches_path.Goals as goal

@@ -1,5 +1,5 @@
 use Rattle.std.proofs.lemmas.List.Splits.{join_with_byte-slice_split}
-use Rattle.gix_glob.specs.Bytes.{slash}
+use Rattle.glob_matcher.specs.Bytes.{slash}
 use Rattle.gix_glob.proofs.laws.pieces_join_to_the_text.Goals as goal
 
 pub returns : goal.returns

@@ -1,6 +1,6 @@
 use Rattle.std.proofs.Common.{◌≡◌, true}
-use Rattle.gix_glob.specs.PatternParts.{text_of, mode_of, place_of}
-use Rattle.gix_glob.specs.Patterns.{Reads, is_blank, without_negation}
+use Rattle.glob_patterns.specs.PatternParts.{text_of, mode_of, place_of}
+use Rattle.glob_patterns.specs.Patterns.{Reads, is_blank, without_negation}
 use Rattle.gix_glob.proofs.WholeLines.{whole-pattern}
 use Rattle.gix_glob.proofs.search.tests.WholePattern.bytes_to_patterns.Goals as goal
 

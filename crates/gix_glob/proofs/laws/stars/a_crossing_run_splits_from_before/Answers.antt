@@ -1,5 +1,0 @@
-use Rattle.gix_glob.proofs.SplitLemmas.{free_before}
-use Rattle.gix_glob.proofs.laws.stars.a_crossing_run_splits_from_before.Goals as goal
-
-pub returns : goal.returns
-returns c = λ mode p v i after j k here low inside all. free_before mode p v i after j k here low inside all

@@ -1,5 +1,0 @@
-use Rattle.gix_glob.proofs.TokenLemmas.{From-unique}
-use Rattle.gix_glob.proofs.laws.stars.a_pattern_has_one_reading.Goals as goal
-
-pub returns : goal.returns
-returns c = λ mode p i ts us x y. From-unique mode p i ts us x y

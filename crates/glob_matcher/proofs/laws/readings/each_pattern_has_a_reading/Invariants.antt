@@ -1,0 +1,12 @@
+-- A reading from here on makes one of the whole pattern.
+use Rattle.std.proofs.Common.{◌-◌, ◌≤◌, List, length}
+use Rattle.glob_matcher.specs.Tokens.{Token, From, Tokens}
+use Rattle.glob_matcher.proofs.laws.readings.each_pattern_has_a_reading.Given as goal
+
+abbrev pub invariant-tokens : goal.invariant-tokens
+invariant-tokens l =
+    ((ts : List Token) → From l.mode l.pattern l.place ts → (us : List Token) × Tokens l.mode l.pattern us)
+    × (l.place ≤ length l.pattern)
+
+abbrev pub decreases-tokens : goal.decreases-tokens
+decreases-tokens l = length l.pattern - l.place

@@ -1,0 +1,5 @@
+use Rattle.glob_matcher.proofs.TokenLemmas.{From-unique}
+use Rattle.glob_matcher.proofs.laws.stars.a_pattern_has_one_reading.Goals as goal
+
+pub returns : goal.returns
+returns c = λ mode p i ts us x y. From-unique mode p i ts us x y

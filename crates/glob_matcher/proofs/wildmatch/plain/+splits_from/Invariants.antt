@@ -1,0 +1,12 @@
+-- What is left of the pattern grows less, and no end so far serves.
+use Rattle.std.proofs.Common.{◌-◌, ◌<◌, ◌≤◌, ℕ, length}
+use Rattle.glob_matcher.specs.Matching.{SplitsFrom}
+use Rattle.glob_matcher.specs.Reader.{Spans}
+use Rattle.glob_matcher.proofs.wildmatch.plain.+splits_from.Given as goal
+
+abbrev pub invariant-ends : goal.invariant-ends
+invariant-ends l =
+    (e : ℕ) → l.at ≤ e → e < l.end → Spans l.shape l.value l.at e → SplitsFrom l.value e l.pattern l.next l.mode → ⊥
+
+abbrev pub decreases-splits_from : goal.decreases-splits_from
+decreases-splits_from l = length l.pattern.now - l.from

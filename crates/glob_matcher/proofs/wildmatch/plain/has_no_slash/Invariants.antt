@@ -1,0 +1,6 @@
+-- No place so far has a slash.
+use Rattle.std.proofs.Common.{◌≡◌, ℕ, ◌<◌, ◌≤◌, get_or}
+use Rattle.glob_matcher.proofs.wildmatch.plain.has_no_slash.Given as goal
+
+abbrev pub invariant-loop-place : goal.invariant-loop-place
+invariant-loop-place l = (k : ℕ) → l.at ≤ k → k < l.place → get_or l.value k 0 ≡ 47 → ⊥

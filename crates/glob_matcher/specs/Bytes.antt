@@ -1,0 +1,66 @@
+-- Bytes at places of a text, the bits of a mode, and folding.
+use Rattle.std.specs.Prelude.{◌≡◌, ℕ, ◌+◌, ◌<◌, Bool, List, [], ◌∷◌, ◌++◌, length, slice_index, ◌==◌, bit_and, if◌then◌else◌}
+use Rattle.std.specs.Char.{to_ascii_lowercase}
+use Rattle.glob_matcher.specs.declared.wildmatch.mode.Mode.{Mode}
+
+-- the bytes with a meaning of their own
+abbrev pub star : ℕ
+star = 42
+
+abbrev pub question_mark : ℕ
+question_mark = 63
+
+abbrev pub open_bracket : ℕ
+open_bracket = 91
+
+abbrev pub close_bracket : ℕ
+close_bracket = 93
+
+abbrev pub backslash : ℕ
+backslash = 92
+
+abbrev pub slash : ℕ
+slash = 47
+
+abbrev pub dash : ℕ
+dash = 45
+
+abbrev pub colon : ℕ
+colon = 58
+
+abbrev pub exclamation_mark : ℕ
+exclamation_mark = 33
+
+abbrev pub caret : ℕ
+caret = 94
+
+-- place i is inside the text, and the byte there is b
+pub record HasByte (text : List ℕ) (i b : ℕ) : Type 0 where
+  pub inside : i < length text
+  pub is : slice_index text i ≡ b
+
+-- an escape: a backslash at place i, and b after it
+pub record IsEscaped (text : List ℕ) (i b : ℕ) : Type 0 where
+  pub escape : HasByte text i backslash
+  pub byte : HasByte text (i + 1) b
+
+-- the text ends in a slash
+pub record EndsInSlash (text : List ℕ) : Type 0 where
+  pub front : List ℕ
+  pub joined : text ≡ front ++ slash ∷ []
+
+-- the bits of a mode, as a number
+abbrev pub bits : Mode → ℕ
+bits mode = mode.0
+
+-- the mode asks that a wildcard match no slash
+abbrev pub is_path : Mode → Bool
+is_path mode = bit_and (bits mode) 1 == 1
+
+-- the mode asks that the case of ASCII letters not count
+abbrev pub folds : Mode → Bool
+folds mode = bit_and (bits mode) 2 == 2
+
+-- a byte after folding, where the mode asks for it
+abbrev pub fold : Mode → ℕ → ℕ
+fold mode b = if folds mode then to_ascii_lowercase b else b

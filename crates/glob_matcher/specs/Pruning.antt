@@ -1,0 +1,84 @@
+-- The pruned recursive engine: where an attempt may begin, what its answers mean, and where an abort must come.
+use Rattle.std.specs.Prelude.{◌≡◌, ◌≢◌, ◌↔◌, ◌⊎◌, ℕ, ◌+◌, ◌≤◌, ⊤, IsTrue, List, [], ◌∷◌, ◌++◌, length, drop}
+use Rattle.glob_matcher.specs.declared.wildmatch.mode.Mode.{Mode}
+use Rattle.glob_matcher.specs.declared.wildmatch.pruned.Answer.{Answer}
+use Rattle.glob_matcher.specs.declared.wildmatch.pruned.Answer.TheVariants.{Match, NoMatch, AbortAll, AbortToStarStar, RecursionLimitReached}
+use Rattle.glob_matcher.specs.Bytes.{HasByte, is_path, star}
+use Rattle.glob_matcher.specs.Tokens.{Token, Byte, Any, OneOf, Free, Dirs, TokenAt, DirsAt, From}
+use Rattle.glob_matcher.specs.Reader.{NoSlash}
+use Rattle.glob_matcher.specs.Matching.{IsCut, SplitsFrom, star_count}
+
+-- The tokens are spelled, one after the other, from place i up to place j.
+abbrev pub Spells : Mode → List ℕ → ℕ → List Token → ℕ → Type 0
+Spells mode pattern i [] j = i ≡ j
+Spells mode pattern i (t ∷ ts) j = (k : ℕ) × TokenAt mode pattern i t k × Spells mode pattern k ts j
+
+-- place i is a token's start or the pattern's end: tokens spell what stands before it
+pub record IsBoundary (pattern : List ℕ) (i : ℕ) (mode : Mode) : Type 0 where
+  pub tokens : List Token
+  pub spelled : Spells mode pattern 0 tokens i
+
+-- place i is the slash that ends the token of a double star
+pub record IsDirsSlash (pattern : List ℕ) (i : ℕ) (mode : Mode) : Type 0 where
+  pub begin : ℕ
+  pub boundary : IsBoundary pattern begin mode
+  pub dirs : DirsAt mode pattern begin (i + 1)
+
+-- an attempt may begin at place i of the pattern
+pub record IsStart (pattern : List ℕ) (i : ℕ) (mode : Mode) : Type 0 where
+  pub place : IsBoundary pattern i mode ⊎ IsDirsSlash pattern i mode
+
+-- the depth and the star tokens from place i of the pattern on make at most 63
+pub record HasRoom (pattern : List ℕ) (i : ℕ) (mode : Mode) (depth : ℕ) : Type 0 where
+  pub tokens : List Token
+  pub read : From mode pattern i tokens
+  pub few : depth + star_count tokens ≤ 63
+
+-- What an answer excludes, where there is room. What an abort says of further places, it says where no star token begins.
+pub record Excludes (answer : Answer) (pattern : List ℕ) (from : ℕ) (value : List ℕ) (at : ℕ) (mode : Mode) : Type 0 where
+  pub here : answer ≢ Match → ¬ SplitsFrom value at pattern from mode
+  pub everywhere : answer ≡ AbortAll → ¬ HasByte pattern from star
+      → (k : ℕ) → at ≤ k → k ≤ length value → ¬ SplitsFrom value k pattern from mode
+  pub component : answer ≡ AbortToStarStar → ¬ HasByte pattern from star
+      → (k : ℕ) → at ≤ k → k ≤ length value → NoSlash value at k → ¬ SplitsFrom value k pattern from mode
+  pub limit : answer ≢ RecursionLimitReached
+
+-- no star token, and none that matches nothing: each token takes one byte
+abbrev pub TakeOneByte : List Token → Type 0
+TakeOneByte [] = ⊤
+TakeOneByte (Byte b ∷ ts) = TakeOneByte ts
+TakeOneByte (Any ∷ ts) = TakeOneByte ts
+TakeOneByte (OneOf set ∷ ts) = TakeOneByte ts
+TakeOneByte (_ ∷ ts) = ⊥
+
+-- each token from place i of the pattern on takes one byte
+pub record IsFlat (pattern : List ℕ) (i : ℕ) (mode : Mode) : Type 0 where
+  pub tokens : List Token
+  pub read : From mode pattern i tokens
+  pub single : TakeOneByte tokens
+
+-- The value ends too soon: its bytes from place k on are split by a beginning, not the whole, of the tokens from place i on.
+pub record EndsShort (value : List ℕ) (k : ℕ) (pattern : List ℕ) (i : ℕ) (mode : Mode) : Type 0 where
+  pub beginning : List Token
+  pub next : Token
+  pub rest : List Token
+  pub read : From mode pattern i (beginning ++ next ∷ rest)
+  pub cut : IsCut mode beginning (drop k value)
+
+-- the token at place i is a run that crosses slashes, or a double star with its slash
+pub record BeginsCrossing (pattern : List ℕ) (i : ℕ) (mode : Mode) : Type 0 where
+  pub after : ℕ
+  pub token : TokenAt mode pattern i Free after ⊎ TokenAt mode pattern i Dirs after
+
+-- Where an abort must come, where there is room.
+pub record Aborts (answer : Answer) (pattern : List ℕ) (from : ℕ) (value : List ℕ) (at : ℕ) (mode : Mode) : Type 0 where
+  pub short : IsFlat pattern from mode → (answer ≡ AbortAll) ↔ EndsShort value at pattern from mode
+  pub long : IsFlat pattern from mode → (answer ≡ AbortAll) ⊎ ((answer ≡ Match) ⊎ (answer ≡ NoMatch))
+  pub crossing : BeginsCrossing pattern from mode → answer ≢ NoMatch
+
+-- What one attempt answers, from a place of the pattern and a place of the value.
+pub record IsAttempt (answer : Answer) (pattern : List ℕ) (from : ℕ) (value : List ℕ) (at : ℕ) (mode : Mode) (depth : ℕ) : Type 0 where
+  pub split : answer ≡ Match → SplitsFrom value at pattern from mode
+  pub excludes : HasRoom pattern from mode depth → Excludes answer pattern from value at mode
+  pub aborts : HasRoom pattern from mode depth → Aborts answer pattern from value at mode
+  pub path : answer ≡ AbortToStarStar → IsTrue (is_path mode)

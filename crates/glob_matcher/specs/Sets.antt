@@ -1,0 +1,144 @@
+-- Bracket sets: how a set is spelled, and which bytes it holds. A set is read from the pattern alone.
+use Rattle.std.specs.Prelude.{◌≡◌, ◌≢◌, ◌↔◌, ◌⊎◌, ℕ, ◌+◌, ◌-◌, ◌<◌, ◌≤◌, Bool, true, false, not, ◌&&◌, ◌||◌, ◌==◌, nat_le, IsTrue, List, [], ◌∷◌, length, slice_range, Option, Some, None, IsSomeAnd, if◌then◌else◌, codes}
+use Rattle.std.specs.List.{list_any}
+use Rattle.std.specs.Char.{to_ascii_uppercase, is_ascii_alphabetic, is_ascii_alphanumeric, is_ascii_control, is_ascii_digit, is_ascii_graphic, is_ascii_hexdigit, is_ascii_lowercase, is_ascii_punctuation, is_ascii_uppercase}
+use Rattle.glob_matcher.specs.declared.wildmatch.mode.Mode.{Mode}
+use Rattle.glob_matcher.specs.declared.wildmatch.sets.Class.{Class}
+use Rattle.glob_matcher.specs.declared.wildmatch.sets.Class.TheVariants as class
+use Rattle.glob_matcher.specs.declared.wildmatch.sets.Item.{Item}
+use Rattle.glob_matcher.specs.declared.wildmatch.sets.Item.TheVariants as item
+use Rattle.glob_matcher.specs.Bytes.{HasByte, IsEscaped, fold, folds, is_path, open_bracket, close_bracket, backslash, slash, dash, colon, exclamation_mark, caret}
+
+-- the name that stands for a class between `[:` and `:]`
+abbrev pub name_of : Class → List ℕ
+name_of class.Alnum = codes "alnum"
+name_of class.Alpha = codes "alpha"
+name_of class.Blank = codes "blank"
+name_of class.Cntrl = codes "cntrl"
+name_of class.Digit = codes "digit"
+name_of class.Graph = codes "graph"
+name_of class.Lower = codes "lower"
+name_of class.Print = codes "print"
+name_of class.Punct = codes "punct"
+name_of class.Space = codes "space"
+name_of class.Upper = codes "upper"
+name_of class.Xdigit = codes "xdigit"
+
+-- the bytes of a class, where `b` is folded already
+abbrev pub class_holds : Mode → Class → ℕ → Bool
+class_holds mode class.Alnum b = is_ascii_alphanumeric b
+class_holds mode class.Alpha b = is_ascii_alphabetic b
+class_holds mode class.Blank b = b == 32 || b == 9
+class_holds mode class.Cntrl b = is_ascii_control b
+class_holds mode class.Digit b = is_ascii_digit b
+class_holds mode class.Graph b = is_ascii_graphic b
+class_holds mode class.Lower b = is_ascii_lowercase b
+class_holds mode class.Print b = b == 32 || is_ascii_graphic b
+class_holds mode class.Punct b = is_ascii_punctuation b
+class_holds mode class.Space b = (b == 32 || b == 9) || (b == 10 || b == 13)
+class_holds mode class.Upper b = is_ascii_uppercase b || (folds mode && is_ascii_lowercase b)
+class_holds mode class.Xdigit b = is_ascii_hexdigit b
+
+-- a number lies between two others, in either order
+abbrev pub is_between : ℕ → ℕ → ℕ → Bool
+is_between a b n = (nat_le a n && nat_le n b) || (nat_le b n && nat_le n a)
+
+-- the bytes of a range. Where case doesn't count, the ends and the byte are folded, and a letter is in the range also
+-- where its uppercase lies between the uppercased ends, in either order.
+abbrev pub range_holds : Mode → ℕ → ℕ → ℕ → Bool
+range_holds mode low high b =
+    (nat_le (fold mode low) (fold mode b) && nat_le (fold mode b) (fold mode high))
+    || (folds mode && is_ascii_lowercase (fold mode b)
+    && is_between (to_ascii_uppercase (fold mode low)) (to_ascii_uppercase (fold mode high)) (to_ascii_uppercase (fold mode b)))
+
+-- the bytes of an item
+abbrev pub item_holds : Mode → ℕ → Item → Bool
+item_holds mode b (item.Member m) = fold mode b == fold mode m
+item_holds mode b (item.Range low high) = range_holds mode low high b
+item_holds mode b (item.Class c) = class_holds mode c (fold mode b)
+
+-- a set as it is read: whether it is negated, and its items in order
+pub record Set : Type 0 where
+  pub negated : Bool
+  pub items : List Item
+
+-- the bytes that a set holds: those of its items, or where it is negated all others, but in path mode never a slash
+abbrev pub set_holds : Mode → Set → ℕ → Bool
+set_holds mode set b =
+    not (is_path mode && b == slash)
+    && (if set.negated then not (list_any (item_holds mode b) set.items) else list_any (item_holds mode b) set.items)
+
+-- place k is the first from place i on that has the byte b
+pub record IsFirstFrom (text : List ℕ) (i b k : ℕ) : Type 0 where
+  pub low : i ≤ k
+  pub here : HasByte text k b
+  pub before : (j : ℕ) → i ≤ j → HasByte text j b → k ≤ j
+
+-- `-` stands at place i directly after a member that isn't byte 0, and the next byte isn't `]`: a range begins
+pub record BeginsRange (text : List ℕ) (low : Option ℕ) (i : ℕ) : Type 0 where
+  pub dash : HasByte text i dash
+  pub after : IsSomeAnd low (λ m. m ≢ 0)
+  pub inside : i + 1 < length text
+  pub not_closed : ¬ HasByte text (i + 1) close_bracket
+
+-- `[:` stands at place i
+pub record BeginsClass (text : List ℕ) (i : ℕ) : Type 0 where
+  pub bracket : HasByte text i open_bracket
+  pub colon : HasByte text (i + 1) colon
+
+-- the first `]` after the `[:` at place i stands at place k, three places on or more, and ends a `:]`
+pub record NamesClass (text : List ℕ) (i k : ℕ) : Type 0 where
+  pub begins : BeginsClass text i
+  pub first : IsFirstFrom text (i + 2) close_bracket k
+  pub far : i + 3 ≤ k
+  pub colon : HasByte text (k - 1) colon
+
+-- there is a `]` after the `[:` at place i, and the first one ends no class
+pub record NamesNoClass (text : List ℕ) (i : ℕ) : Type 0 where
+  pub begins : BeginsClass text i
+  pub some : (k : ℕ) × IsFirstFrom text (i + 2) close_bracket k × ¬ NamesClass text i k
+
+-- a byte that is a member by itself: no escape, and neither a range nor a class begins with it
+pub record IsBare (text : List ℕ) (low : Option ℕ) (i b : ℕ) : Type 0 where
+  pub here : HasByte text i b
+  pub unescaped : b ≢ backslash
+  pub no_range : ¬ BeginsRange text low i
+  pub no_class : BeginsClass text i → NamesNoClass text i
+
+-- the upper end of a range, at place i
+abbrev pub IsUpperEnd : List ℕ → ℕ → ℕ → ℕ → Type 0
+IsUpperEnd text i high j =
+    (HasByte text i high × (high ≢ backslash) × (j ≡ i + 1)) ⊎ (IsEscaped text i high × (j ≡ i + 2))
+
+-- The item lies from place i up to place j. `low` is the member directly before it, or none.
+abbrev pub ItemAt : List ℕ → Option ℕ → ℕ → Item → ℕ → Type 0
+ItemAt text low i (item.Member b) j =
+    (IsEscaped text i b × (j ≡ i + 2)) ⊎ (IsBare text low i b × (j ≡ i + 1))
+ItemAt text low i (item.Range from to) j = BeginsRange text low i × (low ≡ Some from) × IsUpperEnd text (i + 1) to j
+ItemAt text low i (item.Class c) j =
+    (k : ℕ) × NamesClass text i k × (slice_range text (i + 2) (k - 1) ≡ name_of c) × (j ≡ k + 1)
+
+-- the member that an item leaves for a range after it
+abbrev pub member_of : Item → Option ℕ
+member_of (item.Member b) = Some b
+member_of (item.Range from to) = None
+member_of (item.Class c) = None
+
+-- The items lie from place i up to the closing bracket at place j. A `]` at the place of the first item doesn't close.
+abbrev pub ItemsAt : List ℕ → Bool → Option ℕ → ℕ → List Item → ℕ → Type 0
+ItemsAt text first low i [] j = IsTrue (not first) × HasByte text i close_bracket × (i ≡ j)
+ItemsAt text first low i (x ∷ xs) j =
+    (IsTrue (not first) → ¬ HasByte text i close_bracket)
+    × (k : ℕ) × ItemAt text low i x k × ItemsAt text false (member_of x) k xs j
+
+-- a sign that negates stands at place i
+abbrev pub IsSign : List ℕ → ℕ → Type 0
+IsSign text i = HasByte text i exclamation_mark ⊎ HasByte text i caret
+
+-- The text of a set lies from place i up to place j: `[`, a sign or none, one item or more, and `]`.
+pub record SetAt (text : List ℕ) (i : ℕ) (set : Set) (j : ℕ) : Type 0 where
+  pub bracket : HasByte text i open_bracket
+  pub sign : IsTrue set.negated ↔ IsSign text (i + 1)
+  pub close : ℕ
+  pub items : ItemsAt text true None (if set.negated then i + 2 else i + 1) set.items close
+  pub after : j ≡ close + 1

@@ -1,0 +1,13 @@
+-- How many steps a match takes at most, p and v being the lengths of the pattern and of the value. A step is one token, or the
+-- pattern's end, tested at one place of the value; one mark set; or one mark moved by one byte or found unable to move.
+use Rattle.std.specs.Prelude.{ℕ, ◌+◌, ◌*◌, if◌then◌else◌}
+use Rattle.glob_matcher.specs.declared.wildmatch.mode.Mode.{Mode}
+use Rattle.glob_matcher.specs.Bytes.{is_path}
+
+-- by the mode: in path mode each mark may go over the value for each place of the other
+abbrev pub step_bound : Mode → ℕ → ℕ → ℕ
+step_bound mode p v = if is_path mode then 2 * (p + 1) * (v + 1) * (v + 1) else 2 * (p + 1) * (v + 1)
+
+-- in each mode: a star between two slashes of the pattern looks at one component of the value
+abbrev pub step_limit : ℕ → ℕ → ℕ
+step_limit p v = 2 * (p + 1) * (v + 1)

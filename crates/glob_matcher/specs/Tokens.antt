@@ -1,0 +1,93 @@
+-- The tokens of a pattern, by the places where they are spelled.
+use Rattle.std.specs.Prelude.{◌≡◌, ◌≢◌, ◌⊎◌, ℕ, ◌+◌, ◌-◌, ◌<◌, ◌≤◌, IsTrue, List, [], ◌∷◌, length}
+use Rattle.glob_matcher.specs.declared.wildmatch.mode.Mode.{Mode}
+use Rattle.glob_matcher.specs.Bytes.{HasByte, IsEscaped, is_path, star, question_mark, open_bracket, backslash, slash}
+use Rattle.glob_matcher.specs.Sets.{Set, SetAt}
+
+-- a token of a pattern
+pub data Token : Type 0 where
+  -- one byte, bare or escaped
+  Byte : ℕ → Token
+  -- the question mark
+  Any : Token
+  -- a bracket set
+  OneOf : Set → Token
+  -- a run of stars that crosses slashes
+  Free : Token
+  -- a run of stars within a path component
+  Local : Token
+  -- a double star with the slash after it
+  Dirs : Token
+  -- what matches nothing: a last lone backslash, or a bracket that begins no set, with the rest of the pattern
+  Nothing : Token
+
+-- the run of stars from place i up to place j, as long as can be
+pub record IsRun (pattern : List ℕ) (i j : ℕ) : Type 0 where
+  pub some : i < j
+  pub stars : (k : ℕ) → i ≤ k → k < j → HasByte pattern k star
+  pub whole : ¬ HasByte pattern j star
+
+-- place i is the pattern's start, or comes directly after a slash
+abbrev pub IsAfterSlash : List ℕ → ℕ → Type 0
+IsAfterSlash pattern i = (i ≡ 0) ⊎ HasByte pattern (i - 1) slash
+
+-- place j is the pattern's end, or has a slash, bare or escaped
+abbrev pub IsBeforeSlash : List ℕ → ℕ → Type 0
+IsBeforeSlash pattern j = (j ≡ length pattern) ⊎ (HasByte pattern j slash ⊎ IsEscaped pattern j slash)
+
+-- the run is of two stars or more, at the pattern's start or after a slash, and before the pattern's end, a slash or an escaped slash
+pub record IsBounded (pattern : List ℕ) (i j : ℕ) : Type 0 where
+  pub many : i + 2 ≤ j
+  pub before : IsAfterSlash pattern i
+  pub after : IsBeforeSlash pattern j
+
+-- The byte b is spelled from place i up to place j: escaped, or bare where it isn't special.
+abbrev pub ByteAt : List ℕ → ℕ → ℕ → ℕ → Type 0
+ByteAt pattern i b j =
+    (IsEscaped pattern i b × (j ≡ i + 2))
+    ⊎ (HasByte pattern i b × (b ≢ star) × (b ≢ question_mark) × (b ≢ open_bracket) × (b ≢ backslash) × (j ≡ i + 1))
+
+-- a run that crosses slashes: any in plain mode, and in path mode a bounded one with no bare slash after it
+pub record FreeAt (mode : Mode) (pattern : List ℕ) (i j : ℕ) : Type 0 where
+  pub run : IsRun pattern i j
+  pub bounded : IsTrue (is_path mode) → IsBounded pattern i j × ¬ HasByte pattern j slash
+
+-- a run within a component: in path mode, one that isn't bounded
+pub record LocalAt (mode : Mode) (pattern : List ℕ) (i j : ℕ) : Type 0 where
+  pub path : IsTrue (is_path mode)
+  pub run : IsRun pattern i j
+  pub unbounded : ¬ IsBounded pattern i j
+
+-- a run with its slash: in path mode, a bounded run up to place `at`, and the bare slash there
+pub record DirsAt (mode : Mode) (pattern : List ℕ) (i j : ℕ) : Type 0 where
+  pub path : IsTrue (is_path mode)
+  pub at : ℕ
+  pub run : IsRun pattern i at
+  pub bounded : IsBounded pattern i at
+  pub slash : HasByte pattern at slash
+  pub after : j ≡ at + 1
+
+-- nothing can match from place i on: a backslash without a byte after it, or a bracket that begins no set
+abbrev pub IsBroken : List ℕ → ℕ → Type 0
+IsBroken pattern i =
+    (HasByte pattern i backslash × (i + 1 ≡ length pattern))
+    ⊎ (HasByte pattern i open_bracket × ((set : Set) (j : ℕ) → ¬ SetAt pattern i set j))
+
+-- The token is spelled from place i up to place j.
+abbrev pub TokenAt : Mode → List ℕ → ℕ → Token → ℕ → Type 0
+TokenAt mode pattern i (Byte b) j = ByteAt pattern i b j
+TokenAt mode pattern i Any j = HasByte pattern i question_mark × (j ≡ i + 1)
+TokenAt mode pattern i (OneOf set) j = SetAt pattern i set j
+TokenAt mode pattern i Free j = FreeAt mode pattern i j
+TokenAt mode pattern i Local j = LocalAt mode pattern i j
+TokenAt mode pattern i Dirs j = DirsAt mode pattern i j
+TokenAt mode pattern i Nothing j = IsBroken pattern i × (j ≡ length pattern)
+
+-- The tokens from place i on, up to the pattern's end.
+abbrev pub From : Mode → List ℕ → ℕ → List Token → Type 0
+From mode pattern i [] = i ≡ length pattern
+From mode pattern i (t ∷ ts) = (j : ℕ) × TokenAt mode pattern i t j × From mode pattern j ts
+
+-- the tokens whose spellings, joined, are the pattern
+abbrev pub Tokens : Mode → List ℕ → List Token → Type 0
+Tokens mode pattern ts = From mode pattern 0 ts

@@ -1,0 +1,49 @@
+//! Laws of readings and of star tokens.
+ghost use Rattle.std.specs.Prelude.{◌≡◌, ◌↔◌, ℕ, ◌-◌, ◌<◌, ◌≤◌, false, List, length, slice_index};
+ghost use Rattle.std.specs.List.{insert};
+ghost use Rattle.glob_matcher.specs.declared.wildmatch.mode.Mode.{Mode};
+ghost use Rattle.glob_matcher.specs.Bytes.{is_path, star, slash};
+ghost use Rattle.glob_matcher.specs.Tokens.{Token, Free, Local, Dirs, TokenAt, From, Tokens};
+ghost use Rattle.glob_matcher.specs.Matching.{Splits, SplitsFrom, HasStars, star_count};
+ghost use Rattle.glob_matcher.specs.Pruning.{IsBoundary};
+ghost use Rattle.glob_matcher.specs.Reader.{NoSlash};
+
+// ---- star tokens at earlier places
+
+/// What begins with a run that crosses slashes, and is split at a place, is split at every place before.
+pub fn a_crossing_run_splits_from_before()
+    ensures { (mode : Mode) (pattern value : List ℕ) (i after j k : ℕ) → TokenAt mode pattern i Free after → j ≤ k → k ≤ length value → SplitsFrom value k pattern i mode → SplitsFrom value j pattern i mode }
+{}
+
+/// What begins with a double star and its slash, and is split at a place after a slash, is split at every place before.
+pub fn a_double_star_splits_from_before()
+    ensures { (mode : Mode) (pattern value : List ℕ) (i after j k : ℕ) → TokenAt mode pattern i Dirs after → j < k → k ≤ length value → slice_index value (k - 1) ≡ slash → SplitsFrom value k pattern i mode → SplitsFrom value j pattern i mode }
+{}
+
+/// What begins with a run within a component, and is split at a place, is split at every place before in that component.
+pub fn a_local_run_splits_from_before()
+    ensures { (mode : Mode) (pattern value : List ℕ) (i after j k : ℕ) → TokenAt mode pattern i Local after → j ≤ k → k ≤ length value → NoSlash value j k → SplitsFrom value k pattern i mode → SplitsFrom value j pattern i mode }
+{}
+
+// ---- readings
+
+/// The tokens from a place of a pattern on, and so those of the whole pattern, are one list.
+pub fn a_pattern_has_one_reading()
+    ensures { (mode : Mode) (pattern : List ℕ) (i : ℕ) (ts us : List Token) → From mode pattern i ts → From mode pattern i us → ts ≡ us }
+{}
+
+/// A pattern has as many star tokens in one mode as in another.
+pub fn star_tokens_are_as_many_in_each_mode()
+    ensures { (mode other : Mode) (pattern : List ℕ) (ts us : List Token) → Tokens mode pattern ts → Tokens other pattern us → star_count ts ≡ star_count us }
+{}
+
+// ---- one more star
+
+/// In plain mode one more star at the start of a star token changes neither what the pattern splits nor how many star
+/// tokens it has.
+pub fn one_more_star_changes_nothing_in_plain_mode()
+    ensures splits { (mode : Mode) (pattern value : List ℕ) (i j : ℕ) → is_path mode ≡ false → IsBoundary pattern i mode
+        → TokenAt mode pattern i Free j → Splits value pattern mode ↔ Splits value (insert pattern i star) mode }
+    ensures stars { (mode : Mode) (pattern : List ℕ) (i j n : ℕ) → is_path mode ≡ false → IsBoundary pattern i mode
+        → TokenAt mode pattern i Free j → HasStars pattern n ↔ HasStars (insert pattern i star) n }
+{}

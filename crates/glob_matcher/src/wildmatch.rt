@@ -1,0 +1,45 @@
+//! Matching of bytes against a glob pattern: the mode, and the matcher.
+ghost use Rattle.std.specs.Prelude.{◌≡◌, ◌<◌};
+ghost use Rattle.glob_matcher.specs.Matching.{Splits, Holds};
+
+mod counted;
+mod follow;
+mod marks;
+mod mode;
+#[cfg(test)]
+mod plain;
+mod pruned;
+mod returns;
+mod seeking;
+mod sets;
+mod steps;
+pub(crate) mod tokens;
+mod turns;
+
+pub use marks::marked;
+pub use mode::Mode;
+pub use pruned::{Answer, attempt, is_start, recursive};
+use std::marker::Brand;
+use std::sync::ledger::{Blank, Ledger};
+pub use steps::Steps;
+
+/// Whether `pattern` matches the whole of `value`, both as bytes of any kind, in `mode`.
+///
+/// A yes says that the value is a concatenation of pieces, one from the language of each token of the pattern. A no says
+/// that it is not, where the pattern has at most 63 star tokens. It takes no memory. The rules are in `docs/MATCHING.md`.
+pub fn wildmatch(pattern: &[u8], value: &[u8], mode: Mode) -> bool
+    ensures { Holds result (Splits value.now pattern.now mode) pattern.now }
+{
+    with_new_steps::<Brand>(pattern, value, mode, Blank::new(1))
+}
+
+/// The two marks, with a new count of steps that no one asks for.
+#[inline(always)]
+fn with_new_steps<L: Ledger>(pattern: &[u8], value: &[u8], mode: Mode, blank: Blank) -> bool
+    requires name { blank.name ≡ L.name }
+    requires parts { blank.parts ≡ L.parts }
+    requires some { 0 < blank.parts }
+    ensures { Holds result (Splits value.now pattern.now mode) pattern.now }
+{
+    marked(pattern, value, mode, &mut Steps::<L>::new(blank))
+}

@@ -1,0 +1,233 @@
+//! The pruned recursive engine: one alignment of pattern and value at a time, and aborts that spare the rest.
+ghost use Rattle.std.specs.Prelude.{◌≡◌, ◌↔◌, ℕ, ◌+◌, ◌<◌, ◌≤◌, IsTrue, IfSome, IfNone, Some, length};
+ghost use Rattle.glob_matcher.specs.Bytes.{HasByte, star};
+ghost use Rattle.glob_matcher.specs.Tokens.{DirsAt};
+ghost use Rattle.glob_matcher.specs.Matching.{Splits, Holds};
+ghost use Rattle.glob_matcher.specs.Pruning.{IsStart, IsBoundary, IsAttempt};
+ghost use Rattle.glob_matcher.specs.StarSearch.{literal_of, Skips, IsComponentEnd, IsCrossing, IsWithin, IsDescent};
+
+#[cfg(test)]
+mod tests;
+
+use super::mode::Mode;
+use super::tokens::{Shape, token_at};
+use memchr::{memchr, memchr2};
+
+/// How many star tokens an attempt may stand below.
+const MAX_DEPTH: usize = 64;
+
+/// What one attempt found out: whether the value matches here, and whether it may match elsewhere.
+#[derive(Debug, Copy, Clone, Eq, PartialEq)]
+pub enum Answer {
+    /// The value matches from here on.
+    Match,
+    /// It doesn't match from here on; a star before may try further on.
+    NoMatch,
+    /// It doesn't match from any later place of the value either: each star before may stop.
+    AbortAll,
+    /// It doesn't match from any later place of this path component either: only a star that crosses slashes may go on.
+    AbortToStarStar,
+    /// The attempt stood below too many star tokens to be made.
+    RecursionLimitReached,
+}
+
+/// Whether a token of this shape, spelled up to a place, is a double star whose slash stands at another.
+fn ends_at_slash(shape: Shape, next: usize, slash: usize) -> bool
+    requires { 0 < next }
+    ensures { IsTrue result ↔ ((shape ≡ Shape.Dirs) × (next ≡ slash + 1)) }
+{
+    shape == Shape::Dirs && next - 1 == slash
+}
+
+/// Whether an attempt may begin at a place of the pattern: where a token starts, at the slash that ends a double star's
+/// token, and at the pattern's end.
+pub fn is_start(pattern: &[u8], from: usize, mode: Mode) -> bool
+    ensures { IsTrue result ↔ IsStart pattern.now from mode }
+{
+    let mut place = 0;
+    'tokens: while place < pattern.len() && place < from {
+        let (shape, next) = token_at(pattern, place, mode);
+        if ends_at_slash(shape, next, from) {
+            return true;
+        }
+        place = next;
+    }
+    place == from
+}
+
+impl Shape {
+    /// The byte that a token of this shape asks for, where it asks for one.
+    fn literal(self) -> Option<u8>
+        ensures { result ≡ literal_of self }
+    {
+        match self {
+            Shape::Byte(byte) => Some(byte),
+            _ => None,
+        }
+    }
+}
+
+/// The first place of a byte, up to folding.
+fn find_byte(bytes: &[u8], byte: u8, mode: Mode) -> Option<usize>
+    ensures found { IfSome result (λ place. Skips mode bytes.now (Some byte) 0 place) }
+    ensures inside { IfSome result (λ place. place < length bytes.now) }
+    ensures none { IfNone result (Skips mode bytes.now (Some byte) 0 (length bytes.now)) }
+{
+    if mode.folds() && byte.is_ascii_alphabetic() {
+        memchr2(byte.to_ascii_lowercase(), byte.to_ascii_uppercase(), bytes)
+    } else {
+        memchr(byte, bytes)
+    }
+}
+
+/// The first place, from one place on and before another, where the wanted byte stands; where none is wanted, the first.
+fn next_place(
+    value: &[u8],
+    from: usize,
+    until: usize,
+    wanted: Option<u8>,
+    mode: Mode,
+) -> Option<usize>
+    requires low { from ≤ until }
+    requires inside { until ≤ length value.now }
+    ensures found { IfSome result (λ place. Skips mode value.now wanted from place) }
+    ensures inside { IfSome result (λ place. place < until) }
+    ensures none { IfNone result (Skips mode value.now wanted from until) }
+{
+    let Some(byte) = wanted else {
+        return if from < until { Some(from) } else { None };
+    };
+    let offset = find_byte(&value[from..until], byte, mode)?;
+    Some(from + offset)
+}
+
+/// Where the component at a place of the value ends: at the first slash, or at the value's end.
+fn component_end(value: &[u8], at: usize) -> usize
+    requires { at ≤ length value.now }
+    ensures { IsComponentEnd value.now at result }
+{
+    match memchr(b'/', &value[at..]) {
+        Some(offset) => at + offset,
+        None => value.len(),
+    }
+}
+
+/// One attempt to match the value from a place on with the tokens from a place of the pattern on.
+#[cycle(attempt)]
+pub fn attempt(
+    pattern: &[u8],
+    from: usize,
+    value: &[u8],
+    at: usize,
+    mode: Mode,
+    depth: usize,
+) -> Answer
+    requires start { IsStart pattern.now from mode }
+    requires inside { at ≤ length value.now }
+    requires shallow { depth ≤ 64 }
+    ensures { IsAttempt result pattern.now from value.now at mode depth }
+{
+    if depth == MAX_DEPTH {
+        return Answer::RecursionLimitReached;
+    }
+    let mut place = from;
+    let mut byte = at;
+    'tokens: while place < pattern.len() {
+        let (shape, next) = token_at(pattern, place, mode);
+        match shape {
+            Shape::Free => return cross(pattern, next, value, byte, mode, depth),
+            Shape::Local => return stay(pattern, next, value, byte, mode, depth),
+            Shape::Dirs => return descend(pattern, next, value, byte, mode, depth),
+            Shape::Nothing => return Answer::AbortAll,
+            Shape::Byte(_) | Shape::Any | Shape::Set => {
+                if byte == value.len() {
+                    return Answer::AbortAll;
+                }
+                if !shape.takes(pattern, place, value[byte], mode) {
+                    return Answer::NoMatch;
+                }
+                place = next;
+                byte += 1;
+            }
+        }
+    }
+    if byte == value.len() {
+        Answer::Match
+    } else {
+        Answer::NoMatch
+    }
+}
+
+/// Tries the rest of the pattern at each place of the value from one on.
+#[cycle(attempt)]
+fn cross(pattern: &[u8], from: usize, value: &[u8], at: usize, mode: Mode, depth: usize) -> Answer
+    requires start { IsStart pattern.now from mode }
+    requires no_star { ¬ HasByte pattern.now from star }
+    requires inside { at ≤ length value.now }
+    requires shallow { depth < 64 }
+    ensures { IsCrossing result pattern.now from value.now at mode depth }
+{
+    if from == pattern.len() {
+        return Answer::Match;
+    }
+    let (shape, _) = token_at(pattern, from, mode);
+    let wanted = shape.literal();
+    let mut place = at;
+    'places: while let Some(found) = next_place(value, place, value.len(), wanted, mode) {
+        match attempt(pattern, from, value, found, mode, depth + 1) {
+            Answer::NoMatch | Answer::AbortToStarStar => place = found + 1,
+            answer => return answer,
+        }
+    }
+    Answer::AbortAll
+}
+
+/// Tries the rest of the pattern at each place of the value's component from one on.
+#[cycle(attempt)]
+fn stay(pattern: &[u8], from: usize, value: &[u8], at: usize, mode: Mode, depth: usize) -> Answer
+    requires start { IsStart pattern.now from mode }
+    requires no_star { ¬ HasByte pattern.now from star }
+    requires inside { at ≤ length value.now }
+    requires shallow { depth < 64 }
+    ensures { IsWithin result pattern.now from value.now at mode depth }
+{
+    let end = component_end(value, at);
+    if from == pattern.len() {
+        if end < value.len() {
+            return Answer::AbortToStarStar;
+        }
+        return Answer::Match;
+    }
+    let (shape, _) = token_at(pattern, from, mode);
+    let wanted = shape.literal();
+    let until = value.len().min(end + 1);
+    let mut place = at;
+    'places: while let Some(found) = next_place(value, place, until, wanted, mode) {
+        match attempt(pattern, from, value, found, mode, depth + 1) {
+            Answer::NoMatch => place = found + 1,
+            answer => return answer,
+        }
+    }
+    Answer::AbortToStarStar
+}
+
+/// Tries the rest of the pattern here, and after each slash of the value from here on.
+#[cycle(attempt)]
+fn descend(pattern: &[u8], from: usize, value: &[u8], at: usize, mode: Mode, depth: usize) -> Answer
+    requires token { (i : ℕ) × IsBoundary pattern.now i mode × DirsAt mode pattern.now i from }
+    requires inside { at ≤ length value.now }
+    requires shallow { depth < 64 }
+    ensures { (i : ℕ) → DirsAt mode pattern.now i from → IsDescent result pattern.now i from value.now at mode depth }
+{
+    match attempt(pattern, from, value, at, mode, depth + 1) {
+        Answer::Match => Answer::Match,
+        _ => cross(pattern, from - 1, value, at, mode, depth),
+    }
+}
+
+/// Whether the value matches the pattern, by the pruned recursive engine.
+pub fn recursive(pattern: &[u8], value: &[u8], mode: Mode) -> bool
+    ensures { Holds result (Splits value.now pattern.now mode) pattern.now }
+{
+    matches!(attempt(pattern, 0, value, 0, mode, 0), Answer::Match)
+}

@@ -1,0 +1,7 @@
+pub mod ByteSearches
+pub mod FlagBits
+pub mod LineReading
+pub mod LiteralLemmas
+pub mod Shortcuts
+pub mod PatternOrder
+pub mod ShownLines

@@ -1,0 +1,224 @@
+-- What a stretch without special bytes splits: the value has the same bytes there, up to case where the mode folds.
+use Rattle.std.proofs.Common.{◌≡◌, ◌↔◌, ◌⊎◌, inr, ⊎_elim, ℕ, zero, suc, ◌+◌, ◌-◌, ◌<◌, ◌≤◌, Bool, true, false, not, ◌==◌, List, ◌∷◌, length, get_or, take, drop, map, None, Some, refl, sym, ◌∙◌, ap, subst, arith, codes, nat_lt}
+use Rattle.std.specs.List.{list_any, position_or_len}
+use Rattle.std.proofs.lemmas.Bool.{or_parts, and_parts, eqb-false, eq-eqb, ltb-false, cases_Bool, cases_eq, false≢true, false_from_ne_true}
+use Rattle.std.proofs.lemmas.Bool.Decides.{Decides-eqb}
+use Rattle.std.proofs.lemmas.List.{get_or-map, ext_get_or, length-map, length-take, length-drop, get_or-take, get_or-drop}
+use Rattle.std.proofs.lemmas.List.Folds.{list_any_at, list_any_none}
+use Rattle.std.proofs.lemmas.List.Quantifiers.{position-Some}
+use Rattle.std.proofs.lemmas.List.Sums.{fails_before_first}
+use Rattle.std.proofs.lemmas.Slice.Eq.{starts_is}
+use Rattle.glob_matcher.specs.declared.wildmatch.mode.Mode.{Mode}
+use Rattle.glob_matcher.specs.Bytes.{HasByte, fold, is_path, slash, star}
+use Rattle.glob_patterns.specs.Folding.{AreAlike}
+use Rattle.glob_patterns.specs.Patterns.{is_special, is_star_and_literal, first_special}
+use Rattle.glob_matcher.specs.Tokens.{Byte, Free, Local, TokenAt, IsRun}
+use Rattle.glob_matcher.specs.Matching.{Splits, SplitsFrom}
+use Rattle.glob_matcher.proofs.CutLemmas.{end_in, end_out, one_in, one_out, free_in, free_out, local_in, local_out}
+
+-- no byte is special from place i up to place j
+pub record IsLiteral (p : List ℕ) (i j : ℕ) : Type 0 where
+  pub at : (y : ℕ) → i ≤ y → y < j → is_special (get_or p y 0) ≡ false
+
+-- from place k on the value has the bytes of the pattern from place i up to place j
+pub record IsCopied (mode : Mode) (v p : List ℕ) (k i j : ℕ) : Type 0 where
+  pub at : (x y : ℕ) → i ≤ y → y < j → x + i ≡ y + k → fold mode (get_or v x 0) ≡ fold mode (get_or p y 0)
+
+-- a byte that isn't special is a token of its own
+literal_token : (mode : Mode) (p : List ℕ) (i : ℕ) → i < length p → is_special (get_or p i 0) ≡ false → TokenAt mode p i (Byte (get_or p i 0)) (i + 1)
+literal_token mode p i inside plain =
+    let outer = or_parts _ _ plain in
+    let middle = or_parts _ _ outer.0 in
+    let inner = or_parts _ _ middle.0 in
+    inr (record { inside = inside; is = refl }, eqb-false _ _ inner.0, eqb-false _ _ inner.1, eqb-false _ _ middle.1, eqb-false _ _ outer.1, refl)
+
+-- what splits a value past a literal stretch, where the value has its bytes
+pub literal_out : (mode : Mode) (p v : List ℕ) (n k e i j : ℕ) → k + n ≡ e → i + n ≡ j → j ≤ length p → k ≤ length v → IsLiteral p i j
+    → SplitsFrom v k p i mode → (e ≤ length v) × IsCopied mode v p k i j × SplitsFrom v e p j mode
+literal_out mode p v zero k e i j ke ij inside reach plain all =
+    let k_is : k ≡ e = omega arith in
+    let i_is : i ≡ j = omega arith in
+    (omega arith, record { at = λ x y low high same. absurd (omega arith) }, subst (λ (m : ℕ). SplitsFrom v m p j mode) k_is (subst (λ (m : ℕ). SplitsFrom v k p m mode) i_is all))
+literal_out mode p v (suc n) k e i j ke ij inside reach plain all =
+    let first = one_out mode p v i (i + 1) k (Byte (get_or p i 0)) tt (literal_token mode p i (omega arith) (plain.at i (omega arith) (omega arith))) all in
+    let rest = literal_out mode p v n (k + 1) e (i + 1) j (omega arith) (omega arith) inside (let below = first.0 in omega arith) (record { at = λ y low high. plain.at y (omega arith) high }) first.2 in (
+      rest.0,
+      record {
+        at = λ x y low high same. ⊎_elim
+            (λ (here : y ≡ i). let there : x ≡ k = omega arith in subst (λ (m : ℕ). fold mode (get_or v m 0) ≡ fold mode (get_or p y 0)) (sym there) (subst (λ (m : ℕ). fold mode (get_or v k 0) ≡ fold mode (get_or p m 0)) (sym here) first.1))
+            (λ (later : y ≡ i → ⊥). rest.1.at x y (omega arith) high (omega arith))
+            (cases_eq y i);
+      },
+      rest.2,
+    )
+
+pub literal_in : (mode : Mode) (p v : List ℕ) (n k e i j : ℕ) → k + n ≡ e → i + n ≡ j → j ≤ length p → e ≤ length v → IsLiteral p i j
+    → IsCopied mode v p k i j → SplitsFrom v e p j mode → SplitsFrom v k p i mode
+literal_in mode p v zero k e i j ke ij inside reach plain same all =
+    let k_is : e ≡ k = omega arith in
+    let i_is : j ≡ i = omega arith in
+    subst (λ (m : ℕ). SplitsFrom v m p i mode) k_is (subst (λ (m : ℕ). SplitsFrom v e p m mode) i_is all)
+literal_in mode p v (suc n) k e i j ke ij inside reach plain same all =
+    one_in mode p v i (i + 1) k (Byte (get_or p i 0)) (literal_token mode p i (omega arith) (plain.at i (omega arith) (omega arith))) (omega arith)
+    (same.at k i (omega arith) (omega arith) (omega arith))
+    (literal_in mode p v n (k + 1) e (i + 1) j (omega arith) (omega arith) inside reach (record { at = λ y low high. plain.at y (omega arith) high }) (record { at = λ x y low high sum. same.at x y (omega arith) high (omega arith) }) all)
+
+-- lists of one length are alike exactly where their bytes are
+alike_from : (mode : Mode) (xs ys : List ℕ) → length xs ≡ length ys → ((m : ℕ) → m < length xs → fold mode (get_or xs m 0) ≡ fold mode (get_or ys m 0)) → AreAlike mode xs ys
+alike_from mode xs ys long each =
+    let f : ℕ → ℕ = fold mode in
+    ext_get_or 0 (map f xs) (map f ys) (length-map xs f ∙ long ∙ sym (length-map ys f))
+    (λ m below. let inside : m < length xs = omega (arith, length-map xs f) in
+    get_or-map f xs m 0 0 inside ∙ each m inside ∙ sym (get_or-map f ys m 0 0 (omega (arith, long))))
+
+alike_length : (mode : Mode) (xs ys : List ℕ) → AreAlike mode xs ys → length xs ≡ length ys
+alike_length mode xs ys same =
+    let f : ℕ → ℕ = fold mode in
+    sym (length-map xs f) ∙ ap (λ (zs : List ℕ). length zs) same ∙ length-map ys f
+
+alike_at : (mode : Mode) (xs ys : List ℕ) → AreAlike mode xs ys → (m : ℕ) → m < length xs → fold mode (get_or xs m 0) ≡ fold mode (get_or ys m 0)
+alike_at mode xs ys same m inside =
+    let f : ℕ → ℕ = fold mode in
+    sym (get_or-map f xs m 0 0 inside) ∙ ap (λ (zs : List ℕ). get_or zs m 0) same ∙ get_or-map f ys m 0 0 (omega (arith, alike_length mode xs ys same))
+
+-- a text without special bytes is literal
+literal_everywhere : (p : List ℕ) → list_any is_special p ≡ false → IsLiteral p 0 (length p)
+literal_everywhere p none = record { at = λ y low high. false_from_ne_true (is_special (get_or p y 0)) (λ some. false≢true (sym none ∙ list_any_at is_special p y 0 high some)) }
+
+from_start : (v p : List ℕ) (mode : Mode) → Splits v p mode → SplitsFrom v 0 p 0 mode
+from_start v p mode s = record { tokens = s.tokens; read = s.read; cut = s.cut }
+
+to_start : (v p : List ℕ) (mode : Mode) → SplitsFrom v 0 p 0 mode → Splits v p mode
+to_start v p mode s = record { tokens = s.tokens; read = s.read; cut = s.cut }
+
+-- A text without special bytes splits exactly the values that are equal to it, up to case where the mode folds.
+pub literal_splits : (p v : List ℕ) (mode : Mode) → list_any is_special p ≡ false → Splits v p mode ↔ AreAlike mode v p
+literal_splits p v mode none =
+    let plain = literal_everywhere p none in (
+      λ s. (let out = literal_out mode p v (length p) 0 (length p) 0 (length p) (omega arith) (omega arith) (omega arith) (omega arith) plain (from_start v p mode s) in
+          let ends = end_out mode p v (length p) (length p) refl out.2 in
+          let reach = out.0 in
+          alike_from mode v p (omega arith) (λ m inside. out.1.at m m (omega arith) (omega arith) refl)),
+      λ same. (let long = alike_length mode v p same in
+          to_start v p mode (literal_in mode p v (length p) 0 (length p) 0 (length p) (omega arith) (omega arith) (omega arith) (omega arith) plain
+          (record { at = λ x y low high sum. let here : x ≡ y = omega arith in subst (λ (m : ℕ). fold mode (get_or v x 0) ≡ fold mode (get_or p m 0)) here (alike_at mode v p same x (omega arith)) })
+          (end_in mode p v (length p) (length p) refl (omega arith)))),
+    )
+
+-- A text with a literal front splits only values that begin with it, up to case where the mode folds.
+pub literal_front : (p v : List ℕ) (mode : Mode) (n : ℕ) → n ≤ length p → IsLiteral p 0 n → Splits v p mode
+    → (n ≤ length v) × AreAlike mode (take n p) (take n v)
+literal_front p v mode n inside plain s =
+    let out = literal_out mode p v n 0 n 0 n (omega arith) (omega arith) inside (omega arith) plain (from_start v p mode s) in
+    let reach = out.0 in (
+      reach,
+      alike_from mode (take n p) (take n v) (simp length-take (omega arith))
+          (λ m below. let small : m < n = (let l = length-take n p in omega arith) in
+          ap (fold mode) (get_or-take n p m 0 small) ∙ sym (out.1.at m m (omega arith) small refl) ∙ ap (fold mode) (sym (get_or-take n v m 0 small))),
+    )
+
+-- A star before a literal.
+literal_behind : (lit : List ℕ) → list_any is_special lit ≡ false → (y : ℕ) → 1 ≤ y → y < suc (length lit) → is_special (get_or (42 ∷ lit) y 0) ≡ false
+literal_behind lit none zero low high = absurd (omega arith)
+literal_behind lit none (suc m) low high = (literal_everywhere lit none).at m (omega arith) (omega arith)
+
+module _ (mode : Mode) (lit : List ℕ) (none : list_any is_special lit ≡ false) where
+  star_run : IsRun (42 ∷ lit) 0 1
+  star_run = record {
+    some = omega arith;
+    stars = λ k low high. let first : 0 ≡ k = omega arith in subst (λ (m : ℕ). HasByte (42 ∷ lit) m star) first (record { inside = omega arith; is = refl });
+    whole = λ h. let inside = h.inside in
+        false≢true (sym (literal_behind lit none 1 (omega arith) (omega arith)) ∙ ap is_special h.is);
+  }
+
+  free_star : is_path mode ≡ false → TokenAt mode (42 ∷ lit) 0 Free 1
+  free_star plain = record { run = star_run; bounded = λ path. absurd (false≢true (sym plain ∙ path)) }
+
+  local_star : is_path mode ≡ true → TokenAt mode (42 ∷ lit) 0 Local 1
+  local_star path = record { path = path; run = star_run; unbounded = λ b. let many = b.many in absurd (omega arith) }
+
+  plain_behind : IsLiteral (42 ∷ lit) 1 (length (42 ∷ lit))
+  plain_behind = record { at = literal_behind lit none }
+
+  -- what a star and a literal split ends in the literal
+  literal_end : (v : List ℕ) (e : ℕ) → e ≤ length v → SplitsFrom v e (42 ∷ lit) 1 mode
+      → (length lit ≤ length v) × AreAlike mode lit (drop (length v - length lit) v)
+  literal_end v e high later =
+      let out = literal_out mode (42 ∷ lit) v (length lit) e (e + length lit) 1 (length (42 ∷ lit)) refl (omega arith) (omega arith) high plain_behind later in
+      let reach = out.0 in
+      let ends = end_out mode (42 ∷ lit) v (length (42 ∷ lit)) (e + length lit) refl out.2 in
+      let place : length v - length lit ≡ e = omega arith in (
+        omega arith,
+        alike_from mode lit (drop (length v - length lit) v) (rw length-drop (omega arith))
+            (λ m below. rw get_or-drop (sym (out.1.at (length v - length lit + m) (suc m) (omega arith) (omega arith) (omega arith)))),
+      )
+
+  star_out : (v : List ℕ) → SplitsFrom v 0 (42 ∷ lit) 0 mode → (length lit ≤ length v) × AreAlike mode lit (drop (length v - length lit) v)
+  star_out v s = ⊎_elim
+      (λ path. (let out = local_out mode (42 ∷ lit) v 0 1 0 (local_star path) (omega arith) s in literal_end v out.0 out.2 out.4))
+      (λ plain. (let out = free_out mode (42 ∷ lit) v 0 1 0 (free_star plain) (omega arith) s in literal_end v out.0 out.2 out.3))
+      (cases_Bool (is_path mode))
+
+  -- a value that ends in the literal has its bytes there
+  ends_copied : (v : List ℕ) → length lit ≤ length v → AreAlike mode lit (drop (length v - length lit) v) → (x y : ℕ) → 1 ≤ y → y < suc (length lit)
+      → x + 1 ≡ y + (length v - length lit) → fold mode (get_or v x 0) ≡ fold mode (get_or (42 ∷ lit) y 0)
+  ends_copied v fits same x zero low high sum = absurd (omega arith)
+  ends_copied v fits same x (suc m) low high sum =
+      let place : x ≡ length v - length lit + m = omega arith in
+      ap (λ (k : ℕ). fold mode (get_or v k 0)) place
+      ∙ ap (fold mode) (sym (get_or-drop (length v - length lit) v m 0))
+      ∙ sym (alike_at mode lit (drop (length v - length lit) v) same m (omega arith))
+
+  star_in : (v : List ℕ) → (is_path mode ≡ false) ⊎ (list_any (λ b. b == slash) v ≡ false)
+      → length lit ≤ length v → AreAlike mode lit (drop (length v - length lit) v) → SplitsFrom v 0 (42 ∷ lit) 0 mode
+  star_in v open_or_bare fits same =
+      let later : SplitsFrom v (length v - length lit) (42 ∷ lit) 1 mode =
+      literal_in mode (42 ∷ lit) v (length lit) (length v - length lit) (length v) 1 (length (42 ∷ lit)) (omega arith) (omega arith) (omega arith) (omega arith) plain_behind
+      (record { at = ends_copied v fits same })
+      (end_in mode (42 ∷ lit) v (length (42 ∷ lit)) (length v) refl (omega arith)) in
+      let bare : is_path mode ≡ true → (m : ℕ) → m < length v → get_or v m 0 ≡ slash → ⊥ =
+      λ path m inside is. ⊎_elim
+      (λ (plain : is_path mode ≡ false). false≢true (sym plain ∙ path))
+      (λ (slashless : list_any (λ b. b == slash) v ≡ false). false≢true (sym slashless ∙ list_any_at (λ b. b == slash) v m 0 inside (eq-eqb _ _ is)))
+      open_or_bare in
+      ⊎_elim
+      (λ path. local_in mode (42 ∷ lit) v 0 1 0 (length v - length lit) (local_star path) (omega arith) (omega arith) (record { at = λ m low high is. bare path m (omega arith) is }) later)
+      (λ plain. free_in mode (42 ∷ lit) v 0 1 0 (length v - length lit) (free_star plain) (omega arith) (omega arith) later)
+      (cases_Bool (is_path mode))
+
+not_true : (b : Bool) → not b ≡ true → b ≡ false
+not_true true h = absurd (false≢true h)
+not_true false h = refl
+
+-- A star and a literal split only values that end in the literal, up to case where the mode folds.
+pub star_literal_out : (p v : List ℕ) (mode : Mode) → is_star_and_literal p ≡ true → Splits v p mode
+    → (length (drop 1 p) ≤ length v) × AreAlike mode (drop 1 p) (drop (length v - length (drop 1 p)) v)
+star_literal_out p v mode shape s =
+    let both = and_parts _ _ shape in
+    let whole : p ≡ 42 ∷ drop 1 p = (starts_is Decides-eqb p (codes "*") _ refl).0 both.0 in
+    star_out mode (drop 1 p) (not_true _ both.1) v (subst (λ (q : List ℕ). SplitsFrom v 0 q 0 mode) whole (from_start v p mode s))
+
+-- They split all of them in plain mode, and in path mode those without slash.
+pub star_literal_in : (p v : List ℕ) (mode : Mode) → is_star_and_literal p ≡ true → (is_path mode ≡ false) ⊎ (list_any (λ b. b == slash) v ≡ false)
+    → length (drop 1 p) ≤ length v → AreAlike mode (drop 1 p) (drop (length v - length (drop 1 p)) v) → Splits v p mode
+star_literal_in p v mode shape open_or_bare fits same =
+    let both = and_parts _ _ shape in
+    let whole : p ≡ 42 ∷ drop 1 p = (starts_is Decides-eqb p (codes "*") _ refl).0 both.0 in
+    to_start v p mode (subst (λ (q : List ℕ). SplitsFrom v 0 q 0 mode) (sym whole) (star_in mode (drop 1 p) (not_true _ both.1) v open_or_bare fits same))
+
+-- where a text has no special byte by the place of the first, it has none at all
+pub literal_from_place : (p : List ℕ) → first_special p ≡ None → list_any is_special p ≡ false
+literal_from_place p none =
+    ⊎_elim
+    (λ (below : nat_lt (position_or_len is_special p) (length p) ≡ true). let h = rw below at none in absurd (cc))
+    (λ (past : nat_lt (position_or_len is_special p) (length p) ≡ false).
+    let reach = ltb-false _ _ past in
+    list_any_none is_special p (λ k d inside. fails_before_first is_special p k d (omega arith)))
+    (cases_Bool (nat_lt (position_or_len is_special p) (length p)))
+
+-- up to the place of the first special byte a text is literal
+pub literal_up_to_place : (p : List ℕ) (n : ℕ) → first_special p ≡ Some n → (n ≤ length p) × IsLiteral p 0 n
+literal_up_to_place p n first =
+    let found = position-Some is_special p n 0 first in
+    let inside = found.0 in
+    (omega arith, record { at = λ y low high. found.2 y high })

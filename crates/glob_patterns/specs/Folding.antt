@@ -1,0 +1,22 @@
+-- Texts that are equal up to the case of letters, where the mode asks for it.
+use Rattle.std.specs.Prelude.{◌≡◌, ℕ, ◌-◌, ◌≤◌, List, length, take, drop, map}
+use Rattle.glob_matcher.specs.declared.wildmatch.mode.Mode.{Mode}
+use Rattle.glob_matcher.specs.Bytes.{fold}
+
+-- the bytes of a text after folding
+abbrev pub folded : Mode → List ℕ → List ℕ
+folded mode text = map (fold mode) text
+
+-- the two texts are equal, up to case where the mode folds
+abbrev pub AreAlike : Mode → List ℕ → List ℕ → Type 0
+AreAlike mode a b = folded mode a ≡ folded mode b
+
+-- the value begins with the front, up to case where the mode folds
+pub record BeginsAlike (mode : Mode) (value front : List ℕ) : Type 0 where
+  pub fits : length front ≤ length value
+  pub alike : AreAlike mode front (take (length front) value)
+
+-- the value ends in the end, up to case where the mode folds
+pub record EndsAlike (mode : Mode) (value end : List ℕ) : Type 0 where
+  pub fits : length end ≤ length value
+  pub alike : AreAlike mode end (drop (length value - length end) value)

@@ -1,0 +1,4 @@
+pub mod Folding
+pub mod Patterns
+pub mod PatternParts
+pub mod RepositoryPaths

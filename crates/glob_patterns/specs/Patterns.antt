@@ -1,0 +1,119 @@
+-- Pattern lines: how a line is read, and what is shown of a pattern.
+use Rattle.std.specs.Prelude.{◌≡◌, ℕ, ◌+◌, Bool, IsTrue, false, not, ◌&&◌, ◌||◌, ◌==◌, nat_eq, if◌then◌else◌, bit_and, List, [], ◌++◌, drop, Option, codes, position, encode_utf8_all}
+use Rattle.std.specs.List.{list_any, list_all, starts_with, ends_with}
+use Rattle.std.specs.Char.{is_ascii_whitespace}
+use Rattle.std.specs.Str.{bytes_eq}
+use Rattle.bstr.specs.Utf8.{lossy_chars}
+use Rattle.glob_patterns.specs.declared.pattern.mode.Mode.{Mode}
+use Rattle.glob_matcher.specs.Bytes.{star, question_mark, open_bracket, backslash, slash}
+
+-- which of the named bits stand in a pattern's mode
+abbrev pub is_without_sub_dir : Mode → Bool
+is_without_sub_dir mode = bit_and mode.0 1 == 1
+
+abbrev pub is_by_its_end : Mode → Bool
+is_by_its_end mode = bit_and mode.0 2 == 2
+
+abbrev pub is_for_directories : Mode → Bool
+is_for_directories mode = bit_and mode.0 4 == 4
+
+abbrev pub is_negative : Mode → Bool
+is_negative mode = bit_and mode.0 8 == 8
+
+abbrev pub is_absolute : Mode → Bool
+is_absolute mode = bit_and mode.0 16 == 16
+
+-- the wildcards, escaped or not
+abbrev pub is_wildcard : ℕ → Bool
+is_wildcard b = (b == star || b == question_mark) || b == open_bracket
+
+-- the bytes that may mean more than themselves: the wildcards, and the backslash
+abbrev pub is_special : ℕ → Bool
+is_special b = is_wildcard b || b == backslash
+
+-- the place of the first special byte, where a literal front ends
+abbrev pub first_special : List ℕ → Option ℕ
+first_special text = position is_special text
+
+-- a star, and no special byte after it
+abbrev pub is_star_and_literal : List ℕ → Bool
+is_star_and_literal text = starts_with nat_eq text (codes "*") && not (list_any is_special (drop 1 text))
+
+-- some byte is a slash
+abbrev pub has_slash : List ℕ → Bool
+has_slash text = list_any (λ b. b == slash) text
+
+-- empty, or ASCII whitespace alone
+abbrev pub is_blank : List ℕ → Bool
+is_blank text = list_all is_ascii_whitespace text
+
+-- the line without one leading `!`
+abbrev pub without_negation : List ℕ → List ℕ
+without_negation text = if starts_with nat_eq text (codes "!") then drop 1 text else text
+
+-- what is taken off a line's front, where it may be altered: `!`, or the backslash of `\!` and `\#`
+abbrev pub sign_of : Bool → List ℕ → List ℕ
+sign_of may_alter text =
+    if may_alter && starts_with nat_eq text (codes "!") then codes "!"
+    else (if may_alter && (starts_with nat_eq text (codes "\\!") || starts_with nat_eq text (codes "\\#")) then codes "\\"
+    else [])
+
+-- a slash where there is one
+abbrev pub slash_if : Bool → List ℕ
+slash_if there = if there then codes "/" else []
+
+-- the bits of a mode, each worth its own number
+abbrev pub sum_of_bits : Bool → Bool → Bool → Bool → Bool → ℕ
+sum_of_bits slashed by_its_end for_directories negative absolute =
+    (if slashed then 0 else 1)
+    + (if by_its_end then 2 else 0)
+    + (if for_directories then 4 else 0)
+    + (if negative then 8 else 0)
+    + (if absolute then 16 else 0)
+
+-- the bits of what was read
+abbrev pub bits_of : List ℕ → List ℕ → List ℕ → List ℕ → ℕ
+bits_of sign lead body tail =
+    sum_of_bits (has_slash body) (is_star_and_literal body) (bytes_eq tail (codes "/")) (bytes_eq sign (codes "!")) (bytes_eq lead (codes "/"))
+
+-- The line is a sign, a slash or none, the body, and a slash or none. The body is what a pattern of this line has as its text.
+pub record Reads (text : List ℕ) (may_alter : Bool) (body : List ℕ) (flags : Mode) (place : Option ℕ) : Type 0 where
+  pub sign : List ℕ
+  pub lead : List ℕ
+  pub tail : List ℕ
+  pub joined : text ≡ sign ++ (lead ++ (body ++ tail))
+  pub signed : sign ≡ sign_of may_alter text
+  pub not_blank : is_blank (lead ++ (body ++ tail)) ≡ false
+  pub leads : lead ≡ slash_if (starts_with nat_eq (lead ++ (body ++ tail)) (codes "/"))
+  pub trails : tail ≡ slash_if (ends_with nat_eq (body ++ tail) (codes "/"))
+  pub flagged : flags.0 ≡ bits_of sign lead body tail
+  pub placed : place ≡ first_special body
+
+-- two readings agree in all that is answered
+pub record SameReading (b b' : List ℕ) (f f' : Mode) (p p' : Option ℕ) : Type 0 where
+  pub body : b ≡ b'
+  pub flags : f ≡ f'
+  pub place : p ≡ p'
+
+-- some reading exists
+pub record HasReading (text : List ℕ) (may_alter : Bool) : Type 0 where
+  pub body : List ℕ
+  pub flags : Mode
+  pub place : Option ℕ
+  pub read : Reads text may_alter body flags place
+
+-- a text as it is displayed: what isn't UTF-8 gives way to U+FFFD
+abbrev pub displayed : List ℕ → List ℕ
+displayed text = encode_utf8_all (lossy_chars text)
+
+-- the line that is shown for a pattern
+abbrev pub shown : Mode → List ℕ → List ℕ
+shown flags body =
+    (if is_negative flags then codes "!" else [])
+    ++ (slash_if (is_absolute flags) ++ (body ++ slash_if (is_for_directories flags)))
+
+-- A text, a mode and a place make a pattern: the place is that of the text's first special byte, and a mode that
+-- says that the end decides stands only with a star and a literal.
+pub record IsPattern (text : List ℕ) (mode : Mode) (place : Option ℕ) : Type 0 where
+  pub placed : place ≡ first_special text
+  pub ends : IsTrue (is_by_its_end mode) → IsTrue (is_star_and_literal text)

@@ -1,0 +1,36 @@
+-- Paths of a repository: which bytes a pattern looks at, and when it answers yes.
+use Rattle.std.specs.Prelude.{◌≡◌, ◌&&◌, ℕ, ◌-◌, ◌<◌, ◌≤◌, Bool, true, not, IsTrue, List, drop, Option, None, Some, MatchOption, bit_or, if◌then◌else◌}
+use Rattle.glob_patterns.specs.declared.pattern.case.Case.{Case}
+use Rattle.glob_patterns.specs.declared.pattern.case.Case.TheVariants.{Sensitive, Fold}
+use Rattle.glob_patterns.specs.declared.pattern.mode.Mode as pattern
+use Rattle.glob_matcher.specs.declared.wildmatch.mode.Mode as wildmatch
+use Rattle.glob_matcher.specs.Bytes.{HasByte, slash}
+use Rattle.glob_matcher.specs.Matching.{Splits}
+use Rattle.glob_patterns.specs.Patterns.{is_without_sub_dir, is_for_directories, is_absolute}
+
+-- place k comes directly after the path's last slash
+pub record IsAfterLastSlash (path : List ℕ) (k : ℕ) : Type 0 where
+  pub some : 0 < k
+  pub after : HasByte path (k - 1) slash
+  pub last : (j : ℕ) → k ≤ j → ¬ HasByte path j slash
+
+-- where the last part of a path begins: after the last slash, and nowhere where there is no slash
+abbrev pub IsBasenameStart : List ℕ → Option ℕ → Type 0
+IsBasenameStart path start = MatchOption start ((j : ℕ) → ¬ HasByte path j slash) (λ k. IsAfterLastSlash path k)
+
+-- the mode of a match, where case may be set apart
+abbrev pub with_case : wildmatch.Mode → Case → wildmatch.Mode
+with_case mode Sensitive = mode
+with_case mode Fold = record { 0 = bit_or mode.0 2 }
+
+-- The bytes that a pattern looks at: the last part of the path, where the text has no slash and the line began with
+-- none, and where it is known where that part begins; else the whole path.
+abbrev pub subject : pattern.Mode → List ℕ → Option ℕ → List ℕ
+subject flags path None = path
+subject flags path (Some k) = if is_without_sub_dir flags && not (is_absolute flags) then drop k path else path
+
+-- A pattern of this text and these flags answers yes for a path: a pattern for directories only where the path is
+-- known to be one, and the text matches what it looks at.
+pub record Answers (text : List ℕ) (flags : pattern.Mode) (path : List ℕ) (position : Option ℕ) (is_dir : Option Bool) (case : Case) (mode : wildmatch.Mode) : Type 0 where
+  pub directory : IsTrue (is_for_directories flags) → is_dir ≡ Some true
+  pub splits : Splits (subject flags path position) text (with_case mode case)

@@ -1,0 +1,70 @@
+//! Laws of pattern lines and patterns.
+ghost use Rattle.std.specs.Prelude.{◌≡◌, ◌≤◌, ◌↔◌, ◌||◌, ℕ, Bool, true, false, IsTrue, List, Option, codes, nat_eq};
+ghost use Rattle.std.specs.List.{list_any, starts_with};
+ghost use Rattle.std.specs.Str.{IsUtf8};
+ghost use Rattle.std.specs.declared.cmp.Ordering.TheVariants.{Equal};
+ghost use Rattle.glob_matcher.specs.declared.wildmatch.mode.Mode as wildmatch;
+ghost use Rattle.glob_patterns.specs.declared.pattern.mode.Mode as pattern;
+ghost use Rattle.glob_patterns.specs.declared.pattern.Pattern.{Pattern};
+ghost use Rattle.glob_patterns.specs.declared.pattern.case.Case.{Case};
+ghost use Rattle.glob_patterns.specs.Folding.{AreAlike};
+ghost use Rattle.glob_matcher.specs.Matching.{Splits, HasStars, Holds};
+ghost use Rattle.glob_patterns.specs.PatternParts.{text_of, SamePattern, pattern_cmp};
+ghost use Rattle.glob_patterns.specs.Patterns.{Reads, SameReading, displayed, is_absolute, is_negative, is_special, shown};
+
+use crate::pattern::{Case, Pattern};
+use std::hash::Hash;
+
+/// A text without `*`, `?`, `[` and `\` matches exactly the values that are equal to it, up to case where the mode folds.
+pub fn literal_text_splits_itself()
+    ensures { (text value : List ℕ) (mode : wildmatch.Mode) → list_any is_special text ≡ false
+        → Splits value text mode ↔ AreAlike mode value text }
+{}
+
+/// Two answers that hold of one text, value and mode are the same, where the text has at most 63 star tokens. So
+/// [`Pattern::matches`] and [`glob_matcher::wildmatch::wildmatch`] agree.
+pub fn two_answers_agree()
+    ensures { (text value : List ℕ) (mode : wildmatch.Mode) (n : ℕ) (first second : Bool) → HasStars text n → n ≤ 63
+        → Holds first (Splits value text mode) text → Holds second (Splits value text mode) text → first ≡ second }
+{}
+
+/// A line has at most one reading.
+pub fn line_has_one_reading()
+    ensures { (text : List ℕ) (may_alter : Bool) (body body' : List ℕ) (flags flags' : pattern.Mode) (place place' : Option ℕ)
+        → Reads text may_alter body flags place → Reads text may_alter body' flags' place'
+        → SameReading body body' flags flags' place place' }
+{}
+
+/// What is shown of a reading is read back, unless the text begins with `!` and no sign and no slash stands before it.
+pub fn shown_line_is_read_back()
+    ensures { (text body : List ℕ) (flags : pattern.Mode) (place : Option ℕ) → Reads text true body flags place
+        → (IsTrue (starts_with nat_eq body (codes "!")) → IsTrue (is_negative flags || is_absolute flags))
+        → Reads (shown flags body) true body flags place }
+{}
+
+/// A text that is UTF-8 is displayed byte for byte.
+pub fn utf8_is_displayed_as_it_is()
+    ensures { (text : List ℕ) → IsUtf8 text → displayed text ≡ text }
+{}
+
+/// Patterns of equal text match the same values: what the line said of negation, of directories and of a leading slash
+/// doesn't count in [`Pattern::matches`].
+pub fn flags_do_not_count()
+    ensures { (p q : Pattern) (value : List ℕ) (mode : wildmatch.Mode) → text_of p ≡ text_of q
+        → Splits value (text_of p) mode ↔ Splits value (text_of q) mode }
+{}
+
+/// Patterns are ordered by the bytes of their texts, then by the bits of their modes, then by their places, `None`
+/// first. They are equal exactly where they agree in all three, tie exactly where they are equal, and then hash alike.
+pub fn order_agrees_with_equality()
+    ensures order { (p q : Pattern) → ⟦<Pattern as Ord>⟧.cmp p q ≡ pattern_cmp p q }
+    ensures ties { (p q : Pattern) → (⟦<Pattern as Ord>⟧.cmp p q ≡ Equal) ↔ IsTrue (⟦<Pattern as PartialEq>⟧.eq p q) }
+    ensures equality { (p q : Pattern) → IsTrue (⟦<Pattern as PartialEq>⟧.eq p q) ↔ SamePattern p q }
+    ensures hash { (p q : Pattern) → IsTrue (⟦<Pattern as PartialEq>⟧.eq p q)
+        → ⟦<Pattern as Hash>⟧.hash_input p ≡ ⟦<Pattern as Hash>⟧.hash_input q }
+{}
+
+/// The case of letters counts where nothing else is said.
+pub fn case_counts_by_default()
+    ensures { (case : Case) → ⟦<Case as Default>⟧.is_default case → case ≡ Case.Sensitive }
+{}

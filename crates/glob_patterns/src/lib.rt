@@ -1,0 +1,6 @@
+//! Patterns: their lines, and what they match.
+#![tactic(auto)]
+
+pub mod laws;
+pub mod parse;
+pub mod pattern;

@@ -1,0 +1,155 @@
+//! Reading a pattern line: the sign and the slashes around its text, and what is known of the text.
+ghost use Rattle.std.specs.Prelude.{◌≡◌, ◌↔◌, ◌++◌, IsTrue, IsNone, IfOk, IsOkAnd, MatchOption, true, if◌then◌else◌, codes, nat_eq};
+ghost use Rattle.std.specs.List.{starts_with, ends_with, list_any};
+ghost use Rattle.std.specs.Str.{bytes_eq};
+ghost use Rattle.glob_patterns.specs.Patterns.{Reads, HasReading, is_blank, without_negation, sign_of, slash_if, sum_of_bits, has_slash, is_wildcard, is_special, is_star_and_literal, first_special};
+ghost use Rattle.glob_patterns.specs.PatternParts.{IsReadFrom};
+
+use crate::pattern::{Mode, Pattern};
+use bitflags::Flags;
+use memchr::{memchr, memchr3};
+use std::alloc::{AllocError, Global};
+
+/// Reads a pattern line without a copy: its text, borrowed from the line, what is known of it, and the place of its
+/// first `*`, `?`, `[` or `\`, counted in bytes from 0. `None` where the line is blank.
+///
+/// With `may_alter` a leading `!` is taken off and negates, and the backslash of a leading `\!` or `\#` is taken off.
+/// One leading and one trailing slash are taken off in any case. The rule is "reading a pattern" in `docs/PATTERNS.md`.
+pub fn pattern(pat: &[u8], may_alter: bool) -> Option<(&[u8], Mode, Option<usize>)>
+    ensures reads { MatchOption result (¬ HasReading pat.now may_alter) (λ found. Reads pat.now may_alter found.0.now found.1 found.2) }
+    ensures blank { IsNone result ↔ IsTrue (is_blank (if may_alter then without_negation pat.now else pat.now)) }
+{
+    let (line, negative) = after_sign(pat, may_alter);
+    if is_whitespace(line) {
+        return None;
+    }
+    let (line, absolute) = after_lead(line);
+    let (text, must_be_dir) = before_tail(line);
+    let mode = mode_of(text, negative, absolute, must_be_dir);
+    Some((text, mode, first_wildcard_pos(text)))
+}
+
+/// Reads a pattern line, with its leading `!`, as [`Pattern::from_bytes`] does: `None` where it is blank. The error is
+/// want of memory for the text.
+pub fn parse(alloc: Global, text: &[u8]) -> Result<Option<Pattern>, AllocError>
+    ensures reads { IfOk result (λ read. MatchOption read (¬ HasReading text.now true) (IsReadFrom text.now true)) }
+    ensures blank { IsOkAnd result IsNone ↔ IsTrue (is_blank (without_negation text.now)) }
+{
+    Pattern::from_bytes(alloc, text)
+}
+
+/// What follows the sign of a line, and whether the sign negates.
+fn after_sign(pat: &[u8], may_alter: bool) -> (&[u8], bool)
+    ensures rest { pat.now ≡ sign_of may_alter pat.now ++ result.0.now }
+    ensures negative { result.1 ≡ bytes_eq (sign_of may_alter pat.now) (codes "!") }
+{
+    if !may_alter {
+        return (pat, false);
+    }
+    if let Some(rest) = pat.strip_prefix(b"!") {
+        return (rest, true);
+    }
+    if pat.starts_with(b"\\!") || pat.starts_with(b"\\#") {
+        return (&pat[1..], false);
+    }
+    (pat, false)
+}
+
+/// Whether the bytes are ASCII whitespace alone.
+fn is_whitespace(bytes: &[u8]) -> bool
+    ensures { result ≡ is_blank bytes.now }
+{
+    bytes.iter().all(|b| b.is_ascii_whitespace())
+}
+
+/// The place of the first byte that may mean more than itself.
+pub(crate) fn first_wildcard_pos(text: &[u8]) -> Option<usize>
+    ensures { result ≡ first_special text.now }
+{
+    text.iter().position(|b| is_glob_character(*b))
+}
+
+/// Whether a byte may mean more than itself.
+fn is_glob_character(b: u8) -> bool
+    ensures { result ≡ is_special b }
+{
+    matches!(b, b'*' | b'?' | b'[' | b'\\')
+}
+
+/// Whether some byte may mean more than itself.
+fn has_glob_character(bytes: &[u8]) -> bool
+    ensures { result ≡ list_any is_special bytes.now }
+{
+    bytes.iter().any(|b| is_glob_character(*b))
+}
+
+/// Whether the text is a star with no such byte after it.
+pub(crate) fn is_ends_with(text: &[u8]) -> bool
+    ensures { result ≡ is_star_and_literal text.now }
+{
+    text.starts_with(b"*") && !has_glob_character(&text[1..])
+}
+
+/// Whether the text has a slash.
+#[tactic(auto, using(crate::proofs::ByteSearches::is_some_first_byte))]
+pub(crate) fn has_slash(text: &[u8]) -> bool
+    ensures { result ≡ has_slash text.now }
+{
+    memchr(b'/', text).is_some()
+}
+
+/// Whether the text has a wildcard, escaped or not.
+#[tactic(auto, using(crate::proofs::ByteSearches::is_some_first_byte))]
+pub(crate) fn has_wildcard(text: &[u8]) -> bool
+    ensures { result ≡ list_any is_wildcard text.now }
+{
+    memchr3(b'*', b'?', b'[', text).is_some()
+}
+
+/// What follows a leading slash, and whether there was one.
+fn after_lead(line: &[u8]) -> (&[u8], bool)
+    ensures lead { line.now ≡ slash_if (starts_with nat_eq line.now (codes "/")) ++ result.0.now }
+    ensures absolute { result.1 ≡ starts_with nat_eq line.now (codes "/") }
+{
+    match line.strip_prefix(b"/") {
+        Some(rest) => (rest, true),
+        None => (line, false),
+    }
+}
+
+/// What stands before a trailing slash, and whether there was one.
+fn before_tail(line: &[u8]) -> (&[u8], bool)
+    ensures tail { line.now ≡ result.0.now ++ slash_if (ends_with nat_eq line.now (codes "/")) }
+    ensures must_be_dir { result.1 ≡ ends_with nat_eq line.now (codes "/") }
+{
+    match line.strip_suffix(b"/") {
+        Some(text) => (text, true),
+        None => (line, false),
+    }
+}
+
+/// What is known of a text and of what stood around it.
+fn mode_of(text: &[u8], negative: bool, absolute: bool, must_be_dir: bool) -> Mode
+    ensures { result.0 ≡ sum_of_bits (has_slash text.now) (is_star_and_literal text.now) must_be_dir negative absolute }
+{
+    let mut mode = Mode::empty();
+    if !has_slash(text) {
+        mode = mode.union(Mode::NO_SUB_DIR);
+    }
+    if is_ends_with(text) {
+        mode = mode.union(Mode::ENDS_WITH);
+    }
+    if must_be_dir {
+        mode = mode.union(Mode::MUST_BE_DIR);
+    }
+    if negative {
+        mode = mode.union(Mode::NEGATIVE);
+    }
+    if absolute {
+        mode = mode.union(Mode::ABSOLUTE);
+    }
+    mode
+}
+
+#[cfg(test)]
+mod tests;

@@ -1,0 +1,65 @@
+//! Whether a value matches, and the comparisons that decide it without the matcher.
+ghost use Rattle.std.specs.Prelude.{◌≡◌, ◌↔◌, ◌||◌, not, IsTrue};
+ghost use Rattle.glob_matcher.specs.Bytes.{is_path};
+ghost use Rattle.glob_patterns.specs.Folding.{AreAlike, BeginsAlike, EndsAlike};
+ghost use Rattle.glob_patterns.specs.Patterns.{has_slash};
+
+use super::Pattern;
+use crate::parse;
+use bitflags::Flags;
+use glob_matcher::wildmatch;
+
+impl Pattern {
+    ghost use Rattle.glob_matcher.specs.Matching.{Splits, Holds};
+    ghost use Rattle.glob_patterns.specs.PatternParts.{text_of};
+
+    /// Whether the text matches the value. What the line said of negation, of directories and of a leading slash
+    /// doesn't count. It takes no memory. The rule is "matching a value" in `docs/PATTERNS.md`.
+    pub fn matches(&self, value: &[u8], mode: wildmatch::Mode) -> bool
+        ensures { Holds result (Splits value.now (text_of self.now) mode) (text_of self.now) }
+    {
+        self.view().matches(value, mode)
+    }
+}
+
+/// Whether a star may take all bytes of the value: in plain mode, and where the value has no slash.
+#[inline(always)]
+pub(super) fn is_one_component(value: &[u8], mode: wildmatch::Mode) -> bool
+    ensures { result ≡ (not (is_path mode) || not (has_slash value.now)) }
+{
+    !mode.contains(wildmatch::Mode::NO_MATCH_SLASH_LITERAL) || !parse::has_slash(value)
+}
+
+/// Whether the two texts are equal, up to case where the mode folds.
+#[inline(always)]
+pub(super) fn are_alike(a: &[u8], b: &[u8], mode: wildmatch::Mode) -> bool
+    ensures { IsTrue result ↔ AreAlike mode a.now b.now }
+{
+    if mode.contains(wildmatch::Mode::IGNORE_CASE) {
+        a.eq_ignore_ascii_case(b)
+    } else {
+        a == b
+    }
+}
+
+/// Whether the value begins with the text, up to case where the mode folds.
+#[inline(always)]
+pub(super) fn begins_alike(front: &[u8], value: &[u8], mode: wildmatch::Mode) -> bool
+    ensures { IsTrue result ↔ BeginsAlike mode value.now front.now }
+{
+    if value.len() < front.len() {
+        return false;
+    }
+    are_alike(front, &value[..front.len()], mode)
+}
+
+/// Whether the value ends in the text, up to case where the mode folds.
+#[inline(always)]
+pub(super) fn ends_alike(end: &[u8], value: &[u8], mode: wildmatch::Mode) -> bool
+    ensures { IsTrue result ↔ EndsAlike mode value.now end.now }
+{
+    if value.len() < end.len() {
+        return false;
+    }
+    are_alike(end, &value[value.len() - end.len()..], mode)
+}

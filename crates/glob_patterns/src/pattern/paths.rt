@@ -1,0 +1,54 @@
+//! Whether a path of a repository matches: what a pattern looks at, directories and case.
+ghost use Rattle.std.specs.Prelude.{◌≡◌, Some};
+ghost use Rattle.glob_patterns.specs.RepositoryPaths.{IsBasenameStart, with_case};
+
+use super::{Case, Pattern};
+use bitflags::Flags;
+use glob_matcher::wildmatch;
+use memchr::memrchr;
+
+/// The place after the last slash of a path, counted in bytes from 0; `None` where it has no slash.
+pub fn basename_start(path: &[u8]) -> Option<usize>
+    ensures { IsBasenameStart path.now result }
+{
+    memrchr(b'/', path).map(|place| place + 1)
+}
+
+/// The mode of a match, in which case doesn't count where it is to be folded.
+pub(super) fn with_case(mode: wildmatch::Mode, case: Case) -> wildmatch::Mode
+    ensures { result ≡ with_case mode case }
+{
+    match case {
+        Case::Sensitive => mode,
+        Case::Fold => mode.union(wildmatch::Mode::IGNORE_CASE),
+    }
+}
+
+impl Pattern {
+    ghost use Rattle.std.specs.Option.{ForSome};
+    ghost use Rattle.glob_matcher.specs.Bytes.{HasByte, slash};
+    ghost use Rattle.glob_matcher.specs.Matching.{Holds};
+    ghost use Rattle.glob_patterns.specs.PatternParts.{text_of, mode_of};
+    ghost use Rattle.glob_patterns.specs.RepositoryPaths.{IsAfterLastSlash, Answers};
+
+    /// Whether a path of a repository matches. The path has no leading slash, and `basename_start_pos` is what
+    /// [`basename_start`] answers for it, or `None` where the whole path is to be looked at.
+    ///
+    /// A pattern for directories matches only where `is_dir` is `Some(true)`. It takes no memory. The rule is "matching a
+    /// repository path" in `docs/PATTERNS.md`.
+    pub fn matches_repo_relative_path(
+        &self,
+        path: &[u8],
+        basename_start_pos: Option<usize>,
+        is_dir: Option<bool>,
+        case: Case,
+        mode: wildmatch::Mode,
+    ) -> bool
+        requires relative { ¬ HasByte path.now 0 slash }
+        requires basename { ForSome basename_start_pos (IsAfterLastSlash path.now) }
+        ensures { Holds result (Answers (text_of self.now) (mode_of self.now) path.now basename_start_pos is_dir case mode) (text_of self.now) }
+    {
+        self.view()
+            .matches_repo_relative_path(path, basename_start_pos, is_dir, case, mode)
+    }
+}

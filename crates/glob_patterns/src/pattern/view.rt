@@ -1,0 +1,123 @@
+//! A pattern whose text is borrowed: the parts of a line that was read, without a copy of its text.
+ghost use Rattle.std.specs.Prelude.{◌≡◌, drop, take, true, MatchOption, IfSome};
+ghost use Rattle.std.specs.Option.{ForSome};
+ghost use Rattle.glob_matcher.specs.Bytes.{HasByte, slash};
+ghost use Rattle.glob_matcher.specs.Matching.{Holds, Splits};
+ghost use Rattle.glob_patterns.specs.Patterns.{HasReading, IsPattern, Reads};
+ghost use Rattle.glob_patterns.specs.RepositoryPaths.{Answers, IsAfterLastSlash, subject};
+
+use super::matching::{are_alike, begins_alike, ends_alike, is_one_component};
+use super::paths::with_case;
+use super::{Case, Mode};
+use crate::parse;
+use bitflags::Flags;
+use glob_matcher::wildmatch;
+
+/// The parts of a pattern, its text borrowed: what `parse::pattern` answers. Nothing is allocated to match with it.
+///
+/// Its answers are right where the parts make a pattern, as [`super::Pattern::from_parts`] says; other parts are safe too.
+#[derive(Debug, Copy, Clone)]
+pub struct PatternView<'a> {
+    /// The bytes that are matched.
+    pub text: &'a [u8],
+    /// What is known of the text and of what stood around it.
+    pub mode: Mode,
+    /// The place of the first `*`, `?`, `[` or `\` of the text, counted in bytes from 0; `None` where there is none.
+    pub first_wildcard_pos: Option<usize>,
+}
+
+/// What follows the first byte of a text.
+#[inline(always)]
+fn past_star(text: &[u8]) -> &[u8]
+    ensures { result.now ≡ drop 1 text.now }
+{
+    match text {
+        [_, rest @ ..] => rest,
+        [] => text,
+    }
+}
+
+/// The bytes of a text before a place, or all of them where the place is past the end.
+#[inline(always)]
+fn front(text: &[u8], pos: usize) -> &[u8]
+    ensures { result.now ≡ take pos text.now }
+{
+    if pos < text.len() { &text[..pos] } else { text }
+}
+
+impl<'a> PatternView<'a> {
+    /// Reads a pattern line as [`super::Pattern::from_bytes`] does, without a copy: `None` where it is blank.
+    pub fn from_bytes(line: &'a [u8]) -> Option<PatternView<'a>>
+        ensures reads { MatchOption result (¬ HasReading line.now true)
+            (λ view. Reads line.now true view.text.now view.mode view.first_wildcard_pos) }
+        ensures lawful { IfSome result (λ view. IsPattern view.text.now view.mode view.first_wildcard_pos) }
+    {
+        let (text, mode, first_wildcard_pos) = parse::pattern(line, true)?;
+        Some(PatternView {
+            text,
+            mode,
+            first_wildcard_pos,
+        })
+    }
+
+    /// Whether the text matches the value, as [`super::Pattern::matches`] answers.
+    ///
+    /// A text without special bytes is decided without the matcher; a literal front, and the literal after a star, refuse
+    /// without it.
+    #[inline(always)]
+    pub fn matches(self, value: &[u8], mode: wildmatch::Mode) -> bool
+        ensures { IsPattern self.entry.text.now self.entry.mode self.entry.first_wildcard_pos →
+            Holds result (Splits value.now self.entry.text.now mode) self.entry.text.now }
+    {
+        let Some(pos) = self.first_wildcard_pos else {
+            return are_alike(self.text, value, mode);
+        };
+        if self.mode.contains(Mode::ENDS_WITH) {
+            if !ends_alike(past_star(self.text), value, mode) {
+                return false;
+            }
+            if is_one_component(value, mode) {
+                return true;
+            }
+        } else if !begins_alike(front(self.text, pos), value, mode) {
+            return false;
+        }
+        wildmatch::wildmatch(self.text, value, mode)
+    }
+
+    /// Whether a path of a repository matches, as [`super::Pattern::matches_repo_relative_path`] answers.
+    pub fn matches_repo_relative_path(
+        self,
+        path: &[u8],
+        basename_start_pos: Option<usize>,
+        is_dir: Option<bool>,
+        case: Case,
+        mode: wildmatch::Mode,
+    ) -> bool
+        requires relative { ¬ HasByte path.now 0 slash }
+        requires basename { ForSome basename_start_pos (IsAfterLastSlash path.now) }
+        ensures { IsPattern self.entry.text.now self.entry.mode self.entry.first_wildcard_pos →
+            Holds result (Answers self.entry.text.now self.entry.mode path.now basename_start_pos is_dir case mode) self.entry.text.now }
+    {
+        if self.mode.contains(Mode::MUST_BE_DIR) && is_dir != Some(true) {
+            return false;
+        }
+        self.matches(
+            self.subject(path, basename_start_pos),
+            with_case(mode, case),
+        )
+    }
+
+    /// The bytes of a path that the pattern looks at.
+    fn subject<'p>(self, path: &'p [u8], basename_start_pos: Option<usize>) -> &'p [u8]
+        requires { ForSome basename_start_pos (IsAfterLastSlash path.now) }
+        ensures { result.now ≡ subject self.entry.mode path.now basename_start_pos }
+    {
+        match basename_start_pos {
+            Some(start)
+                if self.mode.contains(Mode::NO_SUB_DIR) && !self.mode.contains(Mode::ABSOLUTE) =>
+                &path[start..],
+            _ => path,
+        }
+    }
+}
