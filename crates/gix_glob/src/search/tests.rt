@@ -185,7 +185,7 @@ fn failed_reads(rt: HostRuntime) -> Result<(), Fail> {
             Err(LoadFault::Read(error)) => {
                 assert!(rt; error.kind() == kind && !is_missing, "at {kind:?}");
             }
-            Err(LoadFault::Memory(_)) => assert!(rt; false, "no memory at {kind:?}"),
+            Err(LoadFault::Memory) => assert!(rt; false, "no memory at {kind:?}"),
         }
         assert!(rt; reader.failed(), "at {kind:?}");
         assert_eq!(rt; buf.as_slice(), b"*.rs".as_slice(), "at {kind:?}");
@@ -208,7 +208,7 @@ fn files_that_are_not_there(rt: HostRuntime) -> Result<(), Fail> {
                     "for {path:?}"
                 );
             }
-            Err(LoadFault::Memory(_)) => assert!(rt; false, "no memory for {path:?}"),
+            Err(LoadFault::Memory) => assert!(rt; false, "no memory for {path:?}"),
         }
         assert!(rt; buf.is_empty(), "for {path:?}");
     }
