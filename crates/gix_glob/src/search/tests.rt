@@ -103,6 +103,8 @@ fn bases_of_sources(rt: HostRuntime) -> Result<(), Fail> {
         ("src/ig", Some(""), "src/"),
         ("src/ig", None, "|"),
         ("a//b/./f", Some(""), "a/b/"),
+        ("a/b", Some(""), "a/"),
+        ("a/b", Some("a"), "|"),
         ("/r/f", Some("/r"), "|"),
         ("/x", Some(""), "/"),
         ("f", Some("/r"), "|"),
