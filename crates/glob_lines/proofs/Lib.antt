@@ -1,5 +1,6 @@
 pub mod LinesLemmas
 pub mod MappingsLemmas
+pub mod NumberedLemmas
 pub mod NumbersLemmas
 pub mod PathsLemmas
 pub mod PlainLemmas

@@ -6,7 +6,7 @@ use Rattle.std.proofs.lemmas.Bool.{cases_Bool, false≢true, or_cases}
 use Rattle.std.proofs.lemmas.Bool.Decides.{Decides-eqb}
 use Rattle.std.proofs.lemmas.Slice.Eq.{starts_is, ends_is}
 use Rattle.glob_patterns.specs.declared.pattern.mode.Mode.{Mode}
-use Rattle.glob_patterns.specs.Patterns.{Reads, bits_of, first_special, is_blank, sign_of}
+use Rattle.glob_patterns.specs.Patterns.{HasReading, Reads, bits_of, first_special, is_blank, sign_of}
 use Rattle.glob_patterns.specs.Readings.{Reading, after, before_tail, lead_of, reading_after_lead, reading_after_sign, reading_of, reading_with, tail_of}
 
 -- ---- a reading is that of the equation
@@ -142,3 +142,17 @@ Reads-reading_of may_alter line reading is =
     let same : found.0 ≡ reading = let both : Some found.0 ≡ Some reading = sym found.1.is ∙ is in cc in
     subst (λ (r : Reading). Reads line may_alter r.body r.flags r.place) same found.1.reads)
     (cases_Bool (is_blank (rest_of may_alter line)))
+
+-- ---- no reading
+
+pub none-reading_of : (may_alter : Bool) (line : List ℕ) → ¬ HasReading line may_alter → reading_of may_alter line ≡ None
+none-reading_of may_alter line none =
+    ⊎_elim
+    (blank-none may_alter line)
+    (λ some. let found = some_reading may_alter line some in
+    absurd (none (record { body = found.0.body; flags = found.0.flags; place = found.0.place; read = found.1.reads })))
+    (cases_Bool (is_blank (rest_of may_alter line)))
+
+pub HasReading-none : (may_alter : Bool) (line : List ℕ) → reading_of may_alter line ≡ None → ¬ HasReading line may_alter
+HasReading-none may_alter line none has =
+    let both : None ≡ Some _ = sym none ∙ reading_of-Reads may_alter line has.body has.flags has.place has.read in absurd (cc)
