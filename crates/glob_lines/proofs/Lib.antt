@@ -1,3 +1,4 @@
+pub mod IgnoreLemmas
 pub mod LinesLemmas
 pub mod MappingsLemmas
 pub mod NumberedLemmas
@@ -6,3 +7,4 @@ pub mod PathsLemmas
 pub mod PlainLemmas
 pub mod StrippingLemmas
 pub mod TransferLemmas
+pub mod TrimLemmas

@@ -2,7 +2,8 @@
 ghost use Rattle.std.specs.Prelude.{◌≡◌, ◌<◌, [], ◌∷◌, length, MatchOption};
 ghost use Rattle.std.specs.Option.{option_copied};
 ghost use Rattle.glob_lines.specs.Lines.{lines_of};
-ghost use Rattle.glob_lines.specs.Ignore.{BeginsWithLine, trimmed, without_mark, without_returns};
+ghost use Rattle.glob_lines.specs.Ignore.{BeginsWithLine, Trims, without_mark, without_returns};
+ghost use Rattle.glob_lines.specs.Trimming.{StandsBefore, is_open};
 
 use memchr::memchr;
 
@@ -60,24 +61,32 @@ fn split_ended_line(bytes: &[u8]) -> (&[u8], &[u8])
     }
 }
 
-/// A line without the spaces at its end, where a space after a backslash that escapes it stays.
+/// A line without the spaces at its end, but for one that a backslash escapes.
 fn without_trailing_spaces(line: &[u8]) -> &[u8]
-    ensures { result.now ≡ trimmed line.now }
+    ensures { Trims line.now result.now }
 {
-    let spaces = place_after_last_other(line, b' ');
-    let backslashes = place_after_last_other(&line[..spaces], b'\\');
-    let is_escaped = (spaces - backslashes) % 2 == 1;
-    if is_escaped && spaces < line.len() {
-        &line[..spaces + 1]
+    let front = without_trailing(line, b' ');
+    if front.len() < line.len() && escapes_the_next(front) {
+        &line[..front.len() + 1]
     } else {
-        &line[..spaces]
+        front
     }
 }
 
-/// The place after the last byte that is another one than `byte`; 0 where there is none.
-fn place_after_last_other(bytes: &[u8], byte: u8) -> usize {
+/// Whether the bytes end in a backslash that is not escaped itself.
+fn escapes_the_next(bytes: &[u8]) -> bool
+    ensures { result ≡ is_open bytes.now }
+{
+    let backslashes = bytes.len() - without_trailing(bytes, b'\\').len();
+    backslashes % 2 == 1
+}
+
+/// What stands before the bytes at the end that are `byte`.
+fn without_trailing(bytes: &[u8], byte: u8) -> &[u8]
+    ensures { StandsBefore byte bytes.now result.now }
+{
     match bytes.iter().rposition(|b| *b != byte) {
-        Some(place) => place + 1,
-        None => 0,
+        Some(last) => &bytes[..last + 1],
+        None => &[],
     }
 }
