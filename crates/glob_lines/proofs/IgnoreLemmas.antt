@@ -1,13 +1,16 @@
 -- The lines of an ignore file: endings, comments, and the entries of all lines.
 use Rattle.std.proofs.Common.{◌≡◌, ◌≢◌, inl, inr, ⊎_elim, ℕ, zero, suc, ◌+◌, ◌-◌, ◌<◌, ◌≤◌, Bool, true, false, cond, ◌&&◌, List, [], ◌∷◌, ◌++◌, length, take, drop, get_or, Option, None, Some, refl, sym, ap, subst, ◌∙◌, append_assoc, append-nil, length-append, length-drop, le_refl, take_all, take-append-drop, arith}
 use Rattle.std.specs.Prelude.{◌⊎◌, ◌==◌, nat_eq, codes, MatchOption}
-use Rattle.std.specs.List.{AllByRecursion, starts_with}
+use Rattle.std.specs.List.{AllByRecursion, ends_with, starts_with}
+use Rattle.std.proofs.lemmas.Bool.Decides.{Decides-eqb}
+use Rattle.std.proofs.lemmas.Slice.Eq.{ends_is}
 use Rattle.std.proofs.lemmas.Bool.{cases_Bool, false≢true, ne_eqb, eqb-true, eq-eqb}
 use Rattle.std.proofs.lemmas.Bool.Decides.{eqb_tells}
 use Rattle.std.proofs.lemmas.List.{drop_more}
 use Rattle.memchr.specs.Find.{IsFirstByte, is_byte}
 use Rattle.glob_lines.specs.Lines.{HasNo, HasNoLineFeed, line_feed, lines_of}
 use Rattle.glob_lines.specs.Numbered.{TextAndValue}
+use Rattle.glob_lines.specs.Trimming.{ends_in_return, return_of}
 use Rattle.glob_lines.specs.Ignore.{BeginsWithLine, GivesTrimmed, Trims, byte_order_mark, carriage_return, is_comment, trimmed, trimmed_unless_comment, without_mark, without_returns}
 use Rattle.glob_lines.proofs.LinesLemmas.{HasNo-take, first_line, last_line, lines_of-last, lines_of-line, length-lines_of-le}
 use Rattle.glob_lines.proofs.NumberedLemmas.{Tells}
@@ -22,8 +25,8 @@ begins_with_feed bytes = starts_with nat_eq bytes (line_feed ∷ [])
 stays : (b : ℕ) (bytes : List ℕ) → begins_with_feed bytes ≡ false → without_returns (b ∷ bytes) ≡ b ∷ without_returns bytes
 stays b bytes none =
     ⊎_elim
-    (λ yes. rw (yes, none) refl)
-    (λ no. rw no refl)
+    (λ (yes : (b == carriage_return) ≡ true). rw (yes, none) refl)
+    (λ (no : (b == carriage_return) ≡ false). rw (no) refl)
     (cases_Bool (b == carriage_return))
 
 -- a byte that is no carriage return stays
@@ -114,6 +117,17 @@ ended_otherwise bytes line rest h other =
     ∙ ap lines_of (without_returns-other line rest h.none other)
     ∙ lines_of-line line (without_returns rest) h.none
 
+-- without its carriage return, where it has one
+pub ended_line : (bytes line text rest : List ℕ) → IsCutAtFeed bytes line rest → line ≡ text ++ return_of line → lines_of (without_returns bytes) ≡ text ∷ lines_of (without_returns rest)
+ended_line bytes line text rest h parts =
+    ⊎_elim
+    (λ (yes : ends_in_return line ≡ true). ended_by_return bytes line text rest h (parts ∙ ap (λ b. text ++ cond b (carriage_return ∷ []) []) yes))
+    (λ (no : ends_in_return line ≡ false).
+    let same : line ≡ text = parts ∙ ap (λ b. text ++ cond b (carriage_return ∷ []) []) no ∙ append-nil text in
+    let other : (before : List ℕ) → line ≢ before ++ carriage_return ∷ [] = λ before is. false≢true (sym no ∙ (ends_is Decides-eqb line (carriage_return ∷ []) (ends_in_return line) refl).1 before is) in
+    ended_otherwise bytes line rest h other ∙ ap (λ l. l ∷ lines_of (without_returns rest)) same)
+    (cases_Bool (ends_in_return line))
+
 pub not_ended : (bytes : List ℕ) → 0 < length bytes → IsFirstByte (is_byte line_feed) bytes None → lines_of (without_returns bytes) ≡ bytes ∷ []
 not_ended bytes some h =
     let none : HasNoLineFeed bytes =
@@ -121,6 +135,13 @@ not_ended bytes some h =
     ap lines_of (without_returns-none bytes none) ∙ last_line bytes some h
 
 -- ---- what a line gives
+
+pub begins_with_comment : (bytes line rest : List ℕ) → lines_of (without_returns bytes) ≡ line ∷ lines_of (without_returns rest) → length rest < length bytes → is_comment line ≡ true → BeginsWithLine bytes None rest
+begins_with_comment bytes line rest lines shorter comment = record { line = line; lines = lines; gives = comment; shorter = shorter }
+
+pub begins_with_text : (bytes line rest text : List ℕ) → lines_of (without_returns bytes) ≡ line ∷ lines_of (without_returns rest) → length rest < length bytes → is_comment line ≡ false → Trims line text
+    → BeginsWithLine bytes (Some text) rest
+begins_with_text bytes line rest text lines shorter other trims = record { line = line; lines = lines; gives = record { no_comment = other; trims = trims }; shorter = shorter }
 
 gives_trimmed : (line : List ℕ) (it : TextAndValue (Unit {0})) → trimmed_unless_comment line ≡ Some it → GivesTrimmed line it.text it.value
 gives_trimmed line it is =
@@ -140,6 +161,12 @@ Tells-trimmed = record {
       ap (λ b. cond b None (Some (it (trimmed line)))) h.no_comment ∙ ap (λ l. Some (it l)) (sym (Trims-only line text h.trims));
   gives = gives_trimmed;
 }
+
+pub text_is_given : (line text : List ℕ) → GivesTrimmed line text tt → trimmed_unless_comment line ≡ Some (record { text = text; value = tt })
+text_is_given line text h = Tells-trimmed.found line text tt h
+
+pub comment_gives_nothing : (line : List ℕ) → is_comment line ≡ true → trimmed_unless_comment line ≡ None
+comment_gives_nothing line comment = let it : TextAndValue (Unit {0}) = record { text = trimmed line; value = tt } in ap (λ b. cond b None (Some it)) comment
 
 -- ---- how many
 

@@ -1,4 +1,5 @@
 pub mod IgnoreLemmas
+pub mod LabelLemmas
 pub mod LinesLemmas
 pub mod MappingsLemmas
 pub mod NumberedLemmas

@@ -1,7 +1,15 @@
--- Words of the code that takes the spaces off a line's end. No public contract cites them.
-use Rattle.std.specs.Prelude.{◌≡◌, ◌≢◌, ◌==◌, ℕ, Bool, false, if◌then◌else◌, List, [], ◌∷◌, ◌++◌}
-use Rattle.std.specs.List.{AllByRecursion}
+-- Words of the code that takes a carriage return and the spaces off a line's end. No public contract cites them.
+use Rattle.std.specs.Prelude.{◌≡◌, ◌≢◌, ◌==◌, ℕ, Bool, false, nat_eq, if◌then◌else◌, List, [], ◌∷◌, ◌++◌}
+use Rattle.std.specs.List.{AllByRecursion, ends_with}
 use Rattle.gix_glob.specs.Bytes.{backslash}
+use Rattle.glob_lines.specs.Ignore.{carriage_return}
+
+-- the carriage return that a line ends in
+abbrev pub ends_in_return : List ℕ → Bool
+ends_in_return line = ends_with nat_eq line (carriage_return ∷ [])
+
+abbrev pub return_of : List ℕ → List ℕ
+return_of line = if ends_in_return line then carriage_return ∷ [] else []
 
 -- the bytes are the front, which doesn't end in this byte, and then this byte alone
 pub record StandsBefore (byte : ℕ) (bytes front : List ℕ) : Type 0 where

@@ -1,9 +1,9 @@
 //! One line of an ignore file after the other, without a copy.
-ghost use Rattle.std.specs.Prelude.{◌≡◌, ◌<◌, [], ◌∷◌, length, MatchOption};
+ghost use Rattle.std.specs.Prelude.{◌≡◌, ◌<◌, [], ◌∷◌, ◌++◌, length, MatchOption};
 ghost use Rattle.std.specs.Option.{option_copied};
 ghost use Rattle.glob_lines.specs.Lines.{lines_of};
-ghost use Rattle.glob_lines.specs.Ignore.{BeginsWithLine, Trims, without_mark, without_returns};
-ghost use Rattle.glob_lines.specs.Trimming.{StandsBefore, is_open};
+ghost use Rattle.glob_lines.specs.Ignore.{BeginsWithLine, Trims, is_comment, without_mark, without_returns};
+ghost use Rattle.glob_lines.specs.Trimming.{StandsBefore, is_open, return_of};
 
 use memchr::memchr;
 
@@ -38,12 +38,19 @@ pub fn next_ignore_line(bytes: &[u8]) -> Option<IgnoreLine<'_>>
         return None;
     }
     let (line, rest) = split_ended_line(bytes);
-    let text = if line.starts_with(b"#") {
+    let text = if is_comment(line) {
         None
     } else {
         Some(without_trailing_spaces(line))
     };
     Some(IgnoreLine { text, rest })
+}
+
+/// Whether a line is a comment.
+fn is_comment(line: &[u8]) -> bool
+    ensures { result ≡ is_comment line.now }
+{
+    line.starts_with(b"#")
 }
 
 /// The first line of bytes that are not empty, without its ending, and what follows it.
@@ -53,11 +60,18 @@ fn split_ended_line(bytes: &[u8]) -> (&[u8], &[u8])
     ensures shorter { length result.1.now < length bytes.now }
 {
     match memchr(b'\n', bytes) {
-        Some(end) => {
-            let line = &bytes[..end];
-            (line.strip_suffix(b"\r").unwrap_or(line), &bytes[end + 1..])
-        }
+        Some(end) => (without_return(&bytes[..end]), &bytes[end + 1..]),
         None => (bytes, &[]),
+    }
+}
+
+/// A line without one carriage return at its end.
+fn without_return(line: &[u8]) -> &[u8]
+    ensures { line.now ≡ result.now ++ return_of line.now }
+{
+    match line.strip_suffix(b"\r") {
+        Some(text) => text,
+        None => line,
     }
 }
 
