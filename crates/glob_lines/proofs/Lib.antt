@@ -1,3 +1,5 @@
+pub mod DecidingLemmas
+pub mod DecisionsLemmas
 pub mod LinesLemmas
 pub mod MappingsLemmas
 pub mod NumbersLemmas

@@ -1,3 +1,4 @@
+pub mod Decisions
 pub mod Lines
 pub mod Mappings
 pub mod Numbers
