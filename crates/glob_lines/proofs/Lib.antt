@@ -2,6 +2,7 @@ pub mod DecidingLemmas
 pub mod DecisionsLemmas
 pub mod LinesLemmas
 pub mod MappingsLemmas
+pub mod NumberedLemmas
 pub mod NumbersLemmas
 pub mod PathsLemmas
 pub mod PlainLemmas

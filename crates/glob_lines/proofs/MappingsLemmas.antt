@@ -8,8 +8,7 @@ use Rattle.gix_glob.specs.Stripping.{NothingLeft, RestOf}
 use Rattle.glob_lines.specs.Mappings.{MappingsText, MatchesText, WritesMatches, WritesNumbers}
 use Rattle.glob_lines.specs.Numbers.{Picks, spaced}
 use Rattle.glob_lines.specs.Paths.{IsPlainPath, MarksDirectory}
-use Rattle.glob_lines.specs.Plain.{Plain, PlainEntry}
-use Rattle.glob_lines.specs.PlainEquations.{plain_of}
+use Rattle.glob_lines.specs.Plain.{Plain, PlainEntry, plain_of}
 use Rattle.glob_lines.specs.Transfers.{Adds}
 use Rattle.glob_lines.proofs.NumbersLemmas.{Picks-more, Picks-none, separator_after, spaced-more}
 use Rattle.glob_lines.proofs.PlainLemmas.{Plain-plain_of}

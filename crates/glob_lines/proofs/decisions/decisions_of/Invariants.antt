@@ -3,7 +3,7 @@ use Rattle.gix_glob.specs.Loaded.{listed}
 use Rattle.glob_lines.specs.Decisions.{WritesDecisions}
 use Rattle.glob_lines.specs.Lines.{lines_of}
 use Rattle.glob_lines.proofs.LinesLemmas.{IsWrittenUpTo}
-use Rattle.glob_lines.proofs.ignore.decisions_of.Given as goal
+use Rattle.glob_lines.proofs.decisions.decisions_of.Given as goal
 
 -- the path lines so far have their lines in the text
 abbrev pub invariant-loop-line : goal.invariant-loop-line

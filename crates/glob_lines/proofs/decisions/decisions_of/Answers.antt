@@ -1,7 +1,7 @@
 -- What is written for a path line, and its line feed, is the next line of the text.
 use Rattle.std.proofs.Common.{◌++◌, ◌∷◌, [], ap, ◌∙◌, append_assoc}
 use Rattle.glob_lines.proofs.LinesLemmas.{IsWrittenUpTo-all, IsWrittenUpTo-more, Lines-lines_of}
-use Rattle.glob_lines.proofs.ignore.decisions_of.Goals as goal
+use Rattle.glob_lines.proofs.decisions.decisions_of.Goals as goal
 
 pub loop-line-preserved : goal.loop-line-preserved
 loop-line-preserved g c =

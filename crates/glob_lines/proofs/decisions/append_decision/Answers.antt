@@ -6,7 +6,7 @@ use Rattle.gix_glob.specs.Loaded.{listed}
 use Rattle.glob_lines.proofs.DecidingLemmas.{of_list, seen_at, seen_within}
 use Rattle.glob_lines.proofs.DecisionsLemmas.{writes_none, writes_verdict}
 use Rattle.glob_lines.proofs.PathsLemmas.{IsPlainPath-marked}
-use Rattle.glob_lines.proofs.ignore.append_decision.Goals as goal
+use Rattle.glob_lines.proofs.decisions.append_decision.Goals as goal
 
 pub decide-requires-clause-plain : goal.decide-requires-clause-plain
 decide-requires-clause-plain g c =
