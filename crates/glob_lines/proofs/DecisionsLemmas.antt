@@ -1,6 +1,6 @@
 -- What is written for a path line and a stack of lists.
-use Rattle.std.proofs.Common.{◌≡◌, ◌+◌, inr, ℕ, Bool, List, ◌++◌, None, Some, refl}
-use Rattle.std.specs.Prelude.{codes, slice_get}
+use Rattle.std.proofs.Common.{◌≡◌, ◌+◌, inr, ℕ, Bool, List, ◌++◌, None, Some, Result, Ok, Err, refl}
+use Rattle.std.specs.Prelude.{OnOk, codes, if◌then◌else◌, is_ok, slice_get}
 use Rattle.gix_glob.specs.declared.pattern.Case.{Case}
 use Rattle.gix_glob.specs.Deciding.{Decides}
 use Rattle.gix_glob.specs.Lists.{Entry}
@@ -35,3 +35,8 @@ module _ {V : Type 0} (lists : List (Listed V)) (case : Case) (line path : List 
     allowed = inr (plain, record { path = path; is_dir = is_dir; marked = marked; pair = None; decides = decides; shown = refl });
     grown = grown;
   }
+
+-- a text that grew unless memory was refused
+pub grown_on_ok : {T E : Type 0} (result : Result T E) (new grown old : List ℕ) → new ≡ (if is_ok result then grown else old) → OnOk result (new ≡ grown)
+grown_on_ok (Ok x) new grown old is = is
+grown_on_ok (Err e) new grown old is = tt

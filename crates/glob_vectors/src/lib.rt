@@ -2,6 +2,8 @@
 #![tactic(auto)]
 
 #[cfg(test)]
+mod decision_rows;
+#[cfg(test)]
 mod fakes;
 #[cfg(test)]
 mod file_rows;

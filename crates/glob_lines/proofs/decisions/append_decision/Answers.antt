@@ -1,10 +1,10 @@
 -- What decides is a mapping of one of the lists.
-use Rattle.std.proofs.Common.{◌≡◌, ◌<◌, length, map}
+use Rattle.std.proofs.Common.{◌≡◌, ◌<◌, length, map, rules, subst, sym}
 use Rattle.std.proofs.lemmas.Result.{on_ok_weaker}
 use Rattle.gix_glob.specs.Lists.{entry_of}
 use Rattle.gix_glob.specs.Loaded.{listed}
 use Rattle.glob_lines.proofs.DecidingLemmas.{of_list, seen_at, seen_within}
-use Rattle.glob_lines.proofs.DecisionsLemmas.{writes_none, writes_verdict}
+use Rattle.glob_lines.proofs.DecisionsLemmas.{grown_on_ok, writes_none, writes_verdict}
 use Rattle.glob_lines.proofs.PathsLemmas.{IsPlainPath-marked}
 use Rattle.glob_lines.proofs.decisions.append_decision.Goals as goal
 
@@ -31,7 +31,8 @@ index-requires g c =
     let within : c.in-Some.i < length c.args.lists.now = seen_within (listed g.T.Pattern.seen) c.args.lists.now c.in-Some.i _ c.in-Some.ensures.answers.there in
     let there = seen_at (listed g.T.Pattern.seen) c.args.lists.now c.in-Some.i c.index-lists-i.result within c.index-lists-i.is in
     let answers = of_list _ _ _ _ c.in-Some.i c.in-Some.m list there c.in-Some.ensures.answers in
-    rw (← c.index-lists-i.is) (seen_within (entry_of g.T.Pattern.seen) c.index-lists-i.result.patterns.items c.in-Some.m _ answers.there)
+    let inside = seen_within (entry_of g.T.Pattern.seen) c.index-lists-i.result.patterns.items c.in-Some.m _ answers.there in
+    rw (← c.index-lists-i.is) (subst (λ n. c.in-Some.m < n) (sym c.index-lists-i.result.patterns.ok.0) inside)
 
 pub returns-in-Some : goal.returns-in-Some
 returns-in-Some g c =
@@ -52,4 +53,4 @@ returns-in-None g c =
     on_ok_weaker c.extend_from_slice.result
     (writes_none _ c.args.case c.args.line.now c.path_of-is_dir.result.0.now c.path_of-is_dir.result.1 _ _
     (c.plain_path.ensures.0 c.if-not-plain_path.false) c.path_of-is_dir.ensures c.in-None.ensures)
-    c.extend_from_slice.ensures.items
+    (grown_on_ok c.extend_from_slice.result _ _ _ c.extend_from_slice.ensures.items)
