@@ -16,8 +16,9 @@ returns-then-matches_repo_relative_path g c =
     let within : at < length c.args.list.now.patterns.items = omega (arith, ap length c.as_slice-mappings.ensures.value) in
     let is = rw c.as_slice-mappings.ensures.value at c.index-mappings-m.is in
     let there = seen_at (entry_of g.T.Pattern.seen) c.args.list.now.patterns.items at c.index-mappings-m.result within is in
+    let told = rw (← c.index-mappings-m.is) at c.matches_repo_relative_path.ensures in
     let answers = AnswersUnder-yes list.base c.args.path.now c.args.is_dir c.args.case (entry_of g.T.Pattern.seen c.index-mappings-m.result) c.in_ok-rest.rest.now c.in_ok-rest.position
-    c.in_ok-rest.ensures.0 c.in_ok-rest.ensures.1 (c.matches_repo_relative_path.ensures.0 c.if-matches_repo_relative_path.true) in
+    c.in_ok-rest.ensures.0 c.in_ok-rest.ensures.1 (told.0 c.if-matches_repo_relative_path.true) in
     LastOf-found list c.args.path.now c.args.is_dir c.args.case c.loop-m.m at next c.loop-m.invariant
     (AnswersAt-yes list c.args.path.now c.args.is_dir c.args.case at (entry_of g.T.Pattern.seen c.index-mappings-m.result) there answers)
 
@@ -29,9 +30,10 @@ loop-m-preserved g c =
     let within : at < length c.args.list.now.patterns.items = omega (arith, ap length c.as_slice-mappings.ensures.value) in
     let is = rw c.as_slice-mappings.ensures.value at c.index-mappings-m.is in
     let there = seen_at (entry_of g.T.Pattern.seen) c.args.list.now.patterns.items at c.index-mappings-m.result within is in
+    let told = rw (← c.index-mappings-m.is) at c.matches_repo_relative_path.ensures in
     let refused = λ (h : AnswersUnder (option_map vec_items c.args.list.now.base) (entry_of g.T.Pattern.seen c.index-mappings-m.result) c.args.path.now c.args.is_dir c.args.case).
     let answered : c.matches_repo_relative_path.result ≡ true =
-    c.matches_repo_relative_path.ensures.1
+    told.1
     (AnswersUnder-only list.base c.args.path.now c.args.is_dir c.args.case (entry_of g.T.Pattern.seen c.index-mappings-m.result) c.in_ok-rest.rest.now c.in_ok-rest.position
     c.in_ok-rest.ensures.0 c.in_ok-rest.ensures.1 h) in
     absurd (cc) in
