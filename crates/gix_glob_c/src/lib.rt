@@ -81,3 +81,6 @@ fn case_for(fold: bool) -> Case
 {
     if fold { Case::Fold } else { Case::Sensitive }
 }
+
+#[cfg(test)]
+mod tests;

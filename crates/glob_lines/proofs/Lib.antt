@@ -1,5 +1,7 @@
 pub mod DecidingLemmas
 pub mod DecisionsLemmas
+pub mod IgnoreLemmas
+pub mod LabelLemmas
 pub mod LinesLemmas
 pub mod MappingsLemmas
 pub mod NumberedLemmas
@@ -8,3 +10,4 @@ pub mod PathsLemmas
 pub mod PlainLemmas
 pub mod StrippingLemmas
 pub mod TransferLemmas
+pub mod TrimLemmas

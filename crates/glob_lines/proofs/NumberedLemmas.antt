@@ -60,8 +60,12 @@ module _ {V : Type 0} (Gives : List ℕ → List ℕ → V → Type 0) (given : 
     is = ap (option_and_then (entry_given number)) is ∙ ap (option_map (entry_with it.value number)) blank;
     has_none = record {
       none = λ text value gives has.
-          let same : text ≡ it.text = let both : Some _ ≡ Some it = sym (tells.found line text value gives) ∙ is in ap (λ (x : TextAndValue V). x.text) (cc) in
-          let read : None ≡ Some _ = sym blank ∙ sym (ap (reading_of true) same) ∙ (readings text true has.body has.flags has.place).0 has.read in
+          let this : TextAndValue V = record { text = text; value = value } in
+          let both : Some this ≡ Some it = sym (tells.found line text value gives) ∙ is in
+          let equal : this ≡ it = cc in
+          let same : text ≡ it.text = ap (λ (x : TextAndValue V). x.text) equal in
+          let reading : Reading = record { body = has.body; flags = has.flags; place = has.place } in
+          let read : None ≡ Some reading = sym blank ∙ sym (ap (reading_of true) same) ∙ (readings text true has.body has.flags has.place).0 has.read in
           absurd (cc);
     };
   }

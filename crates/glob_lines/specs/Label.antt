@@ -1,7 +1,8 @@
 -- What the parser of labels means: the readings of what stands before the lines' tabs, with what stands after them as values.
-use Rattle.std.specs.Prelude.{◌≡◌, ◌≢◌, ◌⊎◌, ◌==◌, ℕ, Bool, List, [], ◌∷◌, ◌++◌, Option, Some}
-use Rattle.std.specs.List.{AllByRecursion, after_first, before_first}
+use Rattle.std.specs.Prelude.{◌≡◌, ◌⊎◌, ◌==◌, ℕ, Bool, List, [], ◌∷◌, ◌++◌, Option, Some}
+use Rattle.std.specs.List.{after_first, before_first}
 use Rattle.gix_glob.specs.Lists.{Entry}
+use Rattle.glob_lines.specs.Lines.{HasNo}
 use Rattle.glob_lines.specs.Numbered.{Entries, TextAndValue, entries_of}
 use Rattle.glob_lines.specs.Plain.{PlainEntry}
 
@@ -12,14 +13,10 @@ LabelEntry = Entry (List ℕ)
 abbrev pub tab : ℕ
 tab = 9
 
--- no byte of the text is a tab
-abbrev pub HasNoTab : List ℕ → Type 0
-HasNoTab text = AllByRecursion (λ b. b ≢ tab) text
-
 -- A line gives what stands before its first tab, with what stands after that tab as the value; without a tab it gives
 -- itself, with an empty value.
 pub record GivesLabel (line text value : List ℕ) : Type 0 where
-  pub first : HasNoTab text
+  pub first : HasNo tab text
   pub cut : (line ≡ text ++ tab ∷ value) ⊎ ((line ≡ text) × (value ≡ []))
 
 -- The labelled entries of the bytes: for each line, numbered from 1, whose part before the first tab has a reading, this

@@ -1,8 +1,9 @@
 //! One line of an ignore file after the other, without a copy.
-ghost use Rattle.std.specs.Prelude.{◌≡◌, ◌<◌, [], ◌∷◌, length, MatchOption};
+ghost use Rattle.std.specs.Prelude.{◌≡◌, ◌<◌, [], ◌∷◌, ◌++◌, length, MatchOption};
 ghost use Rattle.std.specs.Option.{option_copied};
 ghost use Rattle.glob_lines.specs.Lines.{lines_of};
-ghost use Rattle.glob_lines.specs.Ignore.{BeginsWithLine, trimmed, without_mark, without_returns};
+ghost use Rattle.glob_lines.specs.Ignore.{BeginsWithLine, Trims, is_comment, without_mark, without_returns};
+ghost use Rattle.glob_lines.specs.Trimming.{StandsBefore, is_open, return_of};
 
 use memchr::memchr;
 
@@ -37,12 +38,19 @@ pub fn next_ignore_line(bytes: &[u8]) -> Option<IgnoreLine<'_>>
         return None;
     }
     let (line, rest) = split_ended_line(bytes);
-    let text = if line.starts_with(b"#") {
+    let text = if is_comment(line) {
         None
     } else {
         Some(without_trailing_spaces(line))
     };
     Some(IgnoreLine { text, rest })
+}
+
+/// Whether a line is a comment.
+fn is_comment(line: &[u8]) -> bool
+    ensures { result ≡ is_comment line.now }
+{
+    line.starts_with(b"#")
 }
 
 /// The first line of bytes that are not empty, without its ending, and what follows it.
@@ -52,32 +60,47 @@ fn split_ended_line(bytes: &[u8]) -> (&[u8], &[u8])
     ensures shorter { length result.1.now < length bytes.now }
 {
     match memchr(b'\n', bytes) {
-        Some(end) => {
-            let line = &bytes[..end];
-            (line.strip_suffix(b"\r").unwrap_or(line), &bytes[end + 1..])
-        }
+        Some(end) => (without_return(&bytes[..end]), &bytes[end + 1..]),
         None => (bytes, &[]),
     }
 }
 
-/// A line without the spaces at its end, where a space after a backslash that escapes it stays.
-fn without_trailing_spaces(line: &[u8]) -> &[u8]
-    ensures { result.now ≡ trimmed line.now }
+/// A line without one carriage return at its end.
+fn without_return(line: &[u8]) -> &[u8]
+    ensures { line.now ≡ result.now ++ return_of line.now }
 {
-    let spaces = place_after_last_other(line, b' ');
-    let backslashes = place_after_last_other(&line[..spaces], b'\\');
-    let is_escaped = (spaces - backslashes) % 2 == 1;
-    if is_escaped && spaces < line.len() {
-        &line[..spaces + 1]
-    } else {
-        &line[..spaces]
+    match line.strip_suffix(b"\r") {
+        Some(text) => text,
+        None => line,
     }
 }
 
-/// The place after the last byte that is another one than `byte`; 0 where there is none.
-fn place_after_last_other(bytes: &[u8], byte: u8) -> usize {
+/// A line without the spaces at its end, but for one that a backslash escapes.
+fn without_trailing_spaces(line: &[u8]) -> &[u8]
+    ensures { Trims line.now result.now }
+{
+    let front = without_trailing(line, b' ');
+    if front.len() < line.len() && escapes_the_next(front) {
+        &line[..front.len() + 1]
+    } else {
+        front
+    }
+}
+
+/// Whether the bytes end in a backslash that is not escaped itself.
+fn escapes_the_next(bytes: &[u8]) -> bool
+    ensures { result ≡ is_open bytes.now }
+{
+    let backslashes = bytes.len() - without_trailing(bytes, b'\\').len();
+    backslashes % 2 == 1
+}
+
+/// What stands before the bytes at the end that are `byte`.
+fn without_trailing(bytes: &[u8], byte: u8) -> &[u8]
+    ensures { StandsBefore byte bytes.now result.now }
+{
     match bytes.iter().rposition(|b| *b != byte) {
-        Some(place) => place + 1,
-        None => 0,
+        Some(last) => &bytes[..last + 1],
+        None => &[],
     }
 }

@@ -1,4 +1,5 @@
 //! The parser of labels: a pattern, a tab and a value on each line.
+ghost use Rattle.glob_lines.specs.Label.{GivesLabel};
 
 use crate::lines::Lines;
 use crate::numbered::push_pattern;
@@ -46,7 +47,9 @@ impl search::Pattern for LabelLines {
 }
 
 /// What stands before the first tab of a line, and what stands after it.
-fn split_label(line: &[u8]) -> (&[u8], &[u8]) {
+fn split_label(line: &[u8]) -> (&[u8], &[u8])
+    ensures { GivesLabel line.now result.0.now result.1.now }
+{
     match memchr(b'\t', line) {
         Some(tab) => (&line[..tab], &line[tab + 1..]),
         None => (line, &[]),

@@ -1,12 +1,11 @@
 //! Laws of the definitions, each the contract of a function that does nothing.
-ghost use Rattle.std.specs.Prelude.{◌≡◌, ◌↔◌, ◌==◌, ℕ, List, Option, map, false};
-ghost use Rattle.std.specs.List.{list_any};
+ghost use Rattle.std.specs.Prelude.{◌≡◌, ◌↔◌, ℕ, List, Option, map};
 ghost use Rattle.gix_glob.specs.Deciding.{HasFolder};
 ghost use Rattle.gix_glob.specs.Lists.{Entry};
 ghost use Rattle.gix_glob.specs.Loaded.{IsLoaded, Listed};
 ghost use Rattle.glob_lines.specs.Ignore.{Ignore, ignore_of};
-ghost use Rattle.glob_lines.specs.Label.{Label, LabelEntry, is_tab, label_of, unlabelled};
-ghost use Rattle.glob_lines.specs.Lines.{Lines, lines_of};
+ghost use Rattle.glob_lines.specs.Label.{Label, LabelEntry, label_of, tab, unlabelled};
+ghost use Rattle.glob_lines.specs.Lines.{HasNo, Lines, lines_of};
 ghost use Rattle.glob_lines.specs.Plain.{Plain, PlainEntry, plain_of};
 
 use gix_glob::{laws, search};
@@ -39,7 +38,7 @@ pub fn label_entries_are_these()
 
 /// Over bytes without a tab the labelled entries are the plain ones, with empty values.
 pub fn lines_without_tabs_keep_their_meaning()
-    ensures { (bytes : List ℕ) (entries : List PlainEntry) → list_any is_tab bytes ≡ false
+    ensures { (bytes : List ℕ) (entries : List PlainEntry) → HasNo tab bytes
         → Plain bytes entries → Label bytes (map unlabelled entries) }
 {
     laws::readings_are_these();

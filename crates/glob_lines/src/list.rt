@@ -71,8 +71,9 @@ pub fn run_list<P: Read, Q: Read, W: Write>(
     let source = String::from_str(alloc, source)?;
     let list = List::from_bytes(alloc, &pattern_lines, source, root, PlainLines)?;
     let path_lines = read_whole(alloc, paths)?;
-    // a law does nothing: it is called for what it ensures
+    // laws do nothing: they are called for what they ensure
     laws::loaded_lists_have_folders::<PlainLines>();
+    laws::plain_entries_are_these();
     let text = matches_of(alloc, &list, case, &path_lines)?;
     write_whole(writer, &text)
 }

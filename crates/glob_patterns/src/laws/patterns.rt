@@ -2,7 +2,7 @@
 ghost use Rattle.std.specs.Prelude.{◌≡◌, ◌↔◌, ◌||◌, ℕ, Bool, true, false, IsTrue, List, Option, Some, None, codes, nat_eq};
 ghost use Rattle.std.specs.List.{list_any, starts_with};
 ghost use Rattle.std.specs.Str.{IsUtf8};
-ghost use Rattle.std.specs.declared.cmp.Ordering.TheVariants.{Equal};
+ghost use Rattle.std.specs.declared.cmp.Ordering.TheVariants.{Equal, Less};
 ghost use Rattle.glob_matcher.specs.declared.wildmatch.mode.Mode as wildmatch;
 ghost use Rattle.glob_patterns.specs.declared.pattern.mode.Mode as pattern;
 ghost use Rattle.glob_patterns.specs.declared.pattern.Pattern.{Pattern};
@@ -76,4 +76,9 @@ pub fn order_agrees_with_equality()
 /// The case of letters counts where nothing else is said.
 pub fn case_counts_by_default()
     ensures { (case : Case) → ⟦<Case as Default>⟧.is_default case → case ≡ Case.Sensitive }
+{}
+
+/// [`Case::Sensitive`] comes before [`Case::Fold`].
+pub fn sensitive_comes_before_fold()
+    ensures { ⟦<Case as Ord>⟧.cmp Case.Sensitive Case.Fold ≡ Less }
 {}

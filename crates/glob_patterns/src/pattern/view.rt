@@ -121,3 +121,6 @@ impl<'a> PatternView<'a> {
         }
     }
 }
+
+#[cfg(test)]
+mod tests;
