@@ -1,7 +1,5 @@
 //! Which pattern of a stack of lists decides about a path: the last one that matches it.
-ghost use Rattle.std.specs.Prelude.{◌↔◌, ◌≤◌, ℕ, IsTrue, MatchOption, map, option_map};
-ghost use Rattle.std.specs.Option.{ForSome};
-ghost use Rattle.std.specs.Vec.{vec_items};
+ghost use Rattle.std.specs.Prelude.{◌↔◌, ◌≤◌, ℕ, IsTrue, MatchOption, map};
 ghost use Rattle.gix_glob.specs.Deciding.{AnswersAt, BasesAreFolders, Decides, HasFolder};
 ghost use Rattle.gix_glob.specs.Loaded.{listed};
 ghost use Rattle.gix_glob.specs.Paths.{IsFolder, IsPlainPath};
@@ -13,13 +11,13 @@ use gix_glob::search;
 use gix_glob::search::pattern::List;
 use gix_glob::wildmatch::Mode;
 
-/// The pattern that decides about a path, in a stack of lists of which a later one comes before an earlier one: the last
-/// mapping of the last list that has one that matches what the list's base leaves of the path. It is answered as the place
-/// of the list and the place of the mapping in it, both from 0; `None` where no pattern matches.
+/// Which pattern decides about a path, in a stack of lists where a later one decides over an earlier one: the last mapping, of
+/// the last list that has one, that matches what the base of its list leaves of the path. The answer is the place of the list
+/// and the place of the mapping in it, both from 0, or `None` where no pattern matches.
 ///
-/// Whether the path is then taken or left out is for [`Pattern::is_negative`](gix_glob::Pattern::is_negative) to tell. The
-/// path has to be a [`plain_path`](crate::plain_path), without a trailing slash where it is a directory, and the lists have
-/// to meet [`bases_are_folders`]. No memory is taken. The rule is in `docs/LINES.md`, "Which line decides".
+/// Whether the path is then kept or left out, [`Pattern::is_negative`](gix_glob::Pattern::is_negative) of that pattern tells. The
+/// path has to be a [`plain_path`](crate::plain_path), where a directory's has no trailing slash, and the lists have to meet
+/// [`bases_are_folders`]. No memory is taken. The rule is in `docs/LINES.md`, "Which line decides".
 pub fn decide<T: search::Pattern>(
     lists: &[List<T>],
     path: &[u8],

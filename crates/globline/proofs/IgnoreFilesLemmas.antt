@@ -1,15 +1,16 @@
 -- Ignore files, one after the other.
-use Rattle.std.proofs.Common.{◌≡◌, ◌⊎◌, inl, inr, ⊎_elim, ℕ, ◌<◌, ◌+◌, Bool, true, List, [], ◌∷◌, ◌++◌, length, get_or, map, take, Option, Some, None, refl, sym, ap, subst, ◌∙◌}
-use Rattle.std.specs.Prelude.{All}
+use Rattle.std.proofs.Common.{◌≡◌, ◌⊎◌, inl, inr, ⊎_elim, ℕ, ◌<◌, ◌+◌, Bool, true, false, List, [], ◌∷◌, ◌++◌, length, get_or, map, take, Option, Some, None, refl, sym, ap, subst, ◌∙◌}
+use Rattle.std.specs.Prelude.{All, MatchBool}
 use Rattle.std.specs.List.{AllPass, list_all}
 use Rattle.std.specs.Option.{ForSome}
-use Rattle.std.proofs.lemmas.List.{get_or-map, length-map}
+use Rattle.std.proofs.lemmas.List.{get_or-map, length-map, map_push}
 use Rattle.std.proofs.lemmas.List.Elements.{All-cons, All-nil}
 use Rattle.std.proofs.lemmas.List.Sums.{AllPass-from_list_all}
 use Rattle.gix_glob.specs.Bytes.{EndsInSlash}
 use Rattle.gix_glob.specs.Deciding.{BasesAreFolders, HasFolder}
 use Rattle.gix_glob.specs.Lists.{Entry}
-use Rattle.gix_glob.specs.Loaded.{IsLoaded, Listed}
+use Rattle.gix_glob.specs.declared.search.pattern.list.List as patterns
+use Rattle.gix_glob.specs.Loaded.{AddsLoaded, IsLoaded, Listed, listed}
 use Rattle.gix_glob.specs.Paths.{Base, IsFolder, has_file_part}
 use Rattle.glob_lines.specs.Ignore.{Ignore, ignore_of}
 use Rattle.glob_lines.specs.Plain.{PlainEntry}
@@ -69,6 +70,16 @@ module _ (root : Option (List ℕ)) (file : List ℕ) where
       (λ (given : (bytes : List ℕ) × (list : IgnoreList) × (more : List IgnoreList) × (lists ≡ list ∷ more) × IsIgnoreList bytes first root list × AreIgnoreLists root files more).
       inr (given.0, given.1, given.2 ++ list ∷ [], ap (λ l. l ++ list ∷ []) given.3, given.4, one_more_list files given.2 bytes list given.5 is))
       are
+
+-- what a file that was asked for did to the lists
+pub one_more_file : {T X : Type 0} (law : IgnoreEntriesAreThese) (seen : X → Unit {0}) (is_added : Bool) (bytes file source : List ℕ) (root : Option (List ℕ)) (files : List (List ℕ)) (old new : List (patterns.List T X))
+    → source ≡ file → AreIgnoreLists root files (map (listed seen) old)
+    → MatchBool is_added (AddsLoaded seen (λ bytes _. ignore_of bytes) bytes source root old new) (new ≡ old) → AreIgnoreLists root (files ++ file ∷ []) (map (listed seen) new)
+one_more_file law seen true bytes file source root files old new same are adds =
+    subst (AreIgnoreLists root (files ++ file ∷ [])) (sym (ap (map (listed seen)) adds.grown ∙ map_push (listed seen) old adds.list))
+    (one_more_list root file files (map (listed seen) old) bytes (listed seen adds.list) are (is_ignore_list law bytes file source root (listed seen adds.list) same adds.loaded))
+one_more_file law seen false bytes file source root files old new same are kept =
+    subst (AreIgnoreLists root (files ++ file ∷ [])) (sym (ap (map (listed seen)) kept)) (one_more_passed root file files (map (listed seen) old) are)
 
 -- ---- each of the files can be one
 

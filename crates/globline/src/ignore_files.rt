@@ -30,17 +30,11 @@ pub(crate) fn lists_of<F: Files>(
     let mut bytes = Vec::new(alloc);
     for file in files {
         let source = String::from_str(alloc, file.as_str())?;
-        add_patterns_file(rt, alloc, &mut lists, source, root, &mut bytes, IgnoreLines).map_err(
-            fault_of,
-        )?;
+        match add_patterns_file(rt, alloc, &mut lists, source, root, &mut bytes, IgnoreLines) {
+            Ok(_is_added) => {}
+            Err(LoadFault::Memory(_)) => return Err(EngineFault::Memory),
+            Err(LoadFault::Read(_)) => return Err(EngineFault::Read),
+        }
     }
     Ok(lists)
-}
-
-/// The fault of the program where a file could not be loaded.
-fn fault_of(fault: LoadFault) -> EngineFault {
-    match fault {
-        LoadFault::Memory(_) => EngineFault::Memory,
-        LoadFault::Read(_) => EngineFault::Read,
-    }
 }
