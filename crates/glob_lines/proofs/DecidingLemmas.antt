@@ -12,7 +12,7 @@ use Rattle.gix_glob.specs.Deciding.{AnswersAt, AnswersUnder, Decides, IsLastAnsw
 use Rattle.gix_glob.specs.Lists.{Entry}
 use Rattle.gix_glob.specs.Loaded.{Listed}
 use Rattle.gix_glob.specs.RepositoryPaths.{Answers, IsAfterLastSlash, IsBasenameStart}
-use Rattle.gix_glob.specs.Stripping.{NothingLeft, Rest, RestOf, compared}
+use Rattle.gix_glob.specs.Stripping.{Rest, RestOf, compared}
 
 -- ---- one rest, and one place in it
 
@@ -85,9 +85,6 @@ module _ {V : Type 0} (list : Listed V) (path : List ℕ) (is_dir : Bool) (case 
   abbrev pub NoneFrom : ℕ → Type 0
   NoneFrom k = (m : ℕ) → k ≤ m → ¬ AnswersAt list path is_dir case m
 
-  pub NoneFrom-end : (k : ℕ) → length list.entries ≤ k → NoneFrom k
-  NoneFrom-end k end m past h = absurd (omega (arith, slice_get_within list.entries m h.entry h.there))
-
   pub NoneFrom-all : (k : ℕ) → k ≤ 0 → NoneFrom k → (m : ℕ) → ¬ AnswersAt list path is_dir case m
   NoneFrom-all k all none m h = none m (omega arith) h
 
@@ -99,9 +96,6 @@ module _ {V : Type 0} (list : Listed V) (path : List ℕ) (is_dir : Bool) (case 
 
   pub AnswersAt-yes : (j : ℕ) (entry : Entry V) → slice_get list.entries j ≡ Some entry → AnswersUnder list.base entry path is_dir case → AnswersAt list path is_dir case j
   AnswersAt-yes j entry there answered = record { entry = entry; there = there; answers = answered }
-
-  pub NoneFrom-nothing : NothingLeft case list.base path → (m : ℕ) → ¬ AnswersAt list path is_dir case m
-  NoneFrom-nothing none m h = none h.answers.rest h.answers.left
 
   pub NoneFrom-less : (k j : ℕ) → k ≡ j + 1 → NoneFrom k → ¬ AnswersAt list path is_dir case j → NoneFrom j
   NoneFrom-less k j next later here m past h =
@@ -123,9 +117,6 @@ module _ {V : Type 0} (lists : List (Listed V)) (path : List ℕ) (is_dir : Bool
   -- no list at this place or after it has an entry that answers
   abbrev pub NoListFrom : ℕ → Type 0
   NoListFrom k = (i m : ℕ) → k ≤ i → ¬ PairAnswers lists path is_dir case i m
-
-  pub NoListFrom-end : (k : ℕ) → length lists ≤ k → NoListFrom k
-  NoListFrom-end k end i m past h = absurd (omega (arith, slice_get_within lists i h.list h.there))
 
   -- an answer of the list at place j is one of this list
   pub of_list : (j m : ℕ) (list : Listed V) → slice_get lists j ≡ Some list → PairAnswers lists path is_dir case j m → AnswersAt list path is_dir case m

@@ -42,11 +42,11 @@ has_folder : (law : BasesEndInASlash) (bytes file : List ℕ) (root : Option (Li
 has_folder law bytes file root list is base named = inr (law file root base (subst (Base file root) named is.based))
 
 pub bases_are_folders : (law : BasesEndInASlash) (root : Option (List ℕ)) (files : List (List ℕ)) (lists : List IgnoreList) → AreIgnoreLists root files lists → BasesAreFolders lists
-bases_are_folders law root [] lists none = subst BasesAreFolders (sym none) (All-nil HasFolder)
+bases_are_folders law root [] lists none = subst (λ (l : List IgnoreList). BasesAreFolders l) (sym none) (All-nil HasFolder)
 bases_are_folders law root (file ∷ files) lists are =
     ⊎_elim (λ (passed : AreIgnoreLists root files lists). bases_are_folders law root files lists passed)
     (λ (given : (bytes : List ℕ) × (list : IgnoreList) × (more : List IgnoreList) × (lists ≡ list ∷ more) × IsIgnoreList bytes file root list × AreIgnoreLists root files more).
-    subst BasesAreFolders (sym given.3)
+    subst (λ (l : List IgnoreList). BasesAreFolders l) (sym given.3)
     (All-cons HasFolder given.1 given.2 (has_folder law given.0 file root given.1 given.4) (bases_are_folders law root files given.2 given.5)))
     are
 
