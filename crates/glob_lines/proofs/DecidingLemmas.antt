@@ -1,47 +1,16 @@
 -- The last match over a stack of lists, from the last list and its last mapping on.
-use Rattle.std.proofs.Common.{◌≡◌, ◌⊎◌, inl, inr, ⊎_elim, ℕ, ◌+◌, ◌-◌, ◌<◌, ◌≤◌, Bool, List, length, drop, get_or, map, option_map, Option, None, Some, refl, sym, ap, subst, ◌∙◌, arith}
+use Rattle.std.proofs.Common.{◌≡◌, ◌⊎◌, inl, inr, ⊎_elim, ℕ, ◌+◌, ◌<◌, ◌≤◌, Bool, List, length, get_or, map, option_map, Option, None, Some, refl, sym, ap, subst, ◌∙◌, arith}
 use Rattle.std.specs.Prelude.{All, slice_get, MatchOption}
 use Rattle.std.proofs.lemmas.List.{get_or-map, length-map}
 use Rattle.std.proofs.lemmas.Option.{slice_get-map, slice_get_read, slice_get_within}
 use Rattle.std.proofs.lemmas.Bool.{cases_eq, cases_lt}
-use Rattle.std.proofs.Math.Seq.{drop-append_seam}
 use Rattle.gix_glob.specs.declared.pattern.Case.{Case}
-use Rattle.gix_glob.specs.declared.pattern.Case.TheVariants.{Sensitive, Fold}
-use Rattle.gix_glob.specs.Bytes.{HasByte, slash}
-use Rattle.gix_glob.specs.Deciding.{AnswersAt, AnswersUnder, Decides, IsLastAnswer, PairAnswers, path_mode}
+use Rattle.gix_glob.specs.Deciding.{AnswersAt, AnswersUnder, Decides, PairAnswers, path_mode}
 use Rattle.gix_glob.specs.Lists.{Entry}
 use Rattle.gix_glob.specs.Loaded.{Listed}
-use Rattle.gix_glob.specs.RepositoryPaths.{Answers, IsAfterLastSlash, IsBasenameStart}
-use Rattle.gix_glob.specs.Stripping.{Rest, RestOf, compared}
-
--- ---- one rest, and one place in it
-
-length-compared : (case : Case) (text : List ℕ) → length (compared case text) ≡ length text
-length-compared Sensitive text = refl
-length-compared Fold text = length-map text _
-
-Rest-drop : (case : Case) (base path rest : List ℕ) → Rest case base path rest → rest ≡ drop (length base) path
-Rest-drop case base path rest h =
-    let same : length h.front ≡ length base = sym (length-compared case h.front) ∙ ap length h.same ∙ length-compared case base in
-    sym (ap (λ n. drop n path) (sym same) ∙ ap (drop (length h.front)) h.joined ∙ drop-append_seam h.front rest)
-
-RestOf-only : (case : Case) (base : Option (List ℕ)) (path rest other : List ℕ) → RestOf case base path rest → RestOf case base path other → other ≡ rest
-RestOf-only case None path rest other h g = g ∙ sym h
-RestOf-only case (Some base) path rest other h g = Rest-drop case base path other g ∙ sym (Rest-drop case base path rest h)
-
--- no place before the one after the last slash is such a place
-IsAfterLastSlash-below : (path : List ℕ) (j k : ℕ) → IsAfterLastSlash path j → IsAfterLastSlash path k → ¬ (j < k)
-IsAfterLastSlash-below path j k h g below = h.last (k - 1) (omega (arith, g.some)) g.after
-
-IsBasenameStart-only : (path : List ℕ) (start other : Option ℕ) → IsBasenameStart path start → IsBasenameStart path other → other ≡ start
-IsBasenameStart-only path None None h g = refl
-IsBasenameStart-only path None (Some k) h g = absurd (h (k - 1) g.after)
-IsBasenameStart-only path (Some k) None h g = absurd (g (k - 1) h.after)
-IsBasenameStart-only path (Some j) (Some k) h g =
-    let not_below = IsAfterLastSlash-below path j k h g in
-    let not_above = IsAfterLastSlash-below path k j g h in
-    let same : k ≡ j = omega (arith, not_below, not_above) in
-    ap Some same
+use Rattle.gix_glob.specs.RepositoryPaths.{Answers, IsBasenameStart}
+use Rattle.gix_glob.specs.Stripping.{RestOf}
+use Rattle.glob_lines.proofs.OneText.{basename_once, rest_once}
 
 -- ---- elements of lists as plain data
 
@@ -72,9 +41,9 @@ module _ {V : Type 0} (base : Option (List ℕ)) (path : List ℕ) (is_dir : Boo
   pub AnswersUnder-only : (entry : Entry V) (rest : List ℕ) (position : Option ℕ) → RestOf case base path rest → IsBasenameStart rest position
       → AnswersUnder base entry path is_dir case → Answers entry.text entry.mode rest position (Some is_dir) case path_mode
   AnswersUnder-only entry rest position left basename h =
-      let same_rest : h.rest ≡ rest = RestOf-only case base path rest h.rest left h.left in
+      let same_rest : h.rest ≡ rest = rest_once case base path h.rest rest h.left left in
       let same_position : h.position ≡ position =
-      IsBasenameStart-only rest position h.position basename (subst (λ r. IsBasenameStart r h.position) same_rest h.basename) in
+      basename_once rest h.position position (subst (λ r. IsBasenameStart r h.position) same_rest h.basename) basename in
       subst (λ p. Answers entry.text entry.mode rest p (Some is_dir) case path_mode) same_position
       (subst (λ r. Answers entry.text entry.mode r h.position (Some is_dir) case path_mode) same_rest h.answers)
 

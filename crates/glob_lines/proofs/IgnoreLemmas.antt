@@ -1,18 +1,17 @@
 -- The lines of an ignore file: endings, comments, and the entries of all lines.
-use Rattle.std.proofs.Common.{◌≡◌, ◌≢◌, inl, inr, ⊎_elim, ℕ, zero, suc, ◌+◌, ◌-◌, ◌<◌, ◌≤◌, Bool, true, false, cond, ◌&&◌, List, [], ◌∷◌, ◌++◌, length, take, drop, get_or, Option, None, Some, refl, sym, ap, subst, ◌∙◌, append_assoc, append-nil, length-append, length-drop, le_refl, take_all, take-append-drop, arith}
-use Rattle.std.specs.Prelude.{◌⊎◌, ◌==◌, nat_eq, codes, MatchOption}
-use Rattle.std.specs.List.{AllByRecursion, ends_with, starts_with}
+use Rattle.std.proofs.Common.{◌≡◌, ◌≢◌, ⊎_elim, ℕ, ◌+◌, ◌<◌, ◌≤◌, Bool, true, false, cond, ◌&&◌, List, [], ◌∷◌, ◌++◌, length, take, drop, get_or, None, Some, refl, sym, ap, subst, ◌∙◌, append_assoc, append-nil, length-drop, le_refl, take_all, take-append-drop, arith}
+use Rattle.std.specs.Prelude.{◌==◌, nat_eq}
+use Rattle.std.specs.List.{starts_with}
 use Rattle.std.proofs.lemmas.Bool.Decides.{Decides-eqb}
 use Rattle.std.proofs.lemmas.Slice.Eq.{ends_is}
 use Rattle.std.proofs.lemmas.Bool.{cases_Bool, false≢true, ne_eqb, eqb-true, eq-eqb}
-use Rattle.std.proofs.lemmas.Bool.Decides.{eqb_tells}
 use Rattle.std.proofs.lemmas.List.{drop_more}
 use Rattle.memchr.specs.Find.{IsFirstByte, is_byte}
 use Rattle.glob_lines.specs.Lines.{HasNo, HasNoLineFeed, line_feed, lines_of}
 use Rattle.glob_lines.specs.Numbered.{TextAndValue}
 use Rattle.glob_lines.specs.Trimming.{ends_in_return, return_of}
 use Rattle.glob_lines.specs.Ignore.{BeginsWithLine, GivesTrimmed, Trims, byte_order_mark, carriage_return, is_comment, trimmed, trimmed_unless_comment, without_mark, without_returns}
-use Rattle.glob_lines.proofs.LinesLemmas.{HasNo-take, first_line, last_line, lines_of-last, lines_of-line, length-lines_of-le}
+use Rattle.glob_lines.proofs.LinesLemmas.{HasNo-take, last_line, lines_of-line, length-lines_of-le}
 use Rattle.glob_lines.proofs.NumberedLemmas.{Tells}
 use Rattle.glob_lines.proofs.TrimLemmas.{Trims-only, Trims-trimmed}
 

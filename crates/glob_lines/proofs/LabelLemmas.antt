@@ -1,18 +1,17 @@
 -- Labels: what a line gives, by its first tab, and lines that have none.
-use Rattle.std.proofs.Common.{◌≡◌, ◌≢◌, inl, inr, ⊎_elim, ℕ, zero, suc, ◌+◌, ◌<◌, ◌≤◌, Bool, true, false, cond, List, [], ◌∷◌, ◌++◌, length, take, drop, get_or, map, Option, None, Some, refl, sym, ap, subst, ◌∙◌, append_assoc, append-nil, drop_at, le_refl, length-append, take_all, take_at, take-append-drop, arith}
-use Rattle.std.specs.Prelude.{◌⊎◌, ◌==◌}
-use Rattle.std.specs.List.{AllByRecursion, after_first, before_first, cons_option, onto_first, position_or_len}
+use Rattle.std.proofs.Common.{◌≡◌, ◌≢◌, inl, inr, ⊎_elim, ℕ, ◌+◌, ◌<◌, true, List, [], ◌∷◌, ◌++◌, length, take, drop, get_or, map, Option, None, Some, refl, sym, ap, subst, ◌∙◌, append_assoc, drop_at, le_refl, length-append, take_all, take_at, take-append-drop, arith}
+use Rattle.std.specs.List.{AllByRecursion, cons_option, onto_first, position_or_len}
 use Rattle.std.specs.Option.{option_and_then, option_map}
 use Rattle.std.proofs.lemmas.Bool.{ne_eqb, eqb-true, eq-eqb}
 use Rattle.std.proofs.lemmas.Bool.Decides.{eqb_tells}
 use Rattle.std.proofs.lemmas.List.{drop_all, drop_more}
 use Rattle.memchr.specs.Find.{IsFirstByte, is_byte}
-use Rattle.gix_glob.specs.Lists.{Entry, entry_with}
+use Rattle.gix_glob.specs.Lists.{entry_with}
 use Rattle.gix_glob.specs.Readings.{Reading, reading_of}
-use Rattle.glob_lines.specs.Label.{GivesLabel, Label, LabelEntry, is_tab, label_of, parted, tab, unlabelled}
+use Rattle.glob_lines.specs.Label.{GivesLabel, Label, is_tab, label_of, parted, tab, unlabelled}
 use Rattle.glob_lines.specs.Lines.{HasNo, line_feed, lines_of}
 use Rattle.glob_lines.specs.Numbered.{TextAndValue, entries_from, entry_given, entry_of_line}
-use Rattle.glob_lines.specs.Plain.{GivesItself, Plain, PlainEntry, itself, plain_of}
+use Rattle.glob_lines.specs.Plain.{GivesItself, Plain, PlainEntry, itself}
 use Rattle.glob_lines.proofs.LinesLemmas.{HasNo-take}
 use Rattle.glob_lines.proofs.NumberedLemmas.{Entries-entries_of, Entries-only, ReadingsAreThese, Tells}
 use Rattle.glob_lines.proofs.PlainLemmas.{Tells-itself}

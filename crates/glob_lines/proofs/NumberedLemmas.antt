@@ -6,7 +6,7 @@ use Rattle.std.specs.Option.{option_and_then, option_map, option_to_list}
 use Rattle.gix_glob.specs.declared.pattern.Mode.{Mode}
 use Rattle.gix_glob.specs.declared.search.pattern.mapping.Mapping.{Mapping}
 use Rattle.gix_glob.specs.Lists.{Entry, entry_of, entry_with}
-use Rattle.gix_glob.specs.Patterns.{Reads, HasReading}
+use Rattle.gix_glob.specs.Patterns.{Reads}
 use Rattle.gix_glob.specs.Readings.{Reading, reading_of}
 use Rattle.glob_lines.specs.Lines.{lines_of}
 use Rattle.glob_lines.specs.Numbered.{Entries, EntriesFrom, HasNoEntry, IsEntryOf, TextAndValue, entries_from, entries_of, entry_given, entry_of_line}

@@ -1,14 +1,19 @@
 //! Laws of the definitions, each the contract of a function that does nothing.
 ghost use Rattle.std.specs.Prelude.{◌≡◌, ◌↔◌, ℕ, List, Option, map};
+ghost use Rattle.gix_glob.specs.declared.pattern.Case.{Case};
+ghost use Rattle.gix_glob.specs.declared.wildmatch.Mode.{Mode};
 ghost use Rattle.gix_glob.specs.Deciding.{HasFolder};
 ghost use Rattle.gix_glob.specs.Lists.{Entry};
 ghost use Rattle.gix_glob.specs.Loaded.{IsLoaded, Listed};
 ghost use Rattle.glob_lines.specs.Ignore.{Ignore, ignore_of};
 ghost use Rattle.glob_lines.specs.Label.{Label, LabelEntry, label_of, tab, unlabelled};
 ghost use Rattle.glob_lines.specs.Lines.{HasNo, Lines, lines_of};
+ghost use Rattle.glob_lines.specs.Mappings.{MappingsText, PatternsAndPaths};
 ghost use Rattle.glob_lines.specs.Plain.{Plain, PlainEntry, plain_of};
+ghost use Rattle.glob_lines.specs.Values.{ValuesText};
 
-use gix_glob::{laws, search};
+use gix_glob::laws::{bases_end_in_a_slash, readings_are_these, two_answers_agree};
+use gix_glob::search;
 
 /// Bytes have one list of lines, which the equations of `lines_of` give.
 pub fn lines_are_these()
@@ -19,21 +24,21 @@ pub fn lines_are_these()
 pub fn plain_entries_are_these()
     ensures { (bytes : List ℕ) (entries : List PlainEntry) → Plain bytes entries ↔ (entries ≡ plain_of bytes) }
 {
-    laws::readings_are_these();
+    readings_are_these();
 }
 
 /// Bytes have one list of ignore entries, which the equations of `ignore_of` give.
 pub fn ignore_entries_are_these()
     ensures { (bytes : List ℕ) (entries : List PlainEntry) → Ignore bytes entries ↔ (entries ≡ ignore_of bytes) }
 {
-    laws::readings_are_these();
+    readings_are_these();
 }
 
 /// Bytes have one list of labelled entries, which the equations of `label_of` give.
 pub fn label_entries_are_these()
     ensures { (bytes : List ℕ) (entries : List LabelEntry) → Label bytes entries ↔ (entries ≡ label_of bytes) }
 {
-    laws::readings_are_these();
+    readings_are_these();
 }
 
 /// Over bytes without a tab the labelled entries are the plain ones, with empty values.
@@ -41,7 +46,26 @@ pub fn lines_without_tabs_keep_their_meaning()
     ensures { (bytes : List ℕ) (entries : List PlainEntry) → HasNo tab bytes
         → Plain bytes entries → Label bytes (map unlabelled entries) }
 {
-    laws::readings_are_these();
+    readings_are_these();
+}
+
+/// The lines of values have one text: what [`run_wild`](crate::run_wild) writes is determined by what it reads.
+pub fn values_have_one_text()
+    ensures { (pattern : List ℕ) (mode : Mode) (input text other : List ℕ)
+        → ValuesText pattern mode input text → ValuesText pattern mode input other → text ≡ other }
+{
+    lines_are_these();
+    two_answers_agree();
+}
+
+/// Pattern lines and path lines have one text: what [`run_list`](crate::run_list) writes is determined by what it reads,
+/// under one source, root and case.
+pub fn mappings_have_one_text()
+    ensures { (source : List ℕ) (root : Option (List ℕ)) (case : Case) (input : PatternsAndPaths) (text other : List ℕ)
+        → MappingsText source root case input text → MappingsText source root case input other → text ≡ other }
+{
+    lines_are_these();
+    plain_entries_are_these();
 }
 
 /// The base of a list that was loaded is that of a folder: so lists that were loaded meet
@@ -50,5 +74,5 @@ pub fn loaded_lists_have_folders<T: search::Pattern>()
     ensures { (meaning : List ℕ → List ℕ → List (Entry T.Seen)) (bytes source : List ℕ) (root : Option (List ℕ)) (list : Listed T.Seen) →
         IsLoaded meaning bytes source root list → HasFolder list }
 {
-    laws::bases_end_in_a_slash();
+    bases_end_in_a_slash();
 }

@@ -1,5 +1,5 @@
 -- The last byte that is another one ends the front.
-use Rattle.std.proofs.Common.{◌≡◌, ◌≢◌, ◌+◌, ◌<◌, ◌≤◌, ℕ, length, get_or, rules}
+use Rattle.std.proofs.Common.{rules}
 use Rattle.glob_lines.proofs.TrimLemmas.{StandsBefore-last, StandsBefore-none}
 use Rattle.glob_lines.proofs.ignore_line.without_trailing.Goals as goal
 

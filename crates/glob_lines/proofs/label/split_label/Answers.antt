@@ -1,5 +1,4 @@
 -- The first tab parts the line.
-use Rattle.std.proofs.Common.{arith, sym, subst, ap}
 use Rattle.std.proofs.lemmas.List.{take_rest}
 use Rattle.glob_lines.proofs.LabelLemmas.{GivesLabel-found, GivesLabel-none}
 use Rattle.glob_lines.proofs.label.split_label.Goals as goal

@@ -1,5 +1,4 @@
 -- What was read is what the list and its matches were made of.
-use Rattle.std.proofs.Common.{subst}
 use Rattle.std.proofs.lemmas.Result.{on_ok_weaker, IfErr-at_err}
 use Rattle.std.specs.Io.KnownBytes.{Appends}
 use Rattle.gix_glob.specs.Watched.{inner}

@@ -1,5 +1,5 @@
 -- The mapping is that of the reading, or there is none.
-use Rattle.std.proofs.Common.{◌≡◌, ◌++◌, ◌∷◌, [], true, Option, None, Some, map, sym, ap, ◌∙◌, append-nil}
+use Rattle.std.proofs.Common.{◌≡◌, ◌++◌, true, Option, None, Some, map, sym, ap, ◌∙◌, append-nil}
 use Rattle.std.proofs.lemmas.List.{map_push}
 use Rattle.std.specs.Option.{option_map, option_to_list}
 use Rattle.gix_glob.specs.PatternParts.{IsReadFrom, text_of, mode_of, place_of}

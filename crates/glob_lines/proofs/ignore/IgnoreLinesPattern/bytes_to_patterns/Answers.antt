@@ -1,10 +1,7 @@
 -- Each line has its number; a comment gives nothing, and another line the entry of its text.
-use Rattle.std.proofs.Common.{◌≡◌, ◌+◌, true, cond, length, map, None, Some, ap, List, ℕ, arith}
-use Rattle.gix_glob.specs.Lists.{entry_of}
-use Rattle.gix_glob.specs.declared.search.pattern.mapping.Mapping.{Mapping}
-use Rattle.glob_lines.specs.Ignore.{BeginsWithLine, ignore_of, is_comment, trimmed, trimmed_unless_comment, without_returns}
+use Rattle.std.proofs.Common.{◌+◌, length, None, Some, ap, arith}
+use Rattle.glob_lines.specs.Ignore.{BeginsWithLine, ignore_of, trimmed_unless_comment, without_returns}
 use Rattle.glob_lines.specs.Lines.{lines_of}
-use Rattle.glob_lines.specs.Numbered.{TextAndValue}
 use Rattle.glob_lines.proofs.IgnoreLemmas.{comment_gives_nothing, length-ignore_lines-le, text_is_given}
 use Rattle.glob_lines.proofs.NumberedLemmas.{meant-more, meant-skip}
 use Rattle.glob_lines.proofs.ignore.IgnoreLinesPattern.bytes_to_patterns.Goals.{in-Some-text+in_ok-push_pattern, in_default-text}
