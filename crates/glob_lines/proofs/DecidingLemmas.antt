@@ -1,47 +1,16 @@
 -- The last match over a stack of lists, from the last list and its last mapping on.
-use Rattle.std.proofs.Common.{◌≡◌, ◌⊎◌, inl, inr, ⊎_elim, ℕ, ◌+◌, ◌-◌, ◌<◌, ◌≤◌, Bool, List, length, drop, get_or, map, option_map, Option, None, Some, refl, sym, ap, subst, ◌∙◌, arith}
+use Rattle.std.proofs.Common.{◌≡◌, ◌⊎◌, inl, inr, ⊎_elim, ℕ, ◌+◌, ◌<◌, ◌≤◌, Bool, List, length, get_or, map, option_map, Option, None, Some, refl, sym, ap, subst, ◌∙◌, arith}
 use Rattle.std.specs.Prelude.{All, slice_get, MatchOption}
 use Rattle.std.proofs.lemmas.List.{get_or-map, length-map}
 use Rattle.std.proofs.lemmas.Option.{slice_get-map, slice_get_read, slice_get_within}
 use Rattle.std.proofs.lemmas.Bool.{cases_eq, cases_lt}
-use Rattle.std.proofs.Math.Seq.{drop-append_seam}
 use Rattle.gix_glob.specs.declared.pattern.Case.{Case}
-use Rattle.gix_glob.specs.declared.pattern.Case.TheVariants.{Sensitive, Fold}
-use Rattle.gix_glob.specs.Bytes.{HasByte, slash}
-use Rattle.gix_glob.specs.Deciding.{AnswersAt, AnswersUnder, Decides, IsLastAnswer, PairAnswers, path_mode}
+use Rattle.gix_glob.specs.Deciding.{AnswersAt, AnswersUnder, Decides, PairAnswers, path_mode}
 use Rattle.gix_glob.specs.Lists.{Entry}
 use Rattle.gix_glob.specs.Loaded.{Listed}
-use Rattle.gix_glob.specs.RepositoryPaths.{Answers, IsAfterLastSlash, IsBasenameStart}
-use Rattle.gix_glob.specs.Stripping.{NothingLeft, Rest, RestOf, compared}
-
--- ---- one rest, and one place in it
-
-length-compared : (case : Case) (text : List ℕ) → length (compared case text) ≡ length text
-length-compared Sensitive text = refl
-length-compared Fold text = length-map text _
-
-Rest-drop : (case : Case) (base path rest : List ℕ) → Rest case base path rest → rest ≡ drop (length base) path
-Rest-drop case base path rest h =
-    let same : length h.front ≡ length base = sym (length-compared case h.front) ∙ ap length h.same ∙ length-compared case base in
-    sym (ap (λ n. drop n path) (sym same) ∙ ap (drop (length h.front)) h.joined ∙ drop-append_seam h.front rest)
-
-RestOf-only : (case : Case) (base : Option (List ℕ)) (path rest other : List ℕ) → RestOf case base path rest → RestOf case base path other → other ≡ rest
-RestOf-only case None path rest other h g = g ∙ sym h
-RestOf-only case (Some base) path rest other h g = Rest-drop case base path other g ∙ sym (Rest-drop case base path rest h)
-
--- no place before the one after the last slash is such a place
-IsAfterLastSlash-below : (path : List ℕ) (j k : ℕ) → IsAfterLastSlash path j → IsAfterLastSlash path k → ¬ (j < k)
-IsAfterLastSlash-below path j k h g below = h.last (k - 1) (omega (arith, g.some)) g.after
-
-IsBasenameStart-only : (path : List ℕ) (start other : Option ℕ) → IsBasenameStart path start → IsBasenameStart path other → other ≡ start
-IsBasenameStart-only path None None h g = refl
-IsBasenameStart-only path None (Some k) h g = absurd (h (k - 1) g.after)
-IsBasenameStart-only path (Some k) None h g = absurd (g (k - 1) h.after)
-IsBasenameStart-only path (Some j) (Some k) h g =
-    let not_below = IsAfterLastSlash-below path j k h g in
-    let not_above = IsAfterLastSlash-below path k j g h in
-    let same : k ≡ j = omega (arith, not_below, not_above) in
-    ap Some same
+use Rattle.gix_glob.specs.RepositoryPaths.{Answers, IsBasenameStart}
+use Rattle.gix_glob.specs.Stripping.{RestOf}
+use Rattle.glob_lines.proofs.OneText.{basename_once, rest_once}
 
 -- ---- elements of lists as plain data
 
@@ -72,9 +41,9 @@ module _ {V : Type 0} (base : Option (List ℕ)) (path : List ℕ) (is_dir : Boo
   pub AnswersUnder-only : (entry : Entry V) (rest : List ℕ) (position : Option ℕ) → RestOf case base path rest → IsBasenameStart rest position
       → AnswersUnder base entry path is_dir case → Answers entry.text entry.mode rest position (Some is_dir) case path_mode
   AnswersUnder-only entry rest position left basename h =
-      let same_rest : h.rest ≡ rest = RestOf-only case base path rest h.rest left h.left in
+      let same_rest : h.rest ≡ rest = rest_once case base path h.rest rest h.left left in
       let same_position : h.position ≡ position =
-      IsBasenameStart-only rest position h.position basename (subst (λ r. IsBasenameStart r h.position) same_rest h.basename) in
+      basename_once rest h.position position (subst (λ r. IsBasenameStart r h.position) same_rest h.basename) basename in
       subst (λ p. Answers entry.text entry.mode rest p (Some is_dir) case path_mode) same_position
       (subst (λ r. Answers entry.text entry.mode r h.position (Some is_dir) case path_mode) same_rest h.answers)
 
@@ -84,9 +53,6 @@ module _ {V : Type 0} (list : Listed V) (path : List ℕ) (is_dir : Bool) (case 
   -- no entry at this place or after it answers
   abbrev pub NoneFrom : ℕ → Type 0
   NoneFrom k = (m : ℕ) → k ≤ m → ¬ AnswersAt list path is_dir case m
-
-  pub NoneFrom-end : (k : ℕ) → length list.entries ≤ k → NoneFrom k
-  NoneFrom-end k end m past h = absurd (omega (arith, slice_get_within list.entries m h.entry h.there))
 
   pub NoneFrom-all : (k : ℕ) → k ≤ 0 → NoneFrom k → (m : ℕ) → ¬ AnswersAt list path is_dir case m
   NoneFrom-all k all none m h = none m (omega arith) h
@@ -99,9 +65,6 @@ module _ {V : Type 0} (list : Listed V) (path : List ℕ) (is_dir : Bool) (case 
 
   pub AnswersAt-yes : (j : ℕ) (entry : Entry V) → slice_get list.entries j ≡ Some entry → AnswersUnder list.base entry path is_dir case → AnswersAt list path is_dir case j
   AnswersAt-yes j entry there answered = record { entry = entry; there = there; answers = answered }
-
-  pub NoneFrom-nothing : NothingLeft case list.base path → (m : ℕ) → ¬ AnswersAt list path is_dir case m
-  NoneFrom-nothing none m h = none h.answers.rest h.answers.left
 
   pub NoneFrom-less : (k j : ℕ) → k ≡ j + 1 → NoneFrom k → ¬ AnswersAt list path is_dir case j → NoneFrom j
   NoneFrom-less k j next later here m past h =
@@ -123,9 +86,6 @@ module _ {V : Type 0} (lists : List (Listed V)) (path : List ℕ) (is_dir : Bool
   -- no list at this place or after it has an entry that answers
   abbrev pub NoListFrom : ℕ → Type 0
   NoListFrom k = (i m : ℕ) → k ≤ i → ¬ PairAnswers lists path is_dir case i m
-
-  pub NoListFrom-end : (k : ℕ) → length lists ≤ k → NoListFrom k
-  NoListFrom-end k end i m past h = absurd (omega (arith, slice_get_within lists i h.list h.there))
 
   -- an answer of the list at place j is one of this list
   pub of_list : (j m : ℕ) (list : Listed V) → slice_get lists j ≡ Some list → PairAnswers lists path is_dir case j m → AnswersAt list path is_dir case m

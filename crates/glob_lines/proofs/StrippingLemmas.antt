@@ -1,9 +1,9 @@
 -- Paths under a base that is empty or ends in a slash: where their last parts begin, and how what is left of them begins.
-use Rattle.std.proofs.Common.{◌≡◌, ◌≢◌, ◌⊎◌, inl, inr, ⊎_elim, ℕ, zero, suc, ◌+◌, ◌-◌, ◌<◌, ◌≤◌, Bool, true, false, cond, Bor, List, [], ◌∷◌, ◌++◌, length, get_or, map, Option, None, Some, refl, sym, ap, subst, ◌∙◌, length-append, append_assoc, arith}
+use Rattle.std.proofs.Common.{◌≡◌, ⊎_elim, ℕ, ◌+◌, ◌≤◌, Bor, List, [], ◌∷◌, ◌++◌, length, map, Option, None, Some, refl, sym, ap, subst, ◌∙◌, length-append, append_assoc, arith}
 use Rattle.std.specs.Prelude.{MatchOption}
 use Rattle.std.specs.Option.{ForSome}
 use Rattle.std.specs.Char.{to_ascii_lowercase}
-use Rattle.std.proofs.lemmas.List.{get_or_append_left, get_or-append-add, map-append}
+use Rattle.std.proofs.lemmas.List.{get_or-append-add, map-append}
 use Rattle.gix_glob.specs.declared.pattern.Case.{Case}
 use Rattle.gix_glob.specs.declared.pattern.Case.TheVariants.{Sensitive, Fold}
 use Rattle.gix_glob.specs.Bytes.{EndsInSlash, HasByte, slash}
@@ -24,10 +24,6 @@ IsPlaced-basename law case (Some base) path position folder start =
     λ rest is at here. law case base path rest at (folder base refl) is (subst (IsBasenameStart path) here start)
 
 -- ---- how the rest begins
-
-HasByte-append_left : (xs ys : List ℕ) (i b : ℕ) → HasByte xs i b → HasByte (xs ++ ys) i b
-HasByte-append_left xs ys i b h =
-    record { inside = omega (arith, length-append xs ys, h.inside); is = get_or_append_left xs ys 0 i h.inside ∙ h.is }
 
 HasByte-append_right : (xs ys : List ℕ) (i b : ℕ) → HasByte ys i b → HasByte (xs ++ ys) (length xs + i) b
 HasByte-append_right xs ys i b h =

@@ -1,10 +1,11 @@
 -- Ignore files, one after the other.
-use Rattle.std.proofs.Common.{◌≡◌, ◌⊎◌, inl, inr, ⊎_elim, ℕ, ◌<◌, ◌+◌, Bool, true, false, List, [], ◌∷◌, ◌++◌, length, get_or, map, take, Option, Some, None, refl, sym, ap, subst, ◌∙◌}
+use Rattle.std.proofs.Common.{◌≡◌, ◌↔◌, ◌⊎◌, inl, inr, ⊎_elim, ℕ, ◌<◌, ◌+◌, Bool, true, false, eqb, List, [], ◌∷◌, ◌++◌, length, get_or, map, take, Option, Some, None, refl, sym, ap, subst, ◌∙◌}
 use Rattle.std.specs.Prelude.{All, MatchBool}
 use Rattle.std.specs.List.{AllPass, list_all}
 use Rattle.std.specs.Option.{ForSome}
 use Rattle.std.proofs.lemmas.List.{get_or-map, length-map, map_push}
 use Rattle.std.proofs.lemmas.List.Elements.{All-cons, All-nil}
+use Rattle.std.proofs.lemmas.List.Folds.{list_all-map}
 use Rattle.std.proofs.lemmas.List.Sums.{AllPass-from_list_all}
 use Rattle.gix_glob.specs.Bytes.{EndsInSlash}
 use Rattle.gix_glob.specs.Deciding.{BasesAreFolders, HasFolder}
@@ -41,11 +42,11 @@ has_folder : (law : BasesEndInASlash) (bytes file : List ℕ) (root : Option (Li
 has_folder law bytes file root list is base named = inr (law file root base (subst (Base file root) named is.based))
 
 pub bases_are_folders : (law : BasesEndInASlash) (root : Option (List ℕ)) (files : List (List ℕ)) (lists : List IgnoreList) → AreIgnoreLists root files lists → BasesAreFolders lists
-bases_are_folders law root [] lists none = subst BasesAreFolders (sym none) (All-nil HasFolder)
+bases_are_folders law root [] lists none = subst (λ (l : List IgnoreList). BasesAreFolders l) (sym none) (All-nil HasFolder)
 bases_are_folders law root (file ∷ files) lists are =
     ⊎_elim (λ (passed : AreIgnoreLists root files lists). bases_are_folders law root files lists passed)
     (λ (given : (bytes : List ℕ) × (list : IgnoreList) × (more : List IgnoreList) × (lists ≡ list ∷ more) × IsIgnoreList bytes file root list × AreIgnoreLists root files more).
-    subst BasesAreFolders (sym given.3)
+    subst (λ (l : List IgnoreList). BasesAreFolders l) (sym given.3)
     (All-cons HasFolder given.1 given.2 (has_folder law given.0 file root given.1 given.4) (bases_are_folders law root files given.2 given.5)))
     are
 
@@ -91,3 +92,8 @@ pub file_at : {X : Type 0} (text : X → List ℕ) (files : List X) (i : ℕ) (f
 file_at text files i file are within is =
     subst (λ t. has_file_part t ≡ true) (get_or-map text files i file (text file) within ∙ ap text (sym is))
     (AllPass-from_list_all has_file_part (map text files) (all_of_files (map text files) are) i (text file) (subst (λ n. i < n) (sym (length-map files text)) within))
+
+pub are_files_is : {X : Type 0} (text : X → List ℕ) (files : List X) (empty : Bool) → empty ≡ eqb (length files) 0 → empty ≡ false
+    → list_all (λ file. has_file_part (text file)) files ≡ are_files (map text files)
+are_files_is text [] empty is some = absurd (cc)
+are_files_is text (file ∷ files) empty is some = sym (list_all-map has_file_part text (file ∷ files))

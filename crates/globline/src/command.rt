@@ -1,8 +1,10 @@
 //! What the words of the command line ask for.
 ghost use Rattle.std.specs.Prelude.{◌≡◌, ℕ, List, Option, MatchOption, map, string_bytes};
+ghost use Rattle.std.specs.List.{list_all};
 ghost use Rattle.std.specs.Option.{option_copied};
 ghost use Rattle.gix_glob.specs.declared.pattern.Case.{Case};
 ghost use Rattle.gix_glob.specs.declared.wildmatch.Mode.{Mode};
+ghost use Rattle.gix_glob.specs.Paths.{has_file_part};
 ghost use Rattle.globline.specs.Words.{AreWrong, Ask, AskIgnore, AskList, AskWild, NamesCase, NamesMode, NamesRoot, are_files};
 
 use bitflags::Flags;
@@ -100,7 +102,13 @@ fn ignore_of(words: &[String]) -> Option<Command<'_>>
 fn are_files(files: &[String]) -> bool
     ensures { result ≡ are_files (map string_bytes files.now) }
 {
-    !files.is_empty() && files.iter().all(|file| has_file_part(file.as_str()))
+    !files.is_empty() && each_has_a_file_part(files)
+}
+
+fn each_has_a_file_part(files: &[String]) -> bool
+    ensures { result ≡ list_all (λ file. has_file_part (string_bytes file)) files.now }
+{
+    files.iter().all(|file| has_file_part(file.as_str()))
 }
 
 /// The match mode that a word names.

@@ -32,7 +32,7 @@ pub(crate) fn lists_of<F: Files>(
         let source = String::from_str(alloc, file.as_str())?;
         match add_patterns_file(rt, alloc, &mut lists, source, root, &mut bytes, IgnoreLines) {
             Ok(_is_added) => {}
-            Err(LoadFault::Memory(_)) => return Err(EngineFault::Memory),
+            Err(LoadFault::Memory) => return Err(EngineFault::Memory),
             Err(LoadFault::Read(_)) => return Err(EngineFault::Read),
         }
     }
