@@ -2,13 +2,21 @@
 #![tactic(auto)]
 
 #[cfg(test)]
+mod failing_reads;
+#[cfg(test)]
+mod failing_writes;
+#[cfg(test)]
 mod fakes;
 #[cfg(test)]
 mod file_rows;
 #[cfg(test)]
 mod folding;
 #[cfg(test)]
+mod hostile_rows;
+#[cfg(test)]
 mod list_rows;
+#[cfg(test)]
+mod long_rows;
 #[cfg(test)]
 mod modes;
 #[cfg(test)]
@@ -19,6 +27,8 @@ mod rows;
 mod sets;
 #[cfg(test)]
 mod stars;
+#[cfg(test)]
+mod texts;
 #[cfg(test)]
 mod tokens;
 #[cfg(test)]
