@@ -1,41 +1,12 @@
 //! Patterns and values that try an engine: long ones, ones that can be cut in many ways, and sets that don't close.
 use crate::modes::{path, plain};
-use crate::texts::{Text, just, repeated};
+use crate::texts::{Repeated, repeated};
 use gix_glob::search::Watched;
 use gix_glob::wildmatch::{Mode, recursive, wildmatch};
 use glob_lines::run_wild;
 use std::alloc::Global;
 use std::process::Abort;
 use std::test::Fail;
-
-/// A pattern and a value without line feeds, and the answer.
-#[derive(Clone, Copy, Debug)]
-struct Row {
-    pattern: Text,
-    value: Text,
-    is_path: bool,
-    answer: bool,
-}
-
-/// A row in plain mode.
-fn in_plain(pattern: Text, value: Text, answer: bool) -> Row {
-    Row {
-        pattern,
-        value,
-        is_path: false,
-        answer,
-    }
-}
-
-/// A row in path mode.
-fn in_path(pattern: Text, value: Text, answer: bool) -> Row {
-    Row {
-        pattern,
-        value,
-        is_path: true,
-        answer,
-    }
-}
 
 /// What `run_wild` answers for the value as its one line.
 fn line_answer(alloc: Global, pattern: &[u8], value: &[u8], mode: Mode) -> Result<bool, Fail> {
@@ -51,114 +22,105 @@ fn line_answer(alloc: Global, pattern: &[u8], value: &[u8], mode: Mode) -> Resul
     }
 }
 
-/// Compares the answers of `wildmatch` and of `run_wild`.
-fn check(rt: &(impl Abort + AllocGlobal), row: &Row) -> Result<(), Fail> {
-    let pattern = row.pattern.bytes(rt.alloc())?;
-    let value = row.value.bytes(rt.alloc())?;
-    let mode = if row.is_path { path() } else { plain() };
-    assert_eq!(rt; wildmatch(&pattern, &value, mode), row.answer, "{row:?}");
-    let answer = line_answer(rt.alloc(), &pattern, &value, mode)?;
-    assert_eq!(rt; answer, row.answer, "run_wild: {row:?}");
+/// Compares the answers of both engines, and of `run_wild`.
+fn check(
+    rt: &(impl Abort + AllocGlobal),
+    pattern: &[u8],
+    value: &[u8],
+    mode: Mode,
+    answer: bool,
+    row: (Repeated, Repeated),
+) -> Result<(), Fail> {
+    assert_eq!(rt; wildmatch(pattern, value, mode), answer, "{row:?}");
+    assert_eq!(rt;
+        recursive(pattern, value, mode),
+        answer,
+        "recursive: {row:?}"
+    );
+    let line = line_answer(rt.alloc(), pattern, value, mode)?;
+    assert_eq!(rt; line, answer, "run_wild: {row:?}");
     Ok(())
 }
 
-/// Compares these answers, and that of the recursive engine.
-fn check_both(rt: &(impl Abort + AllocGlobal), rows: &[Row]) -> Result<(), Fail> {
-    for row in rows {
-        check(rt, row)?;
-        let pattern = row.pattern.bytes(rt.alloc())?;
-        let value = row.value.bytes(rt.alloc())?;
-        let mode = if row.is_path { path() } else { plain() };
-        assert_eq!(rt;
-            recursive(&pattern, &value, mode),
-            row.answer,
-            "recursive: {row:?}"
-        );
+#[test]
+fn patterns_and_values_that_try_an_engine(rt: HostRuntime) -> Result<(), Fail> {
+    let rows: [(Repeated, Repeated, Mode, bool); 13] = [
+        (("*/", 30, "x"), ("a/", 30, "y"), path(), false),
+        (("**/", 10, "x"), ("a/", 10, "y"), path(), false),
+        (("**/*", 1, "a*a*a*b"), ("aaaa/", 10, ""), path(), false),
+        (("*", 1, ""), ("a", 100_000, ""), path(), true),
+        (("*", 1, "b"), ("a", 100_000, ""), plain(), false),
+        (("[", 1_000, ""), ("[", 1, ""), plain(), false),
+        (("[", 1_000, "]"), ("[", 1, ""), plain(), true),
+        (("*", 1, "["), ("[", 1, ""), plain(), false),
+        (("\0", 1, ""), ("\0", 1, ""), plain(), true),
+        (("\0", 1, ""), ("", 0, ""), plain(), false),
+        (("?", 1, ""), ("\0", 1, ""), path(), true),
+        (("*", 100_000, ""), ("a/b", 1, ""), plain(), true),
+        (("*", 100_000, ""), ("a/b", 1, ""), path(), true),
+    ];
+    for (pattern, value, mode, answer) in rows {
+        let pattern_text = repeated(rt.alloc(), pattern)?;
+        let value_text = repeated(rt.alloc(), value)?;
+        check(
+            &rt,
+            &pattern_text,
+            &value_text,
+            mode,
+            answer,
+            (pattern, value),
+        )?;
     }
     Ok(())
 }
 
 #[test]
-fn values_that_are_cut_in_many_ways(rt: HostRuntime) -> Result<(), Fail> {
-    let rows = [
-        in_path(
-            repeated("", "*/", 30, "x"),
-            repeated("", "a/", 30, "y"),
-            false,
-        ),
-        in_path(
-            repeated("", "**/", 10, "x"),
-            repeated("", "a/", 10, "y"),
-            false,
-        ),
-        in_path(just("**/*a*a*a*b"), repeated("", "aaaa/", 10, ""), false),
-        in_plain(just("*b"), repeated("", "a", 100_000, ""), false),
+fn colons_within_a_set(rt: HostRuntime) -> Result<(), Fail> {
+    // the last set ends after a colon, and so in the name of an unknown class
+    let rows: [(Repeated, Repeated, bool); 3] = [
+        (("[:", 500, "a]"), (":", 1, ""), true),
+        (("[:", 500, "a]"), ("b", 1, ""), false),
+        (("[:", 500, "]"), (":", 1, ""), false),
     ];
-    check_both(&rt, &rows)
-}
-
-#[test]
-fn long_patterns_and_values(rt: HostRuntime) -> Result<(), Fail> {
-    let rows = [
-        in_path(just("*"), repeated("", "a", 100_000, ""), true),
-        in_plain(repeated("", "*", 100_000, ""), just("a/b"), true),
-        in_path(repeated("", "*", 100_000, ""), just("a/b"), true),
-    ];
-    check_both(&rt, &rows)
-}
-
-#[test]
-fn sets_within_sets(rt: HostRuntime) -> Result<(), Fail> {
-    let rows = [
-        in_plain(repeated("", "[", 1_000, ""), just("["), false),
-        in_plain(repeated("", "[", 1_000, "]"), just("["), true),
-        in_plain(repeated("[", "[:", 500, "a]"), just(":"), true),
-        in_plain(repeated("[", "[:", 500, "a]"), just("b"), false),
-        // the closing bracket follows a colon, and so ends the name of an unknown class
-        in_plain(repeated("[", "[:", 500, "]"), just(":"), false),
-        in_plain(just("*["), just("["), false),
-    ];
-    check_both(&rt, &rows)
-}
-
-#[test]
-fn byte_zero(rt: HostRuntime) -> Result<(), Fail> {
-    let rows = [
-        in_plain(just("\0"), just("\0"), true),
-        in_plain(just("\0"), just(""), false),
-        in_path(just("?"), just("\0"), true),
-    ];
-    check_both(&rt, &rows)
+    for (within, value, answer) in rows {
+        let mut pattern = b"[".to_vec(rt.alloc())?;
+        pattern.extend_from_slice(&repeated(rt.alloc(), within)?)?;
+        let value_text = repeated(rt.alloc(), value)?;
+        check(&rt, &pattern, &value_text, plain(), answer, (within, value))?;
+    }
+    Ok(())
 }
 
 #[test]
 fn a_question_mark_takes_byte_255(rt: HostRuntime) -> Result<(), Fail> {
-    assert!(rt; wildmatch(b"?", &[255], path()));
-    assert!(rt; recursive(b"?", &[255], path()));
-    assert!(rt; line_answer(rt.alloc(), b"?", &[255], path())?);
-    Ok(())
-}
-
-/// The contract of the engine bounds its steps by `2 * (p + 1) * (v + 1)`, which is 49,044 for these lengths in bytes.
-#[test]
-fn sixty_stars_take_at_most_49044_steps(rt: HostRuntime) -> Result<(), Fail> {
-    let row = in_plain(
-        repeated("", "*a", 60, "b"),
-        repeated("", "a", 200, ""),
-        false,
-    );
-    assert_eq!(rt; row.pattern.bytes(rt.alloc())?.len(), 121);
-    assert_eq!(rt; row.value.bytes(rt.alloc())?.len(), 200);
-    assert_eq!(rt; 2 * (121 + 1) * (200 + 1), 49_044);
-    check_both(&rt, &[row])
-}
-
-/// The recursive engine is exact up to 63 stars, but takes long on these directories.
-#[test]
-fn forty_directories(rt: HostRuntime) -> Result<(), Fail> {
-    let directories = repeated("", "**/", 40, "x");
     check(
         &rt,
-        &in_path(directories, repeated("", "a/", 40, "x"), true),
+        b"?",
+        &[255],
+        path(),
+        true,
+        (("?", 1, ""), ("byte 255", 1, "")),
     )
+}
+
+/// The contract of the engine bounds its steps by `2 * (p + 1) * (v + 1)`: for these lengths in bytes, by 49,044.
+#[test]
+fn sixty_stars_take_at_most_49044_steps(rt: HostRuntime) -> Result<(), Fail> {
+    let (stars, letters) = (("*a", 60, "b"), ("a", 200, ""));
+    let pattern = repeated(rt.alloc(), stars)?;
+    let value = repeated(rt.alloc(), letters)?;
+    assert_eq!(rt; pattern.len(), 121);
+    assert_eq!(rt; value.len(), 200);
+    assert_eq!(rt; 2 * (121 + 1) * (200 + 1), 49_044);
+    check(&rt, &pattern, &value, plain(), false, (stars, letters))
+}
+
+/// The recursive engine isn't asked: it takes too long here.
+#[test]
+fn forty_directories_match(rt: HostRuntime) -> Result<(), Fail> {
+    let pattern = repeated(rt.alloc(), ("**/", 40, "x"))?;
+    let value = repeated(rt.alloc(), ("a/", 40, "x"))?;
+    assert!(rt; wildmatch(&pattern, &value, path()));
+    assert!(rt; line_answer(rt.alloc(), &pattern, &value, path())?);
+    Ok(())
 }

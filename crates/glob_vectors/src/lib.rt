@@ -2,6 +2,8 @@
 #![tactic(auto)]
 
 #[cfg(test)]
+mod ample_memory;
+#[cfg(test)]
 mod failing_reads;
 #[cfg(test)]
 mod failing_writes;
@@ -16,15 +18,19 @@ mod hostile_rows;
 #[cfg(test)]
 mod list_rows;
 #[cfg(test)]
-mod long_rows;
+mod loading;
 #[cfg(test)]
 mod modes;
+#[cfg(test)]
+mod one_file;
 #[cfg(test)]
 mod refused_memory;
 #[cfg(test)]
 mod rows;
 #[cfg(test)]
 mod sets;
+#[cfg(test)]
+mod shown;
 #[cfg(test)]
 mod stars;
 #[cfg(test)]

@@ -1,44 +1,18 @@
 //! Texts that are built by repetition.
 use std::alloc::{AllocError, Global};
 
-/// A front, a piece that is repeated so many times, and an end.
-#[derive(Clone, Copy, Debug)]
-pub(crate) struct Text {
-    front: &'static str,
-    piece: &'static str,
-    times: usize,
-    end: &'static str,
-}
+/// A text as a piece, how many times it stands there, and what ends it.
+pub(crate) type Repeated = (&'static str, usize, &'static str);
 
-/// The text itself.
-pub(crate) fn just(text: &'static str) -> Text {
-    repeated(text, "", 0, "")
-}
-
-/// The piece so many times between a front and an end.
+/// Such a text, written out.
 pub(crate) fn repeated(
-    front: &'static str,
-    piece: &'static str,
-    times: usize,
-    end: &'static str,
-) -> Text {
-    Text {
-        front,
-        piece,
-        times,
-        end,
+    alloc: Global,
+    (piece, times, end): Repeated,
+) -> Result<Vec<u8>, AllocError> {
+    let mut text = Vec::new(alloc);
+    for _ in 0..times {
+        text.extend_from_slice(piece.as_bytes())?;
     }
-}
-
-impl Text {
-    /// The bytes of the text.
-    pub(crate) fn bytes(self, alloc: Global) -> Result<Vec<u8>, AllocError> {
-        let mut bytes = Vec::new(alloc);
-        bytes.extend_from_slice(self.front.as_bytes())?;
-        for _ in 0..self.times {
-            bytes.extend_from_slice(self.piece.as_bytes())?;
-        }
-        bytes.extend_from_slice(self.end.as_bytes())?;
-        Ok(bytes)
-    }
+    text.extend_from_slice(end.as_bytes())?;
+    Ok(text)
 }
