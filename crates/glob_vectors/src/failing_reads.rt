@@ -3,9 +3,9 @@ use crate::fakes::{Sink, Source};
 use crate::modes::path;
 use gix_glob::pattern::Case;
 use gix_glob::search::pattern::List;
-use gix_glob::search::{LoadFault, Watched};
+use gix_glob::search::{LoadFault, Watched, add_patterns_file};
 use glob_lines::{EngineFault, PlainLines, run_list, run_wild};
-use std::alloc::Global;
+use std::alloc::{AllocError, Global};
 use std::io::ErrorKind;
 use std::process::Abort;
 use std::test::Fail;
@@ -55,6 +55,37 @@ fn from_reader_tells_each_failed_read(rt: HostRuntime) -> Result<(), Fail> {
             assert_eq!(rt; reader.failed(), fails, "{kind:?} after {successes} reads");
         }
     }
+    Ok(())
+}
+
+fn list_of(alloc: Global, bytes: &[u8]) -> Result<List<PlainLines>, AllocError> {
+    let source = String::from_str(alloc, "d/ig")?;
+    List::from_bytes(alloc, bytes, source, None, PlainLines)
+}
+
+#[test]
+fn a_name_that_is_too_long_leaves_two_lists(rt: HostRuntime) -> Result<(), Fail> {
+    let mut lists = Vec::new(rt.alloc());
+    lists.push(list_of(rt.alloc(), PATTERNS)?)?;
+    lists.push(list_of(rt.alloc(), VALUES)?)?;
+    let name = "a".repeat(rt.alloc(), 300)?;
+    let mut buf = b"old".to_vec(rt.alloc())?;
+    let refused = add_patterns_file(
+        &rt,
+        rt.alloc(),
+        &mut lists,
+        name,
+        None,
+        &mut buf,
+        PlainLines,
+    );
+    assert!(rt; matches!(refused, Err(LoadFault::Read(_))));
+    assert!(rt; buf.is_empty());
+    let [first, second] = lists.as_slice() else {
+        return Err(Fail::new("not two lists"));
+    };
+    assert!(rt; *first == list_of(rt.alloc(), PATTERNS)?);
+    assert!(rt; *second == list_of(rt.alloc(), VALUES)?);
     Ok(())
 }
 

@@ -1,12 +1,15 @@
 -- The words of a command by their number, and what the engines do for a command.
-use Rattle.std.proofs.Common.{◌≡◌, ◌<◌, ◌≤◌, ℕ, List, [], ◌∷◌, length, get_or, map, Option, arith}
-use Rattle.std.specs.Io.KnownBytes.{Appends}
+use Rattle.std.proofs.Common.{◌≡◌, ◌⊎◌, inl, inr, ◌<◌, ◌≤◌, ℕ, List, [], ◌∷◌, length, get_or, map, Option, Result, Ok, Err, refl, arith}
+use Rattle.std.specs.Prelude.{OnErr}
 use Rattle.gix_glob.specs.declared.pattern.Case.{Case}
 use Rattle.gix_glob.specs.declared.wildmatch.Mode.{Mode}
 use Rattle.glob_lines.specs.Mappings.{MappingsText, ReadsBoth}
 use Rattle.glob_lines.specs.Transfers.{ReadsWhole, Run}
 use Rattle.glob_lines.specs.Values.{ValuesText}
-use Rattle.globline.specs.Words.{AnswersList, AnswersWild}
+use Rattle.glob_lines.specs.declared.fault.EngineFault.{EngineFault}
+use Rattle.glob_lines.specs.declared.fault.EngineFault.TheVariants.{Memory, Read, Write}
+use Rattle.globline.specs.declared.command.Command.{Command}
+use Rattle.globline.specs.Words.{AnsweredWords, AnswersList, AnswersWild, Ask, CarriesOut}
 
 -- ---- lists of three and of four
 
@@ -29,14 +32,27 @@ map-of_four f (x ∷ y ∷ z ∷ w ∷ v ∷ xs) a b c d low high p q r s = absu
 
 -- ---- the engines
 
-pub answers_wild : (mode : Mode) (pattern : List ℕ) (input_old input_new output_old output_new : Option (List ℕ)) → Run (ReadsWhole input_old input_new) (ValuesText pattern mode) (Appends output_old output_new)
-    → AnswersWild mode pattern input_old input_new output_old output_new
-answers_wild mode pattern input_old input_new output_old output_new run = record { run = run }
+pub answers_wild : (mode : Mode) (pattern : List ℕ) (input_old input_new : Option (List ℕ)) (Written : List ℕ → Type 0) → Run (ReadsWhole input_old input_new) (ValuesText pattern mode) Written
+    → AnswersWild mode pattern input_old input_new Written
+answers_wild mode pattern input_old input_new Written run = record { run = run }
 
-pub answers_list : (case : Case) (file : List ℕ) (root : Option (List ℕ)) (patterns_old patterns_new input_old input_new output_old output_new : Option (List ℕ))
-    → Run (ReadsBoth patterns_old patterns_new input_old input_new) (MappingsText file root case) (Appends output_old output_new)
-    → AnswersList case file root input_old input_new output_old output_new
-answers_list case file root patterns_old patterns_new input_old input_new output_old output_new run = record {
+pub answers_list : (case : Case) (file : List ℕ) (root : Option (List ℕ)) (patterns_old patterns_new input_old input_new : Option (List ℕ)) (Written : List ℕ → Type 0)
+    → Run (ReadsBoth patterns_old patterns_new input_old input_new) (MappingsText file root case) Written
+    → AnswersList case file root input_old input_new Written
+answers_list case file root patterns_old patterns_new input_old input_new Written run = record {
   patterns = run.input.patterns;
   run = record { input = run.input.paths; read = run.read.paths; text = run.text; allowed = run.allowed; written = run.written };
 }
+
+-- what each fault leaves
+pub on_each_fault : {T P Q : Type 0} (r : Result T EngineFault) → (r ≡ Err Memory → P) → (r ≡ Err Read → P) → (r ≡ Err Write → Q) → OnErr r (P ⊎ Q)
+on_each_fault (Ok x) memory read write = tt
+on_each_fault (Err Memory) memory read write = inl (memory refl)
+on_each_fault (Err Read) memory read write = inl (read refl)
+on_each_fault (Err Write) memory read write = inr (write refl)
+
+-- a command that the words ask for, and that was begun at most
+pub answers_begun : {P : Type 0} (words : List (List ℕ)) (command : Command) (input_old input_new : Option (List ℕ)) (Written : List ℕ → Type 0) → Ask words command
+    → P ⊎ CarriesOut command input_old input_new Written → P ⊎ AnsweredWords words input_old input_new Written
+answers_begun words command input_old input_new Written asked (inl p) = inl p
+answers_begun words command input_old input_new Written asked (inr done) = inr (record { command = command; asked = asked; done = done })
