@@ -100,7 +100,6 @@ fn a_list_is_read_from_a_reader(rt: HostRuntime) -> Result<(), Fail> {
     let source = String::from_str(rt.alloc(), "d/ig")?;
     let mut reader = Watched::new(LINES);
     let mut buf = Vec::new(rt.alloc());
-<<<<<<< HEAD
     let read = List::from_reader(
         rt.alloc(),
         &mut reader,
@@ -109,12 +108,6 @@ fn a_list_is_read_from_a_reader(rt: HostRuntime) -> Result<(), Fail> {
         &mut buf,
         PlainLines,
     );
-=======
-    match List::from_reader(rt.alloc(), &mut reader, source, None, &mut buf, PlainLines) {
-        Ok(list) => assert!(rt; list.is_some_and(|list| are_read(&list.patterns))),
-        Err(fault) => assert!(rt; matches!(fault, LoadFault::Memory)),
-    }
->>>>>>> main
     assert!(rt; !reader.failed());
     assert!(rt; LINES.starts_with(&buf));
     assert!(rt; read?.is_some_and(|list| is_loaded(&list)));
@@ -136,7 +129,6 @@ fn file_of_lines(rt: &HostRuntime) -> Result<String, Fail> {
 fn a_list_is_read_from_a_file(rt: HostRuntime) -> Result<(), Fail> {
     let path = file_of_lines(&rt)?;
     let mut buf = Vec::new(rt.alloc());
-<<<<<<< HEAD
     let read = path.clone().map(|source| List::from_file(
         &rt,
         rt.alloc(),
@@ -149,15 +141,6 @@ fn a_list_is_read_from_a_file(rt: HostRuntime) -> Result<(), Fail> {
     assert!(rt; LINES.starts_with(&buf));
     assert!(rt; read??.is_some_and(|list| are_read(&list.patterns)));
     Ok(())
-=======
-    if let Ok(source) = path.clone() {
-        match List::from_file(&rt, rt.alloc(), source, None, &mut buf, PlainLines) {
-            Ok(list) => assert!(rt; list.is_some_and(|list| are_read(&list.patterns))),
-            Err(fault) => assert!(rt; matches!(fault, LoadFault::Memory)),
-        }
-    }
-    let _ = fs::remove_file(&rt, path.as_str());
->>>>>>> main
 }
 
 #[test]
@@ -176,7 +159,6 @@ fn a_refusal_leaves_two_lists(rt: HostRuntime) -> Result<(), Fail> {
             None,
             &mut buf,
             PlainLines,
-<<<<<<< HEAD
         )
     });
     fs::remove_file(&rt, path.as_str())?;
@@ -188,24 +170,6 @@ fn a_refusal_leaves_two_lists(rt: HostRuntime) -> Result<(), Fail> {
     assert!(rt; is_loaded(first) && *second == List::empty(rt.alloc()));
     assert!(rt; added??);
     Ok(())
-=======
-        );
-        match added {
-            Ok(is_added) => {
-                assert!(rt; is_added);
-                assert!(rt; lists.len() == count + 1);
-            }
-            Err(fault) => {
-                assert!(rt; matches!(fault, LoadFault::Memory));
-                assert!(rt; lists.len() == count);
-            }
-        }
-        for list in &lists {
-            assert!(rt; are_read(&list.patterns));
-        }
-    }
-    let _ = fs::remove_file(&rt, path.as_str());
->>>>>>> main
 }
 
 #[test]
