@@ -8,8 +8,7 @@ use Rattle.glob_lines.specs.Transfers.{ReadsWhole, Run}
 use Rattle.glob_lines.specs.Values.{ValuesText}
 use Rattle.glob_lines.specs.declared.fault.EngineFault.{EngineFault}
 use Rattle.glob_lines.specs.declared.fault.EngineFault.TheVariants.{Memory, Read, Write}
-use Rattle.globline.specs.declared.command.Command.{Command}
-use Rattle.globline.specs.Words.{AnsweredWords, AnswersList, AnswersWild, Ask, CarriesOut}
+use Rattle.globline.specs.Words.{AnswersList, AnswersWild}
 
 -- ---- lists of three and of four
 
@@ -50,9 +49,3 @@ on_each_fault (Ok x) memory read write = tt
 on_each_fault (Err Memory) memory read write = inl (memory refl)
 on_each_fault (Err Read) memory read write = inl (read refl)
 on_each_fault (Err Write) memory read write = inr (write refl)
-
--- a command that the words ask for, and that was begun at most
-pub answers_begun : {P : Type 0} (words : List (List ℕ)) (command : Command) (input_old input_new : Option (List ℕ)) (Written : List ℕ → Type 0) → Ask words command
-    → P ⊎ CarriesOut command input_old input_new Written → P ⊎ AnsweredWords words input_old input_new Written
-answers_begun words command input_old input_new Written asked (inl p) = inl p
-answers_begun words command input_old input_new Written asked (inr done) = inr (record { command = command; asked = asked; done = done })
