@@ -25,11 +25,6 @@ const VALUES: &[u8] = b"ab\nb\n";
 
 const ANSWERS: &[u8] = b"yes\nno\n";
 
-/// A writer that keeps all that it is given.
-fn sink(alloc: Global) -> Watched<Sink> {
-    Watched::new(Sink::new(Vec::new(alloc), WHOLE, WHOLE))
-}
-
 #[test]
 fn from_reader_tells_each_failed_read(rt: HostRuntime) -> Result<(), Fail> {
     for kind in KINDS {
@@ -96,7 +91,7 @@ fn run_wild_tells_each_failed_read(rt: HostRuntime) {
         for successes in 0..VALUES.len() + 2 {
             let fails = successes <= VALUES.len();
             let mut reader = Watched::new(Source::new(VALUES, 1, successes).failing_with(kind));
-            let mut writer = sink(rt.alloc());
+            let mut writer = Watched::new(Sink::new(Vec::new(rt.alloc()), WHOLE, WHOLE));
             let answer = run_wild(rt.alloc(), b"a*", path(), &mut reader, &mut writer);
             let told = if fails {
                 Err(EngineFault::Read)
@@ -127,7 +122,7 @@ fn check_list(
 ) {
     let mut patterns = Watched::new(patterns);
     let mut paths = Watched::new(paths);
-    let mut writer = sink(rt.alloc());
+    let mut writer = Watched::new(Sink::new(Vec::new(rt.alloc()), WHOLE, WHOLE));
     let answer = run_list(
         rt.alloc(),
         &mut patterns,
