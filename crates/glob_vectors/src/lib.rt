@@ -10,6 +10,10 @@ mod file_rows;
 #[cfg(test)]
 mod folding;
 #[cfg(test)]
+mod ignore_rows;
+#[cfg(test)]
+mod label_rows;
+#[cfg(test)]
 mod list_rows;
 #[cfg(test)]
 mod loading;

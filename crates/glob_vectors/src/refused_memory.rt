@@ -10,6 +10,8 @@ use glob_lines::{EngineFault, PlainLines, run_list, run_wild};
 use std::alloc::{AllocError, Global};
 use std::{env, fs, process};
 
+mod labels;
+
 const LINES: &[u8] = b"*.rs\n\n!src/\n";
 
 fn list_of(alloc: Global) -> Result<List<PlainLines>, AllocError> {
