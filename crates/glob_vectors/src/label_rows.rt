@@ -128,11 +128,16 @@ fn labels_order_equal_patterns(rt: HostRuntime) -> Result<(), Fail> {
     Ok(())
 }
 
+/// A copy of a list of labels.
+pub(crate) fn copy_of(list: &List<LabelLines>) -> Result<List<LabelLines>, AllocError> {
+    list.clone()
+}
+
 #[test]
 fn lists_of_labels_are_copied(rt: HostRuntime) -> Result<(), AllocError> {
     let source = String::from_str(rt.alloc(), "d/labels")?;
     let list = List::from_bytes(rt.alloc(), LABELS, source, Some(""), LabelLines)?;
-    let copy = list.clone()?;
+    let copy = copy_of(&list)?;
     assert!(rt; copy == list);
     assert_eq!(rt; copy.patterns.len(), 3);
     Ok(())

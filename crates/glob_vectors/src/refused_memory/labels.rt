@@ -1,4 +1,5 @@
 //! Lists of labels and of ignore lines, whose parsers and copies want memory.
+use crate::label_rows::copy_of;
 use gix_glob::search::Pattern as _;
 use gix_glob::search::pattern::{List, Mapping};
 use glob_lines::{IgnoreLines, LabelLines};
@@ -34,7 +35,7 @@ fn copies_of_labels_are_equal(rt: HostRuntime) {
         return;
     };
     assert!(rt; are_read(&list.patterns));
-    if let Ok(copy) = list.clone() {
+    if let Ok(copy) = copy_of(&list) {
         assert!(rt; copy == list);
     }
     for mapping in &list.patterns {
