@@ -4,6 +4,7 @@ pub mod Paths
 pub mod PartsLeft
 pub mod Stripping
 pub mod Lists
+pub mod Orders
 pub mod Loaded
 pub use Rattle.glob_patterns.specs.Folding
 pub use Rattle.glob_patterns.specs.Patterns

@@ -8,4 +8,5 @@ pub mod PathsLemmas
 pub mod PlainLemmas
 pub mod StrippingLemmas
 pub mod TransferLemmas
+pub mod OneText
 pub mod TrimLemmas
