@@ -1,9 +1,7 @@
 //! Patterns that are read once and matched often: `struct gix_glob_pattern` of the header, and what is asked of it.
-ghost use Rattle.std.specs.Prelude.{◌≡◌, ◌<◌, ◌⊎◌, ◌^◌, ◌-◌, ◌↔◌, length, All, IsTrue, Some, true, false};
-ghost use Rattle.gix_glob.specs.Bytes.{HasByte, slash};
+ghost use Rattle.std.specs.Prelude.{◌≡◌, ◌<◌, ◌⊎◌, ◌^◌, ◌-◌, ◌↔◌, length, All, IsTrue, IfSome, true, false};
 ghost use Rattle.gix_glob.specs.Patterns.{HasReading, IsPattern};
-ghost use Rattle.gix_glob.specs.RepositoryPaths.{Answers, IsBasenameStart};
-ghost use Rattle.gix_glob_c.specs.Parts.{case_of};
+ghost use Rattle.gix_glob.specs.RepositoryPaths.{IsBasenameStart};
 ghost use Rattle.gix_glob_c.specs.Parsed.{AnswersPath, IsLawful, IsPathOfFile, IsRead, LastAnswer, first_of, flags_of, index_of};
 
 use crate::{case_for, place_in};
@@ -73,15 +71,25 @@ pub extern "C" fn gix_glob_last_match(
     if !is_path(path) {
         return NONE;
     }
+    match last_match(patterns, path, is_dir, fold) {
+        Some(index) => index,
+        None => NONE,
+    }
+}
+
+/// The index of the last of the patterns that matches a path.
+fn last_match(patterns: &[GlobPattern<'_>], path: &[u8], is_dir: bool, fold: bool) -> Option<usize>
+    requires { IsPathOfFile path.now }
+    ensures inside { IfSome result (λ index. index < length patterns.now) }
+    ensures exact { All IsLawful patterns.now → LastAnswer patterns.now path.now is_dir fold result }
+{
     let position = basename_start(path);
-    let mut left = patterns.len();
-    while left > 0 {
-        left -= 1;
-        if is_matched(&patterns[left], path, position, is_dir, fold) {
-            return left;
+    for i in (0..patterns.len()).rev() {
+        if is_matched(&patterns[i], path, position, is_dir, fold) {
+            return Some(i);
         }
     }
-    NONE
+    None
 }
 
 /// The parts of a pattern, as C keeps them.
@@ -113,10 +121,9 @@ fn is_matched(
     is_dir: bool,
     fold: bool,
 ) -> bool
-    requires relative { ¬ HasByte path.now 0 slash }
+    requires path { IsPathOfFile path.now }
     requires start { IsBasenameStart path.now position }
-    ensures { IsLawful pattern.now → (IsTrue result ↔
-        Answers pattern.now.text.now (flags_of pattern.now) path.now position (Some is_dir) (case_of fold) (record { 0 = 1 })) }
+    ensures { IsLawful pattern.now → (IsTrue result ↔ AnswersPath pattern.now path.now is_dir fold) }
 {
     let view = PatternView {
         text: pattern.text,
