@@ -4,6 +4,7 @@ pub mod Paths
 pub mod PartsLeft
 pub mod Stripping
 pub mod Lists
+pub mod Orders
 pub mod Loaded
 pub mod WholeLine
 pub use Rattle.glob_patterns.specs.Folding

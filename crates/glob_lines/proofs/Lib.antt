@@ -5,3 +5,4 @@ pub mod PathsLemmas
 pub mod PlainLemmas
 pub mod StrippingLemmas
 pub mod TransferLemmas
+pub mod OneText

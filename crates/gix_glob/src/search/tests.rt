@@ -103,6 +103,8 @@ fn bases_of_sources(rt: HostRuntime) -> Result<(), Fail> {
         ("src/ig", Some(""), "src/"),
         ("src/ig", None, "|"),
         ("a//b/./f", Some(""), "a/b/"),
+        ("a/b", Some(""), "a/"),
+        ("a/b", Some("a"), "|"),
         ("/r/f", Some("/r"), "|"),
         ("/x", Some(""), "/"),
         ("f", Some("/r"), "|"),
@@ -186,7 +188,7 @@ fn failed_read_is_none(rt: HostRuntime) -> Result<(), Fail> {
             Err(LoadFault::Read(error)) => {
                 assert!(rt; error.kind() == kind && !is_missing, "at {kind:?}");
             }
-            Err(LoadFault::Memory(_)) => assert!(rt; false, "no memory at {kind:?}"),
+            Err(LoadFault::Memory) => assert!(rt; false, "no memory at {kind:?}"),
         }
         assert!(rt; reader.failed(), "at {kind:?}");
         assert_eq!(rt; buf.as_slice(), b"*.rs".as_slice(), "at {kind:?}");
@@ -209,7 +211,7 @@ fn files_that_are_not_there(rt: HostRuntime) -> Result<(), Fail> {
                     "for {path:?}"
                 );
             }
-            Err(LoadFault::Memory(_)) => assert!(rt; false, "no memory for {path:?}"),
+            Err(LoadFault::Memory) => assert!(rt; false, "no memory for {path:?}"),
         }
         assert!(rt; buf.is_empty(), "for {path:?}");
     }
