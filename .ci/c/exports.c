@@ -10,6 +10,10 @@ _Static_assert(offsetof(struct gix_glob_pattern, text) == 0, "text");
 _Static_assert(offsetof(struct gix_glob_pattern, text_len) == 8, "text_len");
 _Static_assert(offsetof(struct gix_glob_pattern, first_wildcard_pos) == 16, "first_wildcard_pos");
 _Static_assert(offsetof(struct gix_glob_pattern, mode) == 24, "mode");
+_Static_assert(sizeof(struct gix_glob_lines) == 24, "the size of the lines");
+_Static_assert(offsetof(struct gix_glob_lines, rest) == 0, "rest");
+_Static_assert(offsetof(struct gix_glob_lines, rest_len) == 8, "rest_len");
+_Static_assert(offsetof(struct gix_glob_lines, number) == 16, "number");
 _Static_assert(GIX_GLOB_VERSION == 100, "the version");
 
 static int failed;
@@ -85,19 +89,20 @@ static void ignore_lines(void)
         {9, 3, true, GIX_GLOB_NO_SUB_DIR | GIX_GLOB_ENDS_WITH}, {3, 0, false, 0}, {1, 0, false, 0},
         {6, 4, true, GIX_GLOB_NO_SUB_DIR}, {4, 3, true, GIX_GLOB_NO_SUB_DIR | GIX_GLOB_NEGATIVE},
     };
+    struct gix_glob_lines lines = gix_glob_lines_of(file, sizeof file - 1);
     struct gix_glob_pattern pattern = GIX_GLOB_PATTERN_INIT;
-    size_t at = 0;
     bool has_pattern = false;
     for (size_t i = 0; i < sizeof wanted / sizeof *wanted; i++) {
-        const size_t taken = gix_glob_parse_ignore_line(file + at, sizeof file - 1 - at, at == 0, &pattern, &has_pattern);
-        CHECK(taken == wanted[i].taken && has_pattern == wanted[i].has_pattern);
+        const size_t left = lines.rest_len;
+        CHECK(gix_glob_parse_ignore_line(&lines, &pattern, &has_pattern));
+        CHECK(left - lines.rest_len == wanted[i].taken && has_pattern == wanted[i].has_pattern && lines.number == i + 1);
         CHECK(!has_pattern || (pattern.text_len == wanted[i].text_len && pattern.mode == wanted[i].mode));
-        at += taken;
     }
-    CHECK(at == sizeof file - 1);
-    CHECK(gix_glob_parse_ignore_line(file + at, 0, false, &pattern, &has_pattern) == 0);
-    CHECK(gix_glob_parse_ignore_line(file, 3, true, &pattern, &has_pattern) == 0);
-    CHECK(gix_glob_parse_ignore_line(file, 3, false, &pattern, &has_pattern) == 3 && pattern.text_len == 3);
+    CHECK(lines.rest_len == 0 && !gix_glob_parse_ignore_line(&lines, &pattern, &has_pattern));
+    lines = gix_glob_lines_of(NULL, 0);
+    CHECK(!gix_glob_parse_ignore_line(&lines, &pattern, &has_pattern));
+    lines = gix_glob_lines_of(file, 3);
+    CHECK(!gix_glob_parse_ignore_line(&lines, &pattern, &has_pattern));
 }
 
 int main(void)

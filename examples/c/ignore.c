@@ -52,7 +52,7 @@ static void find_base(struct list *list, const char *file, const char *root)
 static bool load(struct list *list, const char *file, const char *root)
 {
     struct gix_glob_pattern pattern = GIX_GLOB_PATTERN_INIT;
-    size_t len = 0, lines = 1, number = 0, taken;
+    size_t len = 0, most = 1;
     bool has_pattern = false;
     FILE *from = fopen(file, "rb");
     uint8_t *bytes = from ? bytes_of(from, &len) : NULL;
@@ -62,18 +62,16 @@ static bool load(struct list *list, const char *file, const char *root)
     if (!bytes)
         return false;
     for (size_t i = 0; i < len; i++)
-        lines += bytes[i] == '\n';
+        most += bytes[i] == '\n';
     find_base(list, file, root);
-    list->patterns = (struct gix_glob_pattern *)allocated(lines * sizeof *list->patterns);
-    list->numbers = (size_t *)allocated(lines * sizeof *list->numbers);
+    list->patterns = (struct gix_glob_pattern *)allocated(most * sizeof *list->patterns);
+    list->numbers = (size_t *)allocated(most * sizeof *list->numbers);
     list->count = 0;
-    for (size_t at = 0; (taken = gix_glob_parse_ignore_line(bytes + at, len - at, at == 0, &pattern, &has_pattern)) > 0; at += taken) {
-        number++;
+    for (struct gix_glob_lines lines = gix_glob_lines_of(bytes, len); gix_glob_parse_ignore_line(&lines, &pattern, &has_pattern);)
         if (has_pattern) {
             list->patterns[list->count] = pattern;
-            list->numbers[list->count++] = number;
+            list->numbers[list->count++] = lines.number;
         }
-    }
     return true;
 }
 

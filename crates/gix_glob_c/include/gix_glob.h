@@ -70,16 +70,32 @@ static inline const uint8_t *gix_glob_bytes(const void *bytes)
  * Answers whether there is a pattern: a line that is blank, or a lone '!', has none. */
 bool gix_glob_parse(const uint8_t *line, size_t line_len, struct gix_glob_pattern *out);
 
-/* Takes the next line off the bytes of an ignore file, by the rules of those files: a byte order mark at the front isn't read,
- * a line ends at a line feed or at the end of the bytes, a carriage return before the line feed and the spaces at the end
- * aren't read (a space after a backslash is), and a line that begins with '#' is a comment.
- *   bytes, len   what is left of the file
- *   is_first     whether this is the front of the file
+/* What is left to read of an ignore file. */
+struct gix_glob_lines {
+    const uint8_t *rest; /* the bytes behind the lines that were read; not NULL */
+    size_t rest_len;     /* how many: a call takes as many bytes as this falls by */
+    size_t number;       /* the number of the line that was read last, from 1; 0 before the first */
+};
+
+/* All lines of a file.
+ *   bytes, len  the file's bytes; NULL where there are none. Keep them as long as a pattern of them is used */
+static inline struct gix_glob_lines gix_glob_lines_of(const void *bytes, size_t len)
+{
+    struct gix_glob_lines lines;
+    lines.rest = gix_glob_bytes(bytes);
+    lines.rest_len = len;
+    lines.number = 0;
+    return lines;
+}
+
+/* Takes the next line off an ignore file and reads it by the rules of those files: a byte order mark at the front isn't read, a
+ * line ends at a line feed or at the end of the bytes, a carriage return before the line feed and the spaces at the end aren't
+ * read (a space after a backslash is), and a line that begins with '#' is a comment.
+ *   lines        the lines that are left
  *   out          receives the line's pattern; it stays as it was where the line has none
  *   has_pattern  receives whether the line has a pattern
- * Answers how many bytes the line takes, its line feed among them; 0 where no line is left. Count the calls for its number. */
-size_t gix_glob_parse_ignore_line(const uint8_t *bytes, size_t len, bool is_first,
-                                  struct gix_glob_pattern *out, bool *has_pattern);
+ * Answers whether a line was left. */
+bool gix_glob_parse_ignore_line(struct gix_glob_lines *lines, struct gix_glob_pattern *out, bool *has_pattern);
 
 /* Whether a pattern matches a path. Its '!' isn't looked at: GIX_GLOB_NEGATIVE says whether it stood there.
  *   pattern         what a call read
