@@ -20,3 +20,4 @@ pub mod OneMoreStar
 pub mod Budget
 pub mod Seeking
 pub mod LastByte
+pub mod Texts

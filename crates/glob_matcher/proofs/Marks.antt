@@ -4,9 +4,9 @@ use Rattle.std.proofs.lemmas.Bool.{cases_lt}
 use Rattle.glob_matcher.specs.declared.wildmatch.mode.Mode.{Mode}
 use Rattle.glob_matcher.specs.declared.wildmatch.tokens.Shape.{Shape}
 use Rattle.glob_matcher.specs.declared.wildmatch.tokens.Shape.TheVariants as shape
-use Rattle.glob_matcher.specs.declared.wildmatch.counted.Mark.{Mark}
-use Rattle.glob_matcher.specs.declared.wildmatch.marks.Crossing.{Crossing}
-use Rattle.glob_matcher.specs.declared.wildmatch.marks.Crossing.TheVariants as crossing
+use Rattle.glob_matcher.specs.declared.wildmatch.engine.Mark.{Mark}
+use Rattle.glob_matcher.specs.declared.wildmatch.state.Crossing.{Crossing}
+use Rattle.glob_matcher.specs.declared.wildmatch.state.Crossing.TheVariants as crossing
 use Rattle.glob_matcher.specs.Bytes.{HasByte, is_path, slash, star, question_mark, open_bracket, close_bracket, backslash}
 use Rattle.glob_matcher.specs.Tokens.{Token, Byte, Any, OneOf, Free, Local, Dirs, Nothing, TokenAt, IsRun, IsAfterSlash, IsBeforeSlash}
 use Rattle.glob_matcher.specs.Matching.{SplitsFrom}

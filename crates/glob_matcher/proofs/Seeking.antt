@@ -3,20 +3,20 @@ use Rattle.std.proofs.Common.{◌≡◌, ◌≢◌, ◌⊎◌, inl, inr, ℕ, ze
 use Rattle.std.proofs.lemmas.Bool.{cases_lt}
 use Rattle.std.specs.Char.{to_ascii_lowercase}
 use Rattle.glob_matcher.specs.declared.wildmatch.mode.Mode.{Mode}
-use Rattle.glob_matcher.specs.declared.wildmatch.counted.Mark.{Mark}
-use Rattle.glob_matcher.specs.declared.wildmatch.follow.Follow.{Follow}
-use Rattle.glob_matcher.specs.declared.wildmatch.follow.Follow.TheVariants as follow
-use Rattle.glob_matcher.specs.declared.wildmatch.seeking.Sought.{Sought}
-use Rattle.glob_matcher.specs.declared.wildmatch.seeking.Sought.TheVariants as sought
+use Rattle.glob_matcher.specs.declared.wildmatch.engine.Mark.{Mark}
+use Rattle.glob_matcher.specs.declared.wildmatch.needle.Follow.{Follow}
+use Rattle.glob_matcher.specs.declared.wildmatch.needle.Follow.TheVariants as follow
+use Rattle.glob_matcher.specs.declared.wildmatch.scan.Scan.{Scan}
+use Rattle.glob_matcher.specs.declared.wildmatch.scan.Scan.TheVariants as scan
 use Rattle.std.specs.Prelude.{OnSome}
-use Rattle.glob_matcher.specs.declared.wildmatch.marks.State.{State}
-use Rattle.glob_matcher.specs.declared.wildmatch.marks.Crossing.{Crossing}
-use Rattle.glob_matcher.specs.declared.wildmatch.marks.Crossing.TheVariants as crossing
+use Rattle.glob_matcher.specs.declared.wildmatch.state.State.{State}
+use Rattle.glob_matcher.specs.declared.wildmatch.state.Crossing.{Crossing}
+use Rattle.glob_matcher.specs.declared.wildmatch.state.Crossing.TheVariants as crossing
 use Rattle.glob_matcher.specs.Bytes.{fold, folds, is_path, slash}
 use Rattle.glob_matcher.specs.Tokens.{Byte}
 use Rattle.glob_matcher.specs.Matching.{SplitsFrom}
 use Rattle.glob_matcher.specs.Reader.{Fits, NoSlash}
-use Rattle.glob_matcher.specs.Seeking.{Follows, StandsForItself, IsSought, Passed, Suits, last_steps, reached_by}
+use Rattle.glob_matcher.specs.Seeking.{Follows, StandsForItself, IsScan, IsSought, Passed, last_steps, reached_by}
 use Rattle.glob_matcher.specs.Marks.{IsMet, IsSoughtFor, Stands}
 use Rattle.glob_matcher.specs.Budget.{Allows}
 use Rattle.glob_matcher.proofs.Components.{inner}
@@ -37,6 +37,12 @@ fold_exact mode b off = ap (λ (on : Bool). if on then to_ascii_lowercase b else
 
 fold_lower : (mode : Mode) (b : ℕ) → folds mode ≡ true → fold mode b ≡ to_ascii_lowercase b
 fold_lower mode b on = ap (λ (x : Bool). if x then to_ascii_lowercase b else b) on
+
+-- a byte of the value is what follows
+abbrev pub Suits : Follow → ℕ → Type 0
+Suits (follow.Byte b) = λ c. c ≡ b
+Suits (follow.Folded b) = λ c. to_ascii_lowercase c ≡ to_ascii_lowercase b
+Suits follow.End = λ c. ⊥
 
 -- a byte that is what follows is taken by the token there
 pub suited : (mode : Mode) (p : List ℕ) (i : ℕ) (f : Follow) (c : ℕ) → Follows mode p i f → Suits f c
@@ -68,10 +74,10 @@ unsuited mode p v i j (follow.Folded b) is inside other =
 unsuited mode p v i j follow.End is inside other = end_missed mode p v i j is (λ past. omega arith)
 
 -- A look for what follows is a look for the rest of the pattern.
-pub sought_for : (mode : Mode) (p v : List ℕ) (f : Follow) (from : Mark) (s : Sought) (before after : ℕ) → Follows mode p from.place f
-    → IsSought v f from s → after + 2 * from.at ≡ before + 2 * (reached_by s).at + last_steps s
-    → IsSoughtFor mode p v from s before after
-sought_for mode p v f from (sought.Found m) before after is so count =
+pub sought_for : (mode : Mode) (p v : List ℕ) (f : Follow) (from : Mark) (s : Scan) (before after : ℕ) → Follows mode p from.place f
+    → IsScan v (Suits f) from s before after → IsSoughtFor mode p v from s before after
+sought_for mode p v f from (scan.Found m) before after is found =
+    let so = found.meaning in
     let here : Follows mode p m.place f = subst (λ (i : ℕ). Follows mode p i f) (sym so.0.same) is in
     let fits = suited mode p m.place f (get_or v m.at 0) here so.2 in
     record {
@@ -80,9 +86,10 @@ sought_for mode p v f from (sought.Found m) before after is so count =
       inside = so.0.inside;
       missed = λ k low below. unsuited mode p v from.place k f is (omega (arith, so.0.inside)) (so.0.unsuited k low below);
       met = (fits.0, fits.1, so.1, fits.2);
-      count = count;
+      count = found.count;
     }
-sought_for mode p v f from (sought.Stuck m) before after is so count =
+sought_for mode p v f from (scan.Blocked m) before after is found =
+    let so = found.meaning in
     let here : Follows mode p m.place f = subst (λ (i : ℕ). Follows mode p i f) (sym so.0.same) is in
     record {
       same = so.0.same;
@@ -90,16 +97,18 @@ sought_for mode p v f from (sought.Stuck m) before after is so count =
       inside = so.0.inside;
       missed = λ k low below. unsuited mode p v from.place k f is (omega (arith, so.0.inside)) (so.0.unsuited k low below);
       met = (so.1, so.3, unsuited mode p v m.place m.at f here so.1 so.2);
-      count = count;
+      count = found.count;
     }
-sought_for mode p v f from (sought.On m) before after is so count = record {
-  same = so.same;
-  low = so.low;
-  inside = so.inside;
-  missed = λ k low below. unsuited mode p v from.place k f is (omega (arith, so.inside)) (so.unsuited k low below);
-  met = tt;
-  count = count;
-}
+sought_for mode p v f from (scan.Undecided m) before after is found =
+    let so = found.meaning in
+    record {
+      same = so.same;
+      low = so.low;
+      inside = so.inside;
+      missed = λ k low below. unsuited mode p v from.place k f is (omega (arith, so.inside)) (so.unsuited k low below);
+      met = tt;
+      count = found.count;
+    }
 
 -- a mark of the same place that is so far on
 reaches : (m x : Mark) (d : ℕ) → x.place ≡ m.place → x.at ≡ m.at + d → mark_of m.place (m.at + d) ≡ x
@@ -199,7 +208,7 @@ byte_of e = cc
 
 -- The byte after a run of stars that crosses slashes is found.
 pub free_found : (mode : Mode) (p v : List ℕ) (m : Mark) → Stands mode p v m.place m.at (crossing.Free m) None
-    → IsMet mode p v (sought.Found m) → Stands mode p v (m.place + 1) (m.at + 1) (crossing.Free m) None
+    → IsMet mode p v (scan.Found m) → Stands mode p v (m.place + 1) (m.at + 1) (crossing.Free m) None
 free_found mode p v m st met =
     let token = literal_token mode p m.place met.0 met.1 in
     elim (same_or_not (get_or p m.place 0) slash) [
@@ -210,7 +219,7 @@ free_found mode p v m st met =
     ]
 
 pub free_found_steps : (mode : Mode) (p v : List ℕ) (m : Mark) (s n : ℕ) → Allows mode p v m.place m.at (crossing.Free m) None s n
-    → IsMet mode p v (sought.Found m) → Allows mode p v (m.place + 1) (m.at + 1) (crossing.Free m) None (s + 1) n
+    → IsMet mode p v (scan.Found m) → Allows mode p v (m.place + 1) (m.at + 1) (crossing.Free m) None (s + 1) n
 free_found_steps mode p v m s n a met =
     let token = literal_token mode p m.place met.0 met.1 in
     allows_past_slash mode p v m.place token.token (m.place + 1) m.at (crossing.Free m) None s n token.here met.2 met.3 a
@@ -222,7 +231,7 @@ pub record IsKept (p : List ℕ) (m : Mark) (l : Option Mark) : Type 0 where
 
 -- The byte after a run of stars within a component is found.
 pub local_found : (mode : Mode) (p v : List ℕ) (c : Crossing) (m : Mark) (l : Option Mark) → Stands mode p v m.place m.at c (Some m)
-    → IsMet mode p v (sought.Found m) → IsKept p m l → Stands mode p v (m.place + 1) (m.at + 1) c l
+    → IsMet mode p v (scan.Found m) → IsKept p m l → Stands mode p v (m.place + 1) (m.at + 1) c l
 local_found mode p v c m l st met k =
     let token = literal_token mode p m.place met.0 met.1 in
     elim (same_or_not (get_or p m.place 0) slash) [
@@ -235,7 +244,7 @@ local_found mode p v c m l st met k =
     ]
 
 pub local_found_steps : (mode : Mode) (p v : List ℕ) (c : Crossing) (m : Mark) (l : Option Mark) (s n : ℕ)
-    → Stands mode p v m.place m.at c (Some m) → Allows mode p v m.place m.at c (Some m) s n → IsMet mode p v (sought.Found m)
+    → Stands mode p v m.place m.at c (Some m) → Allows mode p v m.place m.at c (Some m) s n → IsMet mode p v (scan.Found m)
     → IsKept p m l → Allows mode p v (m.place + 1) (m.at + 1) c l (s + 1) n
 local_found_steps mode p v c m l s n st a met k =
     let token = literal_token mode p m.place met.0 met.1 in
@@ -250,8 +259,8 @@ local_found_steps mode p v c m l s n st a met k =
     ]
 
 -- looks ahead, one after the other
-pub passed_on : (v : List ℕ) (f : Follow) (a b c : Mark) → Passed v f a b → Passed v f b c → Passed v f a c
-passed_on v f a b c x y = record {
+pub passed_on : (v : List ℕ) (P : ℕ → Type 0) (a b c : Mark) → Passed v P a b → Passed v P b c → Passed v P a c
+passed_on v P a b c x y = record {
   same = y.same ∙ x.same;
   low = omega (arith, x.low, y.low);
   inside = y.inside;
@@ -261,13 +270,29 @@ passed_on v f a b c x y = record {
   ];
 }
 
+-- a scan that goes on from where another has come to
+pub scan_on : (v : List ℕ) (P : ℕ → Type 0) (a b : Mark) (s : Scan) (before between after : ℕ) → Passed v P a b
+    → between + 2 * a.at ≡ before + 2 * b.at → IsScan v P b s between after → IsScan v P a s before after
+scan_on v P a b (scan.Found m) before between after x steps y = record {
+  meaning = (passed_on v P a b m x y.meaning.0, y.meaning.1, y.meaning.2);
+  count = omega (arith, steps, y.count);
+}
+scan_on v P a b (scan.Blocked m) before between after x steps y = record {
+  meaning = (passed_on v P a b m x y.meaning.0, y.meaning.1, y.meaning.2, y.meaning.3);
+  count = omega (arith, steps, y.count);
+}
+scan_on v P a b (scan.Undecided m) before between after x steps y = record {
+  meaning = passed_on v P a b m x y.meaning;
+  count = omega (arith, steps, y.count);
+}
+
 -- no mark, where it is none of all
 pub none_of : (l : Option Mark) → ((m : Mark) → l ≡ Some m → ⊥) → l ≡ None
 none_of None other = refl
 none_of (Some m) other = absurd (other m refl)
 
 -- A look ahead from the local mark, once it has moved: the engine stands where the look has come to.
-pub local_sought : (mode : Mode) (p v : List ℕ) (i j : ℕ) (c : Crossing) (m x : Mark) (s : Sought) (before after : ℕ)
+pub local_sought : (mode : Mode) (p v : List ℕ) (i j : ℕ) (c : Crossing) (m x : Mark) (s : Scan) (before after : ℕ)
     → Stands mode p v i j c (Some m) → ¬ SplitsFrom v j p i mode → m.at < length v → get_or v m.at 0 ≢ slash → x.place ≡ m.place
     → x.at ≡ m.at + 1 → IsSoughtFor mode p v x s before after → NoSlash v x.at (reached_by s).at
     → Stands mode p v (reached_by s).place (reached_by s).at c (Some (reached_by s))
@@ -275,7 +300,7 @@ local_sought mode p v i j c m x s before after st miss inside other same at so b
     stands_local_skipped mode p v c x (reached_by s) (local_moved mode p v i j c m x st miss inside other same at) so.same so.low
     so.inside bare so.missed
 
-pub local_sought_steps : (mode : Mode) (p v : List ℕ) (i j : ℕ) (c : Crossing) (m x : Mark) (s : Sought) (before after r w n : ℕ)
+pub local_sought_steps : (mode : Mode) (p v : List ℕ) (i j : ℕ) (c : Crossing) (m x : Mark) (s : Scan) (before after r w n : ℕ)
     → Stands mode p v i j c (Some m) → m.at < length v → get_or v m.at 0 ≢ slash → x.place ≡ m.place → x.at ≡ m.at + 1
     → IsSoughtFor mode p v x s before after → NoSlash v x.at (reached_by s).at → before ≡ w + 1 + 1 → after ≡ r + last_steps s
     → Allows mode p v i j c (Some m) w n

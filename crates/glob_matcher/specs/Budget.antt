@@ -3,12 +3,12 @@
 -- between two slashes of the pattern looks at one component of the value. Nothing public cites it.
 use Rattle.std.specs.Prelude.{◌≡◌, ℕ, ◌+◌, ◌-◌, ◌<◌, ◌≤◌, Bool, List, [], ◌∷◌, length, Option, Some, None, if◌then◌else◌}
 use Rattle.glob_matcher.specs.declared.wildmatch.mode.Mode.{Mode}
-use Rattle.glob_matcher.specs.declared.wildmatch.counted.Mark.{Mark}
-use Rattle.glob_matcher.specs.declared.wildmatch.marks.Crossing.{Crossing}
-use Rattle.glob_matcher.specs.declared.wildmatch.marks.Crossing.TheVariants as crossing
-use Rattle.glob_matcher.specs.declared.wildmatch.marks.State.{State}
-use Rattle.glob_matcher.specs.declared.wildmatch.marks.Turn.{Turn}
-use Rattle.glob_matcher.specs.declared.wildmatch.marks.Turn.TheVariants as turn
+use Rattle.glob_matcher.specs.declared.wildmatch.engine.Mark.{Mark}
+use Rattle.glob_matcher.specs.declared.wildmatch.state.Crossing.{Crossing}
+use Rattle.glob_matcher.specs.declared.wildmatch.state.Crossing.TheVariants as crossing
+use Rattle.glob_matcher.specs.declared.wildmatch.state.State.{State}
+use Rattle.glob_matcher.specs.declared.wildmatch.state.Turn.{Turn}
+use Rattle.glob_matcher.specs.declared.wildmatch.state.Turn.TheVariants as turn
 use Rattle.glob_matcher.specs.Tokens.{Token, Free, Local, Dirs, From, Tokens}
 use Rattle.glob_matcher.specs.Components.{separates, next_component}
 

@@ -10,3 +10,4 @@ pub mod Components
 pub mod Seeking
 pub mod Marks
 pub mod Budget
+pub mod Turns

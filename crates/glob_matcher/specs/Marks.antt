@@ -2,15 +2,15 @@
 -- of a mark. Nothing public cites it.
 use Rattle.std.specs.Prelude.{◌≡◌, ◌⊎◌, ℕ, ◌+◌, ◌-◌, ◌*◌, ◌<◌, ◌≤◌, false, IsTrue, List, length, slice_index, Option, Some, None}
 use Rattle.glob_matcher.specs.declared.wildmatch.mode.Mode.{Mode}
-use Rattle.glob_matcher.specs.declared.wildmatch.counted.Mark.{Mark}
-use Rattle.glob_matcher.specs.declared.wildmatch.marks.Crossing.{Crossing}
-use Rattle.glob_matcher.specs.declared.wildmatch.marks.Crossing.TheVariants as crossing
-use Rattle.glob_matcher.specs.declared.wildmatch.marks.State.{State}
-use Rattle.glob_matcher.specs.declared.wildmatch.marks.Turn.{Turn}
-use Rattle.glob_matcher.specs.declared.wildmatch.marks.Turn.TheVariants as turn
+use Rattle.glob_matcher.specs.declared.wildmatch.engine.Mark.{Mark}
+use Rattle.glob_matcher.specs.declared.wildmatch.state.Crossing.{Crossing}
+use Rattle.glob_matcher.specs.declared.wildmatch.state.Crossing.TheVariants as crossing
+use Rattle.glob_matcher.specs.declared.wildmatch.state.State.{State}
+use Rattle.glob_matcher.specs.declared.wildmatch.state.Turn.{Turn}
+use Rattle.glob_matcher.specs.declared.wildmatch.state.Turn.TheVariants as turn
 use Rattle.glob_matcher.specs.Bytes.{is_path, slash}
-use Rattle.glob_matcher.specs.declared.wildmatch.seeking.Sought.{Sought}
-use Rattle.glob_matcher.specs.declared.wildmatch.seeking.Sought.TheVariants as sought
+use Rattle.glob_matcher.specs.declared.wildmatch.scan.Scan.{Scan}
+use Rattle.glob_matcher.specs.declared.wildmatch.scan.Scan.TheVariants as scan
 use Rattle.glob_matcher.specs.Tokens.{Token, Byte, TokenAt, IsAfterSlash}
 use Rattle.glob_matcher.specs.Matching.{SplitsFrom}
 use Rattle.glob_matcher.specs.Reader.{Fits, NoSlash, AfterSlash}
@@ -140,16 +140,16 @@ abbrev pub ResumesWithin : Mode → List ℕ → List ℕ → Crossing → Optio
 ResumesWithin mode p v c None = IsLeft mode p v c
 ResumesWithin mode p v c (Some next) = StandsAt mode p v next
 
--- what was met at the place that a look ahead has come to
-abbrev pub IsMet : Mode → List ℕ → List ℕ → Sought → Type 0
-IsMet mode p v (sought.Found m) =
+-- what was met at the place that a scan has come to
+abbrev pub IsMet : Mode → List ℕ → List ℕ → Scan → Type 0
+IsMet mode p v (scan.Found m) =
     (m.place < length p) × StandsForItself (slice_index p m.place) × (m.at < length v)
     × Fits mode (Byte (slice_index p m.place)) (slice_index v m.at)
-IsMet mode p v (sought.Stuck m) = (m.at < length v) × (slice_index v m.at ≡ slash) × ¬ SplitsFrom v m.at p m.place mode
-IsMet mode p v (sought.On m) = Unit {0}
+IsMet mode p v (scan.Blocked m) = (m.at < length v) × (slice_index v m.at ≡ slash) × ¬ SplitsFrom v m.at p m.place mode
+IsMet mode p v (scan.Undecided m) = Unit {0}
 
--- A look ahead from a mark: at no place before the one it has come to does the rest of the pattern split the rest of the value.
-pub record IsSoughtFor (mode : Mode) (p v : List ℕ) (from : Mark) (s : Sought) (before after : ℕ) : Type 0 where
+-- A scan from a mark: at no place before the one it has come to does the rest of the pattern split the rest of the value.
+pub record IsSoughtFor (mode : Mode) (p v : List ℕ) (from : Mark) (s : Scan) (before after : ℕ) : Type 0 where
   pub same : (reached_by s).place ≡ from.place
   pub low : from.at ≤ (reached_by s).at
   pub inside : (reached_by s).at ≤ length v

@@ -1,0 +1,37 @@
+use Rattle.std.proofs.Common.{◌≡◌, ◌≤◌, length, false, true, arith}
+use Rattle.glob_matcher.proofs.Marks.{end_met, end_missed}
+use Rattle.glob_matcher.proofs.Budget.{allows_one}
+use Rattle.glob_matcher.proofs.wildmatch.engine.Engine.take_turn.Goals as goal
+
+pub returns-then-ends_at : goal.returns-then-ends_at
+returns-then-ends_at g c =
+    let m = g.M.Match in
+    let past : length m.pattern ≤ c.args.state.place = omega (arith, c.if-state-self.true, c.pattern_len.ensures) in
+    let low : c.args.state.place ≤ length m.pattern = c.requires.low in
+    record {
+      meaning =
+          end_met m.mode m.pattern m.value c.args.state.place c.args.state.at c.args.state.crossing c.args.state.local
+          c.requires (omega arith) (c.if-ends_at.ensures.answer.0 refl);
+      allows = λ n a.
+          let one =
+          allows_one m.mode m.pattern m.value c.args.state.place c.args.state.at c.args.state.crossing
+          c.args.state.local c.args.self.now n c.requires.inside a in
+          omega (arith, one, c.ends_at.ensures.count);
+      counts = tt;
+    }
+
+pub returns-then-state-self : goal.returns-then-state-self
+returns-then-state-self g c =
+    let m = g.M.Match in
+    let past : length m.pattern ≤ c.args.state.place = omega (arith, c.if-state-self.true, c.pattern_len.ensures) in
+    let low : c.args.state.place ≤ length m.pattern = c.requires.low in
+    record {
+      meaning = record {
+        stands = c.requires;
+        missed =
+            end_missed m.mode m.pattern m.value c.args.state.place c.args.state.at (omega arith)
+            (λ end. let wrong : false ≡ true = c.if-ends_at.ensures.answer.1 end in cc);
+      };
+      allows = λ n a. record { before = c.args.self.now; one = c.ends_at.ensures.count; allows = a };
+      counts = omega (arith, c.ends_at.ensures.count);
+    }
