@@ -8,7 +8,7 @@
 //! two texts through `engine`.
 ghost use Rattle.std.specs.Prelude.{◌≢◌, ◌↔◌, ◌+◌, ◌<◌, ◌≤◌, true, IsTrue, length};
 ghost use Rattle.glob_matcher.specs.Bytes.{close_bracket, question_mark, slash, star};
-ghost use Rattle.glob_matcher.specs.Matching.{Splits, Holds};
+ghost use Rattle.glob_matcher.specs.Matching.{Splits};
 ghost use Rattle.glob_matcher.specs.Marks.{Whole};
 ghost use Rattle.glob_matcher.specs.Steps.{step_bound, step_limit};
 
@@ -77,7 +77,7 @@ impl<'s, 'a, L: Ledger, M: Match> Engine<'s, 'a, L, M> {
 /// mode, `p` and `v` being the lengths in bytes of pattern and value; and in fact by at most the first in both. It takes no
 /// memory, and no recursion. The rules are in `docs/MATCHING.md`.
 pub fn marked<L: Ledger>(pattern: &[u8], value: &[u8], mode: Mode, steps: &mut Steps<L>) -> bool
-    ensures meaning { Holds result (Splits value.now pattern.now mode) pattern.now }
+    ensures exact { IsTrue result ↔ Splits value.now pattern.now mode }
     ensures bound { steps.new ≤ steps.old + step_bound mode (length pattern.now) (length value.now) }
     ensures limit { steps.new ≤ steps.old + step_limit (length pattern.now) (length value.now) }
 {
