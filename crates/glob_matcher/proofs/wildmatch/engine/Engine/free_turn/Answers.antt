@@ -3,10 +3,10 @@ use Rattle.glob_matcher.proofs.Marks.{free_last, free_known, free_met}
 use Rattle.glob_matcher.proofs.Budget.{allows_one, allows_free, counted_on}
 use Rattle.glob_matcher.proofs.wildmatch.engine.Engine.free_turn.Goals as goal
 
-pub returns-then-after-self : goal.returns-then-after-self
-returns-then-after-self g c =
+pub returns-then-after-pattern_len : goal.returns-then-after-pattern_len
+returns-then-after-pattern_len g c =
     let m = g.M.Match in
-    let last : c.args.after ≡ length m.pattern = omega (arith, c.if-after-self.true, c.pattern_len.ensures) in
+    let last : c.args.after ≡ length m.pattern = omega (arith, c.if-after-pattern_len.true, c.pattern_len.ensures) in
     record {
       meaning =
           free_last m.mode m.pattern m.value c.args.state.place c.args.after c.args.state.at c.args.state.crossing
@@ -22,7 +22,7 @@ returns-then-after-self g c =
 pub returns : goal.returns
 returns g c =
     let m = g.M.Match in
-    let more : c.args.after ≢ length m.pattern = λ last. c.if-after-self.false (omega (arith, last, c.pattern_len.ensures)) in
+    let more : c.args.after ≢ length m.pattern = λ last. c.if-after-pattern_len.false (omega (arith, last, c.pattern_len.ensures)) in
     record {
       meaning =
           free_met m.mode m.pattern m.value c.args.state.place c.args.after c.args.state.at c.args.state.crossing

@@ -1,4 +1,4 @@
-use Rattle.std.proofs.Common.{◌≡◌, ◌≤◌, length, false, true, arith}
+use Rattle.std.proofs.Common.{◌≡◌, ◌≤◌, length, false, true, refl, arith}
 use Rattle.glob_matcher.proofs.Marks.{end_met, end_missed}
 use Rattle.glob_matcher.proofs.Budget.{allows_one}
 use Rattle.glob_matcher.proofs.wildmatch.engine.Engine.take_turn.Goals as goal
@@ -6,7 +6,7 @@ use Rattle.glob_matcher.proofs.wildmatch.engine.Engine.take_turn.Goals as goal
 pub returns-then-ends_at : goal.returns-then-ends_at
 returns-then-ends_at g c =
     let m = g.M.Match in
-    let past : length m.pattern ≤ c.args.state.place = omega (arith, c.if-state-self.true, c.pattern_len.ensures) in
+    let past : length m.pattern ≤ c.args.state.place = omega (arith, c.if-state-pattern_len.true, c.pattern_len.ensures) in
     let low : c.args.state.place ≤ length m.pattern = c.requires.low in
     record {
       meaning =
@@ -20,10 +20,10 @@ returns-then-ends_at g c =
       counts = tt;
     }
 
-pub returns-then-state-self : goal.returns-then-state-self
-returns-then-state-self g c =
+pub returns-then-state-pattern_len : goal.returns-then-state-pattern_len
+returns-then-state-pattern_len g c =
     let m = g.M.Match in
-    let past : length m.pattern ≤ c.args.state.place = omega (arith, c.if-state-self.true, c.pattern_len.ensures) in
+    let past : length m.pattern ≤ c.args.state.place = omega (arith, c.if-state-pattern_len.true, c.pattern_len.ensures) in
     let low : c.args.state.place ≤ length m.pattern = c.requires.low in
     record {
       meaning = record {
