@@ -3,15 +3,22 @@
 
 mod decimal;
 mod fault;
+mod ignore;
+mod ignore_line;
+mod label;
 pub mod laws;
 mod lines;
 mod list;
+mod numbered;
 mod paths;
 mod plain;
 mod transfer;
 mod wild;
 
 pub use fault::EngineFault;
+pub use ignore::IgnoreLines;
+pub use ignore_line::{IgnoreLine, next_ignore_line, without_byte_order_mark};
+pub use label::LabelLines;
 pub use list::run_list;
 pub use paths::plain_path;
 pub use plain::PlainLines;

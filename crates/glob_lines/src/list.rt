@@ -73,6 +73,7 @@ pub fn run_list<P: Read, Q: Read, W: Write>(
     let path_lines = read_whole(alloc, paths)?;
     // a law does nothing: it is called for what it ensures
     laws::bases_end_in_a_slash();
+    crate::laws::plain_entries_are_these();
     let text = matches_of(alloc, &list, case, &path_lines)?;
     write_whole(writer, &text)
 }

@@ -18,6 +18,8 @@ mod modes;
 #[cfg(test)]
 mod one_file;
 #[cfg(test)]
+mod orders;
+#[cfg(test)]
 mod refused_memory;
 #[cfg(test)]
 mod rows;
