@@ -3,10 +3,10 @@
 ghost use Rattle.std.specs.Prelude.{◌≡◌, ◌≢◌, ◌<◌, ◌≤◌, false, length, slice_index};
 ghost use Rattle.glob_matcher.specs.Bytes.{slash};
 ghost use Rattle.glob_matcher.specs.Tokens.{FreeAt, LocalAt, DirsAt};
-ghost use Rattle.glob_matcher.specs.Reader.{IsToken, is_star};
-ghost use Rattle.glob_matcher.specs.Seeking.{StandsForItself};
-ghost use Rattle.glob_matcher.specs.Marks.{StandsAt};
-ghost use Rattle.glob_matcher.specs.Turns.{IsTurn};
+ghost use Rattle.glob_matcher.specs.Private.Reader.{IsToken, is_star};
+ghost use Rattle.glob_matcher.specs.Private.Scans.{StandsForItself};
+ghost use Rattle.glob_matcher.specs.Private.States.{StandsAt};
+ghost use Rattle.glob_matcher.specs.Private.Turns.{IsTurn};
 
 use super::engine::{Engine, Match};
 use super::needle::stands_for_itself;

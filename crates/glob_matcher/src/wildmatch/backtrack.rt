@@ -1,11 +1,10 @@
 //! The ways back to a mark, where a token does not fit: to the local mark if it can move, else to the crossing one.
 ghost use Rattle.std.specs.Prelude.{◌≡◌, ◌≢◌, ◌+◌, ◌<◌, ◌≤◌, IfSome, IfNone, None, Some, length, slice_index};
-ghost use Rattle.glob_matcher.specs.Bytes.{slash};
-ghost use Rattle.glob_matcher.specs.Reader.{NoSlash};
-ghost use Rattle.glob_matcher.specs.Seeking.{IsUnblocked, reached_by};
-ghost use Rattle.glob_matcher.specs.Marks.{IsLeft, IsMissed, IsNextFolder, IsSoughtFor};
-ghost use Rattle.glob_matcher.specs.Budget.{AllowsLeft, AllowsMissed};
-ghost use Rattle.glob_matcher.specs.Turns.{IsBacktrack, IsBacktrackWithin};
+ghost use Rattle.glob_matcher.specs.Bytes.{NoSlash, slash};
+ghost use Rattle.glob_matcher.specs.Private.Scans.{IsUnblocked, reached_by};
+ghost use Rattle.glob_matcher.specs.Private.States.{IsLeft, IsMissed, IsNextDirectory, IsScanFor};
+ghost use Rattle.glob_matcher.specs.Private.Budget.{AllowsLeft, AllowsMissed};
+ghost use Rattle.glob_matcher.specs.Private.Turns.{IsBacktrack, IsBacktrackWithin};
 
 use super::engine::{Engine, Mark, Match};
 use super::needle::{End, Exact, Folded, Follow};
@@ -16,8 +15,8 @@ use std::sync::ledger::Ledger;
 impl<'s, 'a, L: Ledger, M: Match> Engine<'s, 'a, L, M> {
     /// Moves a mark to the next place after a slash.
     #[inline(always)]
-    fn next_folder(&mut self, mark: Mark) -> Option<Mark>
-        ensures moved { IfSome result (λ m. IsNextFolder M.value mark m) }
+    fn next_directory(&mut self, mark: Mark) -> Option<Mark>
+        ensures moved { IfSome result (λ m. IsNextDirectory M.value mark m) }
         ensures moves { IfSome result (λ m. self.new + mark.at ≡ self.old + m.at) }
         ensures unable { IfNone result (NoSlash M.value mark.at (length M.value)) }
         ensures count { IfNone result (mark.at ≤ length M.value → self.new + mark.at ≡ self.old + length M.value + 1) }
@@ -37,7 +36,7 @@ impl<'s, 'a, L: Ledger, M: Match> Engine<'s, 'a, L, M> {
     fn scan_from(&mut self, mark: Mark) -> Scan
         requires place { mark.place ≤ length M.pattern }
         requires at { mark.at ≤ length M.value }
-        ensures meaning { IsSoughtFor M.mode M.pattern M.value mark result self.old self.new }
+        ensures meaning { IsScanFor M.mode M.pattern M.value mark result self.old self.new }
         ensures free { IsUnblocked result }
     {
         match self.follow_at(mark.place()) {
@@ -53,7 +52,7 @@ impl<'s, 'a, L: Ledger, M: Match> Engine<'s, 'a, L, M> {
     fn scan_from_within(&mut self, mark: Mark) -> Scan
         requires place { mark.place ≤ length M.pattern }
         requires at { mark.at ≤ length M.value }
-        ensures meaning { IsSoughtFor M.mode M.pattern M.value mark result self.old self.new }
+        ensures meaning { IsScanFor M.mode M.pattern M.value mark result self.old self.new }
         ensures bare { NoSlash M.value mark.at (reached_by result).at }
     {
         match self.follow_at(mark.place()) {
@@ -99,7 +98,7 @@ impl<'s, 'a, L: Ledger, M: Match> Engine<'s, 'a, L, M> {
         match crossing {
             Crossing::Unmet => None,
             Crossing::Free(mark) => self.back_to_free(mark),
-            Crossing::Dirs(mark) => match self.next_folder(mark) {
+            Crossing::Dirs(mark) => match self.next_directory(mark) {
                 None => None,
                 Some(moved) => Some(State {
                     place: moved.place(),

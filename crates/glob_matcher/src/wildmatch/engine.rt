@@ -5,9 +5,9 @@
 ghost use Rattle.std.specs.Prelude.{◌≡◌, ◌≢◌, ◌↔◌, ◌⊎◌, ℕ, ◌+◌, ◌-◌, ◌^◌, ◌<◌, ◌≤◌, IsTrue, IfSome, IfNone, length, slice_index};
 ghost use Rattle.glob_matcher.specs.Bytes.{slash};
 ghost use Rattle.glob_matcher.specs.Tokens.{Token, Byte, TokenAt};
-ghost use Rattle.glob_matcher.specs.Reader.{IsToken, shape_of, Fits};
-ghost use Rattle.glob_matcher.specs.Seeking.{Follows, StandsForItself};
-ghost use Rattle.glob_matcher.specs.Marks.{Whole};
+ghost use Rattle.glob_matcher.specs.Private.Reader.{IsToken, shape_of, Fits};
+ghost use Rattle.glob_matcher.specs.Private.Scans.{Follows, StandsForItself};
+ghost use Rattle.glob_matcher.specs.Private.States.{Whole};
 ghost use Rattle.glob_matcher.specs.Steps.{step_limit};
 
 use super::mode::Mode;

@@ -1,7 +1,7 @@
 //! The scans from a mark: to the next place of the value that has what follows the star, byte by byte.
 ghost use Rattle.std.specs.Prelude.{◌+◌, ◌<◌, ◌≤◌, length};
-ghost use Rattle.glob_matcher.specs.Reader.{NoSlash};
-ghost use Rattle.glob_matcher.specs.Seeking.{IsScan, IsUnblocked, MovesBy, reached_by};
+ghost use Rattle.glob_matcher.specs.Bytes.{NoSlash};
+ghost use Rattle.glob_matcher.specs.Private.Scans.{IsScan, IsUnblocked, MovesBy, reached_by};
 
 #[cfg(test)]
 mod tests;

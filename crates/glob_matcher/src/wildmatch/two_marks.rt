@@ -9,7 +9,7 @@
 ghost use Rattle.std.specs.Prelude.{◌≢◌, ◌↔◌, ◌+◌, ◌<◌, ◌≤◌, true, IsTrue, length};
 ghost use Rattle.glob_matcher.specs.Bytes.{close_bracket, question_mark, slash, star};
 ghost use Rattle.glob_matcher.specs.Matching.{Splits};
-ghost use Rattle.glob_matcher.specs.Marks.{Whole};
+ghost use Rattle.glob_matcher.specs.Private.States.{Whole};
 ghost use Rattle.glob_matcher.specs.Steps.{step_bound, step_limit};
 
 use super::engine::{Engine, Match, is_short, run};

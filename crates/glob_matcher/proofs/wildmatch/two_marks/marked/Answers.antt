@@ -1,4 +1,4 @@
-use Rattle.glob_matcher.proofs.Texts.{whole}
+use Rattle.glob_matcher.proofs.lemmas.two_marks.Texts.{whole}
 use Rattle.glob_matcher.proofs.wildmatch.two_marks.marked.Goals as goal
 
 pub run-requires-clause-pattern : goal.run-requires-clause-pattern

@@ -1,6 +1,6 @@
 -- The match is that of the call, and the count is kept behind the reference that is passed.
 use Rattle.std.proofs.Common.{◌-◌, ◌^◌, take}
-use Rattle.glob_matcher.proofs.Texts.{short}
+use Rattle.glob_matcher.proofs.lemmas.two_marks.Texts.{short}
 use Rattle.glob_matcher.proofs.wildmatch.two_marks.marked.Given as goal
 
 abbrev pub ghosts-run : goal.ghosts-run

@@ -1,7 +1,7 @@
 use Rattle.std.proofs.Common.{◌≡◌, ◌∙◌, ◌+◌, ◌-◌, ℕ, not, true, false, length, get_or, ap, sym, subst, arith, refl}
 use Rattle.glob_matcher.specs.Tokens.{Byte}
-use Rattle.glob_matcher.specs.Reader.{Fits}
-use Rattle.glob_matcher.proofs.LastByte.{IsAlone, EndsInLast, last, ends_in_last}
+use Rattle.glob_matcher.specs.Private.Reader.{Fits}
+use Rattle.glob_matcher.proofs.lemmas.cutting.LastByte.{IsAlone, EndsInLast, last, ends_in_last}
 use Rattle.glob_matcher.proofs.wildmatch.engine.Engine.ends_otherwise.Goals as goal
 
 pub returns-then-is_alone-clause-meaning : goal.returns-then-is_alone-clause-meaning

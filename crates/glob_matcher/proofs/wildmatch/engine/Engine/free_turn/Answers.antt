@@ -1,6 +1,6 @@
 use Rattle.std.proofs.Common.{◌≡◌, ◌≢◌, ◌∙◌, arith, length}
-use Rattle.glob_matcher.proofs.Marks.{free_last, free_known, free_met}
-use Rattle.glob_matcher.proofs.Budget.{allows_one, allows_free, counted_on}
+use Rattle.glob_matcher.proofs.lemmas.two_marks.States.{free_last, free_known, free_met}
+use Rattle.glob_matcher.proofs.lemmas.two_marks.Budget.{allows_one, allows_free, counted_on}
 use Rattle.glob_matcher.proofs.wildmatch.engine.Engine.free_turn.Goals as goal
 
 pub returns-then-after-pattern_len : goal.returns-then-after-pattern_len
@@ -8,13 +8,9 @@ returns-then-after-pattern_len g c =
     let m = g.M.Match in
     let last : c.args.after ≡ length m.pattern = omega (arith, c.if-after-pattern_len.true, c.pattern_len.ensures) in
     record {
-      meaning =
-          free_last m.mode m.pattern m.value c.args.state.place c.args.after c.args.state.at c.args.state.crossing
-          c.args.state.local c.requires.stands c.requires.token last;
+      meaning = free_last c.requires.stands c.requires.token last;
       allows = λ n a.
-          let one =
-          allows_one m.mode m.pattern m.value c.args.state.place c.args.state.at c.args.state.crossing c.args.state.local
-          c.args.self.now n c.requires.stands.inside a in
+          let one = allows_one c.requires.stands.inside a in
           omega (arith, one);
       counts = tt;
     }
@@ -25,14 +21,11 @@ returns g c =
     let more : c.args.after ≢ length m.pattern = λ last. c.if-after-pattern_len.false (omega (arith, last, c.pattern_len.ensures)) in
     record {
       meaning =
-          free_met m.mode m.pattern m.value c.args.state.place c.args.after c.args.state.at c.args.state.crossing
-          c.args.state.local c.set_mark-mark.result c.requires.stands c.requires.token c.requires.inside more
+          free_met c.set_mark-mark.result c.requires.stands c.requires.token c.requires.inside more
           c.set_mark-mark.ensures.place c.set_mark-mark.ensures.at;
       allows = λ n a.
-          counted_on _ _ _ _ _ _ _ _ _ _ c.set_mark-mark.ensures.count
-          (allows_free m.mode m.pattern m.value c.args.state.place c.args.after c.args.state.at c.args.state.crossing
-          c.args.state.local c.set_mark-mark.result c.args.self.now n c.requires.token more
-          (free_known m.mode m.pattern m.value c.args.state.place c.args.after c.requires.token c.requires.inside more)
+          counted_on c.set_mark-mark.ensures.count (allows_free c.set_mark-mark.result c.requires.token more
+          (free_known m.value c.requires.token c.requires.inside more)
           c.requires.stands.inside c.set_mark-mark.ensures.place c.set_mark-mark.ensures.at a);
       counts = omega (arith, c.set_mark-mark.ensures.count);
     }

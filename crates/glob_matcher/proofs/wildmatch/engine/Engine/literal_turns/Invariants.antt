@@ -1,7 +1,7 @@
 -- The engine stands here with the same marks, and each byte taken is a step.
 use Rattle.std.proofs.Common.{◌≡◌, ℕ, ◌+◌, ◌-◌, ◌≤◌, length}
-use Rattle.glob_matcher.specs.Marks.{Stands}
-use Rattle.glob_matcher.specs.Budget.{Allows, AllowsAt}
+use Rattle.glob_matcher.specs.Private.States.{Stands}
+use Rattle.glob_matcher.specs.Private.Budget.{Allows, AllowsAt}
 use Rattle.glob_matcher.proofs.wildmatch.engine.Engine.literal_turns.Given as goal
 
 abbrev pub invariant-bytes : goal.invariant-bytes

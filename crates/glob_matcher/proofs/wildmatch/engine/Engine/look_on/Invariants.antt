@@ -1,7 +1,7 @@
 -- No byte so far is what is looked for or a slash, two steps were taken for each, and the rest of the stride is inside the value.
 use Rattle.std.proofs.Common.{◌≡◌, ◌+◌, ◌*◌}
-use Rattle.glob_matcher.specs.Reader.{NoSlash}
-use Rattle.glob_matcher.specs.Seeking.{Passed}
+use Rattle.glob_matcher.specs.Bytes.{NoSlash}
+use Rattle.glob_matcher.specs.Private.Scans.{Passed}
 use Rattle.glob_matcher.proofs.wildmatch.engine.Engine.look_on.Given as goal
 
 abbrev pub invariant-stride : goal.invariant-stride

@@ -1,6 +1,6 @@
 -- No byte so far is what is looked for, and two steps were taken for each.
 use Rattle.std.proofs.Common.{◌≡◌, ◌+◌, ◌-◌, ◌*◌, length}
-use Rattle.glob_matcher.specs.Seeking.{Passed}
+use Rattle.glob_matcher.specs.Private.Scans.{Passed}
 use Rattle.glob_matcher.proofs.wildmatch.engine.Engine.scan.Given as goal
 
 abbrev pub invariant-bytes : goal.invariant-bytes

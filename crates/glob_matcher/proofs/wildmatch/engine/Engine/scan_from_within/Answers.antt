@@ -1,14 +1,14 @@
 use Rattle.std.proofs.Common.{ℕ, subst}
 use Rattle.glob_matcher.specs.declared.wildmatch.needle.Follow.{Follow}
 use Rattle.glob_matcher.specs.declared.wildmatch.needle.Follow.TheVariants as follow
-use Rattle.glob_matcher.specs.Seeking.{Follows}
-use Rattle.glob_matcher.proofs.Seeking.{sought_for}
+use Rattle.glob_matcher.specs.Private.Scans.{Follows}
+use Rattle.glob_matcher.proofs.lemmas.two_marks.Scans.{scan_for}
 use Rattle.glob_matcher.proofs.wildmatch.engine.Engine.scan_from_within.Goals as goal
 
 pub returns-in-Some-Byte-clause-meaning : goal.returns-in-Some-Byte-clause-meaning
 returns-in-Some-Byte-clause-meaning g c =
     let m = g.M.Match in
-    sought_for m.mode m.pattern m.value (follow.Byte c.in-Some-Byte.byte) c.args.mark c.scan_within.result c.args.self.now c.scan_within.new.self
+    scan_for m.mode m.pattern (follow.Byte c.in-Some-Byte.byte)
     (subst (λ (x : Follow). Follows m.mode m.pattern c.args.mark.place x) c.in-Some-Byte.field-0-is
     (subst (λ (i : ℕ). Follows m.mode m.pattern i c.in-Some-Byte.field-0) c.place.ensures c.in-Some-Byte.ensures.follows))
     c.scan_within.ensures.scan
@@ -16,7 +16,7 @@ returns-in-Some-Byte-clause-meaning g c =
 pub returns-in-Some-Folded-clause-meaning : goal.returns-in-Some-Folded-clause-meaning
 returns-in-Some-Folded-clause-meaning g c =
     let m = g.M.Match in
-    sought_for m.mode m.pattern m.value (follow.Folded c.in-Some-Folded.byte) c.args.mark c.scan_within-in-Some-Folded.result c.args.self.now c.scan_within-in-Some-Folded.new.self
+    scan_for m.mode m.pattern (follow.Folded c.in-Some-Folded.byte)
     (subst (λ (x : Follow). Follows m.mode m.pattern c.args.mark.place x) c.in-Some-Folded.field-0-is
     (subst (λ (i : ℕ). Follows m.mode m.pattern i c.in-Some-Folded.field-0) c.place.ensures c.in-Some-Folded.ensures.follows))
     c.scan_within-in-Some-Folded.ensures.scan
@@ -24,7 +24,6 @@ returns-in-Some-Folded-clause-meaning g c =
 pub returns-in-Some-End-clause-meaning : goal.returns-in-Some-End-clause-meaning
 returns-in-Some-End-clause-meaning g c =
     let m = g.M.Match in
-    sought_for m.mode m.pattern m.value follow.End c.args.mark c.scan_within-in-Some-End.result c.args.self.now c.scan_within-in-Some-End.new.self
-    (subst (λ (x : Follow). Follows m.mode m.pattern c.args.mark.place x) c.in-Some-End.field-0-is
+    scan_for m.mode m.pattern follow.End (subst (λ (x : Follow). Follows m.mode m.pattern c.args.mark.place x) c.in-Some-End.field-0-is
     (subst (λ (i : ℕ). Follows m.mode m.pattern i c.in-Some-End.field-0) c.place.ensures c.in-Some-End.ensures.follows))
     c.scan_within-in-Some-End.ensures.scan

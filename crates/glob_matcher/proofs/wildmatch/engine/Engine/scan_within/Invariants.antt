@@ -1,7 +1,7 @@
 -- No byte so far is what is looked for or a slash, and two steps were taken for each.
 use Rattle.std.proofs.Common.{◌≡◌, ◌+◌, ◌-◌, ◌*◌, length}
-use Rattle.glob_matcher.specs.Reader.{NoSlash}
-use Rattle.glob_matcher.specs.Seeking.{Passed}
+use Rattle.glob_matcher.specs.Bytes.{NoSlash}
+use Rattle.glob_matcher.specs.Private.Scans.{Passed}
 use Rattle.glob_matcher.proofs.wildmatch.engine.Engine.scan_within.Given as goal
 
 abbrev pub invariant-component : goal.invariant-component

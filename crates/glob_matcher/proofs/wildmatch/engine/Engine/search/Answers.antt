@@ -1,7 +1,7 @@
 use Rattle.std.proofs.Common.{◌+◌, length, arith}
 use Rattle.glob_matcher.specs.Steps.{step_limit}
-use Rattle.glob_matcher.proofs.Marks.{stands_start}
-use Rattle.glob_matcher.proofs.Budget.{allows_start, allows_one}
+use Rattle.glob_matcher.proofs.lemmas.two_marks.States.{stands_start}
+use Rattle.glob_matcher.proofs.lemmas.two_marks.Budget.{allows_start, allows_one}
 use Rattle.glob_matcher.proofs.wildmatch.engine.Engine.search.Goals as goal
 
 pub turns-init : goal.turns-init
@@ -16,11 +16,7 @@ turns-init g c =
 
 pub turns-smaller-in-On : goal.turns-smaller-in-On
 turns-smaller-in-On g c =
-    let m = g.M.Match in
-    let one =
-    allows_one m.mode m.pattern m.value c.in-On.next.place c.in-On.next.at c.in-On.next.crossing
-    c.in-On.next.local c.take_turn.new.self (c.args.self.now + step_limit (length m.pattern) (length m.value))
-    c.in-On.ensures.meaning.inside (c.in-On.ensures.allows _ c.turns.invariant.allows) in
+    let one = allows_one c.in-On.ensures.meaning.inside (c.in-On.ensures.allows _ c.turns.invariant.allows) in
     omega (arith, one, c.in-On.ensures.counts)
 
 pub turns-smaller : goal.turns-smaller
@@ -28,7 +24,5 @@ turns-smaller g c =
     let m = g.M.Match in
     let all = c.args.self.now + step_limit (length m.pattern) (length m.value) in
     let allows = c.in-Some.ensures.allows all (c.in-Miss.ensures.allows all c.turns.invariant.allows) in
-    let one =
-    allows_one m.mode m.pattern m.value c.in-Some.next.place c.in-Some.next.at c.in-Some.next.crossing
-    c.in-Some.next.local c.backtrack.new.self all c.in-Some.ensures.meaning.inside allows in
+    let one = allows_one c.in-Some.ensures.meaning.inside allows in
     omega (arith, one, c.in-Some.ensures.progress, c.in-Miss.ensures.counts)

@@ -1,8 +1,8 @@
 -- The engine stands where it may, and the steps left are enough.
 use Rattle.std.proofs.Common.{◌+◌, ◌-◌, length}
 use Rattle.glob_matcher.specs.Steps.{step_limit}
-use Rattle.glob_matcher.specs.Marks.{StandsAt}
-use Rattle.glob_matcher.specs.Budget.{AllowsAt}
+use Rattle.glob_matcher.specs.Private.States.{StandsAt}
+use Rattle.glob_matcher.specs.Private.Budget.{AllowsAt}
 use Rattle.glob_matcher.proofs.wildmatch.engine.Engine.search.Given as goal
 
 abbrev pub invariant-turns : goal.invariant-turns

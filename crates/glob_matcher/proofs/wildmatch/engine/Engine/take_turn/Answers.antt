@@ -1,6 +1,6 @@
 use Rattle.std.proofs.Common.{◌≡◌, ◌≤◌, length, false, true, refl, arith}
-use Rattle.glob_matcher.proofs.Marks.{end_met, end_missed}
-use Rattle.glob_matcher.proofs.Budget.{allows_one}
+use Rattle.glob_matcher.proofs.lemmas.two_marks.States.{end_met, end_missed}
+use Rattle.glob_matcher.proofs.lemmas.two_marks.Budget.{allows_one}
 use Rattle.glob_matcher.proofs.wildmatch.engine.Engine.take_turn.Goals as goal
 
 pub returns-then-ends_at : goal.returns-then-ends_at
@@ -9,13 +9,9 @@ returns-then-ends_at g c =
     let past : length m.pattern ≤ c.args.state.place = omega (arith, c.if-state-pattern_len.true, c.pattern_len.ensures) in
     let low : c.args.state.place ≤ length m.pattern = c.requires.low in
     record {
-      meaning =
-          end_met m.mode m.pattern m.value c.args.state.place c.args.state.at c.args.state.crossing c.args.state.local
-          c.requires (omega arith) (c.if-ends_at.ensures.answer.0 refl);
+      meaning = end_met c.requires (omega arith) (c.if-ends_at.ensures.answer.0 refl);
       allows = λ n a.
-          let one =
-          allows_one m.mode m.pattern m.value c.args.state.place c.args.state.at c.args.state.crossing
-          c.args.state.local c.args.self.now n c.requires.inside a in
+          let one = allows_one c.requires.inside a in
           omega (arith, one, c.ends_at.ensures.count);
       counts = tt;
     }
