@@ -4,6 +4,8 @@
 #[cfg(test)]
 mod ample_memory;
 #[cfg(test)]
+mod decision_rows;
+#[cfg(test)]
 mod fakes;
 #[cfg(test)]
 mod file_rows;
