@@ -6,6 +6,7 @@ pub mod Stripping
 pub mod Lists
 pub mod Orders
 pub mod Loaded
+pub mod Deciding
 pub use Rattle.glob_patterns.specs.Folding
 pub use Rattle.glob_patterns.specs.Patterns
 pub use Rattle.glob_patterns.specs.PatternParts

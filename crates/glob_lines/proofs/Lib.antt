@@ -1,3 +1,5 @@
+pub mod DecidingLemmas
+pub mod DecisionsLemmas
 pub mod IgnoreLemmas
 pub mod LabelLemmas
 pub mod LinesLemmas

@@ -57,7 +57,7 @@ not_before path k l x y = elim (cases_lt k l) [
   | inr low ↦ low
 ]
 
-basename_once : (path : List ℕ) (i j : Option ℕ) → IsBasenameStart path i → IsBasenameStart path j → i ≡ j
+pub basename_once : (path : List ℕ) (i j : Option ℕ) → IsBasenameStart path i → IsBasenameStart path j → i ≡ j
 basename_once path None None x y = refl
 basename_once path None (Some l) x y = absurd (x (l - 1) y.after)
 basename_once path (Some k) None x y = absurd (y (k - 1) x.after)
@@ -76,7 +76,7 @@ length-compared : (case : Case) (text : List ℕ) → length (compared case text
 length-compared Sensitive text = refl
 length-compared Fold text = length-map text to_ascii_lowercase
 
-rest_once : (case : Case) (base : Option (List ℕ)) (path r s : List ℕ) → RestOf case base path r → RestOf case base path s → r ≡ s
+pub rest_once : (case : Case) (base : Option (List ℕ)) (path r s : List ℕ) → RestOf case base path r → RestOf case base path s → r ≡ s
 rest_once case None path r s x y = x ∙ sym y
 rest_once case (Some base) path r s x y =
     let long : (front : List ℕ) → compared case front ≡ compared case base → length front ≡ length base =

@@ -1,3 +1,4 @@
+pub mod Decisions
 pub mod Ignore
 pub mod Label
 pub mod Lines

@@ -2,6 +2,9 @@
 ghost use Rattle.std.specs.Prelude.{◌≡◌, ◌↔◌, ℕ, List, Option, map};
 ghost use Rattle.gix_glob.specs.declared.pattern.Case.{Case};
 ghost use Rattle.gix_glob.specs.declared.wildmatch.Mode.{Mode};
+ghost use Rattle.gix_glob.specs.Deciding.{HasFolder};
+ghost use Rattle.gix_glob.specs.Lists.{Entry};
+ghost use Rattle.gix_glob.specs.Loaded.{IsLoaded, Listed};
 ghost use Rattle.glob_lines.specs.Ignore.{Ignore, ignore_of};
 ghost use Rattle.glob_lines.specs.Label.{Label, LabelEntry, label_of, tab, unlabelled};
 ghost use Rattle.glob_lines.specs.Lines.{HasNo, Lines, lines_of};
@@ -9,7 +12,8 @@ ghost use Rattle.glob_lines.specs.Mappings.{MappingsText, PatternsAndPaths};
 ghost use Rattle.glob_lines.specs.Plain.{Plain, PlainEntry, plain_of};
 ghost use Rattle.glob_lines.specs.Values.{ValuesText};
 
-use gix_glob::laws::{readings_are_these, two_answers_agree};
+use gix_glob::laws::{bases_end_in_a_slash, readings_are_these, two_answers_agree};
+use gix_glob::search;
 
 /// Bytes have one list of lines, which the equations of `lines_of` give.
 pub fn lines_are_these()
@@ -62,4 +66,13 @@ pub fn mappings_have_one_text()
 {
     lines_are_these();
     plain_entries_are_these();
+}
+
+/// The base of a list that was loaded is that of a folder: so lists that were loaded meet
+/// [`bases_are_folders`](crate::bases_are_folders).
+pub fn loaded_lists_have_folders<T: search::Pattern>()
+    ensures { (meaning : List ℕ → List ℕ → List (Entry T.Seen)) (bytes source : List ℕ) (root : Option (List ℕ)) (list : Listed T.Seen) →
+        IsLoaded meaning bytes source root list → HasFolder list }
+{
+    bases_end_in_a_slash();
 }

@@ -1,7 +1,9 @@
 //! Line parsers and line engines over Git's glob patterns: from bytes to bytes.
 #![tactic(auto)]
 
+mod deciding;
 mod decimal;
+mod decisions;
 mod fault;
 mod ignore;
 mod ignore_line;
@@ -12,9 +14,12 @@ mod list;
 mod numbered;
 mod paths;
 mod plain;
+mod rests;
 mod transfer;
 mod wild;
 
+pub use deciding::{bases_are_folders, decide};
+pub use decisions::run_ignore;
 pub use fault::EngineFault;
 pub use ignore::IgnoreLines;
 pub use ignore_line::{IgnoreLine, next_ignore_line, without_byte_order_mark};

@@ -4,6 +4,8 @@
 #[cfg(test)]
 mod ample_memory;
 #[cfg(test)]
+mod decision_rows;
+#[cfg(test)]
 mod failing_reads;
 #[cfg(test)]
 mod failing_writes;

@@ -33,3 +33,6 @@ returns-clause-write g c = λ failed.
       allowed = allowed;
       written = rw c.deref-3.ensures.value at written;
     }
+
+pub matches_of-requires : goal.matches_of-requires
+matches_of-requires g c = c.loaded_lists_have_folders.ensures _ _ _ _ _ c.in_ok-list.ensures
