@@ -5,6 +5,7 @@ pub mod PartsLeft
 pub mod Stripping
 pub mod Lists
 pub mod Loaded
+pub mod Deciding
 pub mod WholeLine
 pub use Rattle.glob_patterns.specs.Folding
 pub use Rattle.glob_patterns.specs.Patterns

@@ -1,13 +1,7 @@
 -- Path lines.
-use Rattle.std.specs.Prelude.{◌≡◌, ◌≢◌, ℕ, ◌+◌, Bool, nat_eq, if◌then◌else◌, List, [], ◌++◌, codes}
+use Rattle.std.specs.Prelude.{◌≡◌, ℕ, Bool, nat_eq, if◌then◌else◌, List, [], ◌++◌, codes}
 use Rattle.std.specs.List.{ends_with}
-use Rattle.gix_glob.specs.Bytes.{HasByte, slash}
-
--- a path as repositories have them
-pub record IsPlainPath (path : List ℕ) : Type 0 where
-  pub some : path ≢ []
-  pub relative : ¬ HasByte path 0 slash
-  pub single : (i : ℕ) → HasByte path i slash → ¬ HasByte path (i + 1) slash
+pub use Rattle.gix_glob.specs.Paths.{IsPlainPath}
 
 -- one trailing slash of the line marks a directory, and isn't of the path
 pub record MarksDirectory (line path : List ℕ) (is_dir : Bool) : Type 0 where
