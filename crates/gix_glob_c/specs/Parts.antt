@@ -1,9 +1,8 @@
 -- What the numbers that cross from C stand for.
-use Rattle.std.specs.Prelude.{ℕ, Bool, true, List, length, nat_lt, Option, None, Some, if◌then◌else◌}
+use Rattle.std.specs.Prelude.{◌↔◌, ℕ, Bool, true, IsTrue, List, length, nat_lt, Option, None, Some, if◌then◌else◌}
 use Rattle.gix_glob.specs.declared.pattern.Case.{Case}
 use Rattle.gix_glob.specs.declared.pattern.Case.TheVariants.{Sensitive, Fold}
 use Rattle.gix_glob.specs.declared.pattern.Mode.{Mode}
-use Rattle.gix_glob.specs.Matching.{Holds}
 use Rattle.gix_glob.specs.Patterns.{Reads}
 use Rattle.gix_glob.specs.RepositoryPaths.{Answers, IsBasenameStart}
 
@@ -23,4 +22,4 @@ pub record LineAnswers (line path : List ℕ) (is_dir fold answer : Bool) : Type
   pub position : Option ℕ
   pub read : Reads line true body flags place
   pub start : IsBasenameStart path position
-  pub holds : Holds answer (Answers body flags path position (Some is_dir) (case_of fold) (record { 0 = 1 })) body
+  pub exact : IsTrue answer ↔ Answers body flags path position (Some is_dir) (case_of fold) (record { 0 = 1 })

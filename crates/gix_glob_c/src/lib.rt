@@ -1,9 +1,9 @@
 //! The matcher for C: a static library over `gix_glob`, declared in `include/gix_glob.h`.
 #![tactic(auto)]
 
-ghost use Rattle.std.specs.Prelude.{◌≡◌, true, false};
+ghost use Rattle.std.specs.Prelude.{◌≡◌, ◌↔◌, true, false, IsTrue};
 ghost use Rattle.gix_glob.specs.Bytes.{HasByte, slash};
-ghost use Rattle.gix_glob.specs.Matching.{Holds, Splits};
+ghost use Rattle.gix_glob.specs.Matching.{Splits};
 ghost use Rattle.gix_glob.specs.Patterns.{HasReading, IsPattern};
 ghost use Rattle.gix_glob_c.specs.Parts.{LineAnswers, case_of, place_of};
 
@@ -15,7 +15,7 @@ use gix_glob::wildmatch::{Mode, wildmatch};
 /// mode, that of value 2 folds; other bits don't count.
 #[unsafe(no_mangle)]
 pub extern "C" fn gix_glob_wildmatch(pattern: &[u8], value: &[u8], mode: u8) -> bool
-    ensures { Holds result (Splits value.now pattern.now (record { 0 = mode })) pattern.now }
+    ensures { IsTrue result ↔ Splits value.now pattern.now (record { 0 = mode }) }
 {
     wildmatch(pattern, value, Mode::from_bits_retain(mode))
 }
@@ -54,7 +54,7 @@ pub extern "C" fn gix_glob_matches(
     mode: u8,
 ) -> bool
     ensures { IsPattern text.now (record { 0 = pattern_mode }) (place_of text.now first_wildcard_pos) →
-        Holds result (Splits value.now text.now (record { 0 = mode })) text.now }
+        IsTrue result ↔ Splits value.now text.now (record { 0 = mode }) }
 {
     let view = PatternView {
         text,
@@ -81,3 +81,6 @@ fn case_for(fold: bool) -> Case
 {
     if fold { Case::Fold } else { Case::Sensitive }
 }
+
+#[cfg(test)]
+mod tests;

@@ -1,5 +1,5 @@
 -- The numbers of the mappings that answer, one mapping after the other, and what is made of them.
-use Rattle.std.proofs.Common.{◌≡◌, inl, inr, ℕ, Bool, true, false, List, [], ◌∷◌, ◌++◌, map, Option, refl, sym, ap, subst, ◌∙◌, append_assoc, append-nil}
+use Rattle.std.proofs.Common.{◌≡◌, inl, inr, ℕ, Bool, List, [], ◌∷◌, ◌++◌, map, Option, refl, sym, ap, subst, ◌∙◌, append_assoc, append-nil}
 use Rattle.std.specs.Prelude.{decimal}
 use Rattle.std.proofs.lemmas.List.{map_push}
 use Rattle.gix_glob.specs.declared.pattern.Case.{Case}
@@ -11,33 +11,33 @@ use Rattle.glob_lines.specs.Paths.{IsPlainPath, MarksDirectory}
 use Rattle.glob_lines.specs.Plain.{Plain, PlainEntry}
 use Rattle.glob_lines.specs.PlainEquations.{plain_of}
 use Rattle.glob_lines.specs.Transfers.{Adds}
-use Rattle.glob_lines.proofs.NumbersLemmas.{Picks-more, Picks-none, separator_after, spaced-more}
+use Rattle.glob_lines.proofs.NumbersLemmas.{Picks-more, Picks-skip, separator_after, spaced-more}
 use Rattle.glob_lines.proofs.PlainLemmas.{Plain-plain_of}
 
 abbrev pub numbers_of : List PlainEntry → List ℕ
 numbers_of entries = map (λ entry. entry.number) entries
 
 -- The text grew by the numbers of those of the entries that answer, and the separator is what stands before a next one.
-pub record IsListedUpTo (P : PlainEntry → Bool → Type 0) (entries : List PlainEntry) (old text separator : List ℕ) : Type 0 where
+pub record IsListedUpTo (P : PlainEntry → Type 0) (entries : List PlainEntry) (old text separator : List ℕ) : Type 0 where
   pub chosen : List PlainEntry
   pub picks : Picks P entries chosen
   pub grown : text ≡ old ++ spaced (numbers_of chosen)
   pub separates : separator ≡ separator_after (numbers_of chosen)
 
-module _ (P : PlainEntry → Bool → Type 0) where
+module _ (P : PlainEntry → Type 0) where
   pub IsListedUpTo-none : (entries : List PlainEntry) (old text separator : List ℕ) → entries ≡ [] → text ≡ old → separator ≡ [] → IsListedUpTo P entries old text separator
   IsListedUpTo-none entries old text separator none same empty = record {
     chosen = [];
-    picks = rw none (Picks-none P);
+    picks = rw none refl;
     grown = same ∙ sym (append-nil old);
     separates = empty;
   }
 
-  pub IsListedUpTo-skip : (entries more : List PlainEntry) (entry : PlainEntry) (old text separator : List ℕ) → IsListedUpTo P entries old text separator → more ≡ entries ++ entry ∷ [] → P entry false
+  pub IsListedUpTo-skip : (entries more : List PlainEntry) (entry : PlainEntry) (old text separator : List ℕ) → IsListedUpTo P entries old text separator → more ≡ entries ++ entry ∷ [] → ¬ P entry
       → IsListedUpTo P more old text separator
   IsListedUpTo-skip entries more entry old text separator h is p = record {
     chosen = h.chosen;
-    picks = rw (is, ← append-nil h.chosen) (Picks-more P entries h.chosen entry false h.picks p);
+    picks = rw is (Picks-skip P entries h.chosen entry h.picks p);
     grown = h.grown;
     separates = h.separates;
   }
@@ -46,13 +46,13 @@ module _ (P : PlainEntry → Bool → Type 0) where
   separator_after-push [] n = refl
   separator_after-push (m ∷ numbers) n = refl
 
-  pub IsListedUpTo-more : (entries more : List PlainEntry) (entry : PlainEntry) (old text separator new next : List ℕ) → IsListedUpTo P entries old text separator → more ≡ entries ++ entry ∷ [] → P entry true
+  pub IsListedUpTo-more : (entries more : List PlainEntry) (entry : PlainEntry) (old text separator new next : List ℕ) → IsListedUpTo P entries old text separator → more ≡ entries ++ entry ∷ [] → P entry
       → new ≡ (text ++ separator) ++ decimal entry.number → next ≡ 32 ∷ [] → IsListedUpTo P more old new next
   IsListedUpTo-more entries more entry old text separator new next h is p e s =
       let numbers : numbers_of (h.chosen ++ entry ∷ []) ≡ numbers_of h.chosen ++ entry.number ∷ [] = map_push (λ x. x.number) h.chosen entry in
       record {
         chosen = h.chosen ++ entry ∷ [];
-        picks = rw is (Picks-more P entries h.chosen entry true h.picks p);
+        picks = rw is (Picks-more P entries h.chosen entry h.picks p);
         grown = e
             ∙ append_assoc text separator (decimal entry.number)
             ∙ ap (λ l. l ++ (separator ++ decimal entry.number)) h.grown

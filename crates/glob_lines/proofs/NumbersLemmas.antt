@@ -1,39 +1,22 @@
 -- Lines of numbers, one number after the other.
-use Rattle.std.proofs.Common.{◌≡◌, ℕ, Bool, true, false, cond, List, [], ◌∷◌, ◌++◌, map, refl, sym, ap, ◌∙◌, append_assoc, append-nil}
+use Rattle.std.proofs.Common.{◌≡◌, inl, inr, ℕ, List, [], ◌∷◌, ◌++◌, refl, sym, ap, ◌∙◌, append_assoc}
 use Rattle.std.specs.Prelude.{decimal}
-use Rattle.std.specs.List.{AllZip, join_with_byte}
-use Rattle.glob_lines.specs.Numbers.{Picks, picked, spaced}
+use Rattle.glob_lines.specs.Numbers.{Picks, spaced}
 
--- ---- one more element, with its answer
+-- ---- one more element
 
--- it is picked where the answer is yes
-abbrev pub picked_one : {X : Type 0} → Bool → X → List X
-picked_one answer x = picked (answer ∷ []) (x ∷ [])
+module _ {X : Type 0} (P : X → Type 0) where
+  -- it is picked where P holds
+  pub Picks-more : (xs chosen : List X) (x : X) → Picks P xs chosen → P x → Picks P (xs ++ x ∷ []) (chosen ++ x ∷ [])
+  Picks-more [] chosen x h p = inl (p, [], ap (λ l. l ++ x ∷ []) h, refl)
+  Picks-more (y ∷ xs) chosen x (inl h) p = inl (h.0, h.1 ++ x ∷ [], ap (λ l. l ++ x ∷ []) h.2, Picks-more xs h.1 x h.3 p)
+  Picks-more (y ∷ xs) chosen x (inr h) p = inr (h.0, Picks-more xs chosen x h.1 p)
 
-module _ {X : Type 0} (P : X → Bool → Type 0) where
-  AllZip-more : (xs : List X) (answers : List Bool) (x : X) (answer : Bool) → AllZip P xs answers → P x answer → AllZip P (xs ++ x ∷ []) (answers ++ answer ∷ [])
-  AllZip-more [] [] x answer h p = (p, tt)
-  AllZip-more [] (a ∷ answers) x answer h p = absurd h
-  AllZip-more (y ∷ xs) [] x answer h p = absurd h
-  AllZip-more (y ∷ xs) (a ∷ answers) x answer h p = (h.0, AllZip-more xs answers x answer h.1 p)
-
-  picked-more : (xs : List X) (answers : List Bool) (x : X) (answer : Bool) → AllZip P xs answers
-      → picked (answers ++ answer ∷ []) (xs ++ x ∷ []) ≡ picked answers xs ++ picked_one answer x
-  picked-more [] [] x answer h = refl
-  picked-more [] (a ∷ answers) x answer h = absurd h
-  picked-more (y ∷ xs) [] x answer h = absurd h
-  picked-more (y ∷ xs) (true ∷ answers) x answer h = ap (λ l. y ∷ l) (picked-more xs answers x answer h.1)
-  picked-more (y ∷ xs) (false ∷ answers) x answer h = picked-more xs answers x answer h.1
-
-  pub Picks-more : (xs chosen : List X) (x : X) (answer : Bool) → Picks P xs chosen → P x answer → Picks P (xs ++ x ∷ []) (chosen ++ picked_one answer x)
-  Picks-more xs chosen x answer h p = record {
-    answers = h.answers ++ answer ∷ [];
-    each = AllZip-more xs h.answers x answer h.each p;
-    are = ap (λ l. l ++ picked_one answer x) h.are ∙ sym (picked-more xs h.answers x answer h.each);
-  }
-
-  pub Picks-none : Picks P [] []
-  Picks-none = record { answers = []; each = tt; are = refl }
+  -- and left out where it doesn't
+  pub Picks-skip : (xs chosen : List X) (x : X) → Picks P xs chosen → ¬ P x → Picks P (xs ++ x ∷ []) chosen
+  Picks-skip [] chosen x h out = inr (out, h)
+  Picks-skip (y ∷ xs) chosen x (inl h) out = inl (h.0, h.1, h.2, Picks-skip xs h.1 x h.3 out)
+  Picks-skip (y ∷ xs) chosen x (inr h) out = inr (h.0, Picks-skip xs chosen x h.1 out)
 
 -- ---- one more number
 

@@ -2,7 +2,6 @@
 use Rattle.std.specs.Prelude.{◌≡◌, ◌⊎◌, ℕ, Bool, List, [], map, Option, Some, codes}
 use Rattle.gix_glob.specs.declared.pattern.Case.{Case}
 use Rattle.gix_glob.specs.declared.wildmatch.Mode.{Mode}
-use Rattle.gix_glob.specs.Matching.{Holds}
 use Rattle.gix_glob.specs.Paths.{Base}
 use Rattle.gix_glob.specs.RepositoryPaths.{Answers, IsBasenameStart}
 use Rattle.gix_glob.specs.Stripping.{NothingLeft, RestOf}
@@ -16,17 +15,16 @@ use Rattle.glob_lines.specs.Transfers.{ReadsWhole}
 abbrev pub path_mode : Mode
 path_mode = record { 0 = 1 }
 
--- what an entry may answer for what is left of a path, whose last part begins at the position
-abbrev pub MayAnswer : Case → Bool → List ℕ → Option ℕ → PlainEntry → Bool → Type 0
-MayAnswer case is_dir rest position entry answer =
-    Holds answer (Answers entry.text entry.mode rest position (Some is_dir) case path_mode) entry.text
+-- the entry answers yes for what is left of a path, whose last part begins at the position
+abbrev pub EntryAnswers : Case → Bool → List ℕ → Option ℕ → PlainEntry → Type 0
+EntryAnswers case is_dir rest position entry = Answers entry.text entry.mode rest position (Some is_dir) case path_mode
 
--- The line has the numbers of the entries that answer for what is left of a path.
+-- The line has the numbers of the entries that answer yes for what is left of a path.
 pub record WritesNumbers (entries : List PlainEntry) (case : Case) (is_dir : Bool) (rest written : List ℕ) : Type 0 where
   pub position : Option ℕ
   pub basename : IsBasenameStart rest position
   pub chosen : List PlainEntry
-  pub picks : Picks (MayAnswer case is_dir rest position) entries chosen
+  pub picks : Picks (EntryAnswers case is_dir rest position) entries chosen
   pub shown : written ≡ spaced (map (λ entry. entry.number) chosen)
 
 -- The line for a path: nothing where it doesn't begin with the base.

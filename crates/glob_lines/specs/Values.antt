@@ -1,16 +1,16 @@
 -- The text of values: what is written for the lines of values and a pattern.
-use Rattle.std.specs.Prelude.{◌≡◌, ℕ, Bool, List, codes, if◌then◌else◌}
+use Rattle.std.specs.Prelude.{◌≡◌, ◌↔◌, ℕ, Bool, IsTrue, List, codes, if◌then◌else◌}
 use Rattle.gix_glob.specs.declared.wildmatch.Mode.{Mode}
-use Rattle.gix_glob.specs.Matching.{Holds, Splits}
+use Rattle.gix_glob.specs.Matching.{Splits}
 use Rattle.glob_lines.specs.Lines.{Lines, WritesEach}
 
 abbrev pub word_of : Bool → List ℕ
 word_of answer = if answer then codes "yes" else codes "no"
 
--- the line that is written for a value: `yes` or `no`
+-- the line that is written for a value: `yes` exactly if the pattern matches it, and else `no`
 pub record WritesAnswer (pattern : List ℕ) (mode : Mode) (value line : List ℕ) : Type 0 where
   pub answer : Bool
-  pub holds : Holds answer (Splits value pattern mode) pattern
+  pub exact : IsTrue answer ↔ Splits value pattern mode
   pub word : line ≡ word_of answer
 
 -- The text of values: an answer for each line of the input.

@@ -51,7 +51,7 @@ pub fn run_list<P: Read, Q: Read, W: Write>(
     requires paths_readable { has_failed paths.old ≡ false }
     requires writable { has_failed writer.old ≡ false }
     requires file { ForSome root (λ _. IsTrue (has_file_part source.now)) }
-    // On success, all of both inputs was read, and all of a text of mappings was written.
+    // On success, all of both inputs was read, and all of the text of mappings was written.
     ensures ok { OnOk result
         (Run (ReadsBoth (P.remaining (inner patterns.old)) (P.remaining (inner patterns.new))
         (Q.remaining (inner paths.old)) (Q.remaining (inner paths.new)))

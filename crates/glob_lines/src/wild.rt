@@ -28,7 +28,7 @@ pub fn run_wild<R: Read, W: Write>(
 ) -> Result<(), EngineFault>
     requires readable { has_failed reader.old ≡ false }
     requires writable { has_failed writer.old ≡ false }
-    // On success, all of the input was read, and all of a text of its values was written.
+    // On success, all of the input was read, and all of the text of its values was written.
     ensures ok { OnOk result
         (Run (ReadsWhole (R.remaining (inner reader.old)) (R.remaining (inner reader.new)))
         (ValuesText pattern.now mode)

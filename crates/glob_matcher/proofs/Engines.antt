@@ -1,9 +1,9 @@
 -- What every engine uses of the cuttings: a step by the shape that the reader answers.
-use Rattle.std.proofs.Common.{◌≡◌, ◌⊎◌, inl, inr, ℕ, ◌+◌, ◌<◌, ◌≤◌, Bool, true, false, IsTrue, ◌↔◌, List, length, get_or, sym, subst, arith}
+use Rattle.std.proofs.Common.{◌≡◌, ◌⊎◌, inl, inr, ℕ, ◌+◌, ◌<◌, ◌≤◌, true, false, List, length, get_or, sym, subst, arith}
 use Rattle.glob_matcher.specs.declared.wildmatch.mode.Mode.{Mode}
 use Rattle.glob_matcher.specs.declared.wildmatch.tokens.Shape.{Shape}
 use Rattle.glob_matcher.specs.Tokens.{Token, Byte, Any, OneOf, Free, Local, Dirs, Nothing, TokenAt}
-use Rattle.glob_matcher.specs.Matching.{Splits, SplitsFrom, Holds}
+use Rattle.glob_matcher.specs.Matching.{SplitsFrom}
 use Rattle.glob_matcher.specs.Reader.{IsToken, Fits, Spans, AfterSlash, is_star, shape_of}
 use Rattle.glob_matcher.proofs.CutLemmas.{one_in, one_out, free_in, free_out, local_in, local_out, dirs_in_empty, dirs_in, dirs_out, nothing_out}
 
@@ -76,11 +76,3 @@ pub byte_out : (mode : Mode) (p v : List ℕ) (i : ℕ) (s : Shape) (j k : ℕ) 
     → (k < length v) × Fits mode x.token (get_or v k 0) × SplitsFrom v (k + 1) p j mode
 byte_out mode p v i s j k x star inside all =
     token_byte_out mode p v i j k x.token x.here (subst (λ (t : Shape). is_star t ≡ false) x.shown star) inside all
-
--- an answer that is yes exactly where the tokens from the start on split the whole value
-pub holds_exactly : (v p : List ℕ) (mode : Mode) (answer : Bool) → IsTrue answer ↔ SplitsFrom v 0 p 0 mode
-    → Holds answer (Splits v p mode) p
-holds_exactly v p mode answer exact = record {
-  yes = λ yes. let all = exact.0 yes in record { tokens = all.tokens; read = all.read; cut = all.cut };
-  excludes = λ n few below all. exact.1 (record { tokens = all.tokens; read = all.read; cut = all.cut });
-}

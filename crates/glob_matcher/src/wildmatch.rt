@@ -1,6 +1,6 @@
 //! Matching of bytes against a glob pattern: the mode, and the matcher.
-ghost use Rattle.std.specs.Prelude.{◌≡◌, ◌<◌};
-ghost use Rattle.glob_matcher.specs.Matching.{Splits, Holds};
+ghost use Rattle.std.specs.Prelude.{◌≡◌, ◌↔◌, ◌<◌, IsTrue};
+ghost use Rattle.glob_matcher.specs.Matching.{Splits};
 
 mod counted;
 mod follow;
@@ -25,10 +25,10 @@ pub use steps::Steps;
 
 /// Whether `pattern` matches the whole of `value`, both as bytes of any kind, in `mode`.
 ///
-/// A yes says that the value is a concatenation of pieces, one from the language of each token of the pattern. A no says
-/// that it is not, where the pattern has at most 63 star tokens. It takes no memory. The rules are in `docs/MATCHING.md`.
+/// It says yes exactly if the value is a concatenation of pieces, one from the language of each token of the pattern. It
+/// takes no memory. The rules are in `docs/MATCHING.md`.
 pub fn wildmatch(pattern: &[u8], value: &[u8], mode: Mode) -> bool
-    ensures { Holds result (Splits value.now pattern.now mode) pattern.now }
+    ensures { IsTrue result ↔ Splits value.now pattern.now mode }
 {
     with_new_steps::<Brand>(pattern, value, mode, Blank::new(1))
 }
@@ -39,7 +39,7 @@ fn with_new_steps<L: Ledger>(pattern: &[u8], value: &[u8], mode: Mode, blank: Bl
     requires name { blank.name ≡ L.name }
     requires parts { blank.parts ≡ L.parts }
     requires some { 0 < blank.parts }
-    ensures { Holds result (Splits value.now pattern.now mode) pattern.now }
+    ensures { IsTrue result ↔ Splits value.now pattern.now mode }
 {
     marked(pattern, value, mode, &mut Steps::<L>::new(blank))
 }

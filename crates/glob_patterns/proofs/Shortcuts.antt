@@ -6,7 +6,7 @@ use Rattle.std.proofs.lemmas.Bool.{false≢true, or_cases}
 use Rattle.glob_matcher.specs.declared.wildmatch.mode.Mode.{Mode}
 use Rattle.glob_matcher.specs.Bytes.{fold, folds, is_path, slash}
 use Rattle.glob_patterns.specs.Folding.{AreAlike, BeginsAlike, EndsAlike}
-use Rattle.glob_matcher.specs.Matching.{Splits, Holds}
+use Rattle.glob_matcher.specs.Matching.{Splits}
 use Rattle.glob_patterns.specs.Patterns.{first_special, is_star_and_literal}
 use Rattle.glob_patterns.proofs.LiteralLemmas.{literal_splits, literal_front, literal_from_place, literal_up_to_place, star_literal_out, star_literal_in}
 
@@ -23,15 +23,11 @@ alike_unfolded mode xs ys plain =
       λ same. ap (map (fold mode)) same,
     )
 
--- an answer that is yes exactly where a fact holds
-exact_holds : (answer : Bool) (fact : Type 0) (p : List ℕ) → IsTrue answer ↔ fact → Holds answer fact p
-exact_holds answer fact p exact = record { yes = exact.0; excludes = λ n counted few. exact.1 }
-
 -- a text without special bytes is compared whole
-pub whole_holds : (answer : Bool) (p v : List ℕ) (mode : Mode) → first_special p ≡ None → IsTrue answer ↔ AreAlike mode p v → Holds answer (Splits v p mode) p
-whole_holds answer p v mode none exact =
+pub whole_exact : (answer : Bool) (p v : List ℕ) (mode : Mode) → first_special p ≡ None → IsTrue answer ↔ AreAlike mode p v → IsTrue answer ↔ Splits v p mode
+whole_exact answer p v mode none exact =
     let splits = literal_splits p v mode (literal_from_place p none) in
-    exact_holds answer (Splits v p mode) p (λ yes. splits.1 (sym (exact.0 yes)), λ s. exact.1 (sym (splits.0 s)))
+    (λ yes. splits.1 (sym (exact.0 yes)), λ s. exact.1 (sym (splits.0 s)))
 
 not_true : (b : Bool) → not b ≡ true → b ≡ false
 not_true true h = absurd (false≢true h)
@@ -39,31 +35,28 @@ not_true false h = refl
 
 -- a value that doesn't end in the literal after a star doesn't match
 pub end_refused : (answer : Bool) (p v : List ℕ) (mode : Mode) → is_star_and_literal p ≡ true → answer ≡ false
-    → IsTrue answer ↔ EndsAlike mode v (drop 1 p) → Holds false (Splits v p mode) p
-end_refused answer p v mode shape refused exact =
-    exact_holds false (Splits v p mode) p (
-      λ yes. absurd (false≢true yes),
-      λ s. (let out = star_literal_out p v mode shape s in sym refused ∙ exact.1 (record { fits = out.0; alike = out.1 })),
-    )
+    → IsTrue answer ↔ EndsAlike mode v (drop 1 p) → IsTrue false ↔ Splits v p mode
+end_refused answer p v mode shape refused exact = (
+  λ yes. absurd (false≢true yes),
+  λ s. (let out = star_literal_out p v mode shape s in sym refused ∙ exact.1 (record { fits = out.0; alike = out.1 })),
+)
 
 -- a star and a literal are compared with the value's end, where the star may take all bytes of the value
-pub end_holds : (answer : Bool) (p v : List ℕ) (mode : Mode) → is_star_and_literal p ≡ true → (not (is_path mode) || not (list_any (λ b. b == slash) v)) ≡ true
-    → IsTrue answer ↔ EndsAlike mode v (drop 1 p) → Holds answer (Splits v p mode) p
-end_holds answer p v mode shape free exact =
+pub end_exact : (answer : Bool) (p v : List ℕ) (mode : Mode) → is_star_and_literal p ≡ true → (not (is_path mode) || not (list_any (λ b. b == slash) v)) ≡ true
+    → IsTrue answer ↔ EndsAlike mode v (drop 1 p) → IsTrue answer ↔ Splits v p mode
+end_exact answer p v mode shape free exact =
     let one_component : (is_path mode ≡ false) ⊎ (list_any (λ b. b == slash) v ≡ false) =
-    ⊎_elim (λ h. inl (not_true _ h)) (λ h. inr (not_true _ h)) (or_cases _ _ free) in
-    exact_holds answer (Splits v p mode) p (
+    ⊎_elim (λ h. inl (not_true _ h)) (λ h. inr (not_true _ h)) (or_cases _ _ free) in (
       λ yes. (let ends = exact.0 yes in star_literal_in p v mode shape one_component ends.fits ends.alike),
       λ s. (let out = star_literal_out p v mode shape s in exact.1 (record { fits = out.0; alike = out.1 })),
     )
 
 -- a value that doesn't begin with the literal front doesn't match
-pub front_holds : (answer : Bool) (p v : List ℕ) (mode : Mode) (n : ℕ) → first_special p ≡ Some n → answer ≡ false
-    → IsTrue answer ↔ BeginsAlike mode v (take n p) → Holds false (Splits v p mode) p
-front_holds answer p v mode n first refused exact =
+pub front_refused : (answer : Bool) (p v : List ℕ) (mode : Mode) (n : ℕ) → first_special p ≡ Some n → answer ≡ false
+    → IsTrue answer ↔ BeginsAlike mode v (take n p) → IsTrue false ↔ Splits v p mode
+front_refused answer p v mode n first refused exact =
     let plain = literal_up_to_place p n first in
-    let long : length (take n p) ≡ n = length-take-le n p plain.0 in
-    exact_holds false (Splits v p mode) p (
+    let long : length (take n p) ≡ n = length-take-le n p plain.0 in (
       λ yes. absurd (false≢true yes),
       λ s. (let out = literal_front p v mode n plain.0 plain.1 s in
           sym refused ∙ exact.1 (record { fits = omega (arith, out.0); alike = subst (λ (m : ℕ). AreAlike mode (take n p) (take m v)) (sym long) out.1 })),

@@ -6,8 +6,20 @@ use glob_lines::PlainLines;
 use std::test::Fail;
 use std::{env, fs, process};
 
+/// Catches a call that always answers a fault: a file of no bytes is a list of no patterns.
 #[test]
-fn the_lines_of_a_file_are_mappings(rt: HostRuntime) -> Result<(), Fail> {
+fn file_always_fails(rt: HostRuntime) -> Result<(), Fail> {
+    let mut buf = Vec::from_slice(rt.alloc(), b"old")?;
+    let source = String::from_str(rt.alloc(), "/dev/null")?;
+    let list = List::from_file(&rt, rt.alloc(), source, None, &mut buf, PlainLines)?;
+    assert!(rt; list.is_some_and(|list| list.patterns.is_empty()));
+    assert!(rt; buf.is_empty());
+    Ok(())
+}
+
+/// Catches a call that always answers that there is no file: the lines of a real one are mappings.
+#[test]
+fn file_always_none(rt: HostRuntime) -> Result<(), Fail> {
     let number = process::id(rt.process());
     let folder = env::temp_dir(&rt)?;
     let folder = folder.as_str();

@@ -2,6 +2,8 @@
 #![tactic(auto)]
 
 #[cfg(test)]
+mod ample_memory;
+#[cfg(test)]
 mod fakes;
 #[cfg(test)]
 mod file_rows;
@@ -10,13 +12,19 @@ mod folding;
 #[cfg(test)]
 mod list_rows;
 #[cfg(test)]
+mod loading;
+#[cfg(test)]
 mod modes;
+#[cfg(test)]
+mod one_file;
 #[cfg(test)]
 mod refused_memory;
 #[cfg(test)]
 mod rows;
 #[cfg(test)]
 mod sets;
+#[cfg(test)]
+mod shown;
 #[cfg(test)]
 mod stars;
 #[cfg(test)]

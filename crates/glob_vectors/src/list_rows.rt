@@ -1,5 +1,6 @@
 //! Path lines against the lines of a pattern file.
 use crate::fakes::{Sink, Source};
+use crate::stars::repeated;
 use gix_glob::pattern::Case;
 use gix_glob::search::{Watched, has_file_part};
 use glob_lines::{EngineFault, run_list};
@@ -80,7 +81,9 @@ fn run(
 fn the_numbers_of_matching_lines_are_listed(rt: HostRuntime) -> Result<(), Fail> {
     let ten: &[u8] = b"a\na\na\na\na\na\na\na\na\na\n";
     let paths_of_a: &[u8] = b"a/b\nb\na/x/b\na/x/y.c\nA/b\n";
-    let rows: [(Question<'_>, &[u8], &[u8], &[u8]); 11] = [
+    let many_stars = repeated(rt.alloc(), ("*a", 64, "\nb\n"))?;
+    let many_paths = repeated(rt.alloc(), ("a", 64, "\nb\n"))?;
+    let rows: [(Question<'_>, &[u8], &[u8], &[u8]); 12] = [
         (
             TOP,
             b"*.rs\n\nsrc/\n",
@@ -97,6 +100,7 @@ fn the_numbers_of_matching_lines_are_listed(rt: HostRuntime) -> Result<(), Fail>
         (TOP, b"a\n", b"a\r\n", b"\n"),
         (TOP, b"*", b"\xff\n\x00", b"1\n1\n"),
         (TOP, b"a", b"", b""),
+        (TOP, &many_stars, &many_paths, b"1\n2\n"),
     ];
     for (question, patterns, paths, text) in rows {
         for piece in [1, WHOLE] {

@@ -1,46 +1,74 @@
 //! Rows of many star tokens: where the recursive engine may give up, and where an engine that tries all cuttings would not end.
 use crate::modes::{path, plain};
-use gix_glob::wildmatch::{recursive, wildmatch};
+use gix_glob::pattern::Pattern;
+use gix_glob::wildmatch::{Mode, recursive, wildmatch};
 use std::alloc::{AllocError, Global};
 use std::test::Fail;
 
-/// The piece, so many times, and then the end.
-fn repeated(alloc: Global, piece: &[u8], times: usize, end: &[u8]) -> Result<Vec<u8>, AllocError> {
+/// A text as a piece, how many times it stands there, and what ends it.
+pub(crate) type Repeated = (&'static str, usize, &'static str);
+
+/// Such a text, written out.
+pub(crate) fn repeated(
+    alloc: Global,
+    (piece, times, end): Repeated,
+) -> Result<Vec<u8>, AllocError> {
     let mut text = Vec::new(alloc);
     for _ in 0..times {
-        text.extend_from_slice(piece)?;
+        text.extend_from_slice(piece.as_bytes())?;
     }
-    text.extend_from_slice(end)?;
+    text.extend_from_slice(end.as_bytes())?;
     Ok(text)
 }
 
 #[test]
-fn as_many_stars_as_the_recursive_engine_takes(rt: HostRuntime) -> Result<(), Fail> {
-    let pattern = repeated(rt.alloc(), b"*a", 63, b"")?;
-    let value = repeated(rt.alloc(), b"a", 63, b"")?;
-    assert!(rt; wildmatch(&pattern, &value, plain()));
-    assert!(rt; recursive(&pattern, &value, plain()));
+fn no_past_63_stars(rt: HostRuntime) -> Result<(), Fail> {
+    // what the recursive engine answers stands where its contract settles it
+    let rows: [(Repeated, Repeated, Mode, bool, Option<bool>); 8] = [
+        (("*a", 63, ""), ("a", 63, ""), plain(), true, Some(true)),
+        (("*a", 64, ""), ("a", 64, ""), plain(), true, None),
+        (("*a", 64, ""), ("a", 63, ""), plain(), false, Some(false)),
+        (("**/", 64, "x"), ("", 0, "x"), path(), true, None),
+        (("**/", 64, "x"), ("", 0, "a/x"), path(), true, None),
+        (("**/", 64, "x"), ("", 0, "y"), path(), false, None),
+        (("?*", 70, ""), ("b", 70, ""), plain(), true, None),
+        (("?*", 70, ""), ("b", 69, ""), plain(), false, None),
+    ];
+    for (pattern, value, mode, answer, by_recursion) in rows {
+        let pattern_text = repeated(rt.alloc(), pattern)?;
+        let value_text = repeated(rt.alloc(), value)?;
+        assert_eq!(rt;
+            wildmatch(&pattern_text, &value_text, mode),
+            answer,
+            "{pattern:?} on {value:?}"
+        );
+        if let Some(answer) = by_recursion {
+            assert_eq!(rt;
+                recursive(&pattern_text, &value_text, mode),
+                answer,
+                "recursive: {pattern:?} on {value:?}"
+            );
+        }
+    }
     Ok(())
 }
 
 #[test]
-fn no_past_63_stars(rt: HostRuntime) -> Result<(), Fail> {
-    let pattern = repeated(rt.alloc(), b"*a", 64, b"")?;
-    let value = repeated(rt.alloc(), b"a", 64, b"")?;
-    assert!(rt;
-        wildmatch(&pattern, &value, plain()),
-        "a no would lose the value"
-    );
+fn a_parsed_pattern_of_64_stars(rt: HostRuntime) -> Result<(), Fail> {
+    let line = repeated(rt.alloc(), ("*a", 64, ""))?;
+    let value = repeated(rt.alloc(), ("a", 64, ""))?;
+    let pattern = Pattern::from_bytes(rt.alloc(), &line)?.ok_or("a pattern")?;
+    assert!(rt; pattern.matches(&value, path()));
     Ok(())
 }
 
 #[test]
 fn many_cuttings_end(rt: HostRuntime) -> Result<(), Fail> {
-    let directories = repeated(rt.alloc(), b"**/", 40, b"x")?;
-    let deep = repeated(rt.alloc(), b"a/", 40, b"y")?;
+    let directories = repeated(rt.alloc(), ("**/", 40, "x"))?;
+    let deep = repeated(rt.alloc(), ("a/", 40, "y"))?;
     assert!(rt; !wildmatch(&directories, &deep, path()), "directories");
-    let stars = repeated(rt.alloc(), b"*a", 60, b"b")?;
-    let long = repeated(rt.alloc(), b"a", 200, b"")?;
+    let stars = repeated(rt.alloc(), ("*a", 60, "b"))?;
+    let long = repeated(rt.alloc(), ("a", 200, ""))?;
     assert!(rt; !wildmatch(&stars, &long, plain()), "stars");
     assert!(rt;
         !recursive(&stars, &long, plain()),

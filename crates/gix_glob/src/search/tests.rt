@@ -165,8 +165,9 @@ fn readers_are_read_whole(rt: HostRuntime) -> Result<(), Fail> {
     Ok(())
 }
 
+/// Catches a call that answers for each failed read that there is no file.
 #[test]
-fn failed_reads(rt: HostRuntime) -> Result<(), Fail> {
+fn failed_read_is_none(rt: HostRuntime) -> Result<(), Fail> {
     let rows = [
         (ErrorKind::IsADirectory, true),
         (ErrorKind::NotADirectory, true),

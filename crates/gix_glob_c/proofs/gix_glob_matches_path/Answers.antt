@@ -1,7 +1,6 @@
 -- The line was read, and the path looked at from its last slash on.
-use Rattle.std.proofs.Common.{subst, Some}
+use Rattle.std.proofs.Common.{◌↔◌, IsTrue, subst, Some}
 use Rattle.gix_glob.specs.declared.pattern.Case.{Case}
-use Rattle.gix_glob.specs.Matching.{Holds}
 use Rattle.gix_glob.specs.RepositoryPaths.{Answers}
 use Rattle.gix_glob_c.proofs.gix_glob_matches_path.Goals as goal
 
@@ -15,8 +14,7 @@ returns-clause-answers c = λ reading relative.
       position = c.basename_start.result;
       read = c.in-Some.ensures.reads;
       start = c.basename_start.ensures;
-      holds = subst (λ (case : Case). Holds c.matches_repo_relative_path.result
-          (Answers view.text.now view.mode c.args.path.now c.basename_start.result (Some c.args.is_dir) case (record { 0 = 1 }))
-          view.text.now)
+      exact = subst (λ (case : Case). IsTrue c.matches_repo_relative_path.result
+          ↔ Answers view.text.now view.mode c.args.path.now c.basename_start.result (Some c.args.is_dir) case (record { 0 = 1 }))
           c.case_for.ensures (c.matches_repo_relative_path.ensures c.in-Some.ensures.lawful);
     }

@@ -7,7 +7,7 @@
 //! The turns of the engine are in `turns`, the ways back to a mark in `returns`, and the looks ahead from one in `seeking`.
 ghost use Rattle.std.specs.Prelude.{◌≢◌, ◌↔◌, ◌+◌, ◌<◌, ◌≤◌, true, IsTrue, length};
 ghost use Rattle.glob_matcher.specs.Bytes.{close_bracket, question_mark, slash, star};
-ghost use Rattle.glob_matcher.specs.Matching.{SplitsFrom, Splits, Holds};
+ghost use Rattle.glob_matcher.specs.Matching.{SplitsFrom, Splits};
 ghost use Rattle.glob_matcher.specs.Steps.{step_bound, step_limit};
 
 use super::counted::{Counted, Mark};
@@ -115,7 +115,7 @@ fn search<L: Ledger>(pattern: &[u8], value: &Counted<'_>, mode: Mode, steps: &mu
 /// mode, `p` and `v` being the lengths in bytes of pattern and value; and in fact by at most the first in both. It takes no
 /// memory, and no recursion. The rules are in `docs/MATCHING.md`.
 pub fn marked<L: Ledger>(pattern: &[u8], value: &[u8], mode: Mode, steps: &mut Steps<L>) -> bool
-    ensures meaning { Holds result (Splits value.now pattern.now mode) pattern.now }
+    ensures exact { IsTrue result ↔ Splits value.now pattern.now mode }
     ensures bound { steps.new ≤ steps.old + step_bound mode (length pattern.now) (length value.now) }
     ensures limit { steps.new ≤ steps.old + step_limit (length pattern.now) (length value.now) }
 {

@@ -1,15 +1,15 @@
 //! Laws of pattern lines and patterns.
-ghost use Rattle.std.specs.Prelude.{◌≡◌, ◌≤◌, ◌↔◌, ◌||◌, ◌++◌, ℕ, Bool, true, false, IsTrue, List, Option, codes, nat_eq};
+ghost use Rattle.std.specs.Prelude.{◌≡◌, ◌↔◌, ◌||◌, ◌++◌, ℕ, Bool, true, false, IsTrue, List, Option, codes, nat_eq};
 ghost use Rattle.std.specs.List.{list_any, starts_with};
 ghost use Rattle.std.specs.Str.{IsUtf8};
-ghost use Rattle.std.specs.declared.cmp.Ordering.TheVariants.{Equal};
+ghost use Rattle.std.specs.declared.cmp.Ordering.TheVariants.{Equal, Less};
 ghost use Rattle.glob_matcher.specs.declared.wildmatch.mode.Mode as wildmatch;
 ghost use Rattle.glob_patterns.specs.declared.pattern.mode.Mode as pattern;
 ghost use Rattle.glob_patterns.specs.declared.pattern.Pattern.{Pattern};
 ghost use Rattle.glob_patterns.specs.declared.pattern.case.Case.{Case};
 ghost use Rattle.glob_patterns.specs.Folding.{AreAlike, EndsAlike, HasAlike};
 ghost use Rattle.glob_matcher.specs.Bytes.{HasByte};
-ghost use Rattle.glob_matcher.specs.Matching.{Splits, HasStars, Holds};
+ghost use Rattle.glob_matcher.specs.Matching.{Splits};
 ghost use Rattle.glob_patterns.specs.PatternParts.{text_of, SamePattern, pattern_cmp};
 ghost use Rattle.glob_patterns.specs.Patterns.{IsUnescapedUpTo, Reads, SameReading, displayed, is_absolute, is_joining, is_negative, is_special, shown};
 
@@ -36,11 +36,11 @@ pub fn matched_values_have_the_literal_bytes()
         → Splits value text mode → HasAlike mode value b }
 {}
 
-/// Two answers that hold of one text, value and mode are the same, where the text has at most 63 star tokens. So
-/// [`Pattern::matches`] and [`glob_matcher::wildmatch::wildmatch`] agree.
+/// Two answers that are each yes exactly if the text matches the value are the same. So [`Pattern::matches`] and
+/// [`glob_matcher::wildmatch::wildmatch`] agree.
 pub fn two_answers_agree()
-    ensures { (text value : List ℕ) (mode : wildmatch.Mode) (n : ℕ) (first second : Bool) → HasStars text n → n ≤ 63
-        → Holds first (Splits value text mode) text → Holds second (Splits value text mode) text → first ≡ second }
+    ensures { (text value : List ℕ) (mode : wildmatch.Mode) (first second : Bool)
+        → IsTrue first ↔ Splits value text mode → IsTrue second ↔ Splits value text mode → first ≡ second }
 {}
 
 /// A line has at most one reading.
@@ -82,4 +82,9 @@ pub fn order_agrees_with_equality()
 /// The case of letters counts where nothing else is said.
 pub fn case_counts_by_default()
     ensures { (case : Case) → ⟦<Case as Default>⟧.is_default case → case ≡ Case.Sensitive }
+{}
+
+/// [`Case::Sensitive`] comes before [`Case::Fold`].
+pub fn sensitive_comes_before_fold()
+    ensures { ⟦<Case as Ord>⟧.cmp Case.Sensitive Case.Fold ≡ Less }
 {}

@@ -10,13 +10,13 @@ use bitflags::Flags;
 use glob_matcher::wildmatch;
 
 impl Pattern {
-    ghost use Rattle.glob_matcher.specs.Matching.{Splits, Holds};
+    ghost use Rattle.glob_matcher.specs.Matching.{Splits};
     ghost use Rattle.glob_patterns.specs.PatternParts.{text_of};
 
     /// Whether the text matches the value. What the line said of negation, of directories and of a leading slash
     /// doesn't count. It takes no memory. The rule is "matching a value" in `docs/PATTERNS.md`.
     pub fn matches(&self, value: &[u8], mode: wildmatch::Mode) -> bool
-        ensures { Holds result (Splits value.now (text_of self.now) mode) (text_of self.now) }
+        ensures { IsTrue result ↔ Splits value.now (text_of self.now) mode }
     {
         self.view().matches(value, mode)
     }

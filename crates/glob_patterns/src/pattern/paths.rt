@@ -1,5 +1,5 @@
 //! Whether a path of a repository matches: what a pattern looks at, directories and case.
-ghost use Rattle.std.specs.Prelude.{◌≡◌, Some};
+ghost use Rattle.std.specs.Prelude.{◌≡◌, ◌↔◌, IsTrue, Some};
 ghost use Rattle.glob_patterns.specs.RepositoryPaths.{IsBasenameStart, with_case};
 
 use super::{Case, Pattern};
@@ -27,7 +27,6 @@ pub(super) fn with_case(mode: wildmatch::Mode, case: Case) -> wildmatch::Mode
 impl Pattern {
     ghost use Rattle.std.specs.Option.{ForSome};
     ghost use Rattle.glob_matcher.specs.Bytes.{HasByte, slash};
-    ghost use Rattle.glob_matcher.specs.Matching.{Holds};
     ghost use Rattle.glob_patterns.specs.PatternParts.{text_of, mode_of};
     ghost use Rattle.glob_patterns.specs.RepositoryPaths.{IsAfterLastSlash, Answers};
 
@@ -46,7 +45,7 @@ impl Pattern {
     ) -> bool
         requires relative { ¬ HasByte path.now 0 slash }
         requires basename { ForSome basename_start_pos (IsAfterLastSlash path.now) }
-        ensures { Holds result (Answers (text_of self.now) (mode_of self.now) path.now basename_start_pos is_dir case mode) (text_of self.now) }
+        ensures { IsTrue result ↔ Answers (text_of self.now) (mode_of self.now) path.now basename_start_pos is_dir case mode }
     {
         self.view()
             .matches_repo_relative_path(path, basename_start_pos, is_dir, case, mode)

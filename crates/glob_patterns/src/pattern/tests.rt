@@ -200,7 +200,7 @@ fn starts_of_basenames(rt: HostRuntime) {
 }
 
 /// Whether a path has no leading slash.
-fn is_relative(path: &[u8]) -> bool
+pub(super) fn is_relative(path: &[u8]) -> bool
     ensures { IsTrue result ↔ ¬ HasByte path.now 0 slash }
 {
     !path.starts_with(b"/")

@@ -1,8 +1,8 @@
 //! A pattern whose text is borrowed: the parts of a line that was read, without a copy of its text.
-ghost use Rattle.std.specs.Prelude.{◌≡◌, drop, take, true, MatchOption, IfSome};
+ghost use Rattle.std.specs.Prelude.{◌≡◌, ◌↔◌, drop, take, true, IsTrue, MatchOption, IfSome};
 ghost use Rattle.std.specs.Option.{ForSome};
 ghost use Rattle.glob_matcher.specs.Bytes.{HasByte, slash};
-ghost use Rattle.glob_matcher.specs.Matching.{Holds, Splits};
+ghost use Rattle.glob_matcher.specs.Matching.{Splits};
 ghost use Rattle.glob_patterns.specs.Patterns.{HasReading, IsPattern, Reads};
 ghost use Rattle.glob_patterns.specs.RepositoryPaths.{Answers, IsAfterLastSlash, subject};
 
@@ -67,7 +67,7 @@ impl<'a> PatternView<'a> {
     #[inline(always)]
     pub fn matches(self, value: &[u8], mode: wildmatch::Mode) -> bool
         ensures { IsPattern self.entry.text.now self.entry.mode self.entry.first_wildcard_pos →
-            Holds result (Splits value.now self.entry.text.now mode) self.entry.text.now }
+            IsTrue result ↔ Splits value.now self.entry.text.now mode }
     {
         let Some(pos) = self.first_wildcard_pos else {
             return are_alike(self.text, value, mode);
@@ -97,7 +97,7 @@ impl<'a> PatternView<'a> {
         requires relative { ¬ HasByte path.now 0 slash }
         requires basename { ForSome basename_start_pos (IsAfterLastSlash path.now) }
         ensures { IsPattern self.entry.text.now self.entry.mode self.entry.first_wildcard_pos →
-            Holds result (Answers self.entry.text.now self.entry.mode path.now basename_start_pos is_dir case mode) self.entry.text.now }
+            IsTrue result ↔ Answers self.entry.text.now self.entry.mode path.now basename_start_pos is_dir case mode }
     {
         if self.mode.contains(Mode::MUST_BE_DIR) && is_dir != Some(true) {
             return false;
@@ -121,3 +121,6 @@ impl<'a> PatternView<'a> {
         }
     }
 }
+
+#[cfg(test)]
+mod tests;

@@ -1,8 +1,9 @@
 -- A mapping that answers has its number next in the text.
-use Rattle.std.proofs.Common.{◌≡◌, ◌+◌, ◌++◌, [], ◌∷◌, true, false, map, take, refl, sym, ap, subst, ◌∙◌, take_all, rules}
+use Rattle.std.proofs.Common.{◌≡◌, ◌↔◌, ◌+◌, ◌++◌, [], ◌∷◌, IsTrue, map, take, refl, sym, ap, subst, ◌∙◌, take_all, rules}
+use Rattle.std.proofs.lemmas.Bool.{false≢true}
 use Rattle.std.proofs.lemmas.List.{map_more}
 use Rattle.gix_glob.specs.Lists.{entry_of}
-use Rattle.glob_lines.specs.Mappings.{MayAnswer}
+use Rattle.glob_lines.specs.Mappings.{EntryAnswers}
 use Rattle.glob_lines.specs.Numbers.{Picks, spaced}
 use Rattle.glob_lines.specs.Plain.{PlainEntry}
 use Rattle.glob_lines.proofs.MappingsLemmas.{IsListedUpTo-more, IsListedUpTo-none, IsListedUpTo-skip, numbers_of}
@@ -21,12 +22,13 @@ loop-mapping-preserved c =
     let one_more : map (entry_of (λ _. tt)) (take (i + 1) mappings) ≡ map (entry_of (λ _. tt)) (take i mappings) ++ entry ∷ [] =
     map_more (entry_of (λ _. tt)) mappings i mapping c.loop-mapping-test.true
     ∙ ap (λ m. map (entry_of (λ _. tt)) (take i mappings) ++ entry_of (λ _. tt) m ∷ []) (sym c.mapping-item.is) in
-    let answered : MayAnswer c.args.case c.args.is_dir c.args.rest.now c.args.position entry c.matches_repo_relative_path.result = c.matches_repo_relative_path.ensures in
+    let answered : IsTrue c.matches_repo_relative_path.result ↔ EntryAnswers c.args.case c.args.is_dir c.args.rest.now c.args.position entry =
+    c.matches_repo_relative_path.ensures in
     elim c.if-matches_repo_relative_path.branch [
       | then-matches_repo_relative_path+in_ok-extend_from_slice+in_ok-append_decimal w ↦
-          IsListedUpTo-more _ _ _ entry _ _ _ _ _ c.loop-mapping.invariant one_more (rw w.if-matches_repo_relative_path.true at answered) (search rules) (search rules)
+          IsListedUpTo-more _ _ _ entry _ _ _ _ _ c.loop-mapping.invariant one_more (answered.0 w.if-matches_repo_relative_path.true) (search rules) (search rules)
       | else-matches_repo_relative_path w ↦
-          let skipped = IsListedUpTo-skip _ _ _ entry _ _ _ c.loop-mapping.invariant one_more (rw w.if-matches_repo_relative_path.false at answered) in
+          let skipped = IsListedUpTo-skip _ _ _ entry _ _ _ c.loop-mapping.invariant one_more (λ yes. absurd (false≢true (sym w.if-matches_repo_relative_path.false ∙ answered.1 yes))) in
           rw (w.text-is, w.separator-is) skipped
     ]
 
@@ -40,7 +42,7 @@ returns c =
         position = c.args.position;
         basename = c.requires.basename;
         chosen = done.chosen;
-        picks = subst (λ l. Picks (MayAnswer c.args.case c.args.is_dir c.args.rest.now c.args.position) (map (entry_of (λ _. tt)) l) done.chosen) all done.picks;
+        picks = subst (λ l. Picks (EntryAnswers c.args.case c.args.is_dir c.args.rest.now c.args.position) (map (entry_of (λ _. tt)) l) done.chosen) all done.picks;
         shown = refl;
       };
       grown = done.grown;

@@ -1,10 +1,10 @@
 use Rattle.std.proofs.Common.{map, take}
 use Rattle.gix_glob.specs.Lists.{entry_of}
-use Rattle.glob_lines.specs.Mappings.{MayAnswer}
+use Rattle.glob_lines.specs.Mappings.{EntryAnswers}
 use Rattle.glob_lines.proofs.MappingsLemmas.{IsListedUpTo}
 use Rattle.glob_lines.proofs.list.append_numbers.Given as goal
 
 -- the text has the numbers of the mappings so far
 abbrev pub invariant-loop-mapping : goal.invariant-loop-mapping
 invariant-loop-mapping l =
-    IsListedUpTo (MayAnswer l.case l.is_dir l.rest l.position) (map (entry_of (λ _. tt)) (take l.mapping-index l.mappings)) l.fn.text.items l.text.items l.separator
+    IsListedUpTo (EntryAnswers l.case l.is_dir l.rest l.position) (map (entry_of (λ _. tt)) (take l.mapping-index l.mappings)) l.fn.text.items l.text.items l.separator

@@ -7,7 +7,7 @@ use Rattle.glob_lines.proofs.wild.answers.Goals as goal
 pub loop-value-preserved : goal.loop-value-preserved
 loop-value-preserved c =
     let answered : WritesAnswer c.args.pattern.now c.args.mode c.in-Some.value.now (word_of c.wildmatch.result) =
-    record { answer = c.wildmatch.result; holds = c.wildmatch.ensures; word = refl } in
+    record { answer = c.wildmatch.result; exact = c.wildmatch.ensures; word = refl } in
     IsWrittenUpTo-more _ _ _ _ _ _ _ _ c.loop-value.invariant c.in-Some.ensures.steps answered (search rules)
 
 pub returns : goal.returns

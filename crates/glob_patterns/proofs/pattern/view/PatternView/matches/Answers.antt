@@ -1,12 +1,12 @@
 -- Each shortcut answers what the tokens of the text say.
-use Rattle.std.proofs.Common.{Bool, sym, ◌∙◌, subst}
-use Rattle.glob_matcher.specs.Matching.{Holds, Splits}
-use Rattle.glob_patterns.proofs.Shortcuts.{whole_holds, end_holds, end_refused, front_holds}
+use Rattle.std.proofs.Common.{◌↔◌, Bool, IsTrue, sym, ◌∙◌, subst}
+use Rattle.glob_matcher.specs.Matching.{Splits}
+use Rattle.glob_patterns.proofs.Shortcuts.{whole_exact, end_exact, end_refused, front_refused}
 use Rattle.glob_patterns.proofs.pattern.view.PatternView.matches.Goals as goal
 
 pub returns-in_default : goal.returns-in_default
 returns-in_default c = λ lawful.
-    whole_holds c.are_alike.result c.args.self.text.now c.args.value.now c.args.mode (sym lawful.placed ∙ c.in_default.is)
+    whole_exact c.are_alike.result c.args.self.text.now c.args.value.now c.args.mode (sym lawful.placed ∙ c.in_default.is)
     c.are_alike.ensures
 
 pub returns-then-not-ends_alike : goal.returns-then-not-ends_alike
@@ -18,9 +18,9 @@ returns-then-not-ends_alike c = λ lawful.
 pub returns-then-is_one_component : goal.returns-then-is_one_component
 returns-then-is_one_component c = λ lawful.
     let exact = rw c.past_star.ensures at c.ends_alike.ensures in
-    subst (λ (answer : Bool). Holds answer (Splits c.args.value.now c.args.self.text.now c.args.mode) c.args.self.text.now)
+    subst (λ (answer : Bool). IsTrue answer ↔ Splits c.args.value.now c.args.self.text.now c.args.mode)
     c.if-not-ends_alike.false
-    (end_holds c.ends_alike.result c.args.self.text.now c.args.value.now c.args.mode
+    (end_exact c.ends_alike.result c.args.self.text.now c.args.value.now c.args.mode
     (lawful.ends (sym (c.contains.ensures tt) ∙ c.if-contains.true))
     (sym c.is_one_component.ensures ∙ c.if-is_one_component.true)
     exact)
@@ -28,5 +28,5 @@ returns-then-is_one_component c = λ lawful.
 pub returns-then-not-begins_alike : goal.returns-then-not-begins_alike
 returns-then-not-begins_alike c = λ lawful.
     let exact = rw c.front.ensures at c.begins_alike.ensures in
-    front_holds c.begins_alike.result c.args.self.text.now c.args.value.now c.args.mode c.in-Some.pos
+    front_refused c.begins_alike.result c.args.self.text.now c.args.value.now c.args.mode c.in-Some.pos
     (sym lawful.placed ∙ c.in-Some.is) c.if-not-begins_alike.true exact

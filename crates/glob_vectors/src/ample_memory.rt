@@ -1,0 +1,126 @@
+//! With ample memory no call answers that there is none, not for a long text, a long input or a large number either. No
+//! contract can say so.
+use gix_glob::pattern::Case;
+use gix_glob::search::pattern::List;
+use gix_glob::search::{Pattern as _, Watched};
+use gix_glob::wildmatch::Mode;
+use gix_glob::{Pattern, parse};
+use glob_lines::{PlainLines, run_list, run_wild};
+use std::alloc::{AllocError, Global};
+use std::test::Fail;
+
+/// More bytes than 1 MiB.
+const LONG: usize = 1_200_000;
+
+/// So many letters, the first of them `b`.
+fn letters(alloc: Global, count: usize) -> Result<Vec<u8>, AllocError> {
+    let mut text = Vec::new(alloc);
+    text.push(b'b')?;
+    text.resize(count, b'a')?;
+    Ok(text)
+}
+
+/// Catches a call that always answers want of memory.
+#[test]
+fn always_out_of_memory(rt: HostRuntime) -> Result<(), Fail> {
+    assert!(rt; parse::parse(rt.alloc(), b"!a")?.is_some());
+    assert!(rt; Pattern::from_bytes(rt.alloc(), b"!a")?.is_some());
+    assert!(rt; Pattern::from_bytes_without_negation(rt.alloc(), b"!a")?.is_some());
+    let mappings = PlainLines.bytes_to_patterns(rt.alloc(), b"a\n!b\n", "ig")?;
+    let [first, second] = mappings.as_slice() else {
+        return Err(Fail::new("not two patterns"));
+    };
+    assert!(rt; first.clone()? == *first);
+    assert!(rt; second.pattern.clone()? == second.pattern);
+    let mut buf = Vec::new(rt.alloc());
+    let mut reader = Watched::new(b"a".as_slice());
+    let source = String::from_str(rt.alloc(), "ig")?;
+    let list = List::from_reader(rt.alloc(), &mut reader, source, None, &mut buf, PlainLines)?;
+    let list = list.ok_or("no list")?;
+    assert!(rt; list.clone()? == list);
+    Ok(())
+}
+
+#[test]
+fn long_texts_are_read_and_copied(rt: HostRuntime) -> Result<(), Fail> {
+    let text = letters(rt.alloc(), 5_000)?;
+    let parsed = parse::parse(rt.alloc(), &text)?.ok_or("a pattern")?;
+    let read = Pattern::from_bytes(rt.alloc(), &text)?.ok_or("a pattern")?;
+    let whole = Pattern::from_bytes_without_negation(rt.alloc(), &text)?.ok_or("a pattern")?;
+    let copy = whole.clone()?;
+    for pattern in [parsed, read, whole, copy] {
+        assert!(rt; pattern.text() == text.as_slice());
+    }
+    Ok(())
+}
+
+#[test]
+fn a_long_input_is_listed(rt: HostRuntime) -> Result<(), Fail> {
+    let text = letters(rt.alloc(), LONG)?;
+    let source = String::from_str(rt.alloc(), "d/ig")?;
+    let list = List::from_bytes(rt.alloc(), &text, source, None, PlainLines)?;
+    let copy = list.clone()?;
+    assert!(rt; copy == list);
+    let source = String::from_str(rt.alloc(), "d/ig")?;
+    let mut buf = Vec::new(rt.alloc());
+    let mut reader = Watched::new(text.as_slice());
+    let read = List::from_reader(rt.alloc(), &mut reader, source, None, &mut buf, PlainLines)?;
+    assert!(rt; read.is_some_and(|read| read == list));
+    assert!(rt; buf == text);
+    Ok(())
+}
+
+#[test]
+fn a_long_input_is_answered(rt: HostRuntime) -> Result<(), Fail> {
+    let mut text = letters(rt.alloc(), LONG)?;
+    text.extend_from_slice(b"\na\n")?;
+    let plain = Mode::NO_MATCH_SLASH_LITERAL;
+    let mut reader = Watched::new(text.as_slice());
+    let mut writer = Watched::new(Vec::new(rt.alloc()));
+    run_wild(rt.alloc(), b"b*", plain, &mut reader, &mut writer)?;
+    let output = writer.into_inner();
+    assert_eq!(rt; output.as_slice(), b"yes\nno\n".as_slice());
+    let mut patterns = Watched::new(text.as_slice());
+    let mut paths = Watched::new(text.as_slice());
+    let mut writer = Watched::new(Vec::new(rt.alloc()));
+    let case = Case::Sensitive;
+    run_list(
+        rt.alloc(),
+        &mut patterns,
+        "f",
+        Some(""),
+        case,
+        &mut paths,
+        &mut writer,
+    )?;
+    let output = writer.into_inner();
+    assert_eq!(rt; output.as_slice(), b"1\n2\n".as_slice());
+    Ok(())
+}
+
+#[test]
+fn numbers_past_99_are_listed(rt: HostRuntime) -> Result<(), Fail> {
+    let mut lines = Vec::new(rt.alloc());
+    for number in 1..1_001 {
+        if matches!(number, 9 | 99 | 100 | 101 | 1_000) {
+            lines.push(b'a')?;
+        }
+        lines.push(b'\n')?;
+    }
+    let mut patterns = Watched::new(lines.as_slice());
+    let mut paths = Watched::new(b"a".as_slice());
+    let mut writer = Watched::new(Vec::new(rt.alloc()));
+    let case = Case::Sensitive;
+    run_list(
+        rt.alloc(),
+        &mut patterns,
+        "f",
+        Some(""),
+        case,
+        &mut paths,
+        &mut writer,
+    )?;
+    let output = writer.into_inner();
+    assert_eq!(rt; output.as_slice(), b"9 99 100 101 1000\n".as_slice());
+    Ok(())
+}

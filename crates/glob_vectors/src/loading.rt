@@ -1,0 +1,189 @@
+//! Loading pattern files: which file is opened, what each error comes to, and lists behind many others.
+use crate::one_file::{OneFile, Opening};
+use gix_glob::search::pattern::List;
+use gix_glob::search::{LoadFault, Watched, add_patterns_file};
+use glob_lines::PlainLines;
+use std::alloc::{AllocError, Global};
+use std::io::{ErrorKind, Read};
+use std::os::unix::fs::{PermissionsExt, symlink};
+use std::rt::Files;
+use std::test::Fail;
+use std::{env, fs, io, process};
+
+/// A name of this run's own in the folder for files that don't last.
+fn path_of(rt: &HostRuntime, name: &str) -> Result<String, Fail> {
+    let number = process::id(rt.process());
+    let folder = env::temp_dir(rt)?;
+    let folder = folder.as_str();
+    Ok(format!(in rt.alloc(); "{folder}/glob_vectors-{name}-{number}")?)
+}
+
+/// What the list of a file came to, in words: the fault's text, `none`, or the number of patterns.
+fn told(
+    alloc: Global,
+    answer: Result<Option<List<PlainLines>>, LoadFault>,
+) -> Result<String, AllocError> {
+    match answer {
+        Err(fault) => format!(in alloc; "{fault}"),
+        Ok(None) => String::from_str(alloc, "none"),
+        Ok(Some(list)) => {
+            let count = list.patterns.len();
+            format!(in alloc; "{count} patterns")
+        }
+    }
+}
+
+/// The list of the file of this name, which has no root, and what is left in the buffer.
+fn list_of<F: Files>(
+    files: &F,
+    alloc: Global,
+    name: &str,
+) -> Result<(Result<Option<List<PlainLines>>, LoadFault>, Vec<u8>), AllocError> {
+    let mut buf = Vec::from_slice(alloc, b"old")?;
+    let source = String::from_str(alloc, name)?;
+    let answer = List::from_file(files, alloc, source, None, &mut buf, PlainLines);
+    Ok((answer, buf))
+}
+
+#[test]
+fn openings_that_fail(rt: HostRuntime) -> Result<(), Fail> {
+    let rows = [
+        (ErrorKind::NotFound, "none"),
+        (ErrorKind::IsADirectory, "none"),
+        (ErrorKind::NotADirectory, "none"),
+        (
+            ErrorKind::OutOfMemory,
+            "out of memory while loading patterns",
+        ),
+        (
+            ErrorKind::PermissionDenied,
+            "reading patterns: told at opening",
+        ),
+        (ErrorKind::Interrupted, "reading patterns: told at opening"),
+        (ErrorKind::Other, "reading patterns: told at opening"),
+    ];
+    for (kind, text) in rows {
+        let files = OneFile::new(&rt, "d/ig", Opening::Fails(kind));
+        let (answer, buf) = list_of(&files, rt.alloc(), "d/ig")?;
+        assert_eq!(rt; told(rt.alloc(), answer)?.as_str(), text, "at {kind:?}");
+        assert!(rt; buf.is_empty(), "at {kind:?}");
+    }
+    Ok(())
+}
+
+/// A reader on which each read fails, with a text of its own.
+#[derive(Drop)]
+struct Torn;
+
+impl Read for Torn {
+    fn read(&mut self, _buf: &mut [u8]) -> io::Result<usize> {
+        Err(io::Error::new(ErrorKind::Other, "told at reading"))
+    }
+}
+
+#[test]
+fn the_error_of_a_read_is_handed_on(rt: HostRuntime) -> Result<(), Fail> {
+    let mut buf = Vec::new(rt.alloc());
+    let source = String::from_str(rt.alloc(), "d/ig")?;
+    let mut reader = Watched::new(Torn);
+    let answer = List::from_reader(rt.alloc(), &mut reader, source, None, &mut buf, PlainLines);
+    assert_eq!(rt;
+        told(rt.alloc(), answer)?.as_str(),
+        "reading patterns: told at reading"
+    );
+    Ok(())
+}
+
+#[test]
+fn a_file_is_opened_by_its_source_alone(rt: HostRuntime) -> Result<(), Fail> {
+    let path = path_of(&rt, "rooted")?;
+    fs::write(&rt, path.as_str(), "*.rs\n\nsrc/\n")?;
+    let files = OneFile::new(&rt, "r/d/ig", Opening::Opens(path.as_str()));
+    let mut buf = Vec::new(rt.alloc());
+    let source = String::from_str(rt.alloc(), "r/d/ig")?;
+    let list = List::from_file(&files, rt.alloc(), source, Some("r"), &mut buf, PlainLines)?;
+    fs::remove_file(&rt, path.as_str())?;
+    let list = list.ok_or("no list")?;
+    assert_eq!(rt; list.patterns.len(), 2);
+    let base = list.base.ok_or("no base")?;
+    assert_eq!(rt; base.as_slice(), b"d/".as_slice());
+    let source = list.source.ok_or("no source")?;
+    assert_eq!(rt; source.as_str(), "r/d/ig");
+    Ok(())
+}
+
+#[test]
+fn a_file_over_64_kib_is_read_whole(rt: HostRuntime) -> Result<(), Fail> {
+    let path = path_of(&rt, "long")?;
+    let mut text = Vec::new(rt.alloc());
+    text.resize(70_000, b'a')?;
+    text.extend_from_slice(b"\nb\n")?;
+    fs::write(&rt, path.as_str(), text.as_slice())?;
+    let (answer, buf) = list_of(&rt, rt.alloc(), path.as_str())?;
+    fs::remove_file(&rt, path.as_str())?;
+    let list = answer?.ok_or("no list")?;
+    let [long, short] = list.patterns.as_slice() else {
+        return Err(Fail::new("not two patterns"));
+    };
+    assert_eq!(rt; long.pattern.text(), &text[..70_000]);
+    assert_eq!(rt; short.pattern.text(), b"b".as_slice());
+    assert_eq!(rt; buf.as_slice(), text.as_slice());
+    Ok(())
+}
+
+#[test]
+fn a_link_is_followed(rt: HostRuntime) -> Result<(), Fail> {
+    let path = path_of(&rt, "linked")?;
+    let link = path_of(&rt, "link")?;
+    fs::write(&rt, path.as_str(), "a\n")?;
+    symlink(&rt, path.as_str(), link.as_str())?;
+    let (answer, _) = list_of(&rt, rt.alloc(), link.as_str())?;
+    fs::remove_file(&rt, link.as_str())?;
+    fs::remove_file(&rt, path.as_str())?;
+    assert_eq!(rt; told(rt.alloc(), answer)?.as_str(), "1 patterns");
+    Ok(())
+}
+
+#[test]
+fn a_file_without_permission_is_no_missing_one(rt: HostRuntime) -> Result<(), Fail> {
+    let path = path_of(&rt, "closed")?;
+    fs::write(&rt, path.as_str(), "a\n")?;
+    fs::set_permissions(&rt, path.as_str(), fs::Permissions::from_mode(0))?;
+    // whoever may read every file may read this one
+    let is_open = fs::open(&rt, path.as_str()).is_ok();
+    let (answer, _) = list_of(&rt, rt.alloc(), path.as_str())?;
+    fs::remove_file(&rt, path.as_str())?;
+    let text = if is_open {
+        "1 patterns"
+    } else {
+        "reading patterns: Permission denied (os error 13)"
+    };
+    assert_eq!(rt; told(rt.alloc(), answer)?.as_str(), text);
+    Ok(())
+}
+
+#[test]
+fn a_list_is_added_behind_many(rt: HostRuntime) -> Result<(), Fail> {
+    let path = path_of(&rt, "many")?;
+    fs::write(&rt, path.as_str(), "a\n\nb\n")?;
+    let mut lists: Vec<List<PlainLines>> = Vec::new(rt.alloc());
+    let mut buf = Vec::new(rt.alloc());
+    for count in 1..80 {
+        let source = path.clone()?;
+        let is_added = add_patterns_file(
+            &rt,
+            rt.alloc(),
+            &mut lists,
+            source,
+            None,
+            &mut buf,
+            PlainLines,
+        )?;
+        assert!(rt; is_added, "list {count}");
+        assert_eq!(rt; lists.len(), count);
+        let added = lists.as_slice().last().ok_or("no list")?;
+        assert_eq!(rt; added.patterns.len(), 2, "list {count}");
+    }
+    fs::remove_file(&rt, path.as_str())?;
+    Ok(())
+}
