@@ -21,7 +21,7 @@ pub record EndsLiterally (text : List ℕ) (n : ℕ) : Type 0 where
 
 -- the place of a byte in a set of bytes that is a number of 64 bits
 abbrev pub bit_of : ℕ → ℕ
-bit_of b = to_ascii_lowercase b % 64
+bit_of b = to_ascii_lowercase b % 32
 
 -- the set has each byte of the text
 abbrev pub HoldsBits : List ℕ → ℕ → Type 0

@@ -57,11 +57,11 @@ pub(crate) fn longer_key(key: u64, byte: u8) -> u64
         .wrapping_add(u64::from(byte.to_ascii_lowercase()))
 }
 
-/// The bit that stands for a byte in a set of bytes.
+/// The bit that stands for a byte in a set of bytes; the two cases of a letter are 32 apart, and share one.
 fn bit_of(byte: u8) -> u64
     ensures { result ≡ 1 * 2 ^ bit_of byte % 2 ^ 64 }
 {
-    1 << (byte.to_ascii_lowercase() % 64)
+    1 << (byte % 32)
 }
 
 /// The bytes that each value has to hold that a text matches, as a set: those that stand for themselves before the first `[`

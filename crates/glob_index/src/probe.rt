@@ -23,7 +23,8 @@ impl Probe {
     pub(crate) fn new(path: &[u8], position: Option<usize>, has_sets: bool) -> Probe
         requires some { 0 < length path.now }
         requires basename { IsBasenameStart path.now position }
-        ensures { Shows path.now result }
+        ensures shows { Shows path.now result }
+        ensures class { result.class < 256 }
     {
         let name = last_part(path, position);
         Probe {

@@ -71,6 +71,13 @@ impl Row {
         self.class
     }
 
+    /// The places of the list and of the mapping.
+    pub(crate) fn pair(&self) -> (usize, usize)
+        ensures { result ≡ (self.now.list, self.now.mapping) }
+    {
+        (self.list as usize, self.mapping as usize)
+    }
+
     /// One more than the place of the row before this one that has its class, or 0.
     #[inline(always)]
     pub(crate) fn before(&self) -> u32

@@ -1,7 +1,9 @@
 //! Rows in order, with a chain through those of each class: a path walks down two chains, and meets only rows that can pass.
-ghost use Rattle.std.specs.Prelude.{◌≡◌, ◌+◌, ◌++◌, ◌∷◌, [], ◌<◌, ◌≤◌, IfOk, MatchOption, OnOk, length, slice_index};
+ghost use Rattle.std.specs.Prelude.{◌≡◌, ◌+◌, ◌++◌, ◌∷◌, [], ◌<◌, ◌≤◌, IfOk, MatchOption, OnOk, length, slice_get, slice_index};
 ghost use Rattle.glob_index.specs.Chains.{IsAt, IsChained, NonePasses, classes_of, links_of};
-ghost use Rattle.glob_index.specs.Rows.{always};
+ghost use Rattle.gix_glob.specs.RepositoryPaths.{IsBasenameStart};
+ghost use Rattle.glob_index.specs.declared.row.Row.{Row};
+ghost use Rattle.glob_index.specs.Rows.{Shows, always};
 
 use crate::probe::Probe;
 use crate::row::{ALWAYS, Row};
@@ -69,6 +71,25 @@ impl Table {
             other: self.heads[usize::from(ALWAYS)],
             end: self.rows.len(),
         }
+    }
+
+    /// What a path shows. The sets of its bytes are made where that is less work than the rows that they pass over.
+    pub(crate) fn probe(&self, path: &[u8], position: Option<usize>) -> Probe
+        requires some { 0 < length path.now }
+        requires basename { IsBasenameStart path.now position }
+        ensures shows { Shows path.now result }
+        ensures class { result.class < 256 }
+    {
+        let has_sets = self.heads[usize::from(ALWAYS)] > 0 && path.len() <= self.rows.len();
+        Probe::new(path, position, has_sets)
+    }
+
+    /// The places of the list and of the mapping that the row at a place stands for.
+    pub(crate) fn pair_at(&self, place: usize) -> (usize, usize)
+        requires { place < length self.now.rows.items }
+        ensures { (row : Row) → slice_get self.now.rows.items place ≡ Some row → (result.0 ≡ row.list) × (result.1 ≡ row.mapping) }
+    {
+        self.rows[place].pair()
     }
 
     /// The next place of a walk whose row passes, from the last one to the first.

@@ -19,7 +19,7 @@ loop-byte-preserved c =
     elim c.if-not-is_joining.branch [
       | then-not-is_joining w ↦
           let grown : IsReadUpTo text (k + 1) (with_bit c.loop-byte.bits (bit_of (get_or text k 0))) =
-          read_more text k c.loop-byte.bits c.loop-byte-test.true opens (sym c.is_joining.ensures ∙ w.if-not-is_joining.false) c.loop-byte.invariant in
+          read_more text k c.loop-byte.bits c.loop-byte-test.true opens (sym c.is_joining.ensures ∙ w.if-not-is_joining.true) c.loop-byte.invariant in
           rw (w.bits-is, w.bit_of-bits.ensures) grown
       | else-not-is_joining w ↦ rw w.bits-is (read_past text k c.loop-byte.bits opens c.loop-byte.invariant)
     ]

@@ -7,7 +7,7 @@ use Rattle.glob_index.proofs.probe.end_keys.Goals as goal
 
 pub ends-init : goal.ends-init
 ends-init c = record {
-  wide = length-replicate 9 0;
+  wide = length-replicate {A = ℕ} 9 0;
   each = λ m low. (let first : 0 ≡ m = omega arith in subst (λ (k : ℕ). get_or (replicate 9 0) k 0 ≡ end_key c.args.path.now k) first refl);
 }
 

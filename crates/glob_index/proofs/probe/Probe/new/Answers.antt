@@ -4,8 +4,8 @@ use Rattle.glob_index.specs.Literals.{HoldsBits}
 use Rattle.glob_index.proofs.KeyLemmas.{name_bits}
 use Rattle.glob_index.proofs.probe.Probe.new.Goals as goal
 
-pub returns : goal.returns
-returns c = record {
+pub returns-clause-shows : goal.returns-clause-shows
+returns-clause-shows c = record {
   last = c.from.ensures ∙ c.to_ascii_lowercase.ensures.value;
   ends = c.end_keys.ensures;
   bytes = c.bytes_or_all.ensures;
