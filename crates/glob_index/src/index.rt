@@ -29,7 +29,7 @@ pub struct ListIndex<'a, T: search::Pattern> {
 }
 
 impl<'a, T: search::Pattern> ListIndex<'a, T> {
-    /// The index of the lists. It takes 24 bytes for each pattern, and 1,028 once.
+    /// The index of the lists. It takes 24 bytes for each pattern, and some 2 KB once.
     ///
     /// # Errors
     /// Where memory was refused, or where there are 2^32 - 1 patterns or more.
@@ -45,6 +45,15 @@ impl<'a, T: search::Pattern> ListIndex<'a, T> {
             add_list(&mut table, lists, i)?;
         }
         Ok(ListIndex { lists, case, table })
+    }
+
+    /// Whether the index pays for a path: few of its patterns have to be looked at. Where it doesn't, each pattern in turn
+    /// costs less. It is about cost alone: the answers are right for each path.
+    pub fn pays_for(&self, path: &[u8]) -> bool {
+        match path {
+            [.., last] => self.table.is_selective(*last),
+            [] => false,
+        }
     }
 
     /// The pattern that decides about a path: the last mapping of the last list that has one that matches what the list's

@@ -9,12 +9,17 @@ use crate::probe::Probe;
 use crate::row::{ALWAYS, Row};
 use std::alloc::{AllocError, Global};
 
+/// The fewest rows for which a walk costs less than a look at each row.
+const FEWEST: usize = 8;
+
 /// Rows, and the last row of each class.
 #[derive(Debug, Drop)]
 pub(crate) struct Table {
     rows: Vec<Row>,
     /// One more than the place of the last row of each class, or 0.
     heads: [u32; 257],
+    /// How many rows each class has.
+    counts: [u32; 257],
 }
 
 /// How far a walk down two chains has come.
@@ -36,6 +41,7 @@ impl Table {
         Ok(Table {
             rows: Vec::with_capacity(alloc, capacity)?,
             heads: [0; 257],
+            counts: [0; 257],
         })
     }
 
@@ -56,6 +62,7 @@ impl Table {
         let chained = row.after(self.heads[class]);
         self.rows.push(chained)?;
         self.heads[class] = head;
+        self.counts[class] = self.counts[class].saturating_add(1);
         Ok(())
     }
 
@@ -71,6 +78,14 @@ impl Table {
             other: self.heads[usize::from(ALWAYS)],
             end: self.rows.len(),
         }
+    }
+
+    /// Whether a path that ends in this byte meets at most half of the rows, and there are enough rows for that to pay.
+    pub(crate) fn is_selective(&self, last: u8) -> bool {
+        let own = self.counts[usize::from(last.to_ascii_lowercase())] as usize;
+        let other = self.counts[usize::from(ALWAYS)] as usize;
+        let len = self.rows.len();
+        len >= FEWEST && own.saturating_add(other).saturating_mul(2) <= len
     }
 
     /// What a path shows. The sets of its bytes are made where that is less work than the rows that they pass over.

@@ -17,6 +17,7 @@ mappings-preserved g c =
     let held_is = get_or_default c.args.lists.now c.args.i c.index-lists-i.result held c.requires.inside in
     let within : c.mappings.m < length held.patterns.items = omega (arith, ap length c.as_slice-mappings.ensures.value) in
     let is = rw c.as_slice-mappings.ensures.value at c.index-mappings-m.is in
+    let asks = rw (← c.index-mappings-m.is) at c.new.ensures.asks in
     let link : ℕ = get_or c.mappings.table.heads c.new.result.class 0 in
     let added : Row = record c.new.result { before = link } in record {
       rows = subst (AreRowsUpTo (map (listed g.T.Pattern.seen) c.args.lists.now) c.args.i (c.mappings.m + 1)) (sym c.in_ok-push.ensures.rows)
@@ -27,7 +28,7 @@ mappings-preserved g c =
             there = seen_at (listed g.T.Pattern.seen) c.args.lists.now c.args.i held c.requires.inside held_is;
             here = seen_at (entry_of g.T.Pattern.seen) held.patterns.items c.mappings.m c.index-mappings-m.result within is;
           })
-          (asks_chained (text_of c.index-mappings-m.result.pattern) (mode_of c.index-mappings-m.result.pattern) c.new.result link c.new.ensures.asks)
+          (asks_chained (text_of c.index-mappings-m.result.pattern) (mode_of c.index-mappings-m.result.pattern) c.new.result link asks)
           (omega (arith, c.in-Ok.ensures, c.new.ensures.list)) (omega (arith, c.in-Ok-try_from.ensures, c.new.ensures.mapping)));
       chained = c.in_ok-push.ensures.chained;
     }

@@ -50,11 +50,11 @@ pub returns : goal.returns
 returns g c =
     let there = c.requires.there.1 in
     let lists = map (listed g.T.Pattern.seen) c.args.self.now.lists.now in
-    let list = listed g.T.Pattern.seen held in
-    let entry = entry_of g.T.Pattern.seen c.index.result.now in
     let within = seen_within (listed g.T.Pattern.seen) c.args.self.now.lists.now c.args.list there.list there.there in
     let held = get_or c.args.self.now.lists.now c.args.list c.index-self-list.result in
     let is = get_or_default c.args.self.now.lists.now c.args.list c.index-self-list.result held within in
+    let list = listed g.T.Pattern.seen held in
+    let entry = entry_of g.T.Pattern.seen c.index.result.now in
     let at = seen_at (listed g.T.Pattern.seen) c.args.self.now.lists.now c.args.list held within is in
     let same : there.list ≡ listed g.T.Pattern.seen held = same_Some _ _ (sym there.there ∙ at) in
     let inside : c.args.mapping < length held.patterns.items =
