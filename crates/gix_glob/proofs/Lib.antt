@@ -3,4 +3,3 @@ pub mod Bases
 pub mod Rests
 pub mod Places
 pub mod Copies
-pub mod WholeLines

@@ -4,12 +4,13 @@ pub mod Paths
 pub mod PartsLeft
 pub mod Stripping
 pub mod Lists
+pub mod Orders
 pub mod Loaded
 pub mod Deciding
-pub mod WholeLine
 pub use Rattle.glob_patterns.specs.Folding
 pub use Rattle.glob_patterns.specs.Patterns
 pub use Rattle.glob_patterns.specs.PatternParts
+pub use Rattle.glob_patterns.specs.Readings
 pub use Rattle.glob_patterns.specs.RepositoryPaths
 pub use Rattle.glob_matcher.specs.Bytes
 pub use Rattle.glob_matcher.specs.Sets

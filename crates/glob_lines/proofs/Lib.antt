@@ -1,7 +1,14 @@
+pub mod DecidingLemmas
+pub mod DecisionsLemmas
+pub mod IgnoreLemmas
+pub mod LabelLemmas
 pub mod LinesLemmas
 pub mod MappingsLemmas
+pub mod NumberedLemmas
 pub mod NumbersLemmas
 pub mod PathsLemmas
 pub mod PlainLemmas
 pub mod StrippingLemmas
 pub mod TransferLemmas
+pub mod OneText
+pub mod TrimLemmas

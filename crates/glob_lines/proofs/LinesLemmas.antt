@@ -6,7 +6,7 @@ use Rattle.std.proofs.lemmas.Bool.Decides.{eqb_tells}
 use Rattle.std.proofs.lemmas.List.{drop_more, flat_map_more}
 use Rattle.std.proofs.lemmas.List.Elements.{AllZip-push}
 use Rattle.memchr.specs.Find.{IsFirstByte, is_byte}
-use Rattle.glob_lines.specs.Lines.{Lines, EndsOpen, HasNoLineFeed, WritesEach, line_feed, lines_of, terminated}
+use Rattle.glob_lines.specs.Lines.{Lines, EndsOpen, HasNo, HasNoLineFeed, WritesEach, line_feed, lines_of, terminated}
 
 -- ---- the equations, a line at a time
 
@@ -24,11 +24,11 @@ lines_of-last [] some h = absurd (some refl)
 lines_of-last (b ∷ []) some h = lines_of-cons b [] h.0
 lines_of-last (b ∷ c ∷ text) some h = lines_of-cons b (c ∷ text) h.0 ∙ ap (onto_first b) (lines_of-last (c ∷ text) (λ e. cc) h.1)
 
--- the bytes before place k hold no line feed
-no_line_feed-take : (bytes : List ℕ) (k : ℕ) → ((j : ℕ) → j < k → get_or bytes j 0 ≢ line_feed) → HasNoLineFeed (take k bytes)
-no_line_feed-take bytes zero h = tt
-no_line_feed-take [] (suc k) h = tt
-no_line_feed-take (b ∷ bytes) (suc k) h = (h 0 (omega arith), no_line_feed-take bytes k (λ j below. h (suc j) (omega arith)))
+-- the bytes before place k don't hold this byte
+pub HasNo-take : (byte : ℕ) (bytes : List ℕ) (k : ℕ) → ((j : ℕ) → j < k → get_or bytes j 0 ≢ byte) → HasNo byte (take k bytes)
+HasNo-take byte bytes zero h = tt
+HasNo-take byte [] (suc k) h = tt
+HasNo-take byte (b ∷ bytes) (suc k) h = (h 0 (omega arith), HasNo-take byte bytes k (λ j below. h (suc j) (omega arith)))
 
 -- ---- uniqueness
 
@@ -126,12 +126,12 @@ first_line bytes end h =
     let parts : bytes ≡ take end bytes ++ line_feed ∷ drop (end + 1) bytes =
     sym (take-append-drop end bytes) ∙ ap (λ l. take end bytes ++ l) (drop_more bytes end 0 inside ∙ ap (λ c. c ∷ drop (end + 1) bytes) here) in
     ap lines_of parts
-    ∙ lines_of-line (take end bytes) (drop (end + 1) bytes) (no_line_feed-take bytes end (λ j below is. h.0.before j (omega arith) below (eq-eqb _ _ is)))
+    ∙ lines_of-line (take end bytes) (drop (end + 1) bytes) (HasNo-take line_feed bytes end (λ j below is. h.0.before j (omega arith) below (eq-eqb _ _ is)))
 
 pub last_line : (bytes : List ℕ) → 0 < length bytes → IsFirstByte (is_byte line_feed) bytes None → lines_of bytes ≡ bytes ∷ []
 last_line bytes some h =
     lines_of-last bytes (λ e. absurd (subst (λ l. 0 < length l → ⊥) (sym e) (λ less. omega arith) some))
-    (subst HasNoLineFeed (take_all (length bytes) bytes (le_refl _)) (no_line_feed-take bytes (length bytes) (λ j below is. h j (omega arith) below (eq-eqb _ _ is))))
+    (subst HasNoLineFeed (take_all (length bytes) bytes (le_refl _)) (HasNo-take line_feed bytes (length bytes) (λ j below is. h j (omega arith) below (eq-eqb _ _ is))))
 
 -- ---- one line written after the other
 

@@ -1,6 +1,6 @@
 -- The numbers of the mappings that answer, one mapping after the other, and what is made of them.
 use Rattle.std.proofs.Common.{◌≡◌, inl, inr, ℕ, Bool, List, [], ◌∷◌, ◌++◌, map, Option, refl, sym, ap, subst, ◌∙◌, append_assoc, append-nil}
-use Rattle.std.specs.Prelude.{decimal}
+use Rattle.std.specs.Prelude.{◌↔◌, decimal}
 use Rattle.std.proofs.lemmas.List.{map_push}
 use Rattle.gix_glob.specs.declared.pattern.Case.{Case}
 use Rattle.gix_glob.specs.Paths.{Base}
@@ -8,11 +8,9 @@ use Rattle.gix_glob.specs.Stripping.{NothingLeft, RestOf}
 use Rattle.glob_lines.specs.Mappings.{MappingsText, MatchesText, WritesMatches, WritesNumbers}
 use Rattle.glob_lines.specs.Numbers.{Picks, spaced}
 use Rattle.glob_lines.specs.Paths.{IsPlainPath, MarksDirectory}
-use Rattle.glob_lines.specs.Plain.{Plain, PlainEntry}
-use Rattle.glob_lines.specs.PlainEquations.{plain_of}
+use Rattle.glob_lines.specs.Plain.{Plain, PlainEntry, plain_of}
 use Rattle.glob_lines.specs.Transfers.{Adds}
 use Rattle.glob_lines.proofs.NumbersLemmas.{Picks-more, Picks-skip, separator_after, spaced-more}
-use Rattle.glob_lines.proofs.PlainLemmas.{Plain-plain_of}
 
 abbrev pub numbers_of : List PlainEntry → List ℕ
 numbers_of entries = map (λ entry. entry.number) entries
@@ -84,11 +82,12 @@ writes_nothing entries base case line path is_dir text plain marked none = recor
 
 -- what was given to the calls is what was read
 pub mappings_text : (patterns paths source given_patterns given_paths given_source : List ℕ) (root : Option (List ℕ)) (case : Case) (entries : List PlainEntry) (base : Option (List ℕ)) (text : List ℕ)
+    → ((bytes : List ℕ) (plain : List PlainEntry) → Plain bytes plain ↔ (plain ≡ plain_of bytes))
     → given_patterns ≡ patterns → given_paths ≡ paths → given_source ≡ source → entries ≡ plain_of given_patterns → Base given_source root base → MatchesText entries base case given_paths text
     → MappingsText source root case (record { patterns = patterns; paths = paths }) text
-mappings_text patterns paths source given_patterns given_paths given_source root case entries base text p q s means based matches = record {
+mappings_text patterns paths source given_patterns given_paths given_source root case entries base text law p q s means based matches = record {
   entries = entries;
-  meant = subst (Plain patterns) (sym (means ∙ ap plain_of p)) (Plain-plain_of patterns);
+  meant = (law patterns entries).1 (means ∙ ap plain_of p);
   base = base;
   based = subst (λ l. Base l root base) s based;
   matches = subst (λ l. MatchesText entries base case l text) q matches;

@@ -1,8 +1,12 @@
+pub mod Decisions
+pub mod Ignore
+pub mod Label
 pub mod Lines
 pub mod Mappings
+pub mod Numbered
 pub mod Numbers
 pub mod Paths
 pub mod Plain
-pub mod PlainEquations
 pub mod Transfers
+pub mod Trimming
 pub mod Values

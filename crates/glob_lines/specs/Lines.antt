@@ -5,9 +5,12 @@ use Rattle.std.specs.List.{AllByRecursion, AllZip, flat_map, onto_first}
 abbrev pub line_feed : ℕ
 line_feed = 10
 
--- no byte of the text is a line feed
+-- no byte of the text is this one
+abbrev pub HasNo : ℕ → List ℕ → Type 0
+HasNo byte text = AllByRecursion (λ b. b ≢ byte) text
+
 abbrev pub HasNoLineFeed : List ℕ → Type 0
-HasNoLineFeed text = AllByRecursion (λ b. b ≢ line_feed) text
+HasNoLineFeed text = HasNo line_feed text
 
 -- the texts, each followed by a line feed
 abbrev pub terminated : List (List ℕ) → List ℕ

@@ -1,7 +1,7 @@
 -- The text of mappings: what is written for path lines and the entries of a list.
 use Rattle.std.specs.Prelude.{◌≡◌, ◌⊎◌, ℕ, Bool, List, [], map, Option, Some, codes}
 use Rattle.gix_glob.specs.declared.pattern.Case.{Case}
-use Rattle.gix_glob.specs.declared.wildmatch.Mode.{Mode}
+use Rattle.gix_glob.specs.Deciding.{path_mode}
 use Rattle.gix_glob.specs.Paths.{Base}
 use Rattle.gix_glob.specs.RepositoryPaths.{Answers, IsBasenameStart}
 use Rattle.gix_glob.specs.Stripping.{NothingLeft, RestOf}
@@ -10,10 +10,6 @@ use Rattle.glob_lines.specs.Numbers.{Picks, spaced}
 use Rattle.glob_lines.specs.Paths.{IsPlainPath, MarksDirectory}
 use Rattle.glob_lines.specs.Plain.{Plain, PlainEntry}
 use Rattle.glob_lines.specs.Transfers.{ReadsWhole}
-
--- the mode of repository paths: no wildcard matches a slash
-abbrev pub path_mode : Mode
-path_mode = record { 0 = 1 }
 
 -- the entry answers yes for what is left of a path, whose last part begins at the position
 abbrev pub EntryAnswers : Case → Bool → List ℕ → Option ℕ → PlainEntry → Type 0

@@ -1,27 +1,23 @@
 -- What the parser of plain lines means: the readings of the lines, with the numbers of the lines.
-use Rattle.std.specs.Prelude.{◌≡◌, ◌⊎◌, true, ℕ, ◌+◌, List, [], ◌∷◌}
+use Rattle.std.specs.Prelude.{◌≡◌, ℕ, List, Option, Some}
 use Rattle.gix_glob.specs.Lists.{Entry}
-use Rattle.gix_glob.specs.Patterns.{Reads, HasReading}
-use Rattle.glob_lines.specs.Lines.{Lines}
+use Rattle.glob_lines.specs.Numbered.{Entries, TextAndValue, entries_of}
 
 -- a pattern without a value, and its number
 abbrev pub PlainEntry : Type 0
 PlainEntry = Entry (Unit {0})
 
--- the entry is the reading of the line with this number
-pub record IsReadingOf (line : List ℕ) (number : ℕ) (entry : PlainEntry) : Type 0 where
-  pub reads : Reads line true entry.text entry.mode entry.place
-  pub numbered : entry.number ≡ number
-
--- an entry for each line that has a reading, where the first line has this number
-abbrev pub PlainFrom : ℕ → List (List ℕ) → List PlainEntry → Type 0
-PlainFrom number [] entries = entries ≡ []
-PlainFrom number (line ∷ lines) entries =
-    (¬ HasReading line true × PlainFrom (number + 1) lines entries)
-    ⊎ ((first : PlainEntry) × (more : List PlainEntry) × (entries ≡ first ∷ more) × IsReadingOf line number first × PlainFrom (number + 1) lines more)
+-- a plain line gives itself
+abbrev pub GivesItself : List ℕ → List ℕ → Unit {0} → Type 0
+GivesItself line text _ = text ≡ line
 
 -- The plain entries of the bytes: for each line, numbered from 1, that has a reading, this reading and the number.
-pub record Plain (bytes : List ℕ) (entries : List PlainEntry) : Type 0 where
-  pub lines : List (List ℕ)
-  pub cut : Lines bytes lines
-  pub read : PlainFrom 1 lines entries
+abbrev pub Plain : List ℕ → List PlainEntry → Type 0
+Plain bytes entries = Entries GivesItself bytes entries
+
+-- the same by equation: the law `plain_entries_are_these` says that both agree
+abbrev pub itself : List ℕ → Option (TextAndValue (Unit {0}))
+itself line = Some (record { text = line; value = tt })
+
+abbrev pub plain_of : List ℕ → List PlainEntry
+plain_of bytes = entries_of itself bytes

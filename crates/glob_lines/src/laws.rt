@@ -1,8 +1,19 @@
 //! Laws of the definitions, each the contract of a function that does nothing.
-ghost use Rattle.std.specs.Prelude.{◌≡◌, ◌↔◌, ℕ, List};
-ghost use Rattle.glob_lines.specs.Lines.{Lines, lines_of};
-ghost use Rattle.glob_lines.specs.Plain.{Plain, PlainEntry};
-ghost use Rattle.glob_lines.specs.PlainEquations.{plain_of};
+ghost use Rattle.std.specs.Prelude.{◌≡◌, ◌↔◌, ℕ, List, Option, map};
+ghost use Rattle.gix_glob.specs.declared.pattern.Case.{Case};
+ghost use Rattle.gix_glob.specs.declared.wildmatch.Mode.{Mode};
+ghost use Rattle.gix_glob.specs.Deciding.{HasFolder};
+ghost use Rattle.gix_glob.specs.Lists.{Entry};
+ghost use Rattle.gix_glob.specs.Loaded.{IsLoaded, Listed};
+ghost use Rattle.glob_lines.specs.Ignore.{Ignore, ignore_of};
+ghost use Rattle.glob_lines.specs.Label.{Label, LabelEntry, label_of, tab, unlabelled};
+ghost use Rattle.glob_lines.specs.Lines.{HasNo, Lines, lines_of};
+ghost use Rattle.glob_lines.specs.Mappings.{MappingsText, PatternsAndPaths};
+ghost use Rattle.glob_lines.specs.Plain.{Plain, PlainEntry, plain_of};
+ghost use Rattle.glob_lines.specs.Values.{ValuesText};
+
+use gix_glob::laws::{bases_end_in_a_slash, readings_are_these, two_answers_agree};
+use gix_glob::search;
 
 /// Bytes have one list of lines, which the equations of `lines_of` give.
 pub fn lines_are_these()
@@ -12,4 +23,56 @@ pub fn lines_are_these()
 /// Bytes have one list of plain entries, which the equations of `plain_of` give.
 pub fn plain_entries_are_these()
     ensures { (bytes : List ℕ) (entries : List PlainEntry) → Plain bytes entries ↔ (entries ≡ plain_of bytes) }
-{}
+{
+    readings_are_these();
+}
+
+/// Bytes have one list of ignore entries, which the equations of `ignore_of` give.
+pub fn ignore_entries_are_these()
+    ensures { (bytes : List ℕ) (entries : List PlainEntry) → Ignore bytes entries ↔ (entries ≡ ignore_of bytes) }
+{
+    readings_are_these();
+}
+
+/// Bytes have one list of labelled entries, which the equations of `label_of` give.
+pub fn label_entries_are_these()
+    ensures { (bytes : List ℕ) (entries : List LabelEntry) → Label bytes entries ↔ (entries ≡ label_of bytes) }
+{
+    readings_are_these();
+}
+
+/// Over bytes without a tab the labelled entries are the plain ones, with empty values.
+pub fn lines_without_tabs_keep_their_meaning()
+    ensures { (bytes : List ℕ) (entries : List PlainEntry) → HasNo tab bytes
+        → Plain bytes entries → Label bytes (map unlabelled entries) }
+{
+    readings_are_these();
+}
+
+/// The lines of values have one text: what [`run_wild`](crate::run_wild) writes is determined by what it reads.
+pub fn values_have_one_text()
+    ensures { (pattern : List ℕ) (mode : Mode) (input text other : List ℕ)
+        → ValuesText pattern mode input text → ValuesText pattern mode input other → text ≡ other }
+{
+    lines_are_these();
+    two_answers_agree();
+}
+
+/// Pattern lines and path lines have one text: what [`run_list`](crate::run_list) writes is determined by what it reads,
+/// under one source, root and case.
+pub fn mappings_have_one_text()
+    ensures { (source : List ℕ) (root : Option (List ℕ)) (case : Case) (input : PatternsAndPaths) (text other : List ℕ)
+        → MappingsText source root case input text → MappingsText source root case input other → text ≡ other }
+{
+    lines_are_these();
+    plain_entries_are_these();
+}
+
+/// The base of a list that was loaded is that of a folder: so lists that were loaded meet
+/// [`bases_are_folders`](crate::bases_are_folders).
+pub fn loaded_lists_have_folders<T: search::Pattern>()
+    ensures { (meaning : List ℕ → List ℕ → List (Entry T.Seen)) (bytes source : List ℕ) (root : Option (List ℕ)) (list : Listed T.Seen) →
+        IsLoaded meaning bytes source root list → HasFolder list }
+{
+    bases_end_in_a_slash();
+}

@@ -1,24 +1,24 @@
 //! The engine that lists, for each path line, the numbers of the pattern lines that match it.
-ghost use Rattle.std.specs.Prelude.{◌≡◌, ◌↔◌, ◌||◌, false, map, option_map, MatchOption, IsTrue, IfOk, OnOk, IsErrOf};
+ghost use Rattle.std.specs.Prelude.{◌≡◌, ◌↔◌, ◌||◌, false, map, option_map, IsTrue, IfOk, OnOk, IsErrOf};
 ghost use Rattle.std.specs.Option.{ForSome, option_copied};
 ghost use Rattle.std.specs.Vec.{vec_items};
 ghost use Rattle.std.specs.Io.KnownBytes.{Appends};
-ghost use Rattle.gix_glob.specs.Bytes.{EndsInSlash, HasByte};
+ghost use Rattle.gix_glob.specs.Bytes.{HasByte};
 ghost use Rattle.gix_glob.specs.Lists.{entry_of};
-ghost use Rattle.gix_glob.specs.Paths.{has_file_part};
+ghost use Rattle.gix_glob.specs.Paths.{IsFolder, has_file_part};
 ghost use Rattle.gix_glob.specs.RepositoryPaths.{IsBasenameStart};
-ghost use Rattle.gix_glob.specs.Stripping.{NothingLeft, RestOf};
 ghost use Rattle.gix_glob.specs.Watched.{has_failed, inner};
 ghost use Rattle.glob_lines.specs.Mappings.{MappingsText, MatchesText, ReadsBoth, WritesMatches, WritesNumbers};
 ghost use Rattle.glob_lines.specs.Transfers.{Adds, AppendsFront, Run};
 
 use crate::decimal::append_decimal;
 use crate::fault::EngineFault;
+use crate::laws;
 use crate::lines::Lines;
 use crate::paths::{path_of, plain_path};
 use crate::plain::PlainLines;
+use crate::rests::rest_of;
 use crate::transfer::{read_whole, write_whole};
-use gix_glob::laws;
 use gix_glob::pattern::{Case, basename_start};
 use gix_glob::search::Watched;
 use gix_glob::search::pattern::{List, Mapping};
@@ -71,8 +71,9 @@ pub fn run_list<P: Read, Q: Read, W: Write>(
     let source = String::from_str(alloc, source)?;
     let list = List::from_bytes(alloc, &pattern_lines, source, root, PlainLines)?;
     let path_lines = read_whole(alloc, paths)?;
-    // a law does nothing: it is called for what it ensures
-    laws::bases_end_in_a_slash();
+    // laws do nothing: they are called for what they ensure
+    laws::loaded_lists_have_folders::<PlainLines>();
+    laws::plain_entries_are_these();
     let text = matches_of(alloc, &list, case, &path_lines)?;
     write_whole(writer, &text)
 }
@@ -84,7 +85,7 @@ fn matches_of(
     case: Case,
     paths: &[u8],
 ) -> Result<Vec<u8>, AllocError>
-    requires { ForSome (option_map vec_items list.now.base) EndsInSlash }
+    requires { ForSome (option_map vec_items list.now.base) IsFolder }
     ensures { IfOk result (λ text.
         MatchesText (map (entry_of (λ _. tt)) list.now.patterns.items) (option_map vec_items list.now.base) case paths.now text.items) }
 {
@@ -103,7 +104,7 @@ fn append_matches(
     case: Case,
     line: &[u8],
 ) -> Result<(), AllocError>
-    requires { ForSome (option_map vec_items list.now.base) EndsInSlash }
+    requires { ForSome (option_map vec_items list.now.base) IsFolder }
     ensures { OnOk result (Adds
         (WritesMatches (map (entry_of (λ _. tt)) list.now.patterns.items) (option_map vec_items list.now.base) case line.now)
         text.old.items text.new.items) }
@@ -113,28 +114,12 @@ fn append_matches(
         return Ok(());
     }
     let (path, is_dir) = path_of(line);
-    match rest_of(list, path, case) {
+    match rest_of(list, path, basename_start(path), case) {
         Some((rest, position)) => {
             append_numbers(text, &list.patterns, rest, position, is_dir, case)
         }
         None => Ok(()),
     }
-}
-
-/// What is left of a path under the base of the list, and where the last part of it begins.
-fn rest_of<'a>(
-    list: &List<PlainLines>,
-    path: &'a [u8],
-    case: Case,
-) -> Option<(&'a [u8], Option<usize>)>
-    requires { ForSome (option_map vec_items list.now.base) EndsInSlash }
-    ensures { MatchOption result
-        (NothingLeft case (option_map vec_items list.now.base) path.entry.now)
-        (λ left. RestOf case (option_map vec_items list.now.base) path.entry.now left.0.now × IsBasenameStart left.0.now left.1) }
-{
-    laws::positions_lie_past_the_base();
-    laws::stripped_positions_are_the_rests_own();
-    list.strip_base_handle_recompute_basename_pos(path, basename_start(path), case)
 }
 
 /// Appends the numbers of the mappings that match what is left of a path.

@@ -1,8 +1,9 @@
 //! The parser of plain lines: each line is a pattern, and its number stands beside it.
 
 use crate::lines::Lines;
+use crate::numbered::push_pattern;
+use gix_glob::search;
 use gix_glob::search::pattern::Mapping;
-use gix_glob::{Pattern, search};
 use std::alloc::{AllocError, Global};
 
 /// Reads each line by `Pattern::from_bytes`. A line that is no pattern is skipped, but counted.
@@ -12,7 +13,7 @@ use std::alloc::{AllocError, Global};
 pub struct PlainLines;
 
 impl search::Pattern for PlainLines {
-    ghost use Rattle.glob_lines.specs.PlainEquations.{plain_of};
+    ghost use Rattle.glob_lines.specs.Plain.{plain_of};
 
     type Value = ();
 
@@ -32,13 +33,7 @@ impl search::Pattern for PlainLines {
         let mut number = 0;
         for line in Lines::new(bytes) {
             number += 1;
-            if let Some(pattern) = Pattern::from_bytes(alloc, line)? {
-                mappings.push(Mapping {
-                    pattern,
-                    value: (),
-                    sequence_number: number,
-                })?;
-            }
+            push_pattern(alloc, &mut mappings, line, (), number)?;
         }
         Ok(mappings)
     }

@@ -1,4 +1,5 @@
 pub mod Folding
 pub mod Patterns
 pub mod PatternParts
+pub mod Readings
 pub mod RepositoryPaths

@@ -4,11 +4,15 @@
 #[cfg(test)]
 mod ample_memory;
 #[cfg(test)]
+mod decision_rows;
+#[cfg(test)]
 mod fakes;
 #[cfg(test)]
 mod file_rows;
 #[cfg(test)]
 mod folding;
+#[cfg(test)]
+mod indexed;
 #[cfg(test)]
 mod list_rows;
 #[cfg(test)]
@@ -17,6 +21,8 @@ mod loading;
 mod modes;
 #[cfg(test)]
 mod one_file;
+#[cfg(test)]
+mod orders;
 #[cfg(test)]
 mod refused_memory;
 #[cfg(test)]

@@ -3,10 +3,11 @@ use crate::modes::{fold, path, plain};
 use gix_glob::wildmatch::{recursive, wildmatch};
 
 /// Pattern, value and answer, in plain mode.
-const PLAIN_ROWS: [(&str, &str, bool); 18] = [
+const PLAIN_ROWS: [(&str, &str, bool); 19] = [
     ("", "", true),
     ("", "a", false),
     ("*", "", true),
+    ("*a", "aa", true),
     ("a/**/b", "a/b", false),
     ("a**b", "a/b", true),
     ("[z-a]", "z", true),
@@ -25,23 +26,27 @@ const PLAIN_ROWS: [(&str, &str, bool); 18] = [
 ];
 
 /// Pattern, value and answer, in path mode.
-const PATH_ROWS: [(&str, &str, bool); 12] = [
+const PATH_ROWS: [(&str, &str, bool); 15] = [
     ("a/**/b", "a/b", true),
     ("a/**/b", "a/x/y/b", true),
     ("a**b", "a/b", false),
     ("foo/**", "foo/", true),
     ("foo/**", "foo", false),
+    ("**\\/", "", false),
     ("**\\/x", "x", false),
     ("**\\/x", "/x", true),
     ("**\\/x", "a/x", true),
     ("*/b", "a/x/b", false),
+    ("**a", "/a", false),
+    ("**/*", "//", true),
     ("**/a*c", "ab/ac", true),
     ("**/a*c", "x/ab/ac", true),
     ("[!a]", "/", false),
 ];
 
 /// Pattern, value and answer, in folding mode.
-const FOLD_ROWS: [(&str, &str, bool); 4] = [
+const FOLD_ROWS: [(&str, &str, bool); 5] = [
+    ("[b-a]", "a", true),
     ("[Z-y]", "z", true),
     ("[Z-y]", "y", true),
     ("[_-a]", "q", true),

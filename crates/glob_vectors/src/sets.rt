@@ -4,7 +4,7 @@ use gix_glob::wildmatch::{recursive, wildmatch};
 use std::process::Abort;
 
 /// Pattern, the values that it matches in plain mode, and values that it doesn't.
-const MEMBERS_AND_RANGES: [(&str, &str, &str); 12] = [
+const MEMBERS_AND_RANGES: [(&str, &str, &str); 13] = [
     ("[abc]", "a c", "d ab"),
     ("[a-c]", "b", "d -"),
     ("[a-]", "a -", "b"),
@@ -13,6 +13,7 @@ const MEMBERS_AND_RANGES: [(&str, &str, &str); 12] = [
     ("[a-c-e]", "b - e", "d"),
     ("[a\\-c]", "a - c", "b"),
     ("[a-\\c]", "b", "\\"),
+    ("[\\a-[::]]", ":] a]", "a : []"),
     ("[\\]]", "]", "\\"),
     ("[^a]", "b /", "a"),
     ("[!]a]", "b", "] a"),
@@ -20,7 +21,7 @@ const MEMBERS_AND_RANGES: [(&str, &str, &str); 12] = [
 ];
 
 /// The same, of classes and of sets that don't close.
-const CLASSES_AND_BROKEN_SETS: [(&str, &str, &str); 16] = [
+const CLASSES_AND_BROKEN_SETS: [(&str, &str, &str); 18] = [
     ("[a^]", "^ a", "b"),
     ("[[:digit:]-z]", "5 - z", "m"),
     ("[[:alpha:][:digit:]]", "a 7", "-"),
@@ -29,6 +30,8 @@ const CLASSES_AND_BROKEN_SETS: [(&str, &str, &str); 16] = [
     ("[[:alpha", "", "a ["),
     ("[[:alpha:]", "", "a"),
     ("[[:nope:]]", "", "n"),
+    ("[[::]", "", ": ["),
+    ("[[::]]", "", ":] []"),
     ("[a-[:alpha:]]", "a] :] l]", "a b]"),
     ("[a", "", "a [a"),
     ("[!", "", "a"),

@@ -1,1 +1,2 @@
+pub mod IgnoreFilesLemmas
 pub mod WordsLemmas

@@ -1,12 +1,14 @@
 -- The words of a command by their number, and what the engines do for a command.
-use Rattle.std.proofs.Common.{◌≡◌, ◌<◌, ◌≤◌, ℕ, List, [], ◌∷◌, length, get_or, map, Option, arith}
+use Rattle.std.proofs.Common.{◌≡◌, ◌<◌, ◌≤◌, ℕ, ◌-◌, List, [], ◌∷◌, length, get_or, map, take, drop, Option, take_all, arith}
 use Rattle.std.specs.Io.KnownBytes.{Appends}
 use Rattle.gix_glob.specs.declared.pattern.Case.{Case}
 use Rattle.gix_glob.specs.declared.wildmatch.Mode.{Mode}
+use Rattle.gix_glob.specs.Loaded.{Listed}
+use Rattle.glob_lines.specs.Decisions.{DecisionsText}
 use Rattle.glob_lines.specs.Mappings.{MappingsText, ReadsBoth}
 use Rattle.glob_lines.specs.Transfers.{ReadsWhole, Run}
 use Rattle.glob_lines.specs.Values.{ValuesText}
-use Rattle.globline.specs.Words.{AnswersList, AnswersWild}
+use Rattle.globline.specs.Words.{AnswersIgnore, AnswersList, AnswersWild, AreIgnoreLists}
 
 -- ---- lists of three and of four
 
@@ -27,6 +29,16 @@ map-of_four f (x ∷ y ∷ z ∷ []) a b c d low high p q r s = absurd (omega ar
 map-of_four f (x ∷ y ∷ z ∷ w ∷ []) a b c d low high p q r s = cc
 map-of_four f (x ∷ y ∷ z ∷ w ∷ v ∷ xs) a b c d low high p q r s = absurd (omega arith)
 
+-- three, and more after them
+pub map-of_three_and_more : {X Y : Type 0} (f : X → Y) (xs : List X) (a b c : X) → 3 ≤ length xs → a ≡ get_or xs 0 a → b ≡ get_or xs 1 b → c ≡ get_or xs 2 c
+    → map f xs ≡ f a ∷ f b ∷ f c ∷ map f (take (length xs - 3) (drop 3 xs))
+map-of_three_and_more f [] a b c low p q r = absurd (omega arith)
+map-of_three_and_more f (x ∷ []) a b c low p q r = absurd (omega arith)
+map-of_three_and_more f (x ∷ y ∷ []) a b c low p q r = absurd (omega arith)
+map-of_three_and_more f (x ∷ y ∷ z ∷ xs) a b c low p q r =
+    let more : take (length (x ∷ y ∷ z ∷ xs) - 3) (drop 3 (x ∷ y ∷ z ∷ xs)) ≡ xs = take_all (length (x ∷ y ∷ z ∷ xs) - 3) xs (omega arith) in
+    cc
+
 -- ---- the engines
 
 pub answers_wild : (mode : Mode) (pattern : List ℕ) (input_old input_new output_old output_new : Option (List ℕ)) → Run (ReadsWhole input_old input_new) (ValuesText pattern mode) (Appends output_old output_new)
@@ -40,3 +52,8 @@ answers_list case file root patterns_old patterns_new input_old input_new output
   patterns = run.input.patterns;
   run = record { input = run.input.paths; read = run.read.paths; text = run.text; allowed = run.allowed; written = run.written };
 }
+
+pub answers_ignore : (case : Case) (root : Option (List ℕ)) (files : List (List ℕ)) (lists : List (Listed (Unit {0}))) (input_old input_new output_old output_new : Option (List ℕ))
+    → AreIgnoreLists root files lists → Run (ReadsWhole input_old input_new) (DecisionsText lists case) (Appends output_old output_new)
+    → AnswersIgnore case root files input_old input_new output_old output_new
+answers_ignore case root files lists input_old input_new output_old output_new loaded run = record { lists = lists; loaded = loaded; run = run }

@@ -1,12 +1,16 @@
 -- What the words of the command line ask for, and what is done then.
-use Rattle.std.specs.Prelude.{◌≡◌, ◌≢◌, ◌⊎◌, ⊤, ℕ, true, List, [], ◌∷◌, Option, None, Some, codes}
+use Rattle.std.specs.Prelude.{◌≡◌, ◌≢◌, ◌⊎◌, ⊤, ℕ, Bool, true, false, List, [], ◌∷◌, map, Option, None, Some, codes, string_bytes}
 use Rattle.std.specs.Io.KnownBytes.{Appends}
+use Rattle.std.specs.List.{list_all}
 use Rattle.std.specs.Option.{option_copied}
 use Rattle.gix_glob.specs.declared.pattern.Case.{Case}
 use Rattle.gix_glob.specs.declared.pattern.Case.TheVariants.{Sensitive, Fold}
 use Rattle.gix_glob.specs.declared.wildmatch.Mode.{Mode}
 use Rattle.gix_glob.specs.Bytes.{bits}
-use Rattle.gix_glob.specs.Paths.{has_file_part}
+use Rattle.gix_glob.specs.Loaded.{Listed}
+use Rattle.gix_glob.specs.Paths.{Base, has_file_part}
+use Rattle.glob_lines.specs.Decisions.{DecisionsText}
+use Rattle.glob_lines.specs.Ignore.{Ignore}
 use Rattle.glob_lines.specs.Mappings.{MappingsText}
 use Rattle.glob_lines.specs.Transfers.{ReadsWhole, Run}
 use Rattle.glob_lines.specs.Values.{ValuesText}
@@ -44,20 +48,37 @@ pub record AskList (words : List (List ℕ)) (case : Case) (file : List ℕ) (ro
   pub filed : has_file_part file ≡ true
   pub rooted : NamesRoot root_word root
 
+-- there are files, and each of them can name one
+abbrev pub are_files : List (List ℕ) → Bool
+are_files [] = false
+are_files (file ∷ files) = list_all has_file_part (file ∷ files)
+
+-- the words are `ignore CASE ROOT FILE..`, where each FILE can name a file
+pub record AskIgnore (words : List (List ℕ)) (case : Case) (root : Option (List ℕ)) (files : List (List ℕ)) : Type 0 where
+  pub case_word : List ℕ
+  pub root_word : List ℕ
+  pub are : words ≡ codes "ignore" ∷ case_word ∷ root_word ∷ files
+  pub cased : NamesCase case_word case
+  pub rooted : NamesRoot root_word root
+  pub filed : are_files files ≡ true
+
 -- the words ask for the command
 abbrev pub Ask : List (List ℕ) → Command → Type 0
 Ask words (command.Wild mode pattern) = AskWild words mode pattern.now
 Ask words (command.List case file root) = AskList words case file.now (option_copied root)
+Ask words (command.Ignore case root files) = AskIgnore words case (option_copied root) (map string_bytes files.now)
 
--- the command can be carried out: its file can be one
+-- the command can be carried out: its file can be one, or each of its files
 abbrev pub CanRun : Command → Type 0
 CanRun (command.Wild mode pattern) = ⊤
 CanRun (command.List case file root) = has_file_part file.now ≡ true
+CanRun (command.Ignore case root files) = are_files (map string_bytes files.now) ≡ true
 
 -- the words ask for nothing that the program does
 pub record AreWrong (words : List (List ℕ)) : Type 0 where
   pub wild : (mode : Mode) (pattern : List ℕ) → ¬ AskWild words mode pattern
   pub list : (case : Case) (file : List ℕ) (root : Option (List ℕ)) → ¬ AskList words case file root
+  pub ignore : (case : Case) (root : Option (List ℕ)) (files : List (List ℕ)) → ¬ AskIgnore words case root files
 
 -- the input was read whole, and its values were answered
 pub record AnswersWild (mode : Mode) (pattern : List ℕ) (input_old input_new output_old output_new : Option (List ℕ)) : Type 0 where
@@ -68,10 +89,30 @@ pub record AnswersList (case : Case) (file : List ℕ) (root : Option (List ℕ)
   pub patterns : List ℕ
   pub run : Run (ReadsWhole input_old input_new) (λ paths. MappingsText file root case (record { patterns = patterns; paths = paths })) (Appends output_old output_new)
 
+-- the list is what the bytes of an ignore file mean, with the base of the file under the root
+pub record IsIgnoreList (bytes file : List ℕ) (root : Option (List ℕ)) (list : Listed (Unit {0})) : Type 0 where
+  pub means : Ignore bytes list.entries
+  pub named : list.source ≡ Some file
+  pub based : Base file root list.base
+
+-- The lists of ignore files, in order: a file gave bytes, and its list is what they mean, or it gave none and is passed over.
+abbrev pub AreIgnoreLists : Option (List ℕ) → List (List ℕ) → List (Listed (Unit {0})) → Type 0
+AreIgnoreLists root [] lists = lists ≡ []
+AreIgnoreLists root (file ∷ files) lists =
+    AreIgnoreLists root files lists
+    ⊎ ((bytes : List ℕ) × (list : Listed (Unit {0})) × (more : List (Listed (Unit {0}))) × (lists ≡ list ∷ more) × IsIgnoreList bytes file root list × AreIgnoreLists root files more)
+
+-- the files gave lists, the input was read whole, and the lists decided about its paths
+pub record AnswersIgnore (case : Case) (root : Option (List ℕ)) (files : List (List ℕ)) (input_old input_new output_old output_new : Option (List ℕ)) : Type 0 where
+  pub lists : List (Listed (Unit {0}))
+  pub loaded : AreIgnoreLists root files lists
+  pub run : Run (ReadsWhole input_old input_new) (DecisionsText lists case) (Appends output_old output_new)
+
 -- the command was carried out
 abbrev pub CarriesOut : Command → Option (List ℕ) → Option (List ℕ) → Option (List ℕ) → Option (List ℕ) → Type 0
 CarriesOut (command.Wild mode pattern) = AnswersWild mode pattern.now
 CarriesOut (command.List case file root) = AnswersList case file.now (option_copied root)
+CarriesOut (command.Ignore case root files) = AnswersIgnore case (option_copied root) (map string_bytes files.now)
 
 -- the words ask for a command, and it was carried out
 pub record AnsweredWords (words : List (List ℕ)) (input_old input_new output_old output_new : Option (List ℕ)) : Type 0 where

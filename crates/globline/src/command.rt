@@ -1,9 +1,11 @@
 //! What the words of the command line ask for.
-ghost use Rattle.std.specs.Prelude.{ℕ, List, Option, MatchOption, map, string_bytes};
+ghost use Rattle.std.specs.Prelude.{◌≡◌, ℕ, List, Option, MatchOption, map, string_bytes};
+ghost use Rattle.std.specs.List.{list_all};
 ghost use Rattle.std.specs.Option.{option_copied};
 ghost use Rattle.gix_glob.specs.declared.pattern.Case.{Case};
 ghost use Rattle.gix_glob.specs.declared.wildmatch.Mode.{Mode};
-ghost use Rattle.globline.specs.Words.{AreWrong, Ask, AskList, AskWild, NamesCase, NamesMode, NamesRoot};
+ghost use Rattle.gix_glob.specs.Paths.{has_file_part};
+ghost use Rattle.globline.specs.Words.{AreWrong, Ask, AskIgnore, AskList, AskWild, NamesCase, NamesMode, NamesRoot, are_files};
 
 use bitflags::Flags;
 use gix_glob::pattern::Case;
@@ -23,16 +25,25 @@ pub(crate) enum Command<'a> {
         file: &'a str,
         root: Option<&'a str>,
     },
+    /// Which line of which ignore file decides about each path.
+    Ignore {
+        case: Case,
+        root: Option<&'a str>,
+        files: &'a [String],
+    },
 }
 
 /// What the words ask for, or nothing where they are wrong.
 pub(crate) fn command_of(words: &[String]) -> Option<Command<'_>>
     ensures { MatchOption result (AreWrong (map string_bytes words.now)) (Ask (map string_bytes words.now)) }
 {
-    match wild_of(words) {
-        Some(command) => Some(command),
-        None => list_of(words),
+    if let Some(command) = wild_of(words) {
+        return Some(command);
     }
+    if let Some(command) = list_of(words) {
+        return Some(command);
+    }
+    ignore_of(words)
 }
 
 /// The command of the words `wild MODE PATTERN`.
@@ -68,6 +79,36 @@ fn list_of(words: &[String]) -> Option<Command<'_>>
     let case = case_of(case.as_str())?;
     let root = root_of(root.as_str());
     Some(Command::List { case, file, root })
+}
+
+/// The command of the words `ignore CASE ROOT FILE..`.
+fn ignore_of(words: &[String]) -> Option<Command<'_>>
+    ensures { MatchOption result
+        ((case : Case) (root : Option (List ℕ)) (files : List (List ℕ)) → ¬ AskIgnore (map string_bytes words.now) case root files)
+        (Ask (map string_bytes words.now)) }
+{
+    let [command, case, root, files @ ..] = words else {
+        return None;
+    };
+    if command.as_str() != "ignore" || !are_files(files) {
+        return None;
+    }
+    let case = case_of(case.as_str())?;
+    let root = root_of(root.as_str());
+    Some(Command::Ignore { case, root, files })
+}
+
+/// Whether there are files, and each of them can name one.
+fn are_files(files: &[String]) -> bool
+    ensures { result ≡ are_files (map string_bytes files.now) }
+{
+    !files.is_empty() && each_has_a_file_part(files)
+}
+
+fn each_has_a_file_part(files: &[String]) -> bool
+    ensures { result ≡ list_all (λ file. has_file_part (string_bytes file)) files.now }
+{
+    files.iter().all(|file| has_file_part(file.as_str()))
 }
 
 /// The match mode that a word names.

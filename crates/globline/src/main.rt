@@ -2,6 +2,7 @@
 #![tactic(auto)]
 
 mod command;
+mod ignore_files;
 mod words;
 
 use gix_glob::search::Watched;

@@ -7,8 +7,9 @@ ghost use Rattle.globline.specs.Words.{AnsweredWords, AreWrong, CanRun, CarriesO
 mod tests;
 
 use crate::command::{Command, command_of};
+use crate::ignore_files::lists_of;
 use gix_glob::search::Watched;
-use glob_lines::{EngineFault, run_list, run_wild};
+use glob_lines::{EngineFault, run_ignore, run_list, run_wild};
 use std::alloc::Global;
 use std::fs;
 use std::io::{ErrorKind, Read, Write};
@@ -24,6 +25,7 @@ const WRONG_WORDS: u8 = 2;
 const USAGE: &str = "\
 usage: globline wild plain|fold|path|path-fold PATTERN
        globline list sensitive|fold FILE ROOT
+       globline ignore sensitive|fold ROOT FILE..
 ";
 
 /// Does what the words after the program's name ask for, and answers the status to end with.
@@ -86,6 +88,10 @@ fn run<F: Files, I: Read, O: Write>(
         Command::List { case, file, root } => {
             let mut patterns = Watched::new(open(rt, file)?);
             run_list(alloc, &mut patterns, file, root, case, input, output)
+        }
+        Command::Ignore { case, root, files } => {
+            let lists = lists_of(rt, alloc, root, files)?;
+            run_ignore(alloc, &lists, case, input, output)
         }
     }
 }

@@ -1,13 +1,16 @@
-//! Laws of mappings and lists of patterns: their order and their hash agree with equality.
+//! Laws of mappings and lists of patterns: what their order is, and that it and their hash agree with equality.
 ghost use Rattle.std.specs.Prelude.{◌≡◌, ◌↔◌, IsTrue};
 ghost use Rattle.std.specs.declared.cmp.Ordering.TheVariants.{Equal};
+ghost use Rattle.gix_glob.specs.Orders.{list_cmp, mapping_cmp};
 
 use crate::search::Pattern;
 use crate::search::pattern::{List, Mapping};
 use std::hash::Hash;
 
-/// Two mappings tie in order exactly where they are equal, and equal ones hash alike.
+/// Mappings are ordered by their pattern, then by their value, then by their number. They tie exactly where they are
+/// equal, and then hash alike.
 pub fn mapping_order_agrees_with_equality<V: Ord + Hash>()
+    ensures order { (a b : Mapping V) → ⟦<Mapping<V> as Ord>⟧.cmp a b ≡ mapping_cmp V.Ord.cmp a b }
     ensures ties { (a b : Mapping V) → (⟦<Mapping<V> as Ord>⟧.cmp a b ≡ Equal) ↔ IsTrue (⟦<Mapping<V> as PartialEq>⟧.eq a b) }
     ensures hash { (a b : Mapping V) → IsTrue (⟦<Mapping<V> as PartialEq>⟧.eq a b)
         → ⟦<Mapping<V> as Hash>⟧.hash_input a ≡ ⟦<Mapping<V> as Hash>⟧.hash_input b }
@@ -15,8 +18,10 @@ pub fn mapping_order_agrees_with_equality<V: Ord + Hash>()
     comparisons_agree::<Mapping<V>>()
 }
 
-/// Two lists tie in order exactly where they are equal, and equal ones hash alike.
+/// Lists are ordered by their mappings, then by their source, then by their base, where `None` comes first. They tie
+/// exactly where they are equal, and then hash alike.
 pub fn list_order_agrees_with_equality<T: Pattern>()
+    ensures order { (a b : List T T.Value) → ⟦<List<T> as Ord>⟧.cmp a b ≡ list_cmp T.Value.Ord.cmp a b }
     ensures ties { (a b : List T T.Value) → (⟦<List<T> as Ord>⟧.cmp a b ≡ Equal) ↔ IsTrue (⟦<List<T> as PartialEq>⟧.eq a b) }
     ensures hash { (a b : List T T.Value) → IsTrue (⟦<List<T> as PartialEq>⟧.eq a b)
         → ⟦<List<T> as Hash>⟧.hash_input a ≡ ⟦<List<T> as Hash>⟧.hash_input b }

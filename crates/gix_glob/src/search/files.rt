@@ -7,7 +7,7 @@ ghost use Rattle.gix_glob.specs.Paths.{has_file_part};
 
 use super::pattern::List;
 use super::{LoadFault, Pattern};
-use std::alloc::{AllocError, Global};
+use std::alloc::Global;
 use std::rt::Files;
 
 /// Adds the list of the file `source` to `patterns`, where there is such a file, and answers whether it did.
@@ -34,9 +34,7 @@ pub fn add_patterns_file<T: Pattern, F: Files>(
 {
     match List::from_file(rt, alloc, source, root, buf, parse)? {
         Some(list) => {
-            patterns
-                .push(list)
-                .map_err(|_| LoadFault::Memory(AllocError))?;
+            patterns.push(list).map_err(|_| LoadFault::Memory)?;
             Ok(true)
         }
         None => Ok(false),

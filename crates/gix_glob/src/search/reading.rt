@@ -26,7 +26,6 @@ pub(crate) fn read_whole<R: Read>(
         if count == 0 {
             return Ok(());
         }
-        buf.extend_from_slice(&piece[..count])
-            .map_err(LoadFault::Memory)?;
+        buf.extend_from_slice(&piece[..count])?;
     }
 }

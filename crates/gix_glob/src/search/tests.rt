@@ -11,7 +11,10 @@ use std::{env, fs, io};
 struct Whole;
 
 impl Pattern for Whole {
-    ghost use Rattle.gix_glob.specs.WholeLine.{whole_line};
+    ghost use Rattle.std.specs.Prelude.{true};
+    ghost use Rattle.std.specs.Option.{option_map, option_to_list};
+    ghost use Rattle.gix_glob.specs.Lists.{entry_with};
+    ghost use Rattle.glob_patterns.specs.Readings.{reading_of};
 
     type Value = ();
 
@@ -19,7 +22,7 @@ impl Pattern for Whole {
 
     ghost seen = { λ _. tt };
 
-    ghost meaning = { λ _ bytes _. whole_line bytes };
+    ghost meaning = { λ _ bytes _. option_to_list (option_map (entry_with tt 1) (reading_of true bytes)) };
 
     fn bytes_to_patterns(
         &self,
@@ -27,6 +30,8 @@ impl Pattern for Whole {
         bytes: &[u8],
         _source: &str,
     ) -> Result<Vec<Mapping<()>>, AllocError> {
+        // a law does nothing: it is called for what it ensures
+        crate::laws::readings_are_these();
         let Some(pattern) = crate::Pattern::from_bytes(alloc, bytes)? else {
             return Ok(Vec::new(alloc));
         };
@@ -103,6 +108,8 @@ fn bases_of_sources(rt: HostRuntime) -> Result<(), Fail> {
         ("src/ig", Some(""), "src/"),
         ("src/ig", None, "|"),
         ("a//b/./f", Some(""), "a/b/"),
+        ("a/b", Some(""), "a/"),
+        ("a/b", Some("a"), "|"),
         ("/r/f", Some("/r"), "|"),
         ("/x", Some(""), "/"),
         ("f", Some("/r"), "|"),
@@ -186,7 +193,7 @@ fn failed_read_is_none(rt: HostRuntime) -> Result<(), Fail> {
             Err(LoadFault::Read(error)) => {
                 assert!(rt; error.kind() == kind && !is_missing, "at {kind:?}");
             }
-            Err(LoadFault::Memory(_)) => assert!(rt; false, "no memory at {kind:?}"),
+            Err(LoadFault::Memory) => assert!(rt; false, "no memory at {kind:?}"),
         }
         assert!(rt; reader.failed(), "at {kind:?}");
         assert_eq!(rt; buf.as_slice(), b"*.rs".as_slice(), "at {kind:?}");
@@ -209,7 +216,7 @@ fn files_that_are_not_there(rt: HostRuntime) -> Result<(), Fail> {
                     "for {path:?}"
                 );
             }
-            Err(LoadFault::Memory(_)) => assert!(rt; false, "no memory for {path:?}"),
+            Err(LoadFault::Memory) => assert!(rt; false, "no memory for {path:?}"),
         }
         assert!(rt; buf.is_empty(), "for {path:?}");
     }

@@ -9,8 +9,11 @@ use std::io::{Read, Write};
 
 /// A reader or a writer, and a flag that turns true with the first call on it that fails.
 ///
-/// A call fails where it answers an error, and a write also where it takes 0 bytes of a piece that is not empty.
-/// The bytes and the answers are those of the value inside. The flag never turns back.
+/// A call fails where it answers an error, and a write also where it takes 0 bytes of a piece that is not empty. The flag
+/// never turns back.
+///
+/// Each call is one call of the value inside. Contracts say so of the bytes, where that value tells them; tests show it of
+/// the answers.
 #[derive(Debug, Drop)]
 pub struct Watched<D> {
     inner: D,

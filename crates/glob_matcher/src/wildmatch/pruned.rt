@@ -17,17 +17,24 @@ use memchr::{memchr, memchr2};
 const MAX_DEPTH: usize = 64;
 
 /// What one attempt found out: whether the value matches here, and whether it may match elsewhere.
+///
+/// [`Answer::Match`] always means what it says. The others do where there is room: where the depth of the attempt and the
+/// star tokens from its place of the pattern on make at most 63. What an abort says of later places it says only where no
+/// star token starts at the attempt's place of the pattern. Both conditions are told in `docs/MATCHING.md`, "What an
+/// answer means".
 #[derive(Debug, Copy, Clone, Eq, PartialEq)]
 pub enum Answer {
     /// The value matches from here on.
     Match,
     /// It doesn't match from here on; a star before may try further on.
     NoMatch,
-    /// It doesn't match from any later place of the value either: each star before may stop.
+    /// It doesn't match from here on, and, where no star token starts here, from no later place of the value either: each
+    /// star before may stop.
     AbortAll,
-    /// It doesn't match from any later place of this path component either: only a star that crosses slashes may go on.
+    /// It doesn't match from here on, and, where no star token starts here, from no later place of this path component
+    /// either: only a star that crosses slashes may go on.
     AbortToStarStar,
-    /// The attempt stood below too many star tokens to be made.
+    /// The attempt stood below too many star tokens to be made. Where there is room, it doesn't occur.
     RecursionLimitReached,
 }
 
@@ -39,8 +46,8 @@ fn ends_at_slash(shape: Shape, next: usize, slash: usize) -> bool
     shape == Shape::Dirs && next - 1 == slash
 }
 
-/// Whether an attempt may begin at a place of the pattern: where a token starts, at the slash that ends a double star's
-/// token, and at the pattern's end.
+/// Whether an attempt may begin at a place of the pattern, counted in bytes from 0: where a token starts, at the slash that
+/// ends a double star's token, and at the pattern's end.
 pub fn is_start(pattern: &[u8], from: usize, mode: Mode) -> bool
     ensures { IsTrue result ↔ IsStart pattern.now from mode }
 {
@@ -112,7 +119,13 @@ fn component_end(value: &[u8], at: usize) -> usize
     }
 }
 
-/// One attempt to match the value from a place on with the tokens from a place of the pattern on.
+/// One attempt to match the value from the place `at` on with the tokens from the place `from` of the pattern on.
+///
+/// Places are counted in bytes from 0. `from` is one where [`is_start`] answers true, `at` is inside the value or its end,
+/// and `depth`, the number of star tokens that the attempt stands below, is at most 64. Where `depth` and the star tokens
+/// from `from` on make at most 63, each answer means what [`Answer`] says, and an abort comes where one must; with more,
+/// only a [`Answer::Match`] says anything. It takes no memory. The rules are in `docs/MATCHING.md`, "The pruned recursive
+/// engine".
 #[cycle(attempt)]
 pub fn attempt(
     pattern: &[u8],
@@ -225,7 +238,11 @@ fn descend(pattern: &[u8], from: usize, value: &[u8], at: usize, mode: Mode, dep
     }
 }
 
-/// Whether the value matches the pattern, by the pruned recursive engine.
+/// Whether `pattern` matches the whole of `value`, by the pruned recursive engine: one [`attempt`] from both starts.
+///
+/// A yes says that the value is a concatenation of pieces, one from the language of each token of the pattern. A no says
+/// that it is not, where the pattern has at most 63 star tokens; with more, a no says nothing. `wildmatch` has no such
+/// limit. It takes no memory. The rules are in `docs/MATCHING.md`, "The pruned recursive engine".
 pub fn recursive(pattern: &[u8], value: &[u8], mode: Mode) -> bool
     ensures { Holds result (Splits value.now pattern.now mode) pattern.now }
 {

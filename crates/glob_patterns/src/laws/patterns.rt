@@ -1,5 +1,5 @@
 //! Laws of pattern lines and patterns.
-ghost use Rattle.std.specs.Prelude.{◌≡◌, ◌↔◌, ◌||◌, ◌++◌, ℕ, Bool, true, false, IsTrue, List, Option, codes, nat_eq};
+ghost use Rattle.std.specs.Prelude.{◌≡◌, ◌↔◌, ◌||◌, ◌++◌, ℕ, Bool, true, false, IsTrue, List, Option, Some, None, codes, nat_eq};
 ghost use Rattle.std.specs.List.{list_any, starts_with};
 ghost use Rattle.std.specs.Str.{IsUtf8};
 ghost use Rattle.std.specs.declared.cmp.Ordering.TheVariants.{Equal, Less};
@@ -11,7 +11,8 @@ ghost use Rattle.glob_patterns.specs.Folding.{AreAlike, EndsAlike, HasAlike};
 ghost use Rattle.glob_matcher.specs.Bytes.{HasByte};
 ghost use Rattle.glob_matcher.specs.Matching.{Splits};
 ghost use Rattle.glob_patterns.specs.PatternParts.{text_of, SamePattern, pattern_cmp};
-ghost use Rattle.glob_patterns.specs.Patterns.{IsUnescapedUpTo, Reads, SameReading, displayed, is_absolute, is_joining, is_negative, is_special, shown};
+ghost use Rattle.glob_patterns.specs.Readings.{reading_of};
+ghost use Rattle.glob_patterns.specs.Patterns.{HasReading, IsUnescapedUpTo, Reads, SameReading, displayed, is_absolute, is_joining, is_negative, is_special, shown};
 
 use crate::pattern::{Case, Pattern};
 use std::hash::Hash;
@@ -48,6 +49,14 @@ pub fn line_has_one_reading()
     ensures { (text : List ℕ) (may_alter : Bool) (body body' : List ℕ) (flags flags' : pattern.Mode) (place place' : Option ℕ)
         → Reads text may_alter body flags place → Reads text may_alter body' flags' place'
         → SameReading body body' flags flags' place place' }
+{}
+
+/// A line has the reading that the equations of `reading_of` give, and no other.
+pub fn readings_are_these()
+    ensures some { (text : List ℕ) (may_alter : Bool) (body : List ℕ) (flags : pattern.Mode) (place : Option ℕ)
+        → Reads text may_alter body flags place
+        ↔ (reading_of may_alter text ≡ Some (record { body = body; flags = flags; place = place })) }
+    ensures none { (text : List ℕ) (may_alter : Bool) → ¬ HasReading text may_alter ↔ (reading_of may_alter text ≡ None) }
 {}
 
 /// What is shown of a reading is read back, unless the text begins with `!` and no sign and no slash stands before it.

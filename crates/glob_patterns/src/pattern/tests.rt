@@ -86,6 +86,8 @@ fn parts_that_make_a_pattern(rt: HostRuntime) -> Result<(), Fail> {
         ("*a", 2, None, false),
         ("a/b", 1, None, true),
         ("", 0, None, true),
+        ("", 0, Some(0), false),
+        ("**", 2, Some(0), false),
     ];
     for (text, bits, place, is_pattern) in rows {
         let bytes = Vec::from_slice(rt.alloc(), text.as_bytes())?;
@@ -116,6 +118,8 @@ fn patterns_of_one_text_are_ordered_by_their_bits(rt: HostRuntime) -> Result<(),
     assert_eq!(rt; negated.mode().bits(), 9);
     assert_eq!(rt; absolute.mode().bits(), 17);
     assert!(rt; bare < negated, "`a` comes before `!a`");
+    let root = read(rt.alloc(), "/")?;
+    assert!(rt; root < bare, "the empty text comes before `a`");
     assert!(rt; negated < absolute, "`!a` comes before `/a`");
     Ok(())
 }
@@ -123,6 +127,7 @@ fn patterns_of_one_text_are_ordered_by_their_bits(rt: HostRuntime) -> Result<(),
 #[test]
 fn wildcards(rt: HostRuntime) -> Result<(), Fail> {
     let rows = [
+        ("\\", false, Some(0)),
         ("a\\b", false, Some(1)),
         ("a\\*", true, Some(1)),
         ("a?", true, Some(1)),
@@ -153,6 +158,8 @@ fn values(rt: HostRuntime) -> Result<(), Fail> {
         ("*.RS", "x.rs", FOLD, true),
         ("*", "", PATH, true),
         ("*", "a/b", PATH, false),
+        ("*", "/", PATH, false),
+        ("a*", "A", FOLD, true),
         ("\\a", "a", PLAIN, true),
         ("!x", "x", PLAIN, true),
         ("x/", "x", PLAIN, true),
@@ -185,6 +192,7 @@ fn values(rt: HostRuntime) -> Result<(), Fail> {
 fn starts_of_basenames(rt: HostRuntime) {
     let rows = [
         ("", None),
+        ("/", Some(1)),
         ("a", None),
         ("a/", Some(2)),
         ("a/b", Some(2)),
@@ -260,6 +268,9 @@ fn repository_paths(rt: HostRuntime) -> Result<(), Fail> {
         ("*", "a/", Some(2), Some(true), Case::Sensitive, PATH, true),
         ("/", "", None, None, Case::Sensitive, PATH, true),
         ("/", "a", None, None, Case::Sensitive, PATH, false),
+        ("/", "a/", Some(2), file, Case::Sensitive, PATH, false),
+        ("//", "", None, file, Case::Sensitive, PATH, false),
+        ("//", "", None, None, Case::Sensitive, PATH, false),
         ("foo", "d/FOO", Some(2), file, Case::Sensitive, PATH, false),
         ("foo", "d/FOO", Some(2), file, Case::Fold, PATH, true),
         (

@@ -8,6 +8,7 @@ use std::{env, fs, io, process};
 
 const USAGE: &str = "usage: globline wild plain|fold|path|path-fold PATTERN
        globline list sensitive|fold FILE ROOT
+       globline ignore sensitive|fold ROOT FILE..
 ";
 
 /// A device on which each call fails.
@@ -72,7 +73,7 @@ fn wild_answers_each_line(rt: HostRuntime) -> Result<(), Fail> {
 
 #[test]
 fn wrong_words_show_the_usage(rt: HostRuntime) -> Result<(), Fail> {
-    let rows: [&[&str]; 17] = [
+    let rows: [&[&str]; 22] = [
         &[],
         &["wild"],
         &["wild", "plain"],
@@ -88,7 +89,12 @@ fn wrong_words_show_the_usage(rt: HostRuntime) -> Result<(), Fail> {
         &["list", "sensitive", "", "-"],
         &["list", "sensitive", "/", "-"],
         &["list", "sensitive", "//", ""],
-        &["ignore", "sensitive", "-", "f"],
+        &["ignore"],
+        &["ignore", "sensitive", "-"],
+        &["ignore", "upper", "-", "f"],
+        &["ignore", "sensitive", "-", "/"],
+        &["ignore", "sensitive", "-", "f", "//"],
+        &["Ignore", "sensitive", "-", "f"],
         &["", "", ""],
     ];
     for words in rows {
@@ -240,6 +246,94 @@ fn a_file_that_cannot_be_read_is_told(rt: HostRuntime) -> Result<(), Fail> {
             "{file}"
         );
     }
+    Ok(())
+}
+
+#[test]
+fn ignore_tells_what_decides(rt: HostRuntime) -> Result<(), Fail> {
+    let number = process::id(rt.process());
+    let folder = env::temp_dir(&rt)?;
+    let folder = folder.as_str();
+    let first = format!(in rt.alloc(); "{folder}/globline-ignore-{number}-a")?;
+    let second = format!(in rt.alloc(); "{folder}/globline-ignore-{number}-b")?;
+    let (first, second) = (first.as_str(), second.as_str());
+    fs::write(&rt, first, "x\n*.o\n")?;
+    fs::write(&rt, second, "#\n!keep.o \r\n")?;
+    let missing = "no/such/file";
+    let paths: &[u8] = b"x\nA.O\nd/keep.o\n/x\na\n";
+    let rows: [(&str, &str, &[&str], &[u8]); 5] = [
+        (
+            "sensitive",
+            "-",
+            &[missing, first],
+            b"ignored 1:1\nnone\nignored 1:2\n!\nnone\n",
+        ),
+        (
+            "sensitive",
+            folder,
+            &[".", first, second],
+            b"ignored 1:1\nnone\nkept 2:2\n!\nnone\n",
+        ),
+        (
+            "fold",
+            "-",
+            &[second, missing, first],
+            b"ignored 2:1\nignored 2:2\nignored 2:2\n!\nnone\n",
+        ),
+        ("sensitive", "", &[first], b"none\nnone\nnone\n!\nnone\n"),
+        ("sensitive", "-", &[missing], b"none\nnone\nnone\n!\nnone\n"),
+    ];
+    for (case, root, files, text) in rows {
+        let mut words = words_of(rt.alloc(), &["ignore", case, root])?;
+        for file in files {
+            words.push(String::from_str(rt.alloc(), file)?)?;
+        }
+        let mut input = Watched::new(paths);
+        let mut output = Watched::new(Vec::new(rt.alloc()));
+        let mut errors = Vec::new(rt.alloc());
+        let status = run_words(
+            &rt,
+            rt.alloc(),
+            &words,
+            &mut input,
+            &mut output,
+            &mut errors,
+        );
+        assert_eq!(rt; status, 0, "{case}, root {root:?}");
+        assert_eq!(rt;
+            output.into_inner().as_slice(),
+            text,
+            "{case}, root {root:?}"
+        );
+        assert_eq!(rt; errors.as_slice(), b"".as_slice(), "{case}, root {root:?}");
+    }
+    fs::remove_file(&rt, first)?;
+    fs::remove_file(&rt, second)?;
+    Ok(())
+}
+
+#[test]
+fn an_ignore_file_that_cannot_be_read_is_told(rt: HostRuntime) -> Result<(), Fail> {
+    let mut name = String::new(rt.alloc());
+    for _ in 0..300 {
+        name.push('a')?;
+    }
+    let mut words = words_of(rt.alloc(), &["ignore", "sensitive", "-"])?;
+    words.push(name)?;
+    let mut input = Watched::new(b"a\n".as_slice());
+    let mut output = Watched::new(Vec::new(rt.alloc()));
+    let mut errors = Vec::new(rt.alloc());
+    let status = run_words(
+        &rt,
+        rt.alloc(),
+        &words,
+        &mut input,
+        &mut output,
+        &mut errors,
+    );
+    assert_eq!(rt; status, 1);
+    assert_eq!(rt; output.into_inner().as_slice(), b"".as_slice());
+    assert_eq!(rt; errors.as_slice(), b"globline: read failed\n".as_slice());
     Ok(())
 }
 

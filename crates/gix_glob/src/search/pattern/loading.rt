@@ -74,7 +74,7 @@ impl<T: Pattern> List<T> {
             Err(LoadFault::Read(error)) if is_no_file(&error) => return Ok(None),
             Err(fault) => return Err(fault),
         }
-        let list = List::from_bytes(alloc, buf, source, root, parse).map_err(LoadFault::Memory)?;
+        let list = List::from_bytes(alloc, buf, source, root, parse)?;
         Ok(Some(list))
     }
 
@@ -115,7 +115,7 @@ fn unopened<L>(error: io::Error) -> Result<Option<L>, LoadFault>
 {
     match error.kind() {
         ErrorKind::NotFound => Ok(None),
-        ErrorKind::OutOfMemory => Err(LoadFault::Memory(AllocError)),
+        ErrorKind::OutOfMemory => Err(LoadFault::Memory),
         _ if is_no_file(&error) => Ok(None),
         _ => Err(LoadFault::Read(error)),
     }

@@ -2,16 +2,14 @@
 use Rattle.std.proofs.Common.{option_map}
 use Rattle.std.proofs.lemmas.Result.{on_ok_weaker}
 use Rattle.std.specs.Vec.{vec_items}
-use Rattle.glob_lines.specs.Paths.{IsPlainPath}
+use Rattle.gix_glob.specs.Paths.{IsPlainPath}
 use Rattle.glob_lines.proofs.MappingsLemmas.{writes_nothing, writes_numbers}
-use Rattle.glob_lines.proofs.StrippingLemmas.{rest_is_relative}
+use Rattle.glob_lines.proofs.PathsLemmas.{IsPlainPath-marked}
 use Rattle.glob_lines.proofs.list.append_matches.Goals as goal
 
-pub append_numbers-requires-clause-relative : goal.append_numbers-requires-clause-relative
-append_numbers-requires-clause-relative c =
-    let plain : IsPlainPath c.args.line.now = c.plain_path.ensures.0 c.if-not-plain_path.false in
-    rest_is_relative c.args.case (option_map vec_items c.args.list.now.base) c.args.line.now c.path_of-is_dir.result.0.now c.in-Some.rest.now c.path_of-is_dir.result.1
-    c.requires plain c.path_of-is_dir.ensures c.in-Some.ensures.0
+pub rest_of-requires-clause-plain : goal.rest_of-requires-clause-plain
+rest_of-requires-clause-plain c =
+    IsPlainPath-marked c.args.line.now c.path_of-is_dir.result.0.now c.path_of-is_dir.result.1 (c.plain_path.ensures.0 c.if-not-plain_path.false) c.path_of-is_dir.ensures
 
 pub returns-in-Some : goal.returns-in-Some
 returns-in-Some c =

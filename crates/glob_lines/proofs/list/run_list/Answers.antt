@@ -1,5 +1,4 @@
 -- What was read is what the list and its matches were made of.
-use Rattle.std.proofs.Common.{subst}
 use Rattle.std.proofs.lemmas.Result.{on_ok_weaker, IfErr-at_err}
 use Rattle.std.specs.Io.KnownBytes.{Appends}
 use Rattle.gix_glob.specs.Watched.{inner}
@@ -10,7 +9,7 @@ use Rattle.glob_lines.proofs.list.run_list.Goals as goal
 pub returns-clause-ok : goal.returns-clause-ok
 returns-clause-ok g c =
     let allowed = mappings_text c.in_ok-pattern_lines.pattern_lines.items c.in_ok-path_lines.path_lines.items c.args.source.now _ _ _ _ c.args.case _ _ c.in_ok-text.text.items
-    c.deref.ensures.value c.deref-2.ensures.value c.in_ok-source.ensures.ok c.in_ok-list.ensures.means c.in_ok-list.ensures.based c.in_ok-text.ensures in
+    c.plain_entries_are_these.ensures c.deref.ensures.value c.deref-2.ensures.value c.in_ok-source.ensures.ok c.in_ok-list.ensures.means c.in_ok-list.ensures.based c.in_ok-text.ensures in
     on_ok_weaker c.write_whole.result
     (λ (written : Appends (g.W.Write.contents (inner c.args.writer.now)) (g.W.Write.contents (inner c.write_whole.new.writer)) c.deref-3.result.now). record {
       input = record { patterns = c.in_ok-pattern_lines.pattern_lines.items; paths = c.in_ok-path_lines.path_lines.items };
@@ -24,7 +23,7 @@ returns-clause-ok g c =
 pub returns-clause-write : goal.returns-clause-write
 returns-clause-write g c = λ failed.
     let allowed = mappings_text c.in_ok-pattern_lines.pattern_lines.items c.in_ok-path_lines.path_lines.items c.args.source.now _ _ _ _ c.args.case _ _ c.in_ok-text.text.items
-    c.deref.ensures.value c.deref-2.ensures.value c.in_ok-source.ensures.ok c.in_ok-list.ensures.means c.in_ok-list.ensures.based c.in_ok-text.ensures in
+    c.plain_entries_are_these.ensures c.deref.ensures.value c.deref-2.ensures.value c.in_ok-source.ensures.ok c.in_ok-list.ensures.means c.in_ok-list.ensures.based c.in_ok-text.ensures in
     let written : AppendsFront (g.W.Write.contents (inner c.args.writer.now)) (g.W.Write.contents (inner c.write_whole.new.writer)) c.deref-3.result.now =
     IfErr-at_err (λ _. AppendsFront (g.W.Write.contents (inner c.args.writer.now)) (g.W.Write.contents (inner c.write_whole.new.writer)) c.deref-3.result.now) failed c.write_whole.ensures.err in
     record {
@@ -34,3 +33,6 @@ returns-clause-write g c = λ failed.
       allowed = allowed;
       written = rw c.deref-3.ensures.value at written;
     }
+
+pub matches_of-requires : goal.matches_of-requires
+matches_of-requires g c = c.loaded_lists_have_folders.ensures _ _ _ _ _ c.in_ok-list.ensures

@@ -26,6 +26,8 @@ fn bases_are_stripped(rt: HostRuntime) {
         ("a/", "a/b/c", None, Case::Sensitive, Some(("b/c", None))),
         ("a/", "a", None, Case::Fold, None),
         ("", "a", Some(0), Case::Sensitive, Some(("a", None))),
+        ("", "", Some(0), Case::Sensitive, Some(("", None))),
+        ("a", "A", None, Case::Fold, Some(("", None))),
     ];
     for (base, path, position, case, expected) in rows {
         let answer = left(base.as_bytes(), path.as_bytes(), position, case);

@@ -1,12 +1,20 @@
-use Rattle.std.proofs.Common.{◌≡◌, true}
-use Rattle.glob_patterns.specs.PatternParts.{text_of, mode_of, place_of}
-use Rattle.glob_patterns.specs.Patterns.{Reads, is_blank, without_negation}
-use Rattle.gix_glob.proofs.WholeLines.{whole-pattern}
+-- The entry is that of the reading, or there is none.
+use Rattle.std.proofs.Common.{◌≡◌, true, Option, Some, sym, ap, ◌∙◌}
+use Rattle.std.specs.Option.{option_map, option_to_list}
+use Rattle.glob_patterns.specs.Patterns.{HasReading}
+use Rattle.glob_patterns.specs.Readings.{Reading, reading_of}
+use Rattle.glob_patterns.specs.PatternParts.{IsReadFrom, text_of, mode_of, place_of}
+use Rattle.gix_glob.specs.Lists.{entry_with}
 use Rattle.gix_glob.proofs.search.tests.WholePattern.bytes_to_patterns.Goals as goal
 
 pub returns : goal.returns
 returns c =
-    let reads : Reads c.args.bytes.now true (text_of c.in-Some.pattern) (mode_of c.in-Some.pattern) (place_of c.in-Some.pattern) = rw c.in-Some.is at c.in_ok-pattern.ensures.reads in
-    let blank = rw c.in-Some.is at c.in_ok-pattern.ensures.blank in
-    let some : ¬ (is_blank (without_negation c.args.bytes.now) ≡ true) = λ all. let none = blank.1 all in cc in
-    rw (c.in_ok-push.ensures.items, c.new-mappings.ensures.items) (whole-pattern c.args.bytes.now (text_of c.in-Some.pattern) (mode_of c.in-Some.pattern) (place_of c.in-Some.pattern) reads some)
+    let read : IsReadFrom c.args.bytes.now true c.in-Some.pattern = rw c.in-Some.is at c.in_ok-pattern.ensures.reads in
+    let reading : Reading = record { body = text_of c.in-Some.pattern; flags = mode_of c.in-Some.pattern; place = place_of c.in-Some.pattern } in
+    let is : reading_of true c.args.bytes.now ≡ Some reading = (c.readings_are_these.ensures.some _ _ _ _ _).0 read in
+    rw (c.in_ok-push.ensures.items, c.new-mappings.ensures.items) (sym (ap (λ (r : Option Reading). option_to_list (option_map (entry_with tt 1) r)) is))
+
+pub returns-in_default : goal.returns-in_default
+returns-in_default c =
+    let none : ¬ HasReading c.args.bytes.now true = rw c.in_default.is at c.in_ok-pattern.ensures.reads in
+    rw c.new.ensures.items (sym (ap (λ (r : Option Reading). option_to_list (option_map (entry_with tt 1) r)) ((c.readings_are_these.ensures.none c.args.bytes.now true).0 none)))

@@ -1,0 +1,42 @@
+-- What is written for a path line and a stack of lists.
+use Rattle.std.proofs.Common.{◌≡◌, ◌+◌, inr, ℕ, Bool, List, ◌++◌, None, Some, Result, Ok, Err, refl}
+use Rattle.std.specs.Prelude.{OnOk, codes, if◌then◌else◌, is_ok, slice_get}
+use Rattle.gix_glob.specs.declared.pattern.Case.{Case}
+use Rattle.gix_glob.specs.Deciding.{Decides}
+use Rattle.gix_glob.specs.Lists.{Entry}
+use Rattle.gix_glob.specs.Loaded.{Listed}
+use Rattle.gix_glob.specs.Paths.{IsPlainPath}
+use Rattle.glob_lines.specs.Decisions.{WritesDecisions, verdict}
+use Rattle.glob_lines.specs.Paths.{MarksDirectory}
+use Rattle.glob_lines.specs.Transfers.{Adds}
+
+module _ {V : Type 0} (lists : List (Listed V)) (case : Case) (line path : List ℕ) (is_dir : Bool) (old new : List ℕ) where
+  pub writes_verdict : (i m : ℕ) (list : Listed V) (entry : Entry V) → IsPlainPath line → MarksDirectory line path is_dir → Decides lists path is_dir case (Some (i, m))
+      → slice_get lists i ≡ Some list → slice_get list.entries m ≡ Some entry → new ≡ old ++ verdict (i + 1) entry → Adds (WritesDecisions lists case line) old new
+  writes_verdict i m list entry plain marked decides of_lists of_list grown = record {
+    added = verdict (i + 1) entry;
+    allowed = inr (
+      plain,
+      record {
+        path = path;
+        is_dir = is_dir;
+        marked = marked;
+        pair = Some (i, m);
+        decides = decides;
+        shown = record { list = list; of_lists = of_lists; entry = entry; of_list = of_list; shown = refl };
+      },
+    );
+    grown = grown;
+  }
+
+  pub writes_none : IsPlainPath line → MarksDirectory line path is_dir → Decides lists path is_dir case None → new ≡ old ++ codes "none" → Adds (WritesDecisions lists case line) old new
+  writes_none plain marked decides grown = record {
+    added = codes "none";
+    allowed = inr (plain, record { path = path; is_dir = is_dir; marked = marked; pair = None; decides = decides; shown = refl });
+    grown = grown;
+  }
+
+-- a text that grew unless memory was refused
+pub grown_on_ok : {T E : Type 0} (result : Result T E) (new grown old : List ℕ) → new ≡ (if is_ok result then grown else old) → OnOk result (new ≡ grown)
+grown_on_ok (Ok x) new grown old is = is
+grown_on_ok (Err e) new grown old is = tt

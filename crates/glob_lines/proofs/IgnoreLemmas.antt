@@ -1,0 +1,189 @@
+-- The lines of an ignore file: endings, comments, and the entries of all lines.
+use Rattle.std.proofs.Common.{◌≡◌, ◌≢◌, ⊎_elim, ℕ, ◌+◌, ◌<◌, ◌≤◌, Bool, true, false, cond, ◌&&◌, List, [], ◌∷◌, ◌++◌, length, take, drop, get_or, None, Some, refl, sym, ap, subst, ◌∙◌, append_assoc, append-nil, length-drop, le_refl, take_all, take-append-drop, arith}
+use Rattle.std.specs.Prelude.{◌==◌, nat_eq}
+use Rattle.std.specs.List.{starts_with}
+use Rattle.std.proofs.lemmas.Bool.Decides.{Decides-eqb}
+use Rattle.std.proofs.lemmas.Slice.Eq.{ends_is}
+use Rattle.std.proofs.lemmas.Bool.{cases_Bool, false≢true, ne_eqb, eqb-true, eq-eqb}
+use Rattle.std.proofs.lemmas.List.{drop_more}
+use Rattle.memchr.specs.Find.{IsFirstByte, is_byte}
+use Rattle.glob_lines.specs.Lines.{HasNo, HasNoLineFeed, line_feed, lines_of}
+use Rattle.glob_lines.specs.Numbered.{TextAndValue}
+use Rattle.glob_lines.specs.Trimming.{ends_in_return, return_of}
+use Rattle.glob_lines.specs.Ignore.{BeginsWithLine, GivesTrimmed, Trims, byte_order_mark, carriage_return, is_comment, trimmed, trimmed_unless_comment, without_mark, without_returns}
+use Rattle.glob_lines.proofs.LinesLemmas.{HasNo-take, last_line, lines_of-line, length-lines_of-le}
+use Rattle.glob_lines.proofs.NumberedLemmas.{Tells}
+use Rattle.glob_lines.proofs.TrimLemmas.{Trims-only, Trims-trimmed}
+
+-- ---- carriage returns
+
+abbrev begins_with_feed : List ℕ → Bool
+begins_with_feed bytes = starts_with nat_eq bytes (line_feed ∷ [])
+
+-- a byte after which no line feed comes stays
+stays : (b : ℕ) (bytes : List ℕ) → begins_with_feed bytes ≡ false → without_returns (b ∷ bytes) ≡ b ∷ without_returns bytes
+stays b bytes none =
+    ⊎_elim
+    (λ (yes : (b == carriage_return) ≡ true). rw (yes, none) refl)
+    (λ (no : (b == carriage_return) ≡ false). rw (no) refl)
+    (cases_Bool (b == carriage_return))
+
+-- a byte that is no carriage return stays
+other_stays : (b : ℕ) (bytes : List ℕ) → b ≢ carriage_return → without_returns (b ∷ bytes) ≡ b ∷ without_returns bytes
+other_stays b bytes other = rw (ne_eqb b carriage_return other) refl
+
+no_feed_next : (c : ℕ) (bytes : List ℕ) → c ≢ line_feed → begins_with_feed (c ∷ bytes) ≡ false
+no_feed_next c bytes other = rw (ne_eqb line_feed c (λ is. other (sym is))) refl
+
+-- what stands before a byte that is no line feed stays, but for the rules of that byte
+pub without_returns-front : (front : List ℕ) (c : ℕ) (bytes : List ℕ) → HasNoLineFeed front → c ≢ line_feed → without_returns (front ++ c ∷ bytes) ≡ front ++ without_returns (c ∷ bytes)
+without_returns-front [] c bytes none other = refl
+without_returns-front (b ∷ []) c bytes none other = stays b (c ∷ bytes) (no_feed_next c bytes other)
+without_returns-front (b ∷ d ∷ front) c bytes none other =
+    stays b (d ∷ (front ++ c ∷ bytes)) (no_feed_next d (front ++ c ∷ bytes) none.1.0)
+    ∙ ap (λ l. b ∷ l) (without_returns-front (d ∷ front) c bytes none.1 other)
+
+-- a line's carriage return
+pub without_returns-return : (line rest : List ℕ) → HasNoLineFeed line → without_returns ((line ++ carriage_return ∷ []) ++ line_feed ∷ rest) ≡ line ++ line_feed ∷ without_returns rest
+without_returns-return line rest none =
+    let other : carriage_return ≢ line_feed = λ (is : carriage_return ≡ line_feed). absurd (omega arith) in
+    ap without_returns (append_assoc line (carriage_return ∷ []) (line_feed ∷ rest))
+    ∙ without_returns-front line carriage_return (line_feed ∷ rest) none other
+
+-- a line whose last byte is no carriage return
+without_returns-last : (front : List ℕ) (c : ℕ) (rest : List ℕ) → HasNoLineFeed front → c ≢ line_feed → c ≢ carriage_return → without_returns (front ++ c ∷ line_feed ∷ rest) ≡ (front ++ c ∷ []) ++ line_feed ∷ without_returns rest
+without_returns-last front c rest none feed other =
+    without_returns-front front c (line_feed ∷ rest) none feed
+    ∙ ap (λ l. front ++ l) (other_stays c (line_feed ∷ rest) other)
+    ∙ sym (append_assoc front (c ∷ []) (line_feed ∷ without_returns rest))
+
+record HasLast (bytes : List ℕ) : Type 0 where
+  front : List ℕ
+  last : ℕ
+  is : bytes ≡ front ++ last ∷ []
+
+last_of : (b : ℕ) (bytes : List ℕ) → HasLast (b ∷ bytes)
+last_of b [] = record { front = []; last = b; is = refl }
+last_of b (c ∷ bytes) = let h = last_of c bytes in record { front = b ∷ h.front; last = h.last; is = ap (λ l. b ∷ l) h.is }
+
+front-HasNo : (byte : ℕ) (front : List ℕ) (last : ℕ) → HasNo byte (front ++ last ∷ []) → HasNo byte front × (last ≢ byte)
+front-HasNo byte [] last h = (tt, h.0)
+front-HasNo byte (b ∷ front) last h = let more = front-HasNo byte front last h.1 in ((h.0, more.0), more.1)
+
+pub without_returns-other : (line rest : List ℕ) → HasNoLineFeed line → ((before : List ℕ) → line ≢ before ++ carriage_return ∷ []) → without_returns (line ++ line_feed ∷ rest) ≡ line ++ line_feed ∷ without_returns rest
+without_returns-other [] rest none other = refl
+without_returns-other (b ∷ bytes) rest none other =
+    let h = last_of b bytes in
+    let line = b ∷ bytes in
+    let parts = front-HasNo line_feed h.front h.last (subst (HasNo line_feed) h.is none) in
+    let dark : h.last ≢ carriage_return = λ (is : h.last ≡ carriage_return). other h.front (h.is ∙ ap (λ x. h.front ++ x ∷ []) is) in
+    ap (λ l. without_returns (l ++ line_feed ∷ rest)) h.is
+    ∙ ap without_returns (append_assoc h.front (h.last ∷ []) (line_feed ∷ rest))
+    ∙ without_returns-last h.front h.last rest parts.0 parts.1 dark
+    ∙ sym (ap (λ l. l ++ line_feed ∷ without_returns rest) h.is)
+
+pub without_returns-none : (bytes : List ℕ) → HasNoLineFeed bytes → without_returns bytes ≡ bytes
+without_returns-none [] none = refl
+without_returns-none (b ∷ []) none = stays b [] refl
+without_returns-none (b ∷ c ∷ bytes) none = stays b (c ∷ bytes) (no_feed_next c bytes none.1.0) ∙ ap (λ l. b ∷ l) (without_returns-none (c ∷ bytes) none.1)
+
+-- ---- the first line
+
+-- the bytes up to a line feed, and what follows it
+pub record IsCutAtFeed (bytes line rest : List ℕ) : Type 0 where
+  pub none : HasNoLineFeed line
+  pub joined : bytes ≡ line ++ line_feed ∷ rest
+
+pub IsCutAtFeed-found : (bytes : List ℕ) (end : ℕ) → IsFirstByte (is_byte line_feed) bytes (Some end) → IsCutAtFeed bytes (take end bytes) (drop (end + 1) bytes)
+IsCutAtFeed-found bytes end h =
+    let inside : end < length bytes = h.0.high in
+    let here : get_or bytes end 0 ≡ line_feed = eqb-true _ _ h.1 in
+    record {
+      none = HasNo-take line_feed bytes end (λ j below is. h.0.before j (omega arith) below (eq-eqb _ _ is));
+      joined = sym (take-append-drop end bytes) ∙ ap (λ l. take end bytes ++ l) (drop_more bytes end 0 inside ∙ ap (λ c. c ∷ drop (end + 1) bytes) here);
+    }
+
+pub ended_by_return : (bytes line text rest : List ℕ) → IsCutAtFeed bytes line rest → line ≡ text ++ carriage_return ∷ [] → lines_of (without_returns bytes) ≡ text ∷ lines_of (without_returns rest)
+ended_by_return bytes line text rest h is =
+    let none = front-HasNo line_feed text carriage_return (subst (HasNo line_feed) is h.none) in
+    ap (λ l. lines_of (without_returns l)) (h.joined ∙ ap (λ l. l ++ line_feed ∷ rest) is)
+    ∙ ap lines_of (without_returns-return text rest none.0)
+    ∙ lines_of-line text (without_returns rest) none.0
+
+pub ended_otherwise : (bytes line rest : List ℕ) → IsCutAtFeed bytes line rest → ((before : List ℕ) → line ≢ before ++ carriage_return ∷ []) → lines_of (without_returns bytes) ≡ line ∷ lines_of (without_returns rest)
+ended_otherwise bytes line rest h other =
+    ap (λ l. lines_of (without_returns l)) h.joined
+    ∙ ap lines_of (without_returns-other line rest h.none other)
+    ∙ lines_of-line line (without_returns rest) h.none
+
+-- without its carriage return, where it has one
+pub ended_line : (bytes line text rest : List ℕ) → IsCutAtFeed bytes line rest → line ≡ text ++ return_of line → lines_of (without_returns bytes) ≡ text ∷ lines_of (without_returns rest)
+ended_line bytes line text rest h parts =
+    ⊎_elim
+    (λ (yes : ends_in_return line ≡ true). ended_by_return bytes line text rest h (parts ∙ ap (λ b. text ++ cond b (carriage_return ∷ []) []) yes))
+    (λ (no : ends_in_return line ≡ false).
+    let same : line ≡ text = parts ∙ ap (λ b. text ++ cond b (carriage_return ∷ []) []) no ∙ append-nil text in
+    let other : (before : List ℕ) → line ≢ before ++ carriage_return ∷ [] = λ before is. false≢true (sym no ∙ (ends_is Decides-eqb line (carriage_return ∷ []) (ends_in_return line) refl).1 before is) in
+    ended_otherwise bytes line rest h other ∙ ap (λ l. l ∷ lines_of (without_returns rest)) same)
+    (cases_Bool (ends_in_return line))
+
+pub not_ended : (bytes : List ℕ) → 0 < length bytes → IsFirstByte (is_byte line_feed) bytes None → lines_of (without_returns bytes) ≡ bytes ∷ []
+not_ended bytes some h =
+    let none : HasNoLineFeed bytes =
+    subst HasNoLineFeed (take_all (length bytes) bytes (le_refl _)) (HasNo-take line_feed bytes (length bytes) (λ j below is. h j (omega arith) below (eq-eqb _ _ is))) in
+    ap lines_of (without_returns-none bytes none) ∙ last_line bytes some h
+
+-- ---- what a line gives
+
+pub begins_with_comment : (bytes line rest : List ℕ) → lines_of (without_returns bytes) ≡ line ∷ lines_of (without_returns rest) → length rest < length bytes → is_comment line ≡ true → BeginsWithLine bytes None rest
+begins_with_comment bytes line rest lines shorter comment = record { line = line; lines = lines; gives = comment; shorter = shorter }
+
+pub begins_with_text : (bytes line rest text : List ℕ) → lines_of (without_returns bytes) ≡ line ∷ lines_of (without_returns rest) → length rest < length bytes → is_comment line ≡ false → Trims line text
+    → BeginsWithLine bytes (Some text) rest
+begins_with_text bytes line rest text lines shorter other trims = record { line = line; lines = lines; gives = record { no_comment = other; trims = trims }; shorter = shorter }
+
+gives_trimmed : (line : List ℕ) (it : TextAndValue (Unit {0})) → trimmed_unless_comment line ≡ Some it → GivesTrimmed line it.text it.value
+gives_trimmed line it is =
+    let this : TextAndValue (Unit {0}) = record { text = trimmed line; value = tt } in
+    ⊎_elim
+    (λ (comment : is_comment line ≡ true). let none : None ≡ Some it = sym (ap (λ b. cond b None (Some this)) comment) ∙ is in absurd (cc))
+    (λ (other : is_comment line ≡ false).
+    let both : Some this ≡ Some it = sym (ap (λ b. cond b None (Some this)) other) ∙ is in
+    let same : this ≡ it = cc in
+    let text : trimmed line ≡ it.text = ap (λ (x : TextAndValue (Unit {0})). x.text) same in
+    record { no_comment = other; trims = subst (Trims line) text (Trims-trimmed line) })
+    (cases_Bool (is_comment line))
+
+pub Tells-trimmed : Tells GivesTrimmed trimmed_unless_comment
+Tells-trimmed = record {
+  found = λ line text value h. let it : List ℕ → TextAndValue (Unit {0}) = λ l. record { text = l; value = tt } in
+      ap (λ b. cond b None (Some (it (trimmed line)))) h.no_comment ∙ ap (λ l. Some (it l)) (sym (Trims-only line text h.trims));
+  gives = gives_trimmed;
+}
+
+pub text_is_given : (line text : List ℕ) → GivesTrimmed line text tt → trimmed_unless_comment line ≡ Some (record { text = text; value = tt })
+text_is_given line text h = Tells-trimmed.found line text tt h
+
+pub comment_gives_nothing : (line : List ℕ) → is_comment line ≡ true → trimmed_unless_comment line ≡ None
+comment_gives_nothing line comment = let it : TextAndValue (Unit {0}) = record { text = trimmed line; value = tt } in ap (λ b. cond b None (Some it)) comment
+
+-- ---- how many
+
+length-without_returns-le : (bytes : List ℕ) → length (without_returns bytes) ≤ length bytes
+length-without_returns-le [] = omega arith
+length-without_returns-le (b ∷ bytes) =
+    let less = length-without_returns-le bytes in
+    ⊎_elim
+    (λ yes. rw yes (omega arith))
+    (λ no. rw no (omega arith))
+    (cases_Bool (b == carriage_return && begins_with_feed bytes))
+
+length-without_mark-le : (bytes : List ℕ) → length (without_mark bytes) ≤ length bytes
+length-without_mark-le bytes =
+    ⊎_elim
+    (λ yes. rw yes (omega (arith, length-drop 3 bytes)))
+    (λ no. rw no (le_refl _))
+    (cases_Bool (starts_with nat_eq bytes byte_order_mark))
+
+pub length-ignore_lines-le : (bytes : List ℕ) → length (lines_of (without_returns (without_mark bytes))) ≤ length bytes
+length-ignore_lines-le bytes = omega (arith, length-lines_of-le (without_returns (without_mark bytes)), length-without_returns-le (without_mark bytes), length-without_mark-le bytes)

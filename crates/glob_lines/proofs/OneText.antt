@@ -1,0 +1,126 @@
+-- Each input has one text: what is written is determined by what was read.
+use Rattle.std.proofs.Common.{◌≡◌, ◌↔◌, ◌⊎◌, inl, inr, ℕ, ◌-◌, ◌≤◌, Bool, true, false, IsTrue, List, [], ◌∷◌, ◌++◌, length, map, drop, Option, None, Some, refl, sym, ap, subst, ◌∙◌, drop_at, arith}
+use Rattle.std.specs.Char.{to_ascii_lowercase}
+use Rattle.std.specs.List.{AllZip}
+use Rattle.std.specs.Prelude.{codes, if◌then◌else◌}
+use Rattle.std.proofs.lemmas.Bool.{cases_lt}
+use Rattle.std.proofs.lemmas.List.{append_cancel_left, append_cancel_right, length-map}
+use Rattle.gix_glob.specs.declared.pattern.Case.{Case}
+use Rattle.gix_glob.specs.declared.pattern.Case.TheVariants.{Sensitive, Fold}
+use Rattle.gix_glob.specs.declared.wildmatch.Mode.{Mode}
+use Rattle.gix_glob.specs.Matching.{Splits}
+use Rattle.gix_glob.specs.Paths.{Base, folders, parts}
+use Rattle.gix_glob.specs.RepositoryPaths.{IsAfterLastSlash, IsBasenameStart}
+use Rattle.gix_glob.specs.Stripping.{NothingLeft, RestOf, compared}
+use Rattle.glob_lines.specs.Lines.{WritesEach, terminated}
+use Rattle.glob_lines.specs.Mappings.{EntryAnswers, WritesMatches, WritesNumbers, WritesPath}
+use Rattle.glob_lines.specs.Numbers.{Picks, spaced}
+use Rattle.glob_lines.specs.Plain.{PlainEntry}
+use Rattle.glob_lines.specs.Values.{WritesAnswer, word_of}
+
+-- ---- lines
+
+-- where a line determines what is written for it, lines do
+written_once : (P : List ℕ → List ℕ → Type 0) → ((line a b : List ℕ) → P line a → P line b → a ≡ b) → (lines us vs : List (List ℕ))
+    → AllZip P lines us → AllZip P lines vs → us ≡ vs
+written_once P once [] [] [] x y = refl
+written_once P once [] [] (b ∷ vs) x y = absurd y
+written_once P once [] (a ∷ us) vs x y = absurd x
+written_once P once (line ∷ lines) [] vs x y = absurd x
+written_once P once (line ∷ lines) (a ∷ us) [] x y = absurd y
+written_once P once (line ∷ lines) (a ∷ us) (b ∷ vs) x y = cc (once line a b x.0 y.0, written_once P once lines us vs x.1 y.1)
+
+pub text_once : (P : List ℕ → List ℕ → Type 0) → ((line a b : List ℕ) → P line a → P line b → a ≡ b)
+    → (lines lines' : List (List ℕ)) (a b : List ℕ) → lines ≡ lines' → WritesEach P lines a → WritesEach P lines' b → a ≡ b
+text_once P once lines lines' a b same x y =
+    let other : WritesEach P lines b = subst (λ ls. WritesEach P ls b) (sym same) y in
+    x.joined ∙ ap terminated (written_once P once lines x.written other.written x.each other.each) ∙ sym other.joined
+
+-- ---- the line of a value
+
+pub answer_once : (p : List ℕ) (mode : Mode) (agree : (value : List ℕ) (first second : Bool) → IsTrue first ↔ Splits value p mode → IsTrue second ↔ Splits value p mode → first ≡ second)
+    → (value a b : List ℕ) → WritesAnswer p mode value a → WritesAnswer p mode value b → a ≡ b
+answer_once p mode agree value a b x y = x.word ∙ ap word_of (agree value x.answer y.answer x.exact y.exact) ∙ sym y.word
+
+-- ---- the line of a path
+
+picks_once : {X : Type 0} (P : X → Type 0) (xs us vs : List X) → Picks P xs us → Picks P xs vs → us ≡ vs
+picks_once P [] us vs x y = x ∙ sym y
+picks_once P (z ∷ zs) us vs (inl x) (inl y) = x.2 ∙ ap (λ l. z ∷ l) (picks_once P zs x.1 y.1 x.3 y.3) ∙ sym y.2
+picks_once P (z ∷ zs) us vs (inl x) (inr y) = absurd (y.0 x.0)
+picks_once P (z ∷ zs) us vs (inr x) (inl y) = absurd (x.0 y.0)
+picks_once P (z ∷ zs) us vs (inr x) (inr y) = picks_once P zs us vs x.1 y.1
+
+not_before : (path : List ℕ) (k l : ℕ) → IsAfterLastSlash path k → IsAfterLastSlash path l → l ≤ k
+not_before path k l x y = elim (cases_lt k l) [
+  | inl below ↦ absurd (x.last (l - 1) (omega arith) y.after)
+  | inr low ↦ low
+]
+
+pub basename_once : (path : List ℕ) (i j : Option ℕ) → IsBasenameStart path i → IsBasenameStart path j → i ≡ j
+basename_once path None None x y = refl
+basename_once path None (Some l) x y = absurd (x (l - 1) y.after)
+basename_once path (Some k) None x y = absurd (y (k - 1) x.after)
+basename_once path (Some k) (Some l) x y = ap Some (omega (arith, not_before path k l x y, not_before path l k y x))
+
+numbers_once : (entries : List PlainEntry) (case : Case) (is_dir : Bool) (rest a b : List ℕ)
+    → WritesNumbers entries case is_dir rest a → WritesNumbers entries case is_dir rest b → a ≡ b
+numbers_once entries case is_dir rest a b x y =
+    let start : y.position ≡ x.position = basename_once rest y.position x.position y.basename x.basename in
+    let chosen : x.chosen ≡ y.chosen =
+    picks_once (EntryAnswers case is_dir rest x.position) entries x.chosen y.chosen x.picks
+    (subst (λ position. Picks (EntryAnswers case is_dir rest position) entries y.chosen) start y.picks) in
+    x.shown ∙ ap (λ entries. spaced (map (λ entry. entry.number) entries)) chosen ∙ sym y.shown
+
+length-compared : (case : Case) (text : List ℕ) → length (compared case text) ≡ length text
+length-compared Sensitive text = refl
+length-compared Fold text = length-map text to_ascii_lowercase
+
+pub rest_once : (case : Case) (base : Option (List ℕ)) (path r s : List ℕ) → RestOf case base path r → RestOf case base path s → r ≡ s
+rest_once case None path r s x y = x ∙ sym y
+rest_once case (Some base) path r s x y =
+    let long : (front : List ℕ) → compared case front ≡ compared case base → length front ≡ length base =
+    λ front same. sym (length-compared case front) ∙ ap length same ∙ length-compared case base in
+    sym (ap (drop (length base)) x.joined ∙ drop_at x.front r (length base) (long x.front x.same))
+    ∙ (ap (drop (length base)) y.joined ∙ drop_at y.front s (length base) (long y.front y.same))
+
+without_mark : (path other : List ℕ) (d : Bool) → path ++ (if d then codes "/" else []) ≡ other ++ (if d then codes "/" else []) → path ≡ other
+without_mark path other d same = append_cancel_right path other _ same
+
+path_once : (entries : List PlainEntry) (base : Option (List ℕ)) (case : Case) (line a b : List ℕ)
+    → WritesPath entries base case line a → WritesPath entries base case line b → a ≡ b
+path_once entries base case line a b x y =
+    let mark : y.is_dir ≡ x.is_dir = y.marked.marked ∙ sym x.marked.marked in
+    let joined : line ≡ y.path ++ (if x.is_dir then codes "/" else []) =
+    subst (λ d. line ≡ y.path ++ (if d then codes "/" else [])) mark y.marked.joined in
+    let same : y.path ≡ x.path = without_mark y.path x.path x.is_dir (sym joined ∙ x.marked.joined) in
+    by x.shown y.shown mark same
+  where
+    by : (NothingLeft case base x.path × (a ≡ [])) ⊎ ((rest : List ℕ) × RestOf case base x.path rest × WritesNumbers entries case x.is_dir rest a)
+        → (NothingLeft case base y.path × (b ≡ [])) ⊎ ((rest : List ℕ) × RestOf case base y.path rest × WritesNumbers entries case y.is_dir rest b)
+        → y.is_dir ≡ x.is_dir → y.path ≡ x.path → a ≡ b
+    by (inl p) (inl q) mark same = p.1 ∙ sym q.1
+    by (inl p) (inr q) mark same = absurd (p.0 q.0 (subst (λ path. RestOf case base path q.0) same q.1))
+    by (inr p) (inl q) mark same = absurd (q.0 p.0 (subst (λ path. RestOf case base path p.0) (sym same) p.1))
+    by (inr p) (inr q) mark same =
+        let rests : q.0 ≡ p.0 = rest_once case base x.path q.0 p.0 (subst (λ path. RestOf case base path q.0) same q.1) p.1 in
+        numbers_once entries case x.is_dir p.0 a b p.2
+        (subst (λ rest. WritesNumbers entries case x.is_dir rest b) rests (subst (λ d. WritesNumbers entries case d q.0 b) mark q.2))
+
+pub matches_once : (entries : List PlainEntry) (base : Option (List ℕ)) (case : Case) (line a b : List ℕ)
+    → WritesMatches entries base case line a → WritesMatches entries base case line b → a ≡ b
+matches_once entries base case line a b (inl x) (inl y) = x.1 ∙ sym y.1
+matches_once entries base case line a b (inl x) (inr y) = absurd (x.0 y.0)
+matches_once entries base case line a b (inr x) (inl y) = absurd (y.0 x.0)
+matches_once entries base case line a b (inr x) (inr y) = path_once entries base case line a b x.1 y.1
+
+-- ---- the base
+
+pub base_once : (source : List ℕ) (root a b : Option (List ℕ)) → Base source root a → Base source root b → a ≡ b
+base_once source None a b x y = x ∙ sym y
+base_once source (Some root) None None x y = refl
+base_once source (Some root) None (Some b) x y = absurd (y.some (x y.between y.lies))
+base_once source (Some root) (Some a) None x y = absurd (x.some (y x.between x.lies))
+base_once source (Some root) (Some a) (Some b) x y =
+    let between : x.between ≡ y.between = append_cancel_left (parts root) x.between y.between (sym x.lies.joined ∙ y.lies.joined) in
+    ap Some (x.shown ∙ ap folders between ∙ sym y.shown)

@@ -1,0 +1,44 @@
+-- The mappings are gone through from the last one on.
+use Rattle.std.proofs.Common.{◌≡◌, ◌+◌, ◌-◌, ◌<◌, true, length, get_or, Some, option_map, ap, arith}
+use Rattle.std.specs.Prelude.{slice_get}
+use Rattle.std.specs.Vec.{vec_items}
+use Rattle.gix_glob.specs.Deciding.{AnswersUnder}
+use Rattle.gix_glob.specs.Lists.{entry_of}
+use Rattle.gix_glob.specs.Loaded.{listed}
+use Rattle.glob_lines.proofs.DecidingLemmas.{AnswersAt-no, AnswersAt-yes, AnswersUnder-only, AnswersUnder-yes, LastOf-found, NoneFrom-all, NoneFrom-less, seen_at}
+use Rattle.glob_lines.proofs.deciding.last_match.Goals as goal
+
+pub returns-then-matches_repo_relative_path : goal.returns-then-matches_repo_relative_path
+returns-then-matches_repo_relative_path g c =
+    let list = listed g.T.Pattern.seen c.args.list.now in
+    let at = c.loop-m.m - 1 in
+    let next : c.loop-m.m ≡ at + 1 = omega arith in
+    let within : at < length c.args.list.now.patterns.items = omega (arith, ap length c.as_slice-mappings.ensures.value) in
+    let is = rw c.as_slice-mappings.ensures.value at c.index-mappings-m.is in
+    let there = seen_at (entry_of g.T.Pattern.seen) c.args.list.now.patterns.items at c.index-mappings-m.result within is in
+    let told = rw (← c.index-mappings-m.is) at c.matches_repo_relative_path.ensures in
+    let answers = AnswersUnder-yes list.base c.args.path.now c.args.is_dir c.args.case (entry_of g.T.Pattern.seen c.index-mappings-m.result) c.in_ok-rest.rest.now c.in_ok-rest.position
+    c.in_ok-rest.ensures.0 c.in_ok-rest.ensures.1 (told.0 c.if-matches_repo_relative_path.true) in
+    LastOf-found list c.args.path.now c.args.is_dir c.args.case c.loop-m.m at next c.loop-m.invariant
+    (AnswersAt-yes list c.args.path.now c.args.is_dir c.args.case at (entry_of g.T.Pattern.seen c.index-mappings-m.result) there answers)
+
+pub loop-m-preserved : goal.loop-m-preserved
+loop-m-preserved g c =
+    let list = listed g.T.Pattern.seen c.args.list.now in
+    let at = c.loop-m.m - 1 in
+    let next : c.loop-m.m ≡ at + 1 = omega arith in
+    let within : at < length c.args.list.now.patterns.items = omega (arith, ap length c.as_slice-mappings.ensures.value) in
+    let is = rw c.as_slice-mappings.ensures.value at c.index-mappings-m.is in
+    let there = seen_at (entry_of g.T.Pattern.seen) c.args.list.now.patterns.items at c.index-mappings-m.result within is in
+    let told = rw (← c.index-mappings-m.is) at c.matches_repo_relative_path.ensures in
+    let refused = λ (h : AnswersUnder (option_map vec_items c.args.list.now.base) (entry_of g.T.Pattern.seen c.index-mappings-m.result) c.args.path.now c.args.is_dir c.args.case).
+    let answered : c.matches_repo_relative_path.result ≡ true =
+    told.1
+    (AnswersUnder-only list.base c.args.path.now c.args.is_dir c.args.case (entry_of g.T.Pattern.seen c.index-mappings-m.result) c.in_ok-rest.rest.now c.in_ok-rest.position
+    c.in_ok-rest.ensures.0 c.in_ok-rest.ensures.1 h) in
+    absurd (cc) in
+    NoneFrom-less list c.args.path.now c.args.is_dir c.args.case c.loop-m.m at next c.loop-m.invariant
+    (AnswersAt-no list c.args.path.now c.args.is_dir c.args.case at (entry_of g.T.Pattern.seen c.index-mappings-m.result) there refused)
+
+pub returns : goal.returns
+returns g c = NoneFrom-all (listed g.T.Pattern.seen c.args.list.now) c.args.path.now c.args.is_dir c.args.case c.loop-m.m (omega arith) c.loop-m.invariant

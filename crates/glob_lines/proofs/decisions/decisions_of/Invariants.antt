@@ -1,0 +1,11 @@
+use Rattle.std.proofs.Common.{map}
+use Rattle.gix_glob.specs.Loaded.{listed}
+use Rattle.glob_lines.specs.Decisions.{WritesDecisions}
+use Rattle.glob_lines.specs.Lines.{lines_of}
+use Rattle.glob_lines.proofs.LinesLemmas.{IsWrittenUpTo}
+use Rattle.glob_lines.proofs.decisions.decisions_of.Given as goal
+
+-- the path lines so far have their lines in the text
+abbrev pub invariant-loop-line : goal.invariant-loop-line
+invariant-loop-line g l =
+    IsWrittenUpTo (WritesDecisions (map (listed g.T.Pattern.seen) l.lists) l.case) (lines_of l.paths) (lines_of l.line-iterator.rest.now) l.text.items

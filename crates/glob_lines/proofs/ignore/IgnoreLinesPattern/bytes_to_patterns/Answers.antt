@@ -1,0 +1,35 @@
+-- Each line has its number; a comment gives nothing, and another line the entry of its text.
+use Rattle.std.proofs.Common.{◌+◌, length, None, Some, ap, arith}
+use Rattle.glob_lines.specs.Ignore.{BeginsWithLine, ignore_of, trimmed_unless_comment, without_returns}
+use Rattle.glob_lines.specs.Lines.{lines_of}
+use Rattle.glob_lines.proofs.IgnoreLemmas.{comment_gives_nothing, length-ignore_lines-le, text_is_given}
+use Rattle.glob_lines.proofs.NumberedLemmas.{meant-more, meant-skip}
+use Rattle.glob_lines.proofs.ignore.IgnoreLinesPattern.bytes_to_patterns.Goals.{in-Some-text+in_ok-push_pattern, in_default-text}
+use Rattle.glob_lines.proofs.ignore.IgnoreLinesPattern.bytes_to_patterns.Goals as goal
+
+pub overflow_add-number : goal.overflow_add-number
+overflow_add-number c = omega (arith, length-ignore_lines-le c.args.bytes.now, ap length c.in-Some.ensures.lines)
+
+pub lines-preserved : goal.lines-preserved
+lines-preserved c =
+    let old = c.lines.mappings.items in
+    let before = lines_of (without_returns c.lines.rest.now) in
+    let after = lines_of (without_returns c.in-Some.line.rest.now) in
+    let number = c.lines.number + 1 in
+    let all = ignore_of c.args.bytes.now in
+    elim c.match-line.branch [
+      | in-Some-text+in_ok-push_pattern w ↦
+          let text = w.in-Some-text.text.now in
+          let first : BeginsWithLine c.lines.rest.now (Some text) c.in-Some.line.rest.now = rw w.in-Some-text.is at c.in-Some.ensures in
+          record {
+            counted = omega (arith, ap length first.lines);
+            meant = rw w.mappings-is (meant-more (λ _. tt) trimmed_unless_comment old w.push_pattern.new.mappings.items number before after first.line text tt all
+                w.in_ok-push_pattern.ensures first.lines (text_is_given first.line text first.gives) c.lines.invariant.meant);
+          }
+      | in_default-text w ↦
+          let first : BeginsWithLine c.lines.rest.now None c.in-Some.line.rest.now = rw w.in_default-text.is at c.in-Some.ensures in
+          record {
+            counted = omega (arith, ap length first.lines);
+            meant = rw w.mappings-is (meant-skip (λ _. tt) trimmed_unless_comment old number before after first.line all first.lines (comment_gives_nothing first.line first.gives) c.lines.invariant.meant);
+          }
+    ]

@@ -1,0 +1,95 @@
+-- What the parser of ignore lines means: the readings of the lines as Git's ignore files have them.
+use Rattle.std.specs.Prelude.{◌≡◌, ◌≢◌, ℕ, ◌<◌, Bool, ◌&&◌, ◌==◌, true, false, nat_eq, if◌then◌else◌, List, [], ◌∷◌, ◌++◌, length, drop, Option, None, Some, MatchOption, codes}
+use Rattle.std.specs.List.{AllByRecursion, concat, list_all, starts_with}
+use Rattle.std.specs.Str.{bytes_eq}
+use Rattle.gix_glob.specs.Bytes.{backslash}
+use Rattle.glob_lines.specs.Lines.{line_feed, lines_of}
+use Rattle.glob_lines.specs.Numbered.{Entries, TextAndValue, entries_of}
+use Rattle.glob_lines.specs.Plain.{PlainEntry}
+
+-- ---- the bytes that hold the lines
+
+-- the three bytes of a byte order mark
+abbrev pub byte_order_mark : List ℕ
+byte_order_mark = 239 ∷ 187 ∷ 191 ∷ []
+
+-- what follows the byte order mark at the front, where there is one
+abbrev pub without_mark : List ℕ → List ℕ
+without_mark bytes = if starts_with nat_eq bytes byte_order_mark then drop 3 bytes else bytes
+
+abbrev pub carriage_return : ℕ
+carriage_return = 13
+
+-- the bytes without each carriage return that stands directly before a line feed
+abbrev pub without_returns : List ℕ → List ℕ
+without_returns [] = []
+without_returns (b ∷ bytes) =
+    if b == carriage_return && starts_with nat_eq bytes (line_feed ∷ [])
+    then without_returns bytes
+    else b ∷ without_returns bytes
+
+-- ---- a line
+
+-- a line that begins with a number sign
+abbrev pub is_comment : List ℕ → Bool
+is_comment line = starts_with nat_eq line (codes "#")
+
+-- the units of a line, from its front: a backslash and the byte after it are one, any other byte is one
+abbrev pub units_of : List ℕ → List (List ℕ)
+units_of [] = []
+units_of (b ∷ []) = (b ∷ []) ∷ []
+units_of (b ∷ c ∷ bytes) =
+    if b == backslash
+    then (b ∷ c ∷ []) ∷ units_of bytes
+    else (b ∷ []) ∷ units_of (c ∷ bytes)
+
+-- the unit that is a space
+abbrev pub space : List ℕ
+space = codes " "
+
+-- The text is the line without the spaces at its end: the line's units are those that are kept, the last of which is no space,
+-- and then spaces.
+pub record Trims (line text : List ℕ) : Type 0 where
+  pub kept : List (List ℕ)
+  pub spaces : List (List ℕ)
+  pub units : units_of line ≡ kept ++ spaces
+  pub each : AllByRecursion (λ unit. unit ≡ space) spaces
+  pub last : (before : List (List ℕ)) → kept ≢ before ++ space ∷ []
+  pub joined : text ≡ concat kept
+
+-- a line that is no comment gives its text without the spaces at its end
+pub record GivesTrimmed (line text : List ℕ) (value : Unit {0}) : Type 0 where
+  pub no_comment : is_comment line ≡ false
+  pub trims : Trims line text
+
+-- The ignore entries of the bytes: for each line, numbered from 1, that is no comment and whose text without the spaces at its
+-- end has a reading, this reading and the number. A byte order mark at the front isn't of the lines, and neither is a carriage
+-- return directly before a line feed.
+abbrev pub Ignore : List ℕ → List PlainEntry → Type 0
+Ignore bytes entries = Entries GivesTrimmed (without_returns (without_mark bytes)) entries
+
+-- ---- the same by equation: the law `ignore_entries_are_these` says that both agree
+
+-- the units before the spaces at the end
+abbrev pub kept_of : List (List ℕ) → List (List ℕ)
+kept_of [] = []
+kept_of (unit ∷ units) = if list_all (bytes_eq space) (unit ∷ units) then [] else unit ∷ kept_of units
+
+unfoldable pub trimmed : List ℕ → List ℕ
+trimmed line = concat (kept_of (units_of line))
+
+abbrev pub trimmed_unless_comment : List ℕ → Option (TextAndValue (Unit {0}))
+trimmed_unless_comment line = if is_comment line then None else Some (record { text = trimmed line; value = tt })
+
+abbrev pub ignore_of : List ℕ → List PlainEntry
+ignore_of bytes = entries_of trimmed_unless_comment (without_returns (without_mark bytes))
+
+-- ---- one line after the other
+
+-- The bytes, whose byte order mark is taken off, begin with a line that gives this text, or with a comment where there is no
+-- text, and the rest follows it.
+pub record BeginsWithLine (bytes : List ℕ) (text : Option (List ℕ)) (rest : List ℕ) : Type 0 where
+  pub line : List ℕ
+  pub lines : lines_of (without_returns bytes) ≡ line ∷ lines_of (without_returns rest)
+  pub gives : MatchOption text (is_comment line ≡ true) (λ given. GivesTrimmed line given tt)
+  pub shorter : length rest < length bytes

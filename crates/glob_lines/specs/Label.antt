@@ -1,0 +1,40 @@
+-- What the parser of labels means: the readings of what stands before the lines' tabs, with what stands after them as values.
+use Rattle.std.specs.Prelude.{◌≡◌, ◌⊎◌, ◌==◌, ℕ, Bool, List, [], ◌∷◌, ◌++◌, Option, Some}
+use Rattle.std.specs.List.{after_first, before_first}
+use Rattle.gix_glob.specs.Lists.{Entry}
+use Rattle.glob_lines.specs.Lines.{HasNo}
+use Rattle.glob_lines.specs.Numbered.{Entries, TextAndValue, entries_of}
+use Rattle.glob_lines.specs.Plain.{PlainEntry}
+
+-- a pattern with its label, and its number
+abbrev pub LabelEntry : Type 0
+LabelEntry = Entry (List ℕ)
+
+abbrev pub tab : ℕ
+tab = 9
+
+-- A line gives what stands before its first tab, with what stands after that tab as the value; without a tab it gives
+-- itself, with an empty value.
+pub record GivesLabel (line text value : List ℕ) : Type 0 where
+  pub first : HasNo tab text
+  pub cut : (line ≡ text ++ tab ∷ value) ⊎ ((line ≡ text) × (value ≡ []))
+
+-- The labelled entries of the bytes: for each line, numbered from 1, whose part before the first tab has a reading, this
+-- reading with the part after that tab, and the number.
+abbrev pub Label : List ℕ → List LabelEntry → Type 0
+Label bytes entries = Entries GivesLabel bytes entries
+
+-- a plain entry as one with an empty label
+abbrev pub unlabelled : PlainEntry → LabelEntry
+unlabelled entry = record { text = entry.text; mode = entry.mode; place = entry.place; value = []; number = entry.number }
+
+-- ---- the same by equation: the law `label_entries_are_these` says that both agree
+
+abbrev pub is_tab : ℕ → Bool
+is_tab b = b == tab
+
+abbrev pub parted : List ℕ → Option (TextAndValue (List ℕ))
+parted line = Some (record { text = before_first is_tab line; value = after_first is_tab line })
+
+abbrev pub label_of : List ℕ → List LabelEntry
+label_of bytes = entries_of parted bytes

@@ -1,0 +1,57 @@
+-- Entries of numbered lines: what a parser of lines means, once it is told what a single line gives.
+use Rattle.std.specs.Prelude.{◌≡◌, ◌⊎◌, true, ℕ, ◌+◌, List, [], ◌∷◌, Option}
+use Rattle.std.specs.List.{cons_option}
+use Rattle.std.specs.Option.{option_and_then, option_map}
+use Rattle.gix_glob.specs.Lists.{Entry, entry_with}
+use Rattle.gix_glob.specs.Patterns.{Reads, HasReading}
+use Rattle.gix_glob.specs.Readings.{reading_of}
+use Rattle.glob_lines.specs.Lines.{Lines, lines_of}
+
+-- the entry is the reading of the text that the line gives, with the value that it gives, and this number
+pub record IsEntryOf {V : Type 0} (Gives : List ℕ → List ℕ → V → Type 0) (line : List ℕ) (number : ℕ) (entry : Entry V) : Type 0 where
+  pub text : List ℕ
+  pub given : Gives line text entry.value
+  pub reads : Reads text true entry.text entry.mode entry.place
+  pub numbered : entry.number ≡ number
+
+-- no text that the line gives has a reading
+pub record HasNoEntry {V : Type 0} (Gives : List ℕ → List ℕ → V → Type 0) (line : List ℕ) : Type 0 where
+  pub none : (text : List ℕ) (value : V) → Gives line text value → ¬ HasReading text true
+
+-- an entry for each line that has one, where the first line has this number
+abbrev pub EntriesFrom : {V : Type 0} → (List ℕ → List ℕ → V → Type 0) → ℕ → List (List ℕ) → List (Entry V) → Type 0
+EntriesFrom Gives number [] entries = entries ≡ []
+EntriesFrom {V} Gives number (line ∷ lines) entries =
+    (HasNoEntry Gives line × EntriesFrom Gives (number + 1) lines entries)
+    ⊎ ((first : Entry V) × (more : List (Entry V)) × (entries ≡ first ∷ more) × IsEntryOf Gives line number first × EntriesFrom Gives (number + 1) lines more)
+
+-- The entries of the lines of the bytes: for each line, numbered from 1, that has an entry, this entry.
+-- `Gives line text value` says what a line gives: the text that a pattern is read from, and the value beside the pattern.
+pub record Entries {V : Type 0} (Gives : List ℕ → List ℕ → V → Type 0) (bytes : List ℕ) (entries : List (Entry V)) : Type 0 where
+  pub lines : List (List ℕ)
+  pub cut : Lines bytes lines
+  pub each : EntriesFrom Gives 1 lines entries
+
+-- ---- the same by equation
+
+-- a text and a value
+pub record TextAndValue (V : Type 0) : Type 0 where
+  pub text : List ℕ
+  pub value : V
+
+-- the entry of a line that gives this
+abbrev pub entry_given : {V : Type 0} → ℕ → TextAndValue V → Option (Entry V)
+entry_given number given = option_map (entry_with given.value number) (reading_of true given.text)
+
+-- the entry of a line, where `given` says what a line gives
+unfoldable pub entry_of_line : {V : Type 0} → (List ℕ → Option (TextAndValue V)) → ℕ → List ℕ → Option (Entry V)
+entry_of_line given number line = option_and_then (entry_given number) (given line)
+
+-- the entries of lines, the first of which has this number
+abbrev pub entries_from : {V : Type 0} → (List ℕ → Option (TextAndValue V)) → ℕ → List (List ℕ) → List (Entry V)
+entries_from given number [] = []
+entries_from given number (line ∷ lines) = cons_option (entry_of_line given number line) (entries_from given (number + 1) lines)
+
+-- the entries of the lines of the bytes
+abbrev pub entries_of : {V : Type 0} → (List ℕ → Option (TextAndValue V)) → List ℕ → List (Entry V)
+entries_of given bytes = entries_from given 1 (lines_of bytes)

@@ -1,0 +1,143 @@
+//! The engine that tells, for each path line, which line of which ignore file decides about it.
+ghost use Rattle.std.specs.Prelude.{◌≡◌, ◌↔◌, ◌++◌, false, map, IsTrue, IfOk, OnOk, IsErrOf};
+ghost use Rattle.std.specs.Io.KnownBytes.{Appends};
+ghost use Rattle.gix_glob.specs.Deciding.{BasesAreFolders, Decides};
+ghost use Rattle.gix_glob.specs.Lists.{entry_of};
+ghost use Rattle.gix_glob.specs.Loaded.{listed};
+ghost use Rattle.gix_glob.specs.Paths.{IsPlainPath};
+ghost use Rattle.glob_index.specs.Index.{IsIndex};
+ghost use Rattle.gix_glob.specs.Watched.{has_failed, inner};
+ghost use Rattle.glob_lines.specs.Decisions.{DecisionsText, WritesDecisions, verdict};
+ghost use Rattle.glob_lines.specs.Transfers.{Adds, AppendsFront, ReadsWhole, Run};
+
+use crate::deciding::decide;
+use crate::decimal::append_decimal;
+use crate::fault::EngineFault;
+use crate::ignore::IgnoreLines;
+use crate::lines::Lines;
+use crate::paths::{path_of, plain_path};
+use crate::transfer::{read_whole, write_whole};
+use gix_glob::pattern::Case;
+use gix_glob::search;
+use gix_glob::search::Watched;
+use gix_glob::search::pattern::{List, Mapping};
+use glob_index::ListIndex;
+use std::alloc::{AllocError, Global};
+use std::io::{Read, Write};
+
+/// Reads path lines to the reader's end, and writes for each of them which line of which list decides about it.
+///
+/// For each path line a line is written: `!` where it is not [`plain_path`]; else `none` where no pattern of a list matches;
+/// else `ignored L:N`, or `kept L:N` for a negative pattern, of the one that [`decide`] answers, with the place L of its list,
+/// from 1, and its number N in decimal. A trailing slash marks a directory and is not part of the path.
+///
+/// The lists have to meet [`bases_are_folders`](crate::bases_are_folders). No call on the reader or the writer may have
+/// failed before. All input is read before anything is written: `EngineFault::Memory` and `EngineFault::Read` leave the
+/// output as it was, and after `EngineFault::Write` a beginning of the text was written. Lines and texts are told in
+/// `docs/LINES.md`.
+pub fn run_ignore<R: Read, W: Write>(
+    alloc: Global,
+    lists: &[List<IgnoreLines>],
+    case: Case,
+    paths: &mut Watched<R>,
+    writer: &mut Watched<W>,
+) -> Result<(), EngineFault>
+    requires readable { has_failed paths.old ≡ false }
+    requires writable { has_failed writer.old ≡ false }
+    requires folders { BasesAreFolders (map (listed {V = Unit {0}} (λ _. tt)) lists.now) }
+    // On success, all of the input was read, and all of a text of decisions was written.
+    ensures ok { OnOk result
+        (Run (ReadsWhole (R.remaining (inner paths.old)) (R.remaining (inner paths.new)))
+        (DecisionsText (map (listed {V = Unit {0}} (λ _. tt)) lists.now) case)
+        (Appends (W.contents (inner writer.old)) (W.contents (inner writer.new)))) }
+    ensures memory { IsErrOf result EngineFault.Memory → writer.new ≡ writer.old }
+    ensures read { IsErrOf result EngineFault.Read → writer.new ≡ writer.old }
+    ensures write { IsErrOf result EngineFault.Write →
+        Run (ReadsWhole (R.remaining (inner paths.old)) (R.remaining (inner paths.new)))
+        (DecisionsText (map (listed {V = Unit {0}} (λ _. tt)) lists.now) case)
+        (AppendsFront (W.contents (inner writer.old)) (W.contents (inner writer.new))) }
+    ensures read_failed { IsErrOf result EngineFault.Read ↔ IsTrue (has_failed paths.new) }
+    ensures write_failed { IsErrOf result EngineFault.Write ↔ IsTrue (has_failed writer.new) }
+{
+    let path_lines = read_whole(alloc, paths)?;
+    let text = decisions_of(alloc, lists, case, &path_lines)?;
+    write_whole(writer, &text)
+}
+
+/// The text of decisions for the path lines.
+fn decisions_of<T: search::Pattern>(
+    alloc: Global,
+    lists: &[List<T>],
+    case: Case,
+    paths: &[u8],
+) -> Result<Vec<u8>, AllocError>
+    requires { BasesAreFolders (map (listed T.seen) lists.now) }
+    ensures { IfOk result (λ text. DecisionsText (map (listed T.seen) lists.now) case paths.now text.items) }
+{
+    let index = ListIndex::new(alloc, lists, case)?;
+    let mut text = Vec::new(alloc);
+    for line in Lines::new(paths) {
+        append_decision(&mut text, &index, line)?;
+        text.push(b'\n')?;
+    }
+    Ok(text)
+}
+
+/// Appends what is written for a path line, without the line feed.
+fn append_decision<T: search::Pattern>(
+    text: &mut Vec<u8>,
+    index: &ListIndex<'_, T>,
+    line: &[u8],
+) -> Result<(), AllocError>
+    requires made { IsIndex T.seen index.now }
+    requires folders { BasesAreFolders (map (listed T.seen) index.now.lists.now) }
+    ensures { OnOk result (Adds (WritesDecisions (map (listed T.seen) index.now.lists.now) index.now.case line.now) text.old.items text.new.items) }
+{
+    if !plain_path(line) {
+        text.push(b'!')?;
+        return Ok(());
+    }
+    let (path, is_dir) = path_of(line);
+    let lists = index.lists;
+    match decision(index, path, is_dir) {
+        Some((i, m)) => append_verdict(text, i + 1, &lists[i].patterns[m]),
+        None => text.extend_from_slice(b"none"),
+    }
+}
+
+/// What decides about a path, found by the index where it pays.
+fn decision<T: search::Pattern>(
+    index: &ListIndex<'_, T>,
+    path: &[u8],
+    is_dir: bool,
+) -> Option<(usize, usize)>
+    requires made { IsIndex T.seen index.now }
+    requires plain { IsPlainPath path.now }
+    requires folders { BasesAreFolders (map (listed T.seen) index.now.lists.now) }
+    ensures { Decides (map (listed T.seen) index.now.lists.now) path.now is_dir index.now.case result }
+{
+    if index.pays_for(path) {
+        index.decide(path, is_dir)
+    } else {
+        decide(index.lists, path, is_dir, index.case)
+    }
+}
+
+/// Appends what is said of a mapping that decides, of the list with this number.
+fn append_verdict<V>(
+    text: &mut Vec<u8>,
+    list_number: usize,
+    mapping: &Mapping<V>,
+) -> Result<(), AllocError>
+    ensures { OnOk result (text.new.items ≡ text.old.items ++ verdict list_number (entry_of {V = Unit {0}} (λ _. tt) mapping.now)) }
+{
+    let word: &[u8] = if mapping.pattern.is_negative() {
+        b"kept "
+    } else {
+        b"ignored "
+    };
+    text.extend_from_slice(word)?;
+    append_decimal(text, list_number)?;
+    text.push(b':')?;
+    append_decimal(text, mapping.sequence_number)
+}

@@ -1,0 +1,46 @@
+//! The parser of ignore lines: each line is a pattern as Git's ignore files have it, and its number stands beside it.
+
+use crate::ignore_line::{next_ignore_line, without_byte_order_mark};
+use crate::numbered::push_pattern;
+use gix_glob::search;
+use gix_glob::search::pattern::Mapping;
+use std::alloc::{AllocError, Global};
+
+/// Reads the lines of an ignore file, each as [`next_ignore_line`] gives it, by `Pattern::from_bytes`. A comment, and a line
+/// that is no pattern, is skipped, but counted.
+///
+/// A byte order mark at the front of the bytes is passed over. The number of a mapping is that of its line, from 1. The rules
+/// of ignore lines are in `docs/LINES.md`.
+#[derive(Clone, Copy, PartialEq, Eq, Debug, Hash, PartialOrd, Ord, Default)]
+pub struct IgnoreLines;
+
+impl search::Pattern for IgnoreLines {
+    ghost use Rattle.glob_lines.specs.Ignore.{ignore_of};
+
+    type Value = ();
+
+    ghost Seen = { Unit {0} };
+
+    ghost seen = { λ _. tt };
+
+    ghost meaning = { λ _ bytes _. ignore_of bytes };
+
+    fn bytes_to_patterns(
+        &self,
+        alloc: Global,
+        bytes: &[u8],
+        _source: &str,
+    ) -> Result<Vec<Mapping<()>>, AllocError> {
+        let mut mappings = Vec::new(alloc);
+        let mut number = 0;
+        let mut rest = without_byte_order_mark(bytes);
+        'lines: while let Some(line) = next_ignore_line(rest) {
+            number += 1;
+            if let Some(text) = line.text {
+                push_pattern(alloc, &mut mappings, text, (), number)?;
+            }
+            rest = line.rest;
+        }
+        Ok(mappings)
+    }
+}

@@ -1,0 +1,248 @@
+//! Path lines against a stack of ignore files: which line of which file decides.
+use crate::fakes::{Sink, Source};
+use gix_glob::pattern::Case;
+use gix_glob::search::pattern::List;
+use gix_glob::search::{Pattern, Watched};
+use glob_lines::{EngineFault, IgnoreLines, bases_are_folders, decide, plain_path, run_ignore};
+use std::alloc::AllocError;
+use std::process::Abort;
+use std::test::Fail;
+
+const WHOLE: usize = usize::MAX;
+
+/// The bytes of an ignore file, and the base of its list.
+#[derive(Clone, Copy)]
+struct IgnoreFile<'a> {
+    bytes: &'a [u8],
+    base: Option<&'a [u8]>,
+}
+
+/// A file whose list has no base.
+fn at_top(bytes: &[u8]) -> IgnoreFile<'_> {
+    IgnoreFile { bytes, base: None }
+}
+
+/// A file whose list has a base.
+fn under<'a>(base: &'a [u8], bytes: &'a [u8]) -> IgnoreFile<'a> {
+    let base = Some(base);
+    IgnoreFile { bytes, base }
+}
+
+fn lists_of(
+    rt: &impl AllocGlobal,
+    files: &[IgnoreFile<'_>],
+) -> Result<Vec<List<IgnoreLines>>, AllocError> {
+    let mut lists = Vec::new(rt.alloc());
+    for file in files {
+        let mut list = List::empty(rt.alloc());
+        list.patterns = IgnoreLines.bytes_to_patterns(rt.alloc(), file.bytes, "")?;
+        if let Some(base) = file.base {
+            list.base = Some(Vec::from_slice(rt.alloc(), base)?);
+        }
+        lists.push(list)?;
+    }
+    Ok(lists)
+}
+
+/// What a run over a reader and a writer in memory answered, and what it wrote.
+fn run(
+    rt: &(impl Abort + AllocGlobal),
+    lists: &[List<IgnoreLines>],
+    case: Case,
+    paths: Source<'_>,
+    output: Sink,
+) -> (Result<(), EngineFault>, Sink) {
+    let mut paths = Watched::new(paths);
+    let mut writer = Watched::new(output);
+    assert!(rt;
+        bases_are_folders(lists),
+        "the bases are not those of folders"
+    );
+    let answer = run_ignore(rt.alloc(), lists, case, &mut paths, &mut writer);
+    (answer, writer.into_inner())
+}
+
+#[test]
+fn the_last_match_is_told(rt: HostRuntime) -> Result<(), Fail> {
+    let marked: &[u8] = b"\xef\xbb\xbf*.o\r\n!keep.o \n#c\n";
+    let rows: [(&[IgnoreFile<'_>], &[u8], &[u8]); 11] = [
+        (
+            &[at_top(marked)],
+            b"a.o\nd/keep.o\nx\n/a.o\n",
+            b"ignored 1:1\nkept 1:2\nnone\n!\n",
+        ),
+        (
+            &[at_top(b"*.o\n"), at_top(b"!b.o\n")],
+            b"a.o\nb.o\nc\n",
+            b"ignored 1:1\nkept 2:1\nnone\n",
+        ),
+        (
+            &[at_top(b"*.o\n!*.o\na.o\n")],
+            b"a.o\nb.o\n",
+            b"ignored 1:3\nkept 1:2\n",
+        ),
+        (
+            &[at_top(b"*.o\n"), under(b"d/", b"!k.o\n")],
+            b"k.o\nd/k.o\nd/x.o\n",
+            b"ignored 1:1\nkept 2:1\nignored 1:1\n",
+        ),
+        (
+            &[at_top(b"build/\n")],
+            b"build\nbuild/\nbuild//\n",
+            b"none\nignored 1:1\n!\n",
+        ),
+        (&[at_top(b"a\r")], b"a\n", b"none\n"),
+        (&[at_top(b"a \r\n")], b"a\n", b"ignored 1:1\n"),
+        (&[at_top(b"a\t\n")], b"a\n", b"none\n"),
+        (&[], b"a\n", b"none\n"),
+        (
+            &[under(b"d/", b"/x\n")],
+            b"d/x\nx\nd/e/x\n",
+            b"ignored 1:1\nnone\nnone\n",
+        ),
+        (&[at_top(b"a\n")], b"", b""),
+    ];
+    for (files, paths, text) in rows {
+        let lists = lists_of(&rt, files)?;
+        for piece in [1, WHOLE] {
+            let (answer, output) = run(
+                &rt,
+                &lists,
+                Case::Sensitive,
+                Source::new(paths, piece, WHOLE),
+                Sink::new(Vec::new(rt.alloc()), piece, WHOLE),
+            );
+            assert_eq!(rt; answer, Ok(()), "{paths:?}, {piece} bytes a call");
+            assert_eq!(rt; output.taken(), text, "{paths:?}, {piece} bytes a call");
+        }
+    }
+    Ok(())
+}
+
+#[test]
+fn case_counts_unless_it_is_folded(rt: HostRuntime) -> Result<(), Fail> {
+    let lists = lists_of(&rt, &[under(b"D/", b"*.O\n")])?;
+    let rows: [(Case, &[u8]); 2] = [
+        (Case::Sensitive, b"none\nignored 1:1\n"),
+        (Case::Fold, b"ignored 1:1\nignored 1:1\n"),
+    ];
+    for (case, text) in rows {
+        let (answer, output) = run(
+            &rt,
+            &lists,
+            case,
+            Source::new(b"d/a.o\nD/a.O\n", WHOLE, WHOLE),
+            Sink::new(Vec::new(rt.alloc()), WHOLE, WHOLE),
+        );
+        assert_eq!(rt; answer, Ok(()), "{case:?}");
+        assert_eq!(rt; output.taken(), text, "{case:?}");
+    }
+    Ok(())
+}
+
+#[test]
+fn the_greatest_pair_decides(rt: HostRuntime) -> Result<(), Fail> {
+    let lists = lists_of(
+        &rt,
+        &[
+            at_top(b"a\n*\n"),
+            under(b"d/", b"a\nb\n"),
+            under(b"", b"c\n"),
+        ],
+    )?;
+    let rows: [(&[u8], Option<(usize, usize)>); 6] = [
+        (b"a", Some((0, 1))),
+        (b"d/a", Some((1, 0))),
+        (b"d/b", Some((1, 1))),
+        (b"d/e", Some((0, 1))),
+        (b"d/c", Some((2, 0))),
+        (b"d", Some((0, 1))),
+    ];
+    assert!(rt; bases_are_folders(&lists));
+    for (path, pair) in rows {
+        assert!(rt; plain_path(path), "{path:?}");
+        assert_eq!(rt;
+            decide(&lists, path, false, Case::Sensitive),
+            pair,
+            "{path:?}"
+        );
+    }
+    Ok(())
+}
+
+#[test]
+fn bases_are_those_of_folders(rt: HostRuntime) -> Result<(), Fail> {
+    let rows: [(&[IgnoreFile<'_>], bool); 6] = [
+        (&[], true),
+        (&[at_top(b"")], true),
+        (&[under(b"", b"")], true),
+        (&[under(b"a/", b"")], true),
+        (&[under(b"a", b"")], false),
+        (&[under(b"a/", b""), under(b"a/b", b"")], false),
+    ];
+    for (files, answer) in rows {
+        let lists = lists_of(&rt, files)?;
+        assert_eq!(rt; bases_are_folders(&lists), answer, "{answer}");
+    }
+    Ok(())
+}
+
+#[test]
+fn a_loaded_list_has_the_base_of_its_source(rt: HostRuntime) -> Result<(), Fail> {
+    let source = String::from_str(rt.alloc(), "d/ignore")?;
+    let list = List::from_bytes(rt.alloc(), b"/x\n", source, Some(""), IgnoreLines)?;
+    let lists = [list];
+    assert!(rt; bases_are_folders(&lists));
+    assert_eq!(rt;
+        decide(&lists, b"d/x", false, Case::Sensitive),
+        Some((0, 0))
+    );
+    assert_eq!(rt; decide(&lists, b"x", false, Case::Sensitive), None);
+    Ok(())
+}
+
+#[test]
+fn a_failed_read_of_paths_writes_nothing(rt: HostRuntime) -> Result<(), Fail> {
+    let lists = lists_of(&rt, &[at_top(b"a\n")])?;
+    let paths = b"a\nb";
+    for successes in 0..6 {
+        let (answer, output) = run(
+            &rt,
+            &lists,
+            Case::Sensitive,
+            Source::new(paths, 1, successes),
+            Sink::new(Vec::new(rt.alloc()), WHOLE, WHOLE),
+        );
+        if successes <= paths.len() {
+            assert_eq!(rt; answer, Err(EngineFault::Read), "{successes} reads");
+            assert_eq!(rt; output.taken(), b"".as_slice(), "{successes} reads");
+        } else {
+            assert_eq!(rt; answer, Ok(()), "{successes} reads");
+            assert_eq!(rt; output.taken(), b"ignored 1:1\nnone\n".as_slice());
+        }
+    }
+    Ok(())
+}
+
+#[test]
+fn a_failed_write_leaves_a_beginning(rt: HostRuntime) -> Result<(), Fail> {
+    let lists = lists_of(&rt, &[at_top(b"!a\n")])?;
+    let text = b"kept 1:1\n!\n";
+    for successes in 0..13 {
+        let (answer, output) = run(
+            &rt,
+            &lists,
+            Case::Sensitive,
+            Source::new(b"a\n/a\n", WHOLE, WHOLE),
+            Sink::new(Vec::new(rt.alloc()), 1, successes),
+        );
+        if successes < text.len() {
+            assert_eq!(rt; answer, Err(EngineFault::Write), "{successes} writes");
+            assert_eq!(rt; output.taken(), &text[..successes], "{successes} writes");
+        } else {
+            assert_eq!(rt; answer, Ok(()), "{successes} writes");
+            assert_eq!(rt; output.taken(), text.as_slice(), "{successes} writes");
+        }
+    }
+    Ok(())
+}
