@@ -1,9 +1,11 @@
 //! The engine that tells, for each path line, which line of which ignore file decides about it.
 ghost use Rattle.std.specs.Prelude.{◌≡◌, ◌↔◌, ◌++◌, false, map, IsTrue, IfOk, OnOk, IsErrOf};
 ghost use Rattle.std.specs.Io.KnownBytes.{Appends};
-ghost use Rattle.gix_glob.specs.Deciding.{BasesAreFolders};
+ghost use Rattle.gix_glob.specs.Deciding.{BasesAreFolders, Decides};
 ghost use Rattle.gix_glob.specs.Lists.{entry_of};
 ghost use Rattle.gix_glob.specs.Loaded.{listed};
+ghost use Rattle.gix_glob.specs.Paths.{IsPlainPath};
+ghost use Rattle.glob_index.specs.Index.{IsIndex};
 ghost use Rattle.gix_glob.specs.Watched.{has_failed, inner};
 ghost use Rattle.glob_lines.specs.Decisions.{DecisionsText, WritesDecisions, verdict};
 ghost use Rattle.glob_lines.specs.Transfers.{Adds, AppendsFront, ReadsWhole, Run};
@@ -19,6 +21,7 @@ use gix_glob::pattern::Case;
 use gix_glob::search;
 use gix_glob::search::Watched;
 use gix_glob::search::pattern::{List, Mapping};
+use glob_index::ListIndex;
 use std::alloc::{AllocError, Global};
 use std::io::{Read, Write};
 
@@ -71,9 +74,10 @@ fn decisions_of<T: search::Pattern>(
     requires { BasesAreFolders (map (listed T.seen) lists.now) }
     ensures { IfOk result (λ text. DecisionsText (map (listed T.seen) lists.now) case paths.now text.items) }
 {
+    let index = ListIndex::new(alloc, lists, case)?;
     let mut text = Vec::new(alloc);
     for line in Lines::new(paths) {
-        append_decision(&mut text, lists, case, line)?;
+        append_decision(&mut text, &index, line)?;
         text.push(b'\n')?;
     }
     Ok(text)
@@ -82,21 +86,40 @@ fn decisions_of<T: search::Pattern>(
 /// Appends what is written for a path line, without the line feed.
 fn append_decision<T: search::Pattern>(
     text: &mut Vec<u8>,
-    lists: &[List<T>],
-    case: Case,
+    index: &ListIndex<'_, T>,
     line: &[u8],
 ) -> Result<(), AllocError>
-    requires { BasesAreFolders (map (listed T.seen) lists.now) }
-    ensures { OnOk result (Adds (WritesDecisions (map (listed T.seen) lists.now) case line.now) text.old.items text.new.items) }
+    requires made { IsIndex T.seen index.now }
+    requires folders { BasesAreFolders (map (listed T.seen) index.now.lists.now) }
+    ensures { OnOk result (Adds (WritesDecisions (map (listed T.seen) index.now.lists.now) index.now.case line.now) text.old.items text.new.items) }
 {
     if !plain_path(line) {
         text.push(b'!')?;
         return Ok(());
     }
     let (path, is_dir) = path_of(line);
-    match decide(lists, path, is_dir, case) {
+    let lists = index.lists;
+    match decision(index, path, is_dir) {
         Some((i, m)) => append_verdict(text, i + 1, &lists[i].patterns[m]),
         None => text.extend_from_slice(b"none"),
+    }
+}
+
+/// What decides about a path, found by the index where it pays.
+fn decision<T: search::Pattern>(
+    index: &ListIndex<'_, T>,
+    path: &[u8],
+    is_dir: bool,
+) -> Option<(usize, usize)>
+    requires made { IsIndex T.seen index.now }
+    requires plain { IsPlainPath path.now }
+    requires folders { BasesAreFolders (map (listed T.seen) index.now.lists.now) }
+    ensures { Decides (map (listed T.seen) index.now.lists.now) path.now is_dir index.now.case result }
+{
+    if index.pays_for(path) {
+        index.decide(path, is_dir)
+    } else {
+        decide(index.lists, path, is_dir, index.case)
     }
 }
 

@@ -6,3 +6,5 @@ pub mod LiteralLemmas
 pub mod Shortcuts
 pub mod PatternOrder
 pub mod ShownLines
+pub mod LiteralEnds
+pub mod NeededBytes

@@ -64,7 +64,7 @@ literal_in mode p v (suc n) k e i j ke ij inside reach plain same all =
     (literal_in mode p v n (k + 1) e (i + 1) j (omega arith) (omega arith) inside reach (record { at = λ y low high. plain.at y (omega arith) high }) (record { at = λ x y low high sum. same.at x y (omega arith) high (omega arith) }) all)
 
 -- lists of one length are alike exactly where their bytes are
-alike_from : (mode : Mode) (xs ys : List ℕ) → length xs ≡ length ys → ((m : ℕ) → m < length xs → fold mode (get_or xs m 0) ≡ fold mode (get_or ys m 0)) → AreAlike mode xs ys
+pub alike_from : (mode : Mode) (xs ys : List ℕ) → length xs ≡ length ys → ((m : ℕ) → m < length xs → fold mode (get_or xs m 0) ≡ fold mode (get_or ys m 0)) → AreAlike mode xs ys
 alike_from mode xs ys long each =
     let f : ℕ → ℕ = fold mode in
     ext_get_or 0 (map f xs) (map f ys) (length-map xs f ∙ long ∙ sym (length-map ys f))
@@ -76,7 +76,7 @@ alike_length mode xs ys same =
     let f : ℕ → ℕ = fold mode in
     sym (length-map xs f) ∙ ap (λ (zs : List ℕ). length zs) same ∙ length-map ys f
 
-alike_at : (mode : Mode) (xs ys : List ℕ) → AreAlike mode xs ys → (m : ℕ) → m < length xs → fold mode (get_or xs m 0) ≡ fold mode (get_or ys m 0)
+pub alike_at : (mode : Mode) (xs ys : List ℕ) → AreAlike mode xs ys → (m : ℕ) → m < length xs → fold mode (get_or xs m 0) ≡ fold mode (get_or ys m 0)
 alike_at mode xs ys same m inside =
     let f : ℕ → ℕ = fold mode in
     sym (get_or-map f xs m 0 0 inside) ∙ ap (λ (zs : List ℕ). get_or zs m 0) same ∙ get_or-map f ys m 0 0 (omega (arith, alike_length mode xs ys same))

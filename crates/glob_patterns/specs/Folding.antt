@@ -1,5 +1,5 @@
 -- Texts that are equal up to the case of letters, where the mode asks for it.
-use Rattle.std.specs.Prelude.{◌≡◌, ℕ, ◌-◌, ◌≤◌, List, length, take, drop, map}
+use Rattle.std.specs.Prelude.{◌≡◌, ℕ, ◌-◌, ◌<◌, ◌≤◌, List, length, slice_index, take, drop, map}
 use Rattle.glob_matcher.specs.declared.wildmatch.mode.Mode.{Mode}
 use Rattle.glob_matcher.specs.Bytes.{fold}
 
@@ -20,3 +20,9 @@ pub record BeginsAlike (mode : Mode) (value front : List ℕ) : Type 0 where
 pub record EndsAlike (mode : Mode) (value end : List ℕ) : Type 0 where
   pub fits : length end ≤ length value
   pub alike : AreAlike mode end (drop (length value - length end) value)
+
+-- the value has the byte at some place, up to case where the mode folds
+pub record HasAlike (mode : Mode) (value : List ℕ) (b : ℕ) : Type 0 where
+  pub place : ℕ
+  pub inside : place < length value
+  pub alike : fold mode (slice_index value place) ≡ fold mode b

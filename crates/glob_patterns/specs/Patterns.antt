@@ -1,11 +1,11 @@
 -- Pattern lines: how a line is read, and what is shown of a pattern.
-use Rattle.std.specs.Prelude.{◌≡◌, ℕ, ◌+◌, Bool, IsTrue, false, not, ◌&&◌, ◌||◌, ◌==◌, nat_eq, if◌then◌else◌, bit_and, List, [], ◌++◌, drop, Option, codes, position, encode_utf8_all}
+use Rattle.std.specs.Prelude.{◌≡◌, ℕ, ◌+◌, Bool, IsTrue, false, not, ◌&&◌, ◌||◌, ◌==◌, ◌≤◌, nat_eq, if◌then◌else◌, bit_and, List, [], ◌++◌, drop, Option, codes, position, encode_utf8_all}
 use Rattle.std.specs.List.{list_any, list_all, starts_with, ends_with}
 use Rattle.std.specs.Char.{is_ascii_whitespace}
 use Rattle.std.specs.Str.{bytes_eq}
 use Rattle.bstr.specs.Utf8.{lossy_chars}
 use Rattle.glob_patterns.specs.declared.pattern.mode.Mode.{Mode}
-use Rattle.glob_matcher.specs.Bytes.{star, question_mark, open_bracket, backslash, slash}
+use Rattle.glob_matcher.specs.Bytes.{HasByte, star, question_mark, open_bracket, close_bracket, backslash, slash}
 
 -- which of the named bits stand in a pattern's mode
 abbrev pub is_without_sub_dir : Mode → Bool
@@ -30,6 +30,15 @@ is_wildcard b = (b == star || b == question_mark) || b == open_bracket
 -- the bytes that may mean more than themselves: the wildcards, and the backslash
 abbrev pub is_special : ℕ → Bool
 is_special b = is_wildcard b || b == backslash
+
+-- the bytes that a token of more than one byte may have as its last: the special ones, the slash and the bracket that closes
+abbrev pub is_joining : ℕ → Bool
+is_joining b = is_special b || (b == close_bracket || b == slash)
+
+-- no set and no escape begins up to place i, or there
+pub record IsUnescapedUpTo (text : List ℕ) (i : ℕ) : Type 0 where
+  pub no_set : (j : ℕ) → j ≤ i → ¬ HasByte text j open_bracket
+  pub no_escape : (j : ℕ) → j ≤ i → ¬ HasByte text j backslash
 
 -- the place of the first special byte, where a literal front ends
 abbrev pub first_special : List ℕ → Option ℕ

@@ -22,6 +22,8 @@ mod ignore_rows;
 #[cfg(test)]
 mod label_rows;
 #[cfg(test)]
+mod indexed;
+#[cfg(test)]
 mod list_rows;
 #[cfg(test)]
 mod loading;

@@ -1,5 +1,5 @@
 //! Laws of pattern lines and patterns.
-ghost use Rattle.std.specs.Prelude.{◌≡◌, ◌↔◌, ◌||◌, ℕ, Bool, true, false, IsTrue, List, Option, Some, None, codes, nat_eq};
+ghost use Rattle.std.specs.Prelude.{◌≡◌, ◌↔◌, ◌||◌, ◌++◌, ℕ, Bool, true, false, IsTrue, List, Option, Some, None, codes, nat_eq};
 ghost use Rattle.std.specs.List.{list_any, starts_with};
 ghost use Rattle.std.specs.Str.{IsUtf8};
 ghost use Rattle.std.specs.declared.cmp.Ordering.TheVariants.{Equal, Less};
@@ -7,11 +7,12 @@ ghost use Rattle.glob_matcher.specs.declared.wildmatch.mode.Mode as wildmatch;
 ghost use Rattle.glob_patterns.specs.declared.pattern.mode.Mode as pattern;
 ghost use Rattle.glob_patterns.specs.declared.pattern.Pattern.{Pattern};
 ghost use Rattle.glob_patterns.specs.declared.pattern.case.Case.{Case};
-ghost use Rattle.glob_patterns.specs.Folding.{AreAlike};
+ghost use Rattle.glob_patterns.specs.Folding.{AreAlike, EndsAlike, HasAlike};
+ghost use Rattle.glob_matcher.specs.Bytes.{HasByte};
 ghost use Rattle.glob_matcher.specs.Matching.{Splits};
 ghost use Rattle.glob_patterns.specs.PatternParts.{text_of, SamePattern, pattern_cmp};
 ghost use Rattle.glob_patterns.specs.Readings.{reading_of};
-ghost use Rattle.glob_patterns.specs.Patterns.{HasReading, Reads, SameReading, displayed, is_absolute, is_negative, is_special, shown};
+ghost use Rattle.glob_patterns.specs.Patterns.{HasReading, IsUnescapedUpTo, Reads, SameReading, displayed, is_absolute, is_joining, is_negative, is_special, shown};
 
 use crate::pattern::{Case, Pattern};
 use std::hash::Hash;
@@ -20,6 +21,20 @@ use std::hash::Hash;
 pub fn literal_text_splits_itself()
     ensures { (text value : List ℕ) (mode : wildmatch.Mode) → list_any is_special text ≡ false
         → Splits value text mode ↔ AreAlike mode value text }
+{}
+
+/// A value that is matched ends as the text does, up to case where the mode folds: as far back as the text has none of
+/// `*`, `?`, `[`, `]`, `\` and `/`.
+pub fn matched_values_end_as_the_text()
+    ensures { (front end value : List ℕ) (mode : wildmatch.Mode) → list_any is_joining end ≡ false
+        → Splits value (front ++ end) mode → EndsAlike mode value end }
+{}
+
+/// A value that is matched has each byte of the text that is none of `*`, `?`, `[`, `]`, `\` and `/`, and that stands
+/// before the first `[` and the first `\`, up to case where the mode folds.
+pub fn matched_values_have_the_literal_bytes()
+    ensures { (text value : List ℕ) (mode : wildmatch.Mode) (i b : ℕ) → IsUnescapedUpTo text i → HasByte text i b → is_joining b ≡ false
+        → Splits value text mode → HasAlike mode value b }
 {}
 
 /// Two answers that are each yes exactly if the text matches the value are the same. So [`Pattern::matches`] and

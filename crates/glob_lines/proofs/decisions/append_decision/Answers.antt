@@ -8,28 +8,28 @@ use Rattle.glob_lines.proofs.DecisionsLemmas.{grown_on_ok, writes_none, writes_v
 use Rattle.glob_lines.proofs.PathsLemmas.{IsPlainPath-marked}
 use Rattle.glob_lines.proofs.decisions.append_decision.Goals as goal
 
-pub decide-requires-clause-plain : goal.decide-requires-clause-plain
-decide-requires-clause-plain g c =
+pub decision-requires-clause-plain : goal.decision-requires-clause-plain
+decision-requires-clause-plain g c =
     IsPlainPath-marked c.args.line.now c.path_of-is_dir.result.0.now c.path_of-is_dir.result.1 (c.plain_path.ensures.0 c.if-not-plain_path.false) c.path_of-is_dir.ensures
 
 pub bounds-lists-i : goal.bounds-lists-i
-bounds-lists-i g c = seen_within (listed g.T.Pattern.seen) c.args.lists.now c.in-Some.i _ c.in-Some.ensures.answers.there
+bounds-lists-i g c = seen_within (listed g.T.Pattern.seen) c.args.index.now.lists.now c.in-Some.i _ c.in-Some.ensures.answers.there
 
 pub offset_bounds-lists-i : goal.offset_bounds-lists-i
 offset_bounds-lists-i g c =
-    let within : c.in-Some.i < length c.args.lists.now = seen_within (listed g.T.Pattern.seen) c.args.lists.now c.in-Some.i _ c.in-Some.ensures.answers.there in
+    let within : c.in-Some.i < length c.args.index.now.lists.now = seen_within (listed g.T.Pattern.seen) c.args.index.now.lists.now c.in-Some.i _ c.in-Some.ensures.answers.there in
     search rules
 
 pub overflow_add-i : goal.overflow_add-i
 overflow_add-i g c =
-    let within : c.in-Some.i < length c.args.lists.now = seen_within (listed g.T.Pattern.seen) c.args.lists.now c.in-Some.i _ c.in-Some.ensures.answers.there in
+    let within : c.in-Some.i < length c.args.index.now.lists.now = seen_within (listed g.T.Pattern.seen) c.args.index.now.lists.now c.in-Some.i _ c.in-Some.ensures.answers.there in
     search rules
 
 pub index-requires : goal.index-requires
 index-requires g c =
     let list = listed g.T.Pattern.seen c.index-lists-i.result in
-    let within : c.in-Some.i < length c.args.lists.now = seen_within (listed g.T.Pattern.seen) c.args.lists.now c.in-Some.i _ c.in-Some.ensures.answers.there in
-    let there = seen_at (listed g.T.Pattern.seen) c.args.lists.now c.in-Some.i c.index-lists-i.result within c.index-lists-i.is in
+    let within : c.in-Some.i < length c.args.index.now.lists.now = seen_within (listed g.T.Pattern.seen) c.args.index.now.lists.now c.in-Some.i _ c.in-Some.ensures.answers.there in
+    let there = seen_at (listed g.T.Pattern.seen) c.args.index.now.lists.now c.in-Some.i c.index-lists-i.result within c.index-lists-i.is in
     let answers = of_list _ _ _ _ c.in-Some.i c.in-Some.m list there c.in-Some.ensures.answers in
     let inside = seen_within (entry_of g.T.Pattern.seen) c.index-lists-i.result.patterns.items c.in-Some.m _ answers.there in
     rw (← c.index-lists-i.is) (subst (λ n. c.in-Some.m < n) (sym c.index-lists-i.result.patterns.ok.0) inside)
@@ -37,13 +37,13 @@ index-requires g c =
 pub returns-in-Some : goal.returns-in-Some
 returns-in-Some g c =
     let list = listed g.T.Pattern.seen c.index-lists-i.result in
-    let within : c.in-Some.i < length c.args.lists.now = seen_within (listed g.T.Pattern.seen) c.args.lists.now c.in-Some.i _ c.in-Some.ensures.answers.there in
-    let there = seen_at (listed g.T.Pattern.seen) c.args.lists.now c.in-Some.i c.index-lists-i.result within c.index-lists-i.is in
+    let within : c.in-Some.i < length c.args.index.now.lists.now = seen_within (listed g.T.Pattern.seen) c.args.index.now.lists.now c.in-Some.i _ c.in-Some.ensures.answers.there in
+    let there = seen_at (listed g.T.Pattern.seen) c.args.index.now.lists.now c.in-Some.i c.index-lists-i.result within c.index-lists-i.is in
     let answers = of_list _ _ _ _ c.in-Some.i c.in-Some.m list there c.in-Some.ensures.answers in
     let inside = seen_within (entry_of g.T.Pattern.seen) c.index-lists-i.result.patterns.items c.in-Some.m _ answers.there in
     let is = rw (← c.index-lists-i.is) at c.index.ensures in
     on_ok_weaker c.append_verdict.result
-    (writes_verdict _ c.args.case c.args.line.now c.path_of-is_dir.result.0.now c.path_of-is_dir.result.1 _ _ c.in-Some.i c.in-Some.m list (entry_of g.T.Pattern.seen c.index.result.now)
+    (writes_verdict _ c.args.index.now.case c.args.line.now c.path_of-is_dir.result.0.now c.path_of-is_dir.result.1 _ _ c.in-Some.i c.in-Some.m list (entry_of g.T.Pattern.seen c.index.result.now)
     (c.plain_path.ensures.0 c.if-not-plain_path.false) c.path_of-is_dir.ensures c.in-Some.ensures there
     (seen_at (entry_of g.T.Pattern.seen) c.index-lists-i.result.patterns.items c.in-Some.m c.index.result.now inside is))
     c.append_verdict.ensures
@@ -51,6 +51,6 @@ returns-in-Some g c =
 pub returns-in-None : goal.returns-in-None
 returns-in-None g c =
     on_ok_weaker c.extend_from_slice.result
-    (writes_none _ c.args.case c.args.line.now c.path_of-is_dir.result.0.now c.path_of-is_dir.result.1 _ _
+    (writes_none _ c.args.index.now.case c.args.line.now c.path_of-is_dir.result.0.now c.path_of-is_dir.result.1 _ _
     (c.plain_path.ensures.0 c.if-not-plain_path.false) c.path_of-is_dir.ensures c.in-None.ensures)
     (grown_on_ok c.extend_from_slice.result _ _ _ c.extend_from_slice.ensures.items)

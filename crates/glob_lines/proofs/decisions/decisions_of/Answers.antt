@@ -1,5 +1,7 @@
 -- What is written for a path line, and its line feed, is the next line of the text.
-use Rattle.std.proofs.Common.{◌≡◌, ◌++◌, ◌∷◌, [], ap, ◌∙◌, append_assoc}
+use Rattle.std.proofs.Common.{◌≡◌, ◌++◌, ◌∷◌, [], ap, map, subst, sym, ◌∙◌, append_assoc}
+use Rattle.gix_glob.specs.Deciding.{BasesAreFolders}
+use Rattle.gix_glob.specs.Loaded.{listed}
 use Rattle.glob_lines.specs.Lines.{lines_of}
 use Rattle.glob_lines.proofs.LinesLemmas.{IsWrittenUpTo-all, IsWrittenUpTo-more, IsWrittenUpTo-none, Lines-lines_of}
 use Rattle.glob_lines.proofs.decisions.decisions_of.Goals as goal
@@ -11,7 +13,7 @@ loop-line-init g c =
 
 pub loop-line-preserved : goal.loop-line-preserved
 loop-line-preserved g c =
-    let adds = c.in_ok-append_decision.ensures in
+    let adds = rw (c.in_ok-index.ensures.0, c.in_ok-index.ensures.1) at c.in_ok-append_decision.ensures in
     IsWrittenUpTo-more _ _ _ _ _ _ _ adds.added c.loop-line.invariant c.in-Some.ensures.steps adds.allowed
     (c.in_ok-push.ensures.items ∙ ap (λ l. l ++ 10 ∷ []) adds.grown ∙ append_assoc c.loop-line.text.items adds.added (10 ∷ []))
 
@@ -21,3 +23,6 @@ returns g c = record {
   cut = Lines-lines_of c.args.paths.now;
   writes = IsWrittenUpTo-all _ _ _ _ c.loop-line.invariant c.in-None.ensures.steps.0;
 }
+
+pub append_decision-requires-clause-folders : goal.append_decision-requires-clause-folders
+append_decision-requires-clause-folders g c = subst (λ lists. BasesAreFolders (map (listed g.T.Pattern.seen) lists)) (sym c.in_ok-index.ensures.0) c.requires

@@ -1,0 +1,36 @@
+-- Chains: through the rows of each class, from the last one to the first.
+use Rattle.std.specs.Prelude.{◌≡◌, ◌≢◌, ℕ, ◌+◌, ◌-◌, ◌<◌, ◌≤◌, List, Some, length, map, slice_get, slice_index}
+use Rattle.glob_index.specs.declared.probe.Probe.{Probe}
+use Rattle.glob_index.specs.declared.row.Row.{Row}
+use Rattle.glob_index.specs.declared.table.Walk.{Walk}
+use Rattle.glob_index.specs.Rows.{Passes, always}
+
+-- the classes of the rows
+abbrev pub classes_of : List Row → List ℕ
+classes_of rows = map (λ (row : Row). row.class) rows
+
+-- the links of the rows
+abbrev pub links_of : List Row → List ℕ
+links_of rows = map (λ (row : Row). row.before) rows
+
+-- r is one more than the last place below `end` that has this class, or 0 where there is none
+pub record IsLastBelow (classes : List ℕ) (class end r : ℕ) : Type 0 where
+  pub below : r ≤ end
+  pub others : (m : ℕ) → r ≤ m → m < end → slice_index classes m ≢ class
+  pub here : 0 < r → slice_index classes (r - 1) ≡ class
+
+-- Each class has its last place at its head, and each place is linked to the one before it that has its class.
+pub record IsChained (classes links heads : List ℕ) : Type 0 where
+  pub head : (class : ℕ) → class ≤ always → IsLastBelow classes class (length classes) (slice_index heads class)
+  pub link : (i : ℕ) → i < length classes → IsLastBelow classes (slice_index classes i) i (slice_index links i)
+
+-- a walk down two chains, that of a class and that of the rows which are always looked at, has come to its end
+pub record IsAt (rows : List Row) (class : ℕ) (walk : Walk) : Type 0 where
+  pub apart : class ≢ always
+  pub inside : walk.end ≤ length rows
+  pub own : IsLastBelow (classes_of rows) class walk.end walk.own
+  pub other : IsLastBelow (classes_of rows) always walk.end walk.other
+
+-- no row from one place up to another passes
+abbrev pub NonePasses : List Row → Probe → ℕ → ℕ → Type 0
+NonePasses rows probe from to = (m : ℕ) (row : Row) → from ≤ m → m < to → slice_get rows m ≡ Some row → ¬ Passes row probe

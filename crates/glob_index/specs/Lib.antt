@@ -1,0 +1,4 @@
+pub mod Chains
+pub mod Index
+pub mod Literals
+pub mod Rows

@@ -1,0 +1,40 @@
+-- The literal bytes of a text: the numbers and sets that are made of them, in which the case of letters doesn't count.
+use Rattle.std.specs.Prelude.{◌≡◌, ℕ, zero, suc, ◌+◌, ◌-◌, ◌*◌, ◌%◌, ◌^◌, ◌<◌, ◌≤◌, false, List, length, slice_index}
+use Rattle.std.specs.Char.{to_ascii_lowercase}
+use Rattle.std.specs.Int.{bit_at}
+use Rattle.gix_glob.specs.Bytes.{HasByte}
+use Rattle.gix_glob.specs.Patterns.{IsUnescapedUpTo, is_joining}
+
+-- the byte that is m bytes before the last
+abbrev pub from_end : List ℕ → ℕ → ℕ
+from_end text m = slice_index text (length text - (m + 1))
+
+-- the number that the last n bytes make in base 256, the last byte first, modulo 2^64
+abbrev pub end_key : List ℕ → ℕ → ℕ
+end_key text zero = 0
+end_key text (suc n) = ((end_key text n * 256) % (2 ^ 64) + to_ascii_lowercase (from_end text n)) % (2 ^ 64)
+
+-- each of the last n bytes is a token of its own, and ends no other
+pub record EndsLiterally (text : List ℕ) (n : ℕ) : Type 0 where
+  pub fits : n ≤ length text
+  pub literal : (m : ℕ) → m < n → is_joining (from_end text m) ≡ false
+
+-- the place of a byte in a set of bytes that is a number of 64 bits
+abbrev pub bit_of : ℕ → ℕ
+bit_of b = to_ascii_lowercase b % 32
+
+-- the set has each byte of the text
+abbrev pub HoldsBits : List ℕ → ℕ → Type 0
+HoldsBits text set = (j : ℕ) → j < length text → bit_at set (bit_of (slice_index text j)) ≡ 1
+
+-- a byte at place j of the text that each value has to hold that the text matches, with its bit
+pub record IsNeededAt (text : List ℕ) (j i : ℕ) : Type 0 where
+  pub byte : ℕ
+  pub there : HasByte text j byte
+  pub unescaped : IsUnescapedUpTo text j
+  pub literal : is_joining byte ≡ false
+  pub bit : i ≡ bit_of byte
+
+-- the set has no bit but those of bytes that are needed
+abbrev pub NeedsBits : List ℕ → ℕ → Type 0
+NeedsBits text set = (i : ℕ) → bit_at set i ≡ 1 → (j : ℕ) × IsNeededAt text j i

@@ -1,0 +1,176 @@
+//! Lists of patterns with an index: which of them decides about a path.
+ghost use Rattle.std.specs.Prelude.{◌≡◌, ◌↔◌, ◌+◌, ◌<◌, IfOk, IsTrue, OnOk, length, map};
+ghost use Rattle.gix_glob.specs.Deciding.{BasesAreFolders, Decides, PairAnswers};
+ghost use Rattle.gix_glob.specs.Loaded.{listed};
+ghost use Rattle.gix_glob.specs.Paths.{IsPlainPath};
+ghost use Rattle.gix_glob.specs.RepositoryPaths.{IsBasenameStart};
+ghost use Rattle.glob_index.specs.Chains.{IsChained, classes_of, links_of};
+ghost use Rattle.glob_index.specs.Index.{AreMatches, AreRowsUpTo, HasEntryAt, IsIndex};
+
+use crate::laws;
+use crate::rests::rest_of;
+use crate::row::Row;
+use crate::table::Table;
+use gix_glob::pattern::{Case, basename_start};
+use gix_glob::search;
+use gix_glob::search::pattern::List;
+use gix_glob::wildmatch::Mode;
+use std::alloc::{AllocError, Global};
+
+/// Lists of patterns, and an index of them by what each pattern asks of a path. It is made once, and then tests only the few
+/// patterns that can match a path.
+#[derive(Debug, Drop)]
+pub struct ListIndex<'a, T: search::Pattern> {
+    /// The lists.
+    pub lists: &'a [List<T>],
+    /// Whether the case of letters counts.
+    pub case: Case,
+    table: Table,
+}
+
+impl<'a, T: search::Pattern> ListIndex<'a, T> {
+    /// The index of the lists. It takes 24 bytes for each pattern, and some 2 KB once.
+    ///
+    /// # Errors
+    /// Where memory was refused, or where there are 2^32 - 1 patterns or more.
+    pub fn new(
+        alloc: Global,
+        lists: &'a [List<T>],
+        case: Case,
+    ) -> Result<ListIndex<'a, T>, AllocError>
+        ensures { IfOk result (λ index. (index.lists.now ≡ lists.entry.now) × (index.case ≡ case) × IsIndex T.seen index) }
+    {
+        let mut table = Table::with_capacity(alloc, pattern_count(lists))?;
+        'lists: for i in 0..lists.len() {
+            add_list(&mut table, lists, i)?;
+        }
+        Ok(ListIndex { lists, case, table })
+    }
+
+    /// Whether the index pays for a path: few of its patterns have to be looked at. Where it doesn't, each pattern in turn
+    /// costs less. It is about cost alone: the answers are right for each path.
+    pub fn pays_for(&self, path: &[u8]) -> bool {
+        match path {
+            [.., last] => self.table.is_selective(*last),
+            [] => false,
+        }
+    }
+
+    /// The pattern that decides about a path: the last mapping of the last list that has one that matches what the list's
+    /// base leaves of the path. It is answered as the place of the list and the place of the mapping in it, both from 0;
+    /// `None` where no pattern matches.
+    ///
+    /// The path has no leading slash, no two slashes in a row, and isn't empty; a trailing slash isn't part of it. The base of
+    /// each list is missing, or empty, or ends in a slash. No memory is taken.
+    pub fn decide(&self, path: &[u8], is_dir: bool) -> Option<(usize, usize)>
+        requires made { IsIndex T.seen self.now }
+        requires plain { IsPlainPath path.now }
+        requires folders { BasesAreFolders (map (listed T.seen) self.now.lists.now) }
+        ensures { Decides (map (listed T.seen) self.now.lists.now) path.now is_dir self.now.case result }
+    {
+        // a law does nothing: it is called for what it ensures
+        laws::answering_patterns_pass();
+        let position = basename_start(path);
+        let probe = self.table.probe(path, position);
+        let mut walk = self.table.walk(probe.class());
+        'candidates: while let Some(place) = self.table.next(&probe, &mut walk) {
+            let (list, mapping) = self.table.pair_at(place);
+            if self.matches_at(list, mapping, path, position, is_dir) {
+                return Some((list, mapping));
+            }
+        }
+        None
+    }
+
+    /// All patterns that match a path, in order: the places of the list and of the mapping in it, lists first.
+    ///
+    /// The path and the bases are as for [`ListIndex::decide`].
+    ///
+    /// # Errors
+    /// Only where memory was refused.
+    pub fn matches(
+        &self,
+        alloc: Global,
+        path: &[u8],
+        is_dir: bool,
+    ) -> Result<Vec<(usize, usize)>, AllocError>
+        requires made { IsIndex T.seen self.now }
+        requires plain { IsPlainPath path.now }
+        requires folders { BasesAreFolders (map (listed T.seen) self.now.lists.now) }
+        ensures { IfOk result (λ found. AreMatches (map (listed T.seen) self.now.lists.now) path.now is_dir self.now.case found.items) }
+    {
+        // a law does nothing: it is called for what it ensures
+        laws::answering_patterns_pass();
+        let position = basename_start(path);
+        let probe = self.table.probe(path, position);
+        let mut walk = self.table.walk(probe.class());
+        let mut found = Vec::new(alloc);
+        'candidates: while let Some(place) = self.table.next(&probe, &mut walk) {
+            let (list, mapping) = self.table.pair_at(place);
+            if self.matches_at(list, mapping, path, position, is_dir) {
+                found.push((list, mapping))?;
+            }
+        }
+        found.reverse();
+        Ok(found)
+    }
+
+    /// Whether the pattern of one mapping matches what the base of its list leaves of a path.
+    fn matches_at(
+        &self,
+        list: usize,
+        mapping: usize,
+        path: &[u8],
+        position: Option<usize>,
+        is_dir: bool,
+    ) -> bool
+        requires plain { IsPlainPath path.now }
+        requires basename { IsBasenameStart path.now position }
+        requires folders { BasesAreFolders (map (listed T.seen) self.now.lists.now) }
+        requires there { HasEntryAt (map (listed T.seen) self.now.lists.now) list mapping }
+        ensures { IsTrue result ↔ PairAnswers (map (listed T.seen) self.now.lists.now) path.now is_dir self.now.case list mapping }
+    {
+        let list = &self.lists[list];
+        let Some((rest, start)) = rest_of(list, path, position, self.case) else {
+            return false;
+        };
+        let mode = Mode::NO_MATCH_SLASH_LITERAL;
+        list.patterns[mapping]
+            .pattern
+            .matches_repo_relative_path(rest, start, Some(is_dir), self.case, mode)
+    }
+}
+
+/// How many patterns the lists have.
+fn pattern_count<T: search::Pattern>(lists: &[List<T>]) -> usize {
+    let mut count: usize = 0;
+    for list in lists {
+        count = count.saturating_add(list.patterns.len());
+    }
+    count
+}
+
+/// Adds the rows of the list at place `i`.
+fn add_list<T: search::Pattern>(
+    table: &mut Table,
+    lists: &[List<T>],
+    i: usize,
+) -> Result<(), AllocError>
+    requires inside { i < length lists.now }
+    requires rows { AreRowsUpTo (map (listed T.seen) lists.now) i 0 table.old.rows.items }
+    requires chained { IsChained (classes_of table.old.rows.items) (links_of table.old.rows.items) table.old.heads }
+    ensures rows { OnOk result (AreRowsUpTo (map (listed T.seen) lists.now) (i + 1) 0 table.new.rows.items) }
+    ensures chained { OnOk result (IsChained (classes_of table.new.rows.items) (links_of table.new.rows.items) table.new.heads) }
+{
+    let Ok(list_place) = u32::try_from(i) else {
+        return Err(AllocError);
+    };
+    let mappings = lists[i].patterns.as_slice();
+    'mappings: for m in 0..mappings.len() {
+        let Ok(mapping_place) = u32::try_from(m) else {
+            return Err(AllocError);
+        };
+        table.push(Row::new(&mappings[m].pattern, list_place, mapping_place))?;
+    }
+    Ok(())
+}

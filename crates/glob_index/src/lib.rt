@@ -1,0 +1,12 @@
+//! An index over lists of patterns: of thousands of patterns it finds the few that can match a path, and tests only those.
+#![tactic(auto)]
+
+mod index;
+mod laws;
+mod literals;
+mod probe;
+mod rests;
+mod row;
+mod table;
+
+pub use index::ListIndex;

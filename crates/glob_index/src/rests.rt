@@ -1,0 +1,34 @@
+//! What the base of a list leaves of a path.
+ghost use Rattle.std.specs.Prelude.{MatchOption, option_map};
+ghost use Rattle.std.specs.Option.{ForSome};
+ghost use Rattle.std.specs.Vec.{vec_items};
+ghost use Rattle.gix_glob.specs.Bytes.{HasByte, slash};
+ghost use Rattle.gix_glob.specs.Paths.{IsFolder, IsPlainPath};
+ghost use Rattle.gix_glob.specs.RepositoryPaths.{IsBasenameStart};
+ghost use Rattle.gix_glob.specs.Stripping.{NothingLeft, RestOf};
+
+use gix_glob::pattern::Case;
+use gix_glob::search::pattern::List;
+use gix_glob::{laws, search};
+
+/// What is left of a path under the base of the list, and where the last part of it begins. `position` is where that of the
+/// path begins.
+pub(crate) fn rest_of<'a, T: search::Pattern>(
+    list: &List<T>,
+    path: &'a [u8],
+    position: Option<usize>,
+    case: Case,
+) -> Option<(&'a [u8], Option<usize>)>
+    requires plain { IsPlainPath path.now }
+    requires basename { IsBasenameStart path.now position }
+    requires folder { ForSome (option_map vec_items list.now.base) IsFolder }
+    ensures { MatchOption result
+        (NothingLeft case (option_map vec_items list.now.base) path.entry.now)
+        (λ left. RestOf case (option_map vec_items list.now.base) path.entry.now left.0.now
+        × IsBasenameStart left.0.now left.1 × ¬ HasByte left.0.now 0 slash) }
+{
+    // a law does nothing: it is called for what it ensures
+    laws::positions_lie_past_the_base();
+    laws::stripped_positions_are_the_rests_own();
+    list.strip_base_handle_recompute_basename_pos(path, position, case)
+}

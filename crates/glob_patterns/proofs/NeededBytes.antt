@@ -1,0 +1,63 @@
+-- The literal bytes of a pattern: each value that is split has them.
+use Rattle.std.proofs.Common.{◌≡◌, ◌⊎◌, inl, inr, ⊎_elim, ℕ, zero, suc, ◌+◌, ◌-◌, ◌<◌, ◌≤◌, Bool, true, false, List, [], ◌∷◌, length, get_or, refl, sym, ◌∙◌, ap, subst, arith}
+use Rattle.std.proofs.lemmas.Bool.{cases_lt, cases_eq, false≢true}
+use Rattle.glob_matcher.specs.declared.wildmatch.mode.Mode.{Mode}
+use Rattle.glob_matcher.specs.Bytes.{HasByte, backslash, fold, open_bracket, question_mark, slash, star}
+use Rattle.glob_patterns.specs.Folding.{HasAlike}
+use Rattle.glob_patterns.specs.Patterns.{IsUnescapedUpTo, is_joining}
+use Rattle.glob_matcher.specs.Tokens.{Token, Byte, Any, OneOf, Free, Local, Dirs, Nothing, TokenAt, From}
+use Rattle.glob_matcher.specs.Matching.{Splits, SplitsFrom}
+use Rattle.glob_matcher.proofs.CutLemmas.{step_out, one_out}
+use Rattle.glob_matcher.proofs.Existence.{From-short, TokenAt-past}
+use Rattle.glob_matcher.proofs.SetLemmas.{HasByte-unique}
+
+module _ (mode : Mode) (p v : List ℕ) (i b : ℕ) (clean : IsUnescapedUpTo p i) (h : HasByte p i b) (plain : is_joining b ≡ false) where
+  not_joining : (c : ℕ) → HasByte p i c → is_joining c ≡ true → ⊥
+  not_joining c other joins = false≢true (sym plain ∙ (ap is_joining (HasByte-unique p i b c h other) ∙ joins))
+
+  at_place : (c m : ℕ) → m ≡ i → HasByte p m c → HasByte p i c
+  at_place c m same other = subst (λ (n : ℕ). HasByte p n c) same other
+
+  -- the token that holds the byte is the byte
+  covers : (j e k : ℕ) (t : Token) → j ≤ i → i < e → k ≤ length v → TokenAt mode p j t e → SplitsFrom v k p j mode → HasAlike mode v b
+  covers j e k (Byte c) low past inside (inl x) all = absurd (clean.no_escape j low x.0.escape)
+  covers j e k (Byte c) low past inside (inr x) all =
+      let same : j ≡ i = omega (arith, x.5) in
+      let byte : b ≡ c = HasByte-unique p i b c h (at_place c j same x.0) in
+      let one = one_out mode p v j e k (Byte c) tt (inr x) all in
+      record { place = k; inside = one.0; alike = one.1 ∙ ap (fold mode) (sym byte) }
+  covers j e k Any low past inside x all = absurd (not_joining question_mark (at_place question_mark j (omega (arith, x.1)) x.0) refl)
+  covers j e k (OneOf s) low past inside x all = absurd (clean.no_set j low x.bracket)
+  covers j e k Free low past inside x all = absurd (not_joining star (x.run.stars i low past) refl)
+  covers j e k Local low past inside x all = absurd (not_joining star (x.run.stars i low past) refl)
+  covers j e k Dirs low past inside x all = ⊎_elim
+      (λ (before : i < x.at). absurd (not_joining star (x.run.stars i low before) refl))
+      (λ (after : x.at ≤ i). absurd (not_joining slash (at_place slash x.at (omega (arith, x.after)) x.slash) refl))
+      (cases_lt i x.at)
+  covers j e k Nothing low past inside (inl x, end) all = absurd (clean.no_escape j low x.0)
+  covers j e k Nothing low past inside (inr x, end) all = absurd (clean.no_set j low x.0)
+
+  Onward : ℕ → Type 0
+  Onward j = (e k : ℕ) → j < e → e ≤ i → k ≤ length v → SplitsFrom v k p e mode → HasAlike mode v b
+
+  from_token : (j k : ℕ) (ts : List Token) → From mode p j ts → j ≤ i → k ≤ length v → Onward j → SplitsFrom v k p j mode → HasAlike mode v b
+  unfolding Onward
+  from_token j k [] read low inside later all = let within = h.inside in absurd (omega (arith, read))
+  from_token j k (t ∷ ts) read low inside later all =
+      let out = step_out mode p v j read.0 k t read.1 inside all in
+      let past : j < read.0 = TokenAt-past mode p j t read.0 read.1 in
+      elim (cases_lt i read.0) [
+        | inl covered ↦ covers j read.0 k t low covered inside read.1 all
+        | inr before ↦ later read.0 out.0 past before out.2.high out.4
+      ]
+
+  to_byte : (d j k : ℕ) → i ≤ j + d → j ≤ i → k ≤ length v → SplitsFrom v k p j mode → HasAlike mode v b
+  unfolding Onward
+  to_byte zero j k enough low inside all = from_token j k all.tokens all.read low inside (λ e m past within. absurd (omega arith)) all
+  to_byte (suc d) j k enough low inside all =
+      from_token j k all.tokens all.read low inside (λ e m past within in_value rest. to_byte d e m (omega arith) within in_value rest) all
+
+-- A value that is split has each literal byte of the text, up to case where the mode folds.
+pub literal_bytes : (p v : List ℕ) (mode : Mode) (i b : ℕ) → IsUnescapedUpTo p i → HasByte p i b → is_joining b ≡ false → Splits v p mode → HasAlike mode v b
+literal_bytes p v mode i b clean h plain s =
+    to_byte mode p v i b clean h plain i 0 0 (omega arith) (omega arith) (omega arith) (record { tokens = s.tokens; read = s.read; cut = s.cut })

@@ -1,0 +1,6 @@
+-- The token that holds such a byte is that byte alone.
+use Rattle.glob_patterns.proofs.NeededBytes.{literal_bytes}
+use Rattle.glob_patterns.proofs.laws.patterns.matched_values_have_the_literal_bytes.Goals as goal
+
+pub returns : goal.returns
+returns c = λ text value mode i b clean h plain s. literal_bytes text value mode i b clean h plain s

@@ -1,0 +1,138 @@
+//! An index beside the plain way: all short lists over a small alphabet, and a realistic mixture of patterns.
+use gix_glob::pattern::Case;
+use gix_glob::search::Pattern;
+use gix_glob::search::pattern::List;
+use glob_index::ListIndex;
+use glob_lines::{PlainLines, bases_are_folders, decide, plain_path};
+use std::alloc::AllocError;
+use std::process::Abort;
+use std::test::Fail;
+
+/// Pattern lines of all kinds over few letters.
+const LINES: [&str; 12] = [
+    "a", "A", "!a", "*", "*b*", "/a", "a/", "a/b", "**/a", "[ab]", "\\a", "b/*",
+];
+
+/// Paths over the same letters.
+const PATHS: [&str; 6] = ["a", "b", "ab", "a/b", "b/a", "a/b/a"];
+
+/// A list of pattern lines, under a base or none.
+fn list_of(
+    rt: &impl AllocGlobal,
+    text: &str,
+    base: Option<&str>,
+) -> Result<List<PlainLines>, AllocError> {
+    let mut list = List::empty(rt.alloc());
+    list.patterns = PlainLines.bytes_to_patterns(rt.alloc(), text.as_bytes(), "")?;
+    if let Some(base) = base {
+        list.base = Some(Vec::from_slice(rt.alloc(), base.as_bytes())?);
+    }
+    Ok(list)
+}
+
+/// The index of the lists answers for a path as the plain way does; what decides is the last of all that match.
+fn compare(
+    rt: &(impl Abort + AllocGlobal),
+    lists: &[List<PlainLines>],
+    path: &str,
+    case: Case,
+) -> Result<usize, AllocError> {
+    assert!(rt; bases_are_folders(lists), "the bases of folders");
+    assert!(rt; plain_path(path.as_bytes()), "{path:?} is plain");
+    let index = ListIndex::new(rt.alloc(), lists, case)?;
+    let mut count = 0;
+    for is_dir in [false, true] {
+        let plain = decide(lists, path.as_bytes(), is_dir, case);
+        let indexed = index.decide(path.as_bytes(), is_dir);
+        assert!(rt; indexed == plain, "what decides about {path:?}, {case:?}");
+        let found = index.matches(rt.alloc(), path.as_bytes(), is_dir)?;
+        assert!(rt;
+            found.last().copied() == plain,
+            "the last that matches {path:?}, {case:?}"
+        );
+        count = found.len();
+    }
+    Ok(count)
+}
+
+#[test]
+fn short_lists_over_few_letters(rt: HostRuntime) -> Result<(), Fail> {
+    for first in LINES {
+        for second in LINES {
+            let text = format!(in rt.alloc(); "{first}\n{second}\n")?;
+            let one = [list_of(&rt, &text, None)?];
+            let two = [
+                list_of(&rt, first, None)?,
+                list_of(&rt, second, Some("a/"))?,
+            ];
+            for path in PATHS {
+                for case in [Case::Sensitive, Case::Fold] {
+                    let both = compare(&rt, &one, path, case)?;
+                    let alone = compare(&rt, &two[..1], path, case)?;
+                    let other = [list_of(&rt, second, None)?];
+                    let rest = compare(&rt, &other, path, case)?;
+                    assert_eq!(rt; both, alone + rest, "{first:?} and {second:?} on {path:?}");
+                    let _ = compare(&rt, &two, path, case)?;
+                }
+            }
+        }
+    }
+    Ok(())
+}
+
+/// Words of a realistic mixture.
+const WORDS: [&str; 10] = [
+    "src", "lib", "test", "build", "main", "util", "node", "core", "tmp", "log",
+];
+
+/// Endings of names.
+const ENDINGS: [&str; 5] = ["rs", "c", "o", "log", "md"];
+
+/// The next number of a fixed row of numbers.
+fn next(seed: &mut u32) -> usize {
+    *seed = seed.wrapping_mul(1_664_525).wrapping_add(1_013_904_223);
+    (*seed / 65_536) as usize
+}
+
+/// A pattern line of the mixture.
+fn append_pattern(rt: &impl AllocGlobal, text: &mut String, seed: &mut u32) -> Result<(), Fail> {
+    let word = WORDS[next(seed) % 10];
+    let other = WORDS[next(seed) % 10];
+    let ending = ENDINGS[next(seed) % 5];
+    let line = match next(seed) % 8 {
+        0 => format!(in rt.alloc(); "{word}\n")?,
+        1 => format!(in rt.alloc(); "*.{ending}\n")?,
+        2 => format!(in rt.alloc(); "/{word}/{other}\n")?,
+        3 => format!(in rt.alloc(); "{word}/*.{ending}\n")?,
+        4 => format!(in rt.alloc(); "!**/{word}/{other}\n")?,
+        5 => format!(in rt.alloc(); "*{word}*\n")?,
+        6 => format!(in rt.alloc(); "{word}[0-9].{ending}\n")?,
+        _ => format!(in rt.alloc(); "{word}/\n")?,
+    };
+    Ok(text.push_str(line.as_str())?)
+}
+
+#[test]
+fn a_realistic_mixture(rt: HostRuntime) -> Result<(), Fail> {
+    let mut seed = 7;
+    let mut texts = String::new(rt.alloc());
+    for _ in 0..100 {
+        append_pattern(&rt, &mut texts, &mut seed)?;
+    }
+    let lists = [
+        list_of(&rt, &texts, None)?,
+        list_of(&rt, "*.rs\n!lib.rs\n", Some("src/"))?,
+    ];
+    for _ in 0..60 {
+        let folder = WORDS[next(&mut seed) % 10];
+        let word = WORDS[next(&mut seed) % 10];
+        let ending = ENDINGS[next(&mut seed) % 5];
+        let path = match next(&mut seed) % 3 {
+            0 => format!(in rt.alloc(); "{word}.{ending}")?,
+            1 => format!(in rt.alloc(); "{folder}/{word}.{ending}")?,
+            _ => format!(in rt.alloc(); "src/{folder}/{word}7.{ending}")?,
+        };
+        let _ = compare(&rt, &lists, path.as_str(), Case::Sensitive)?;
+    }
+    Ok(())
+}
