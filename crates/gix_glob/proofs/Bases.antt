@@ -3,7 +3,8 @@ use Rattle.std.proofs.Common.{◌≡◌, ◌≢◌, ℕ, ◌-◌, ◌≤◌, Lis
 use Rattle.std.specs.Vec.{vec_items}
 use Rattle.std.proofs.lemmas.Result.{IfOk-weaker}
 use Rattle.std.proofs.lemmas.Slice.Eq.{bytes_eq-Decides}
-use Rattle.gix_glob.specs.Paths.{parts, without_last, folder, folders, LiesBetween, Base, base_below}
+use Rattle.gix_glob.specs.Paths.{parts, without_last, folder, folders, LiesBetween, Base}
+use Rattle.gix_glob.specs.Private.Bases.{base_below}
 use Rattle.glob_matcher.specs.Bytes.{EndsInSlash}
 use Rattle.std.specs.Str.{bytes_eq}
 

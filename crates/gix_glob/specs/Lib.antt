@@ -1,12 +1,12 @@
 pub mod Watched
 pub mod Loading
 pub mod Paths
-pub mod PartsLeft
 pub mod Stripping
 pub mod Lists
 pub mod Orders
 pub mod Loaded
 pub mod Deciding
+pub mod Private
 pub use Rattle.glob_patterns.specs.Folding
 pub use Rattle.glob_patterns.specs.Patterns
 pub use Rattle.glob_patterns.specs.PatternParts

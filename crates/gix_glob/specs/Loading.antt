@@ -8,12 +8,6 @@ pub record IsBeginningOf (beginning whole : List ℕ) : Type 0 where
   pub rest : List ℕ
   pub joined : beginning ++ rest ≡ whole
 
--- the answer is that opening or reading failed
-abbrev pub is_read_fault : {T : Type 0} → Result T LoadFault → Bool
-is_read_fault (Ok x) = false
-is_read_fault (Err Memory) = false
-is_read_fault (Err (Read e)) = true
-
 -- a read failed: there is no list, for another cause than memory
 abbrev pub is_unread : {T : Type 0} → Result (Option T) LoadFault → Bool
 is_unread (Ok (Some list)) = false

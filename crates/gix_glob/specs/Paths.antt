@@ -70,12 +70,6 @@ Base source None base = base ≡ None
 Base source (Some root) None = (between : List (List ℕ)) → LiesBetween source root between → between ≡ []
 Base source (Some root) (Some base) = HasBase source root base
 
--- the base by the parts of a source below its root: the folders, where there are some
-abbrev pub base_below : List (List ℕ) → Option (List ℕ)
-base_below [] = None
-base_below (file ∷ []) = None
-base_below (part ∷ next ∷ more) = Some (folders (without_last (part ∷ next ∷ more)))
-
 -- the text names the folder that a path begins with: it is empty, or ends in a slash
 abbrev pub IsFolder : List ℕ → Type 0
 IsFolder text = (text ≡ []) ⊎ EndsInSlash text

@@ -8,7 +8,7 @@ use Rattle.gix_glob.specs.Loaded.{Listed}
 use Rattle.gix_glob.specs.Paths.{IsPlainPath}
 use Rattle.glob_lines.specs.Decisions.{WritesDecisions, verdict}
 use Rattle.glob_lines.specs.Paths.{MarksDirectory}
-use Rattle.glob_lines.specs.Transfers.{Adds}
+use Rattle.glob_lines.specs.Private.Growing.{Adds}
 
 module _ {V : Type 0} (lists : List (Listed V)) (case : Case) (line path : List ℕ) (is_dir : Bool) (old new : List ℕ) where
   pub writes_verdict : (i m : ℕ) (list : Listed V) (entry : Entry V) → IsPlainPath line → MarksDirectory line path is_dir → Decides lists path is_dir case (Some (i, m))

@@ -9,7 +9,7 @@ use Rattle.std.proofs.lemmas.List.{drop_more}
 use Rattle.memchr.specs.Find.{IsFirstByte, is_byte}
 use Rattle.glob_lines.specs.Lines.{HasNo, HasNoLineFeed, line_feed, lines_of}
 use Rattle.glob_lines.specs.Numbered.{TextAndValue}
-use Rattle.glob_lines.specs.Trimming.{ends_in_return, return_of}
+use Rattle.glob_lines.specs.Private.Trimming.{ends_in_return, return_of}
 use Rattle.glob_lines.specs.Ignore.{BeginsWithLine, GivesTrimmed, Trims, byte_order_mark, carriage_return, is_comment, trimmed, trimmed_unless_comment, without_mark, without_returns}
 use Rattle.glob_lines.proofs.LinesLemmas.{HasNo-take, last_line, lines_of-line, length-lines_of-le}
 use Rattle.glob_lines.proofs.NumberedLemmas.{Tells}

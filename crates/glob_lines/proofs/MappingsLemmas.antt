@@ -9,7 +9,7 @@ use Rattle.glob_lines.specs.Mappings.{MappingsText, MatchesText, WritesMatches, 
 use Rattle.glob_lines.specs.Numbers.{Picks, spaced}
 use Rattle.glob_lines.specs.Paths.{IsPlainPath, MarksDirectory}
 use Rattle.glob_lines.specs.Plain.{Plain, PlainEntry, plain_of}
-use Rattle.glob_lines.specs.Transfers.{Adds}
+use Rattle.glob_lines.specs.Private.Growing.{Adds}
 use Rattle.glob_lines.proofs.NumbersLemmas.{Picks-more, Picks-skip, separator_after, spaced-more}
 
 abbrev pub numbers_of : List PlainEntry → List ℕ

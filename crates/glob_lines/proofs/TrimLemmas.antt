@@ -10,7 +10,7 @@ use Rattle.std.proofs.lemmas.List.Folds.{concat-append}
 use Rattle.std.proofs.lemmas.Slice.Eq.{bytes_eq-Decides}
 use Rattle.gix_glob.specs.Bytes.{backslash}
 use Rattle.glob_lines.specs.Ignore.{Trims, kept_of, space, trimmed, units_of}
-use Rattle.glob_lines.specs.Trimming.{StandsBefore, is_open}
+use Rattle.glob_lines.specs.Private.Trimming.{StandsBefore, is_open}
 
 -- ---- the last unit that is kept
 

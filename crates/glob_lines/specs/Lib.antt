@@ -8,5 +8,5 @@ pub mod Numbers
 pub mod Paths
 pub mod Plain
 pub mod Transfers
-pub mod Trimming
 pub mod Values
+pub mod Private

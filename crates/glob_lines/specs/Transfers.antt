@@ -21,9 +21,3 @@ pub record Run {I : Type 0} (Read : I → Type 0) (IsText : I → List ℕ → T
   pub text : List ℕ
   pub allowed : IsText input text
   pub written : Written text
-
--- the text grew by something that P allows
-pub record Adds (P : List ℕ → Type 0) (old new : List ℕ) : Type 0 where
-  pub added : List ℕ
-  pub allowed : P added
-  pub grown : new ≡ old ++ added

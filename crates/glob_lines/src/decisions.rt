@@ -8,7 +8,8 @@ ghost use Rattle.gix_glob.specs.Paths.{IsPlainPath};
 ghost use Rattle.glob_index.specs.Index.{IsIndex};
 ghost use Rattle.gix_glob.specs.Watched.{has_failed, inner};
 ghost use Rattle.glob_lines.specs.Decisions.{DecisionsText, WritesDecisions, verdict};
-ghost use Rattle.glob_lines.specs.Transfers.{Adds, AppendsFront, ReadsWhole, Run};
+ghost use Rattle.glob_lines.specs.Transfers.{AppendsFront, ReadsWhole, Run};
+ghost use Rattle.glob_lines.specs.Private.Growing.{Adds};
 
 use crate::deciding::decide;
 use crate::decimal::append_decimal;

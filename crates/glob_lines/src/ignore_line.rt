@@ -3,7 +3,7 @@ ghost use Rattle.std.specs.Prelude.{◌≡◌, ◌<◌, [], ◌∷◌, ◌++◌,
 ghost use Rattle.std.specs.Option.{option_copied};
 ghost use Rattle.glob_lines.specs.Lines.{lines_of};
 ghost use Rattle.glob_lines.specs.Ignore.{BeginsWithLine, Trims, is_comment, without_mark, without_returns};
-ghost use Rattle.glob_lines.specs.Trimming.{StandsBefore, is_open, return_of};
+ghost use Rattle.glob_lines.specs.Private.Trimming.{StandsBefore, is_open, return_of};
 
 use memchr::memchr;
 

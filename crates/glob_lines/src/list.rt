@@ -9,7 +9,8 @@ ghost use Rattle.gix_glob.specs.Paths.{IsFolder, has_file_part};
 ghost use Rattle.gix_glob.specs.RepositoryPaths.{IsBasenameStart};
 ghost use Rattle.gix_glob.specs.Watched.{has_failed, inner};
 ghost use Rattle.glob_lines.specs.Mappings.{MappingsText, MatchesText, ReadsBoth, WritesMatches, WritesNumbers};
-ghost use Rattle.glob_lines.specs.Transfers.{Adds, AppendsFront, Run};
+ghost use Rattle.glob_lines.specs.Transfers.{AppendsFront, Run};
+ghost use Rattle.glob_lines.specs.Private.Growing.{Adds};
 
 use crate::decimal::append_decimal;
 use crate::fault::EngineFault;

@@ -5,7 +5,8 @@ use Rattle.std.proofs.lemmas.List.{length-take-le}
 use Rattle.std.proofs.lemmas.Bool.{false≢true, or_cases}
 use Rattle.glob_matcher.specs.declared.wildmatch.mode.Mode.{Mode}
 use Rattle.glob_matcher.specs.Bytes.{fold, folds, is_path, slash}
-use Rattle.glob_patterns.specs.Folding.{AreAlike, BeginsAlike, EndsAlike}
+use Rattle.glob_patterns.specs.Folding.{AreAlike, EndsAlike}
+use Rattle.glob_patterns.specs.Private.Fronts.{BeginsAlike}
 use Rattle.glob_matcher.specs.Matching.{Splits}
 use Rattle.glob_patterns.specs.Patterns.{first_special, is_star_and_literal}
 use Rattle.glob_patterns.proofs.LiteralLemmas.{literal_splits, literal_front, literal_from_place, literal_up_to_place, star_literal_out, star_literal_in}

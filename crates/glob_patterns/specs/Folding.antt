@@ -11,11 +11,6 @@ folded mode text = map (fold mode) text
 abbrev pub AreAlike : Mode → List ℕ → List ℕ → Type 0
 AreAlike mode a b = folded mode a ≡ folded mode b
 
--- the value begins with the front, up to case where the mode folds
-pub record BeginsAlike (mode : Mode) (value front : List ℕ) : Type 0 where
-  pub fits : length front ≤ length value
-  pub alike : AreAlike mode front (take (length front) value)
-
 -- the value ends in the end, up to case where the mode folds
 pub record EndsAlike (mode : Mode) (value end : List ℕ) : Type 0 where
   pub fits : length end ≤ length value

@@ -3,3 +3,4 @@ pub mod Patterns
 pub mod PatternParts
 pub mod Readings
 pub mod RepositoryPaths
+pub mod Private

@@ -1,6 +1,8 @@
 -- The words of a command by their number, and what the engines do for a command.
 use Rattle.std.proofs.Common.{◌≡◌, ◌⊎◌, inl, inr, ◌<◌, ◌≤◌, ℕ, ◌-◌, List, [], ◌∷◌, length, get_or, map, take, drop, Option, Result, Ok, Err, refl, take_all, arith}
 use Rattle.std.specs.Prelude.{OnErr}
+use Rattle.std.specs.Option.{option_copied}
+use Rattle.std.specs.String.{string_bytes}
 use Rattle.gix_glob.specs.declared.pattern.Case.{Case}
 use Rattle.gix_glob.specs.declared.wildmatch.Mode.{Mode}
 use Rattle.gix_glob.specs.Loaded.{Listed}
@@ -10,7 +12,10 @@ use Rattle.glob_lines.specs.Transfers.{ReadsWhole, Run}
 use Rattle.glob_lines.specs.Values.{ValuesText}
 use Rattle.glob_lines.specs.declared.fault.EngineFault.{EngineFault}
 use Rattle.glob_lines.specs.declared.fault.EngineFault.TheVariants.{Memory, Read, Write}
-use Rattle.globline.specs.Words.{AnswersIgnore, AnswersList, AnswersWild, AreIgnoreLists}
+use Rattle.globline.specs.Words.{AnsweredWords, AnswersIgnore, AnswersList, AnswersWild, AreIgnoreLists}
+use Rattle.globline.specs.Private.Commands.{Ask, CarriesOut}
+use Rattle.globline.specs.declared.command.Command.{Command}
+use Rattle.globline.specs.declared.command.Command.TheVariants as command
 
 -- ---- lists of three and of four
 
@@ -66,3 +71,13 @@ on_each_fault (Ok x) memory read write = tt
 on_each_fault (Err Memory) memory read write = inl (memory refl)
 on_each_fault (Err Read) memory read write = inl (read refl)
 on_each_fault (Err Write) memory read write = inr (write refl)
+
+-- what carries a command out answers the words that ask for it
+pub answers_words : (words : List (List ℕ)) (asked : Command) (input_old input_new : Option (List ℕ)) (Written : List ℕ → Type 0)
+    → Ask words asked → CarriesOut asked input_old input_new Written → AnsweredWords words input_old input_new Written
+answers_words words (command.Wild mode pattern) input_old input_new Written asks done =
+    inl (record { mode = mode; pattern = pattern.now; asked = asks; done = done })
+answers_words words (command.List case file root) input_old input_new Written asks done =
+    inr (inl (record { case = case; file = file.now; root = option_copied root; asked = asks; done = done }))
+answers_words words (command.Ignore case root files) input_old input_new Written asks done =
+    inr (inr (record { case = case; root = option_copied root; files = map string_bytes files.now; asked = asks; done = done }))

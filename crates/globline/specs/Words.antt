@@ -1,5 +1,5 @@
 -- What the words of the command line ask for, and what is done then.
-use Rattle.std.specs.Prelude.{◌≡◌, ◌≢◌, ◌⊎◌, ⊤, ℕ, Bool, true, false, List, [], ◌∷◌, map, Option, None, Some, codes, string_bytes}
+use Rattle.std.specs.Prelude.{◌≡◌, ◌≢◌, ◌⊎◌, ℕ, Bool, true, false, List, [], ◌∷◌, map, Option, None, Some, codes, string_bytes}
 use Rattle.std.specs.List.{list_all}
 use Rattle.std.specs.Option.{option_copied}
 use Rattle.gix_glob.specs.declared.pattern.Case.{Case}
@@ -13,8 +13,6 @@ use Rattle.glob_lines.specs.Ignore.{Ignore}
 use Rattle.glob_lines.specs.Mappings.{MappingsText}
 use Rattle.glob_lines.specs.Transfers.{ReadsWhole, Run}
 use Rattle.glob_lines.specs.Values.{ValuesText}
-use Rattle.globline.specs.declared.command.Command.{Command}
-use Rattle.globline.specs.declared.command.Command.TheVariants as command
 
 -- the word names the mode
 abbrev pub NamesMode : List ℕ → Mode → Type 0
@@ -61,18 +59,6 @@ pub record AskIgnore (words : List (List ℕ)) (case : Case) (root : Option (Lis
   pub rooted : NamesRoot root_word root
   pub filed : are_files files ≡ true
 
--- the words ask for the command
-abbrev pub Ask : List (List ℕ) → Command → Type 0
-Ask words (command.Wild mode pattern) = AskWild words mode pattern.now
-Ask words (command.List case file root) = AskList words case file.now (option_copied root)
-Ask words (command.Ignore case root files) = AskIgnore words case (option_copied root) (map string_bytes files.now)
-
--- the command can be carried out: its file can be one, or each of its files
-abbrev pub CanRun : Command → Type 0
-CanRun (command.Wild mode pattern) = ⊤
-CanRun (command.List case file root) = has_file_part file.now ≡ true
-CanRun (command.Ignore case root files) = are_files (map string_bytes files.now) ≡ true
-
 -- the words ask for nothing that the program does
 pub record AreWrong (words : List (List ℕ)) : Type 0 where
   pub wild : (mode : Mode) (pattern : List ℕ) → ¬ AskWild words mode pattern
@@ -107,14 +93,31 @@ pub record AnswersIgnore (case : Case) (root : Option (List ℕ)) (files : List 
   pub loaded : AreIgnoreLists root files lists
   pub run : Run (ReadsWhole input_old input_new) (DecisionsText lists case) Written
 
--- the command was carried out: its input was read whole, and of its text was written what Written says
-abbrev pub CarriesOut : Command → Option (List ℕ) → Option (List ℕ) → (List ℕ → Type 0) → Type 0
-CarriesOut (command.Wild mode pattern) = AnswersWild mode pattern.now
-CarriesOut (command.List case file root) = AnswersList case file.now (option_copied root)
-CarriesOut (command.Ignore case root files) = AnswersIgnore case (option_copied root) (map string_bytes files.now)
+-- the words ask for values, and these were answered, as far as Written says
+pub record AnsweredWild (words : List (List ℕ)) (input_old input_new : Option (List ℕ)) (Written : List ℕ → Type 0) : Type 0 where
+  pub mode : Mode
+  pub pattern : List ℕ
+  pub asked : AskWild words mode pattern
+  pub done : AnswersWild mode pattern input_old input_new Written
 
--- the words ask for a command, and it was carried out, as far as Written says
-pub record AnsweredWords (words : List (List ℕ)) (input_old input_new : Option (List ℕ)) (Written : List ℕ → Type 0) : Type 0 where
-  pub command : Command
-  pub asked : Ask words command
-  pub done : CarriesOut command input_old input_new Written
+-- the words ask for the lines of a file that match
+pub record AnsweredList (words : List (List ℕ)) (input_old input_new : Option (List ℕ)) (Written : List ℕ → Type 0) : Type 0 where
+  pub case : Case
+  pub file : List ℕ
+  pub root : Option (List ℕ)
+  pub asked : AskList words case file root
+  pub done : AnswersList case file root input_old input_new Written
+
+-- the words ask for what decides
+pub record AnsweredIgnore (words : List (List ℕ)) (input_old input_new : Option (List ℕ)) (Written : List ℕ → Type 0) : Type 0 where
+  pub case : Case
+  pub root : Option (List ℕ)
+  pub files : List (List ℕ)
+  pub asked : AskIgnore words case root files
+  pub done : AnswersIgnore case root files input_old input_new Written
+
+-- The words were answered: what they ask for was done, and of its text was written what Written says.
+abbrev pub AnsweredWords : List (List ℕ) → Option (List ℕ) → Option (List ℕ) → (List ℕ → Type 0) → Type 0
+AnsweredWords words input_old input_new Written =
+    AnsweredWild words input_old input_new Written
+    ⊎ (AnsweredList words input_old input_new Written ⊎ AnsweredIgnore words input_old input_new Written)

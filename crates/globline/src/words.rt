@@ -3,7 +3,8 @@ ghost use Rattle.std.specs.Prelude.{◌≡◌, ◌≢◌, ◌⊎◌, ◌≤◌, 
 ghost use Rattle.std.specs.Io.KnownBytes.{Appends};
 ghost use Rattle.gix_glob.specs.Watched.{has_failed, inner};
 ghost use Rattle.glob_lines.specs.Transfers.{AppendsFront};
-ghost use Rattle.globline.specs.Words.{AnsweredWords, AreWrong, CanRun, CarriesOut};
+ghost use Rattle.globline.specs.Words.{AnsweredWords, AreWrong};
+ghost use Rattle.globline.specs.Private.Commands.{CanRun, CarriesOut};
 
 #[cfg(test)]
 mod tests;
@@ -17,12 +18,15 @@ use std::fs;
 use std::io::{ErrorKind, Read, Write};
 use std::rt::Files;
 
-/// The words were understood, and every line was answered.
-const ANSWERED: u8 = 0;
-/// Memory was refused, or a read or a write failed.
-const FAULT: u8 = 1;
-/// The words ask for nothing that the program does.
-const WRONG_WORDS: u8 = 2;
+/// What the program ends with: the number of the variant is the status.
+enum Status {
+    /// The words were understood, and every line was answered.
+    Answered = 0,
+    /// Memory was refused, or a read or a write failed.
+    Fault = 1,
+    /// The words ask for nothing that the program does.
+    WrongWords = 2,
+}
 
 const USAGE: &str = "\
 usage: globline wild plain|fold|path|path-fold PATTERN
@@ -59,7 +63,7 @@ pub fn run_words<F: Files, I: Read, O: Write, E: Write>(
         return wrong_words(errors);
     };
     match run(rt, alloc, command, input, output) {
-        Ok(()) => ANSWERED,
+        Ok(()) => Status::Answered as u8,
         Err(fault) => failed(fault, errors),
     }
 }
@@ -117,7 +121,7 @@ fn failed<E: Write>(fault: EngineFault, errors: &mut E) -> u8
     ensures { result ≡ 1 }
 {
     let _ = writeln!(errors, "globline: {fault}");
-    FAULT
+    Status::Fault as u8
 }
 
 /// Tells how the program is used.
@@ -125,5 +129,5 @@ fn wrong_words<E: Write>(errors: &mut E) -> u8
     ensures { result ≡ 2 }
 {
     let _ = errors.write_all(USAGE.as_bytes());
-    WRONG_WORDS
+    Status::WrongWords as u8
 }

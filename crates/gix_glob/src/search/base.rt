@@ -2,8 +2,9 @@
 ghost use Rattle.std.specs.Prelude.{◌≡◌, ◌≢◌, List, ℕ, ◌++◌, OnOk, IfOk, MatchOption, option_map};
 ghost use Rattle.std.specs.Vec.{vec_items};
 ghost use Rattle.std.specs.Option.{option_copied};
-ghost use Rattle.gix_glob.specs.Paths.{has_file_part, Base, parts, folder, base_below};
-ghost use Rattle.gix_glob.specs.PartsLeft.{parts_left};
+ghost use Rattle.gix_glob.specs.Paths.{has_file_part, Base, parts, folder};
+ghost use Rattle.gix_glob.specs.Private.Bases.{base_below};
+ghost use Rattle.gix_glob.specs.Private.PartsLeft.{parts_left};
 
 use super::parts::Parts;
 use std::alloc::{AllocError, Global};

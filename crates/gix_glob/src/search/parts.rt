@@ -13,7 +13,7 @@ impl<'a> Parts<'a> {
     ghost use Rattle.std.specs.List.{before_first, after_first};
     ghost use Rattle.std.specs.Prelude.{MatchOption, [], ◌∷◌};
     ghost use Rattle.gix_glob.specs.Paths.{parts, named, pieces};
-    ghost use Rattle.gix_glob.specs.PartsLeft.{parts_left};
+    ghost use Rattle.gix_glob.specs.Private.PartsLeft.{parts_left};
 
     pub(crate) fn new(text: &'a [u8]) -> Parts<'a>
         ensures { parts_left result ≡ parts text.entry.now }
@@ -68,7 +68,7 @@ fn slash_place(text: &[u8]) -> Option<usize>
 
 impl<'a> Iterator for Parts<'a> {
     ghost use Rattle.std.specs.Iterator.{YieldsFirstRef, item_count};
-    ghost use Rattle.gix_glob.specs.PartsLeft.{parts_left};
+    ghost use Rattle.gix_glob.specs.Private.PartsLeft.{parts_left};
 
     type Item = &'a [u8];
 

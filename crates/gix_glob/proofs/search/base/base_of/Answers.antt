@@ -1,6 +1,6 @@
 use Rattle.std.proofs.Common.{◌≡◌, ◌≢◌, ◌++◌, ℕ, List, rules}
 use Rattle.gix_glob.specs.Paths.{parts}
-use Rattle.gix_glob.specs.PartsLeft.{parts_left}
+use Rattle.gix_glob.specs.Private.PartsLeft.{parts_left}
 use Rattle.gix_glob.proofs.Bases.{Base-answered, Base-aside}
 use Rattle.gix_glob.proofs.search.base.base_of.Goals as goal
 

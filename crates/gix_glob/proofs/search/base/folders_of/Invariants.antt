@@ -1,6 +1,6 @@
 use Rattle.std.proofs.Common.{◌≡◌, ◌∷◌, ◌++◌, length}
 use Rattle.gix_glob.specs.Paths.{folders, without_last}
-use Rattle.gix_glob.specs.PartsLeft.{parts_left}
+use Rattle.gix_glob.specs.Private.PartsLeft.{parts_left}
 use Rattle.gix_glob.proofs.search.base.folders_of.Given as goal
 
 -- the folders so far, and those that are left, are those of all parts

@@ -1,7 +1,7 @@
 use Rattle.std.proofs.Common.{◌≡◌, length}
 use Rattle.gix_glob.specs.Paths.{parts, is_file_part}
 use Rattle.std.specs.List.{list_any}
-use Rattle.gix_glob.specs.PartsLeft.{parts_left}
+use Rattle.gix_glob.specs.Private.PartsLeft.{parts_left}
 use Rattle.gix_glob.proofs.search.base.has_file_part.Given as goal
 
 -- what was passed over is the leading slash

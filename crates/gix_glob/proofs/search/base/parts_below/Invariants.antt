@@ -1,6 +1,6 @@
 use Rattle.std.proofs.Common.{◌≡◌, ◌↔◌, ℕ, List, ◌++◌, length}
 use Rattle.gix_glob.specs.Paths.{parts}
-use Rattle.gix_glob.specs.PartsLeft.{parts_left}
+use Rattle.gix_glob.specs.Private.PartsLeft.{parts_left}
 use Rattle.gix_glob.proofs.search.base.parts_below.Given as goal
 
 -- what follows the root follows what is left of the root

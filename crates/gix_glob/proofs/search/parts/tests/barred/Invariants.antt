@@ -1,5 +1,5 @@
 use Rattle.std.proofs.Common.{length}
-use Rattle.gix_glob.specs.PartsLeft.{parts_left}
+use Rattle.gix_glob.specs.Private.PartsLeft.{parts_left}
 use Rattle.gix_glob.proofs.search.parts.tests.barred.Given as goal
 
 abbrev pub decreases-parts : goal.decreases-parts
