@@ -259,33 +259,39 @@ fn ignore_tells_what_decides(rt: HostRuntime) -> Result<(), Fail> {
     let (first, second) = (first.as_str(), second.as_str());
     fs::write(&rt, first, "x\n*.o\n")?;
     fs::write(&rt, second, "#\n!keep.o \r\n")?;
-    let missing = "no/such/file";
     let paths: &[u8] = b"x\nA.O\nd/keep.o\n/x\na\n";
-    let rows: [(&str, &str, &[&str], &[u8]); 5] = [
+    // the files by their marks: `a` and `b` are there, `.` is a directory, and `-` is missing
+    let rows: [(&str, &str, &str, &[u8]); 5] = [
         (
             "sensitive",
             "-",
-            &[missing, first],
+            "-a",
             b"ignored 1:1\nnone\nignored 1:2\n!\nnone\n",
         ),
         (
             "sensitive",
             folder,
-            &[".", first, second],
+            ".ab",
             b"ignored 1:1\nnone\nkept 2:2\n!\nnone\n",
         ),
         (
             "fold",
             "-",
-            &[second, missing, first],
+            "b-a",
             b"ignored 2:1\nignored 2:2\nignored 2:2\n!\nnone\n",
         ),
-        ("sensitive", "", &[first], b"none\nnone\nnone\n!\nnone\n"),
-        ("sensitive", "-", &[missing], b"none\nnone\nnone\n!\nnone\n"),
+        ("sensitive", "", "a", b"none\nnone\nnone\n!\nnone\n"),
+        ("sensitive", "-", "-", b"none\nnone\nnone\n!\nnone\n"),
     ];
-    for (case, root, files, text) in rows {
+    for (case, root, marks, text) in rows {
         let mut words = words_of(rt.alloc(), &["ignore", case, root])?;
-        for file in files {
+        for mark in marks.chars() {
+            let file = match mark {
+                'a' => first,
+                'b' => second,
+                '.' => ".",
+                _ => "no/such/file",
+            };
             words.push(String::from_str(rt.alloc(), file)?)?;
         }
         let mut input = Watched::new(paths);
