@@ -18,6 +18,10 @@ mod folding;
 #[cfg(test)]
 mod hostile_rows;
 #[cfg(test)]
+mod ignore_rows;
+#[cfg(test)]
+mod label_rows;
+#[cfg(test)]
 mod list_rows;
 #[cfg(test)]
 mod loading;

@@ -15,6 +15,8 @@ use std::alloc::{AllocError, Global};
 use std::test::Fail;
 use std::{env, fs, process};
 
+mod labels;
+
 const LINES: &[u8] = b"*.rs\n\n!src/\n";
 
 /// Whether the pattern has this text and these flags.
