@@ -151,7 +151,9 @@ def main():
             found = {name: counted(words, size, folder, paths) for name, words in rows.items()}
         for name, (a_path, _) in found.items():
             points[name].append((size, a_path))
-        print(f"| {size:,} | " + " | ".join(f"{a_path:,.0f} ({a_pattern:,.0f})" for a_path, a_pattern in found.values()) + " |", flush=True)
+        # what git reads before the first path isn't the patterns alone
+        cells = [f"{a_path:,.0f}" + ("" if name.startswith("git") else f" ({a_pattern:,.0f})") for name, (a_path, a_pattern) in found.items()]
+        print(f"| {size:,} | " + " | ".join(cells) + " |", flush=True)
     if o.draw:
         import draw
 

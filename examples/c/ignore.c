@@ -16,6 +16,7 @@ static struct list {
     const char *base;                  /* the folder of the file below the root, with its slash; none has base_len 0 */
     size_t base_len, *numbers, count;  /* the line of each pattern; how many patterns */
     struct gix_glob_pattern *patterns; /* their texts lie in the bytes of the file */
+    uint8_t *bytes;
 } *lists;
 
 static void *allocated(size_t size)
@@ -55,7 +56,7 @@ static bool load(struct list *list, const char *file, const char *root)
     size_t len = 0, most = 1;
     bool has_pattern = false;
     FILE *from = fopen(file, "rb");
-    uint8_t *bytes = from ? bytes_of(from, &len) : NULL;
+    uint8_t *bytes = list->bytes = from ? bytes_of(from, &len) : NULL;
 
     if (from)
         fclose(from);
@@ -108,9 +109,10 @@ int main(int argc, char **argv)
     lists = (struct list *)allocated((size_t)argc * sizeof *lists);
     for (int i = 3; i < argc; i++)
         count += load(&lists[count], argv[i], argv[2]);
-    const uint8_t *paths = bytes_of(stdin, &len), *end;
+    uint8_t *const paths = bytes_of(stdin, &len);
     if (!paths)
         return perror("ignore"), 1;
+    const uint8_t *end;
     for (const uint8_t *line = paths; len > 0; len -= (size_t)(end - line), line = end) {
         const uint8_t *feed = (const uint8_t *)memchr(line, '\n', len);
         const size_t line_len = feed ? (size_t)(feed - line) : len;
@@ -121,5 +123,6 @@ int main(int argc, char **argv)
         else
             puts("!");
     }
+    free(paths);
     return 0;
 }

@@ -8,8 +8,8 @@ returns-clause-answers c = λ reading.
       body = view.text.now;
       flags = view.mode;
       place = view.first_wildcard_pos;
-      position = c.basename_start.result;
+      position = c.basename_start-start.result;
       read = c.in-Some.ensures.reads;
-      start = c.basename_start.ensures;
+      start = c.basename_start-start.ensures;
       exact = c.matches_repo_relative_path.ensures c.in-Some.ensures.lawful;
     }
