@@ -8,9 +8,7 @@ use gix_glob::search::pattern::{List, Mapping};
 use gix_glob::search::{Pattern as _, Watched, add_patterns_file};
 use gix_glob::wildmatch::Mode;
 use gix_glob::{Pattern, parse};
-use glob_lines::{
-    IgnoreLines, LabelLines, PlainLines, bases_are_folders, run_ignore, run_list, run_wild,
-};
+use glob_lines::{IgnoreLines, PlainLines, bases_are_folders, run_ignore, run_list, run_wild};
 use std::alloc::{AllocError, Global};
 use std::test::Fail;
 use std::{env, fs, process};
@@ -209,37 +207,6 @@ fn paths_are_answered(rt: HostRuntime) -> Result<(), Fail> {
     assert!(rt; output.is_empty() || answer.is_ok());
     answer?;
     assert!(rt; output.as_slice() == b"1\n3\n!\n".as_slice());
-    Ok(())
-}
-
-#[test]
-fn ignore_lines_are_mappings(rt: HostRuntime) -> Result<(), Fail> {
-    let mappings = IgnoreLines.bytes_to_patterns(rt.alloc(), b"*.rs \r\n#\n!src/", "ig")?;
-    assert!(rt; are_read(&mappings));
-    Ok(())
-}
-
-/// The list of labelled lines: its values are texts.
-fn labels(alloc: Global) -> Result<List<LabelLines>, AllocError> {
-    let source = String::from_str(alloc, "ig")?;
-    List::from_bytes(alloc, b"*.rs\trust\n!x\n", source, None, LabelLines)
-}
-
-#[test]
-fn labelled_lines_are_mappings(rt: HostRuntime) -> Result<(), Fail> {
-    let list = labels(rt.alloc())?;
-    let [first, second] = list.patterns.as_slice() else {
-        return Err(Fail::new("not two mappings"));
-    };
-    assert!(rt; first.value.as_slice() == b"rust".as_slice() && second.value.is_empty());
-    assert!(rt; first.pattern.text() == b"*.rs".as_slice() && second.pattern.is_negative());
-    Ok(())
-}
-
-#[test]
-fn a_copied_list_of_labels_is_equal(rt: HostRuntime) -> Result<(), Fail> {
-    let list = labels(rt.alloc())?;
-    assert!(rt; list.clone()? == list);
     Ok(())
 }
 

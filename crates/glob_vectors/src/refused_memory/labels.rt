@@ -3,6 +3,7 @@ use crate::label_rows::copy_of;
 use gix_glob::search::Pattern as _;
 use gix_glob::search::pattern::{List, Mapping};
 use glob_lines::{IgnoreLines, LabelLines};
+use std::test::Fail;
 
 const LABELS: &[u8] = b"*.rs\trust\n\n!src/\ta\tb\n";
 
@@ -20,41 +21,32 @@ fn are_read(mappings: &[Mapping<Vec<u8>>]) -> bool {
 }
 
 #[test]
-fn labels_are_read(rt: HostRuntime) {
-    if let Ok(mappings) = LabelLines.bytes_to_patterns(rt.alloc(), LABELS, "labels") {
-        assert!(rt; are_read(&mappings));
-    }
+fn labels_are_read(rt: HostRuntime) -> Result<(), Fail> {
+    let mappings = LabelLines.bytes_to_patterns(rt.alloc(), LABELS, "labels")?;
+    assert!(rt; are_read(&mappings));
+    Ok(())
 }
 
 #[test]
-fn copies_of_labels_are_equal(rt: HostRuntime) {
-    let Ok(source) = String::from_str(rt.alloc(), "d/labels") else {
-        return;
-    };
-    let Ok(list) = List::from_bytes(rt.alloc(), LABELS, source, Some(""), LabelLines) else {
-        return;
-    };
+fn copies_of_labels_are_equal(rt: HostRuntime) -> Result<(), Fail> {
+    let source = String::from_str(rt.alloc(), "d/labels")?;
+    let list = List::from_bytes(rt.alloc(), LABELS, source, Some(""), LabelLines)?;
     assert!(rt; are_read(&list.patterns));
-    if let Ok(copy) = copy_of(&list) {
-        assert!(rt; copy == list);
-    }
+    assert!(rt; copy_of(&list)? == list);
     for mapping in &list.patterns {
-        if let Ok(copy) = mapping.clone() {
-            assert!(rt; copy == *mapping);
-        }
+        assert!(rt; mapping.clone()? == *mapping);
     }
+    Ok(())
 }
 
 #[test]
-fn ignore_lines_are_read(rt: HostRuntime) {
+fn ignore_lines_are_read(rt: HostRuntime) -> Result<(), Fail> {
     let bytes = b"\xEF\xBB\xBF*.o \r\n#c\n!keep.o\n".as_slice();
-    let Ok(mappings) = IgnoreLines.bytes_to_patterns(rt.alloc(), bytes, "ig") else {
-        return;
-    };
+    let mappings = IgnoreLines.bytes_to_patterns(rt.alloc(), bytes, "ig")?;
     let [first, second] = mappings.as_slice() else {
-        assert!(rt; false, "not two patterns");
-        return;
+        return Err(Fail::new("not two patterns"));
     };
     assert!(rt; first.sequence_number == 1 && first.pattern.text() == b"*.o".as_slice());
     assert!(rt; second.sequence_number == 3 && second.pattern.is_negative());
+    Ok(())
 }
