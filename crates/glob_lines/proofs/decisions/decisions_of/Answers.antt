@@ -13,16 +13,17 @@ loop-line-init g c =
 
 pub loop-line-preserved : goal.loop-line-preserved
 loop-line-preserved g c =
-    let adds = rw (c.in_ok-index.ensures.0, c.in_ok-index.ensures.1) at c.in_ok-append_decision.ensures in
+    let adds = c.in_ok-append_decision.ensures in
     IsWrittenUpTo-more _ _ _ _ _ _ _ adds.added c.loop-line.invariant c.in-Some.ensures.steps adds.allowed
     (c.in_ok-push.ensures.items ∙ ap (λ l. l ++ 10 ∷ []) adds.grown ∙ append_assoc c.loop-line.text.items adds.added (10 ∷ []))
 
 pub returns : goal.returns
-returns g c = record {
-  lines = _;
-  cut = Lines-lines_of c.args.paths.now;
-  writes = IsWrittenUpTo-all _ _ _ _ c.loop-line.invariant c.in-None.ensures.steps.0;
-}
+returns g c =
+    let written = IsWrittenUpTo-all _ _ _ _ c.loop-line.invariant c.in-None.ensures.steps.0 in record {
+      lines = _;
+      cut = Lines-lines_of c.args.paths.now;
+      writes = rw (c.in_ok-index.ensures.0, c.in_ok-index.ensures.1) at written;
+    }
 
 pub append_decision-requires-clause-folders : goal.append_decision-requires-clause-folders
 append_decision-requires-clause-folders g c = subst (λ lists. BasesAreFolders (map (listed g.T.Pattern.seen) lists)) (sym c.in_ok-index.ensures.0) c.requires
