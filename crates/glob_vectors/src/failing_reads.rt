@@ -4,7 +4,9 @@ use crate::modes::path;
 use gix_glob::pattern::Case;
 use gix_glob::search::pattern::List;
 use gix_glob::search::{LoadFault, Watched, add_patterns_file};
-use glob_lines::{EngineFault, PlainLines, run_list, run_wild};
+use glob_lines::{
+    EngineFault, IgnoreLines, PlainLines, bases_are_folders, run_ignore, run_list, run_wild,
+};
 use std::alloc::{AllocError, Global};
 use std::io::ErrorKind;
 use std::process::Abort;
@@ -20,6 +22,8 @@ const PATTERNS: &[u8] = b"a*\n*\n";
 const PATHS: &[u8] = b"ab\nb\n/\n";
 
 const NUMBERS: &[u8] = b"1 2\n2\n!\n";
+
+const DECISIONS: &[u8] = b"kept 1:1\nnone\n!\n";
 
 const VALUES: &[u8] = b"ab\nb\n";
 
@@ -168,4 +172,35 @@ fn run_list_tells_each_failed_read_of_paths(rt: HostRuntime) {
             check_list(&rt, patterns, paths, failing, (kind, successes));
         }
     }
+}
+
+#[test]
+fn run_ignore_tells_each_failed_read(rt: HostRuntime) -> Result<(), Fail> {
+    let source = String::from_str(rt.alloc(), "ig")?;
+    let lists = [List::from_bytes(rt.alloc(), b"!a*\n", source, None, IgnoreLines)?];
+    assert!(rt; bases_are_folders(&lists));
+    for kind in KINDS {
+        for successes in 0..PATHS.len() + 2 {
+            let fails = successes <= PATHS.len();
+            let mut paths = Watched::new(Source::new(PATHS, 1, successes).failing_with(kind));
+            let mut writer = Watched::new(Sink::new(Vec::new(rt.alloc()), WHOLE, WHOLE));
+            let answer = run_ignore(rt.alloc(), &lists, Case::Sensitive, &mut paths, &mut writer);
+            let told = if fails {
+                Err(EngineFault::Read)
+            } else {
+                Ok(())
+            };
+            let written = if fails { 0 } else { DECISIONS.len() };
+            assert_eq!(rt; answer, told, "{kind:?} after {successes} reads");
+            assert_eq!(rt; paths.failed(), fails, "{kind:?} after {successes} reads");
+            assert!(rt; !writer.failed(), "{kind:?} after {successes} reads");
+            let output = writer.into_inner();
+            assert_eq!(rt;
+                output.taken(),
+                &DECISIONS[..written],
+                "{kind:?} after {successes} reads"
+            );
+        }
+    }
+    Ok(())
 }

@@ -3,9 +3,11 @@ use crate::fakes::Sink;
 use crate::modes::path;
 use gix_glob::pattern::Case;
 use gix_glob::search::Watched;
-use glob_lines::{EngineFault, run_list, run_wild};
+use gix_glob::search::pattern::List;
+use glob_lines::{EngineFault, IgnoreLines, bases_are_folders, run_ignore, run_list, run_wild};
 use std::io::ErrorKind;
 use std::process::Abort;
+use std::test::Fail;
 
 const WHOLE: usize = usize::MAX;
 
@@ -13,6 +15,8 @@ const WHOLE: usize = usize::MAX;
 const KINDS: [ErrorKind; 2] = [ErrorKind::Interrupted, ErrorKind::Other];
 
 const ANSWERS: &[u8] = b"yes\nno\n";
+
+const DECISIONS: &[u8] = b"kept 1:1\nnone\n!\n";
 
 const NUMBERS: &[u8] = b"1 2\n2\n!\n";
 
@@ -81,4 +85,31 @@ fn run_list_tells_each_failed_write(rt: HostRuntime) {
 fn a_writer_that_takes_no_byte_has_failed(rt: HostRuntime) {
     check_wild(&rt, Sink::new(Vec::new(rt.alloc()), 0, WHOLE), true, b"");
     check_list(&rt, Sink::new(Vec::new(rt.alloc()), 0, WHOLE), true, b"");
+}
+
+#[test]
+fn run_ignore_tells_each_failed_write(rt: HostRuntime) -> Result<(), Fail> {
+    let source = String::from_str(rt.alloc(), "ig")?;
+    let lists = [List::from_bytes(rt.alloc(), b"!a*\n", source, None, IgnoreLines)?];
+    assert!(rt; bases_are_folders(&lists));
+    for kind in KINDS {
+        for successes in 0..DECISIONS.len() + 1 {
+            let fails = successes < DECISIONS.len();
+            let mut paths = Watched::new(b"ab\nb\n/\n".as_slice());
+            let sink = Sink::new(Vec::new(rt.alloc()), 1, successes).failing_with(kind);
+            let mut writer = Watched::new(sink);
+            let answer = run_ignore(rt.alloc(), &lists, Case::Sensitive, &mut paths, &mut writer);
+            let told = if fails {
+                Err(EngineFault::Write)
+            } else {
+                Ok(())
+            };
+            assert_eq!(rt; answer, told, "{kind:?} after {successes} writes");
+            assert!(rt; !paths.failed(), "{kind:?} after {successes} writes");
+            assert_eq!(rt; writer.failed(), fails, "{kind:?} after {successes} writes");
+            let output = writer.into_inner();
+            assert_eq!(rt; output.taken(), &DECISIONS[..successes], "{kind:?}");
+        }
+    }
+    Ok(())
 }

@@ -1,9 +1,10 @@
 //! Patterns with a label behind a tab.
 use bitflags::Flags;
 use gix_glob::Pattern;
+use gix_glob::pattern::Case;
 use gix_glob::search::Pattern as _;
 use gix_glob::search::pattern::{List, Mapping};
-use glob_lines::{LabelLines, PlainLines};
+use glob_lines::{LabelLines, PlainLines, bases_are_folders, decide, plain_path};
 use std::alloc::{AllocError, Global};
 use std::cmp::Ordering;
 use std::test::Fail;
@@ -78,6 +79,28 @@ fn lines_with_and_without_labels(rt: HostRuntime) -> Result<(), AllocError> {
                 "whether {line:?} is read"
             ),
         }
+    }
+    Ok(())
+}
+
+#[test]
+fn the_last_label_that_matches_decides(rt: HostRuntime) -> Result<(), AllocError> {
+    let rows: [(&[u8], Option<(usize, usize)>); 4] = [
+        (b"d/m.rs", Some((0, 0))),
+        (b"x", Some((0, 1))),
+        (b"foo", Some((0, 2))),
+        (b"q", None),
+    ];
+    let source = String::from_str(rt.alloc(), "labels")?;
+    let lists = [List::from_bytes(rt.alloc(), LABELS, source, None, LabelLines)?];
+    assert!(rt; bases_are_folders(&lists));
+    for (path, pair) in rows {
+        assert!(rt; plain_path(path), "{path:?}");
+        assert_eq!(rt;
+            decide(&lists, path, false, Case::Sensitive),
+            pair,
+            "{path:?}"
+        );
     }
     Ok(())
 }

@@ -8,7 +8,9 @@ use gix_glob::search::pattern::{List, Mapping};
 use gix_glob::search::{Pattern as _, Watched, add_patterns_file};
 use gix_glob::wildmatch::Mode;
 use gix_glob::{Pattern, parse};
-use glob_lines::{IgnoreLines, LabelLines, PlainLines, run_list, run_wild};
+use glob_lines::{
+    IgnoreLines, LabelLines, PlainLines, bases_are_folders, run_ignore, run_list, run_wild,
+};
 use std::alloc::{AllocError, Global};
 use std::test::Fail;
 use std::{env, fs, process};
@@ -238,5 +240,21 @@ fn labelled_lines_are_mappings(rt: HostRuntime) -> Result<(), Fail> {
 fn a_copied_list_of_labels_is_equal(rt: HostRuntime) -> Result<(), Fail> {
     let list = labels(rt.alloc())?;
     assert!(rt; list.clone()? == list);
+    Ok(())
+}
+
+#[test]
+fn paths_are_decided(rt: HostRuntime) -> Result<(), Fail> {
+    let source = String::from_str(rt.alloc(), "ig")?;
+    let lists = [List::from_bytes(rt.alloc(), LINES, source, None, IgnoreLines)?];
+    assert!(rt; bases_are_folders(&lists));
+    let mut paths = Watched::new(b"a.rs\nsrc/\n/\n".as_slice());
+    // with room for all that is written
+    let mut writer = Watched::new(Vec::with_capacity(rt.alloc(), 32)?);
+    let answer = run_ignore(rt.alloc(), &lists, Case::Sensitive, &mut paths, &mut writer);
+    let output = writer.into_inner();
+    assert!(rt; output.is_empty() || answer.is_ok());
+    answer?;
+    assert!(rt; output.as_slice() == b"ignored 1:1\nkept 1:3\n!\n".as_slice());
     Ok(())
 }
