@@ -81,3 +81,10 @@ answers_words words (command.List case file root) input_old input_new Written as
     inr (inl (record { case = case; file = file.now; root = option_copied root; asked = asks; done = done }))
 answers_words words (command.Ignore case root files) input_old input_new Written asks done =
     inr (inr (record { case = case; root = option_copied root; files = map string_bytes files.now; asked = asks; done = done }))
+
+-- the same, where it may also have stopped before
+pub or_answers_words : {P : Type 0} (words : List (List ℕ)) (asked : Command) (input_old input_new : Option (List ℕ)) (Written : List ℕ → Type 0)
+    → Ask words asked → P ⊎ CarriesOut asked input_old input_new Written → P ⊎ AnsweredWords words input_old input_new Written
+or_answers_words words asked input_old input_new Written asks (inl stopped) = inl stopped
+or_answers_words words asked input_old input_new Written asks (inr done) =
+    inr (answers_words words asked input_old input_new Written asks done)
