@@ -9,15 +9,6 @@ use Rattle.std.proofs.Math.ListN.{drop_of_length-le}
 use Rattle.glob_matcher.specs.Bytes.{slash}
 use Rattle.gix_glob.specs.Paths.{pieces, named, past_first, front_part, parts}
 
--- where a test passes first
-pub position-is : (p : ℕ → Bool) (text : List ℕ) (at : ℕ) → position p text ≡ Some at → position_or_len p text ≡ at
-position-is p text at found = grind (arith, common_steps)
-
-pub position-none : (p : ℕ → Bool) (text : List ℕ) → position p text ≡ None → position_or_len p text ≡ length text
-position-none p text missing =
-    let bound = prefix_len-le-length (λ x. not (p x)) text in
-    grind (arith, common_steps, bound)
-
 -- a text without a slash is its own one piece, and nothing follows it
 whole-piece : (text : List ℕ) → length text ≤ position_or_len (λ b. b == slash) text → pieces text ≡ before_first (λ b. b == slash) text ∷ []
 whole-piece text none =

@@ -21,12 +21,6 @@ Rest-front case base path rest r = sym (length-compared case r.front) ∙ ap len
 pub Rest-cut : (case : Case) (base path rest : List ℕ) (r : Rest case base path rest) → r.front ≡ take (length base) path
 Rest-cut case base path rest r = sym (ap (take (length base)) r.joined ∙ take_at r.front rest (length base) (Rest-front case base path rest r))
 
-pub Rest-left : (case : Case) (base path rest : List ℕ) → Rest case base path rest → rest ≡ drop (length base) path
-Rest-left case base path rest r = sym (ap (drop (length base)) r.joined ∙ drop_at r.front rest (length base) (Rest-front case base path rest r))
-
-pub Rest-fits : (case : Case) (base path rest : List ℕ) → Rest case base path rest → length base ≤ length path
-Rest-fits case base path rest r = omega (arith, ap length r.joined, length-append r.front rest, Rest-front case base path rest r)
-
 -- and they are a front and a rest where the front compares equal
 pub Rest-from_cut : (case : Case) (base path : List ℕ) → compared case (take (length base) path) ≡ compared case base → Rest case base path (drop (length base) path)
 Rest-from_cut case base path same = record {

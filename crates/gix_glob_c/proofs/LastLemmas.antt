@@ -26,9 +26,6 @@ module _ (patterns : List GlobPattern) (path : List ℕ) (is_dir fold : Bool) wh
   abbrev pub NoneFrom : ℕ → Type 0
   NoneFrom k = (i : ℕ) → k ≤ i → ¬ AnswersAt patterns path is_dir fold i
 
-  pub NoneFrom-end : (k : ℕ) → length patterns ≤ k → NoneFrom k
-  NoneFrom-end k end i past h = absurd (omega (arith, slice_get_within patterns i h.pattern h.there))
-
   pub NoneFrom-all : (k : ℕ) → k ≤ 0 → NoneFrom k → (i : ℕ) → ¬ AnswersAt patterns path is_dir fold i
   NoneFrom-all k all none i h = none i (omega arith) h
 

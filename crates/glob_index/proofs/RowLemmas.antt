@@ -23,12 +23,6 @@ use Rattle.glob_index.proofs.PrefilterLemmas.{AnsweringPasses}
 
 -- ---- the order of places
 
-before_trans : (a b c d e f : ℕ) → ComesBefore a b c d → ComesBefore c d e f → ComesBefore a b e f
-before_trans a b c d e f (inl x) (inl y) = inl (omega arith)
-before_trans a b c d e f (inl x) (inr y) = inl (omega (arith, y.0))
-before_trans a b c d e f (inr x) (inl y) = inl (omega (arith, x.0))
-before_trans a b c d e f (inr x) (inr y) = inr (x.0 ∙ y.0, omega (arith, x.1, y.1))
-
 -- before the next place of a list: before this one, or this one
 before_next : (a b j n : ℕ) → ComesBefore a b j (n + 1) → ComesBefore a b j n ⊎ ((a ≡ j) × (b ≡ n))
 before_next a b j n (inl x) = inl (inl x)
@@ -160,9 +154,6 @@ module _ {V : Type 0} (lists : List (Listed V)) (rows : List Row) (path : List �
   -- no row from place k on answers
   abbrev pub NoneAnswers : ℕ → Type 0
   NoneAnswers k = (l : ℕ) (row : Row) → k ≤ l → slice_get rows l ≡ Some row → ¬ PairAnswers lists path is_dir case row.list row.mapping
-
-  pub none_past : (k : ℕ) → length rows ≤ k → NoneAnswers k
-  none_past k past l row low got answers = (let inside = slice_get_within rows l row got in absurd (omega arith))
 
   -- what the law of candidates says, of one row
   abbrev pub Law : Probe → Type 0
@@ -358,10 +349,6 @@ module _ {V : Type 0} (lists : List (Listed V)) (rows : List Row) (path : List �
       (found_skip lists rows path is_dir case probe (place + 1) to found low are law none h)
 
 -- ---- small facts
-
-pub some_bytes : (path : List ℕ) → (path ≡ [] → ⊥) → 0 < length path
-some_bytes [] some = absurd (some refl)
-some_bytes (b ∷ path) some = omega arith
 
 pub row_at : (rows : List Row) (k : ℕ) → k < length rows → (row : Row) × (slice_get rows k ≡ Some row)
 row_at [] k inside = absurd (omega arith)

@@ -26,10 +26,6 @@ IsPlaced-basename law case (Some base) path position folder start =
 
 -- ---- how the rest begins
 
-HasByte-append_left : (xs ys : List ℕ) (i b : ℕ) → HasByte xs i b → HasByte (xs ++ ys) i b
-HasByte-append_left xs ys i b h =
-    record { inside = omega (arith, length-append xs ys, h.inside); is = get_or_append_left xs ys 0 i h.inside ∙ h.is }
-
 HasByte-append_right : (xs ys : List ℕ) (i b : ℕ) → HasByte ys i b → HasByte (xs ++ ys) (length xs + i) b
 HasByte-append_right xs ys i b h =
     record { inside = omega (arith, length-append xs ys, h.inside); is = get_or-append-add xs ys i 0 ∙ h.is }
