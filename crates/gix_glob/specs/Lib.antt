@@ -16,6 +16,5 @@ pub use Rattle.glob_matcher.specs.Bytes
 pub use Rattle.glob_matcher.specs.Sets
 pub use Rattle.glob_matcher.specs.Tokens
 pub use Rattle.glob_matcher.specs.Matching
-pub use Rattle.glob_matcher.specs.Reader
 pub use Rattle.glob_matcher.specs.Pruning
 pub use Rattle.glob_matcher.specs.Steps

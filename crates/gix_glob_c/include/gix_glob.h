@@ -1,7 +1,16 @@
 /* Git's glob patterns, proved: the static library gix_glob_c.
  *
- * Texts are bytes of any kind, given by a pointer and a length in bytes. A pointer is never null, also where the length
- * is 0. Nothing is allocated and nothing is kept. The rules are in docs/MATCHING.md and docs/PATTERNS.md.
+ * Parse a line once, match it against paths, and let the last match of a list decide. Nothing is allocated, nothing is kept
+ * after a call, and there is no state: calls may run in any threads at once, as long as no other thread writes what they read.
+ * Texts are bytes of any kind, each a pointer and a length in bytes; none needs a byte 0 at its end.
+ *
+ * What a call asks of its caller, and can't check:
+ *  - No pointer is NULL, also where a length is 0: gix_glob_bytes() turns NULL into a pointer that may be passed.
+ *  - A text can be read for its whole length, which is below 2^63, and isn't written during the call.
+ *  - What a call writes to lies apart from what it reads, and was initialised, by GIX_GLOB_PATTERN_INIT or a call before.
+ *
+ * The rules of matching are in docs/MATCHING.md, those of pattern lines in docs/PATTERNS.md, those of ignore files in
+ * docs/LINES.md.
  */
 #ifndef GIX_GLOB_H
 #define GIX_GLOB_H
@@ -10,31 +19,128 @@
 #include <stddef.h>
 #include <stdint.h>
 
-/* Bits of a match mode. Other bits change no answer. */
-#define GIX_GLOB_NO_MATCH_SLASH_LITERAL 1 /* path mode: a wildcard matches no slash, save a double star
-                                             that stands alone between slashes or ends of the pattern */
-#define GIX_GLOB_IGNORE_CASE 2            /* the case of ASCII letters doesn't count */
+/* The version of this header, as major * 10000 + minor * 100 + patch. */
+#define GIX_GLOB_VERSION_MAJOR 0
+#define GIX_GLOB_VERSION_MINOR 1
+#define GIX_GLOB_VERSION_PATCH 0
+#define GIX_GLOB_VERSION (GIX_GLOB_VERSION_MAJOR * 10000 + GIX_GLOB_VERSION_MINOR * 100 + GIX_GLOB_VERSION_PATCH)
 
-/* Bits of what is known of a pattern's text. */
-#define GIX_GLOB_NO_SUB_DIR 1
-#define GIX_GLOB_ENDS_WITH 2
-#define GIX_GLOB_MUST_BE_DIR 4
-#define GIX_GLOB_NEGATIVE 8
-#define GIX_GLOB_ABSOLUTE 16
+#ifdef __cplusplus
+extern "C" {
+#endif
 
-/* Whether the pattern matches the whole of the value. */
+/* No place, and no index. */
+#define GIX_GLOB_NONE SIZE_MAX
+
+/* Bits of a match mode, the parameter `mode`. Other bits change no answer. */
+#define GIX_GLOB_NO_MATCH_SLASH_LITERAL 1u /* path mode: a wildcard matches no slash, save a double star that stands
+                                              alone between slashes or ends of the pattern */
+#define GIX_GLOB_IGNORE_CASE 2u            /* the case of ASCII letters doesn't count */
+
+/* Bits of a pattern's `mode`: what was read of the line. */
+#define GIX_GLOB_NO_SUB_DIR 1u  /* the text has no slash */
+#define GIX_GLOB_ENDS_WITH 2u   /* the text is a star, and after it a literal */
+#define GIX_GLOB_MUST_BE_DIR 4u /* the line ended in a slash: the pattern is for directories only */
+#define GIX_GLOB_NEGATIVE 8u    /* the line began with '!': what it matches isn't ignored */
+#define GIX_GLOB_ABSOLUTE 16u   /* the line began with a slash */
+
+/* A pattern that was read. Its text is a part of the line: keep the line where it is, and unchanged, as long as the pattern is
+ * used. The struct may be copied. Fields that no call wrote together may give a wrong answer, and nothing worse, as long as
+ * the text can be read. */
+struct gix_glob_pattern {
+    const uint8_t *text;       /* the bytes that are matched; not NULL */
+    size_t text_len;           /* how many */
+    size_t first_wildcard_pos; /* the place of the first of * ? [ and \ in the text, from 0, or GIX_GLOB_NONE */
+    uint32_t mode;             /* the sum of the bits that stand */
+};
+
+/* A pattern before one was read: struct gix_glob_pattern pattern = GIX_GLOB_PATTERN_INIT; */
+#define GIX_GLOB_PATTERN_INIT { (const uint8_t *)"", 0, GIX_GLOB_NONE, 0 }
+
+/* The bytes at a pointer, which may be NULL where there are none. */
+static inline const uint8_t *gix_glob_bytes(const void *bytes)
+{
+    return (const uint8_t *)(bytes ? bytes : "");
+}
+
+/* Reads a pattern line, without its line feed. This is no line of an ignore file: a '#' begins no comment, and spaces and a
+ * carriage return at the end belong to the pattern. gix_glob_parse_ignore_line reads those.
+ *   line, line_len  the line
+ *   out             receives the pattern; it stays as it was where false is answered
+ * Answers whether there is a pattern: a line that is blank, or a lone '!', has none. */
+bool gix_glob_parse(const uint8_t *line, size_t line_len, struct gix_glob_pattern *out);
+
+/* What is left to read of an ignore file. */
+struct gix_glob_lines {
+    const uint8_t *rest; /* the bytes behind the lines that were read; not NULL */
+    size_t rest_len;     /* how many: a call takes as many bytes as this falls by */
+    size_t number;       /* the number of the line that was read last, from 1; 0 before the first */
+};
+
+/* All lines of a file.
+ *   bytes, len  the file's bytes; NULL where there are none. Keep them as long as a pattern of them is used */
+static inline struct gix_glob_lines gix_glob_lines_of(const void *bytes, size_t len)
+{
+    struct gix_glob_lines lines;
+    lines.rest = gix_glob_bytes(bytes);
+    lines.rest_len = len;
+    lines.number = 0;
+    return lines;
+}
+
+/* Takes the next line off an ignore file and reads it by the rules of those files: a byte order mark at the front isn't read, a
+ * line ends at a line feed or at the end of the bytes, a carriage return before the line feed and the spaces at the end aren't
+ * read (a space after a backslash is), and a line that begins with '#' is a comment.
+ *   lines        the lines that are left
+ *   out          receives the line's pattern; it stays as it was where the line has none
+ *   has_pattern  receives whether the line has a pattern
+ * Answers whether a line was left. */
+bool gix_glob_parse_ignore_line(struct gix_glob_lines *lines, struct gix_glob_pattern *out, bool *has_pattern);
+
+/* Whether a pattern matches a path. Its '!' isn't looked at: GIX_GLOB_NEGATIVE says whether it stood there.
+ *   pattern         what a call read
+ *   path, path_len  the path, from the folder of the pattern's file on, with single slashes between its parts. A path that is
+ *                   empty, has a slash at its front or end, or two in a row, is matched by nothing
+ *   is_dir          whether the path is a directory's
+ *   fold            whether the case of ASCII letters doesn't count */
+bool gix_glob_pattern_matches_path(const struct gix_glob_pattern *pattern,
+                                   const uint8_t *path, size_t path_len, bool is_dir, bool fold);
+
+/* The index of the last of several patterns that matches a path, or GIX_GLOB_NONE where none does. In an ignore file that one
+ * decides: the path is ignored, or kept where the pattern is negative. For several files ask from the last file to the first,
+ * and stop at the first answer. What lies in an ignored directory is ignored in Git whatever the files say of it, so a walk
+ * asks for the directories above first.
+ *   patterns, count  the patterns in the order of their lines; not NULL, also where count is 0
+ *   path ..          as in gix_glob_pattern_matches_path */
+size_t gix_glob_last_match(const struct gix_glob_pattern *patterns, size_t count,
+                           const uint8_t *path, size_t path_len, bool is_dir, bool fold);
+
+/* Whether a pattern's text, as it is, matches the whole of a value.
+ *   pattern, pattern_len  the text
+ *   value, value_len      the value
+ *   mode                  bits of a match mode, as a sum */
 bool gix_glob_wildmatch(const uint8_t *pattern, size_t pattern_len,
                         const uint8_t *value, size_t value_len, uint8_t mode);
 
-/* Whether a pattern line, as it stands in an ignore file, matches a path of a repository, in path mode. A line without a
- * pattern matches nothing, and a path with a leading slash isn't matched. A line that begins with '!' is matched like any
- * other: whoever asks turns the answer round. */
+/* Whether the text of a pattern matches the whole of a value, as gix_glob_wildmatch answers, by shortcuts where it can.
+ *   text, text_len      the text
+ *   pattern_mode        the pattern's bits
+ *   first_wildcard_pos  the place of the text's first special byte; any place past its end stands for none
+ *   value, value_len    the value
+ *   mode                bits of a match mode, as a sum
+ * Parts that don't belong together may give a wrong answer, and nothing worse. */
+bool gix_glob_matches(const uint8_t *text, size_t text_len, uint32_t pattern_mode, size_t first_wildcard_pos,
+                      const uint8_t *value, size_t value_len, uint8_t mode);
+
+/* Reads a line as gix_glob_parse does and matches it against a path, for one question. A line without a pattern matches nothing.
+ *   line, line_len  the line
+ *   path, path_len  the path; one with a leading slash is matched by nothing, any other is matched as it is
+ *   is_dir, fold    as in gix_glob_pattern_matches_path */
 bool gix_glob_matches_path(const uint8_t *line, size_t line_len,
                            const uint8_t *path, size_t path_len, bool is_dir, bool fold);
 
-/* Whether the text of a pattern, whose parts were read before, matches the value. A place past the text's end stands for
- * none. Parts that don't belong together may give a wrong answer, and nothing worse. */
-bool gix_glob_matches(const uint8_t *text, size_t text_len, uint32_t pattern_mode, size_t first_wildcard_pos,
-                      const uint8_t *value, size_t value_len, uint8_t mode);
+#ifdef __cplusplus
+}
+#endif
 
 #endif

@@ -1,1 +1,2 @@
 pub mod Bits
+mod LastLemmas

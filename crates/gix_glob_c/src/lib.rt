@@ -7,6 +7,9 @@ ghost use Rattle.gix_glob.specs.Matching.{Splits};
 ghost use Rattle.gix_glob.specs.Patterns.{HasReading, IsPattern};
 ghost use Rattle.gix_glob_c.specs.Parts.{LineAnswers, case_of, place_of};
 
+pub mod ignore_file;
+pub mod parsed;
+
 use bitflags::Flags;
 use gix_glob::pattern::{self, Case, PatternView, basename_start};
 use gix_glob::wildmatch::{Mode, wildmatch};

@@ -9,8 +9,8 @@ use gix_glob::search::Watched;
 use std::alloc::Global;
 use std::io::{Read, Write};
 
-/// How many bytes one read asks for.
-const PIECE: usize = 64 * 1024;
+/// How many bytes one read asks for. The piece lies on the stack, so it is small.
+const PIECE: usize = 16 * 1024;
 
 /// All bytes that the reader has left. A read that fails is not tried again.
 pub(crate) fn read_whole<R: Read>(

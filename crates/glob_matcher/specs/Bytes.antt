@@ -1,5 +1,5 @@
 -- Bytes at places of a text, the bits of a mode, and folding.
-use Rattle.std.specs.Prelude.{◌≡◌, ℕ, ◌+◌, ◌<◌, Bool, List, [], ◌∷◌, ◌++◌, length, slice_index, ◌==◌, bit_and, if◌then◌else◌}
+use Rattle.std.specs.Prelude.{◌≡◌, ◌≢◌, ℕ, ◌+◌, ◌<◌, ◌≤◌, Bool, List, [], ◌∷◌, ◌++◌, length, slice_index, ◌==◌, bit_and, if◌then◌else◌}
 use Rattle.std.specs.Char.{to_ascii_lowercase}
 use Rattle.glob_matcher.specs.declared.wildmatch.mode.Mode.{Mode}
 
@@ -48,6 +48,10 @@ pub record IsEscaped (text : List ℕ) (i b : ℕ) : Type 0 where
 pub record EndsInSlash (text : List ℕ) : Type 0 where
   pub front : List ℕ
   pub joined : text ≡ front ++ slash ∷ []
+
+-- no place from k up to e has a slash
+pub record NoSlash (value : List ℕ) (k e : ℕ) : Type 0 where
+  pub at : (m : ℕ) → k ≤ m → m < e → slice_index value m ≢ slash
 
 -- the bits of a mode, as a number
 abbrev pub bits : Mode → ℕ

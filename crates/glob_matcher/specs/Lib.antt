@@ -2,11 +2,6 @@ pub mod Bytes
 pub mod Sets
 pub mod Tokens
 pub mod Matching
-pub mod Reader
 pub mod Pruning
-pub mod StarSearch
 pub mod Steps
-pub mod Components
-pub mod Seeking
-pub mod Marks
-pub mod Budget
+pub mod Private

@@ -3,9 +3,8 @@ use Rattle.std.specs.Prelude.{◌≡◌, ◌≢◌, ◌↔◌, ◌⊎◌, ℕ, �
 use Rattle.glob_matcher.specs.declared.wildmatch.mode.Mode.{Mode}
 use Rattle.glob_matcher.specs.declared.wildmatch.pruned.Answer.{Answer}
 use Rattle.glob_matcher.specs.declared.wildmatch.pruned.Answer.TheVariants.{Match, NoMatch, AbortAll, AbortToStarStar, RecursionLimitReached}
-use Rattle.glob_matcher.specs.Bytes.{HasByte, is_path, star}
+use Rattle.glob_matcher.specs.Bytes.{HasByte, NoSlash, is_path, star}
 use Rattle.glob_matcher.specs.Tokens.{Token, Byte, Any, OneOf, Free, Dirs, TokenAt, DirsAt, From}
-use Rattle.glob_matcher.specs.Reader.{NoSlash}
 use Rattle.glob_matcher.specs.Matching.{IsCut, SplitsFrom, star_count}
 
 -- The tokens are spelled, one after the other, from place i up to place j.
@@ -76,9 +75,10 @@ pub record Aborts (answer : Answer) (pattern : List ℕ) (from : ℕ) (value : L
   pub long : IsFlat pattern from mode → (answer ≡ AbortAll) ⊎ ((answer ≡ Match) ⊎ (answer ≡ NoMatch))
   pub crossing : BeginsCrossing pattern from mode → answer ≢ NoMatch
 
--- What one attempt answers, from a place of the pattern and a place of the value.
+-- What one attempt answers, from a place of the pattern and a place of the value. At depth 64 it gives up.
 pub record IsAttempt (answer : Answer) (pattern : List ℕ) (from : ℕ) (value : List ℕ) (at : ℕ) (mode : Mode) (depth : ℕ) : Type 0 where
   pub split : answer ≡ Match → SplitsFrom value at pattern from mode
   pub excludes : HasRoom pattern from mode depth → Excludes answer pattern from value at mode
   pub aborts : HasRoom pattern from mode depth → Aborts answer pattern from value at mode
   pub path : answer ≡ AbortToStarStar → IsTrue (is_path mode)
+  pub limit : depth ≡ 64 → answer ≡ RecursionLimitReached

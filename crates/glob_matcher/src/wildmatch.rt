@@ -2,26 +2,27 @@
 ghost use Rattle.std.specs.Prelude.{◌≡◌, ◌↔◌, ◌<◌, IsTrue};
 ghost use Rattle.glob_matcher.specs.Matching.{Splits};
 
-mod counted;
-mod follow;
-mod marks;
+mod advance;
+mod backtrack;
+mod engine;
 mod mode;
+mod needle;
 #[cfg(test)]
 mod plain;
 mod pruned;
-mod returns;
-mod seeking;
+mod scan;
 mod sets;
+mod state;
 mod steps;
 pub(crate) mod tokens;
-mod turns;
+mod two_marks;
 
-pub use marks::marked;
 pub use mode::Mode;
 pub use pruned::{Answer, attempt, is_start, recursive};
 use std::marker::Brand;
 use std::sync::ledger::{Blank, Ledger};
 pub use steps::Steps;
+pub use two_marks::marked;
 
 /// Whether `pattern` matches the whole of `value`, both as bytes of any kind, in `mode`.
 ///

@@ -14,7 +14,7 @@ use Rattle.glob_patterns.specs.Folding.{AreAlike}
 use Rattle.glob_patterns.specs.Patterns.{is_special, is_star_and_literal, first_special}
 use Rattle.glob_matcher.specs.Tokens.{Byte, Free, Local, TokenAt, IsRun}
 use Rattle.glob_matcher.specs.Matching.{Splits, SplitsFrom}
-use Rattle.glob_matcher.proofs.CutLemmas.{end_in, end_out, one_in, one_out, free_in, free_out, local_in, local_out}
+use Rattle.glob_matcher.proofs.lemmas.cutting.CutLemmas.{end_in, end_out, one_in, one_out, free_in, free_out, local_in, local_out}
 
 -- no byte is special from place i up to place j
 pub record IsLiteral (p : List ℕ) (i j : ℕ) : Type 0 where

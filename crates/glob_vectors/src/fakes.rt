@@ -1,4 +1,4 @@
-//! Readers and writers in memory, which move few bytes a call and fail from a chosen call on.
+//! Readers and writers in memory, which move few bytes a call and fail at one chosen call.
 use std::io;
 use std::io::{ErrorKind, Read, Write};
 
@@ -8,23 +8,36 @@ pub(crate) struct Source<'a> {
     rest: &'a [u8],
     piece: usize,
     calls_left: usize,
+    kind: ErrorKind,
 }
 
 impl<'a> Source<'a> {
-    /// Gives at most `piece` bytes a read. So many reads succeed, and each later one fails.
+    /// Gives at most `piece` bytes a read. So many reads succeed, the next one fails, and those after it succeed again.
     pub(crate) fn new(bytes: &'a [u8], piece: usize, successes: usize) -> Source<'a> {
         Source {
             rest: bytes,
             piece,
             calls_left: successes,
+            kind: ErrorKind::Other,
         }
+    }
+
+    /// Fails with an error of this kind.
+    pub(crate) fn failing_with(self, kind: ErrorKind) -> Source<'a> {
+        Source { kind, ..self }
+    }
+
+    /// What was not read.
+    pub(crate) fn rest(&self) -> &[u8] {
+        self.rest
     }
 }
 
 impl Read for Source<'_> {
     fn read(&mut self, buf: &mut [u8]) -> io::Result<usize> {
         if self.calls_left == 0 {
-            return Err(io::Error::from(ErrorKind::Other));
+            self.calls_left = usize::MAX;
+            return Err(io::Error::from(self.kind));
         }
         self.calls_left -= 1;
         let count = self.rest.len().min(self.piece).min(buf.len());
@@ -40,17 +53,24 @@ pub(crate) struct Sink {
     taken: Vec<u8>,
     piece: usize,
     calls_left: usize,
+    kind: ErrorKind,
 }
 
 impl Sink {
-    /// Takes at most `piece` bytes a write, onto `taken`. So many writes succeed, and each later one fails, as a flush does
-    /// then.
+    /// Takes at most `piece` bytes a write, onto `taken`. So many writes succeed, the next one fails, and those after it
+    /// succeed again. A flush fails where the next write would.
     pub(crate) fn new(taken: Vec<u8>, piece: usize, successes: usize) -> Sink {
         Sink {
             taken,
             piece,
             calls_left: successes,
+            kind: ErrorKind::Other,
         }
+    }
+
+    /// Fails with an error of this kind.
+    pub(crate) fn failing_with(self, kind: ErrorKind) -> Sink {
+        Sink { kind, ..self }
     }
 
     /// What was written.
@@ -62,7 +82,8 @@ impl Sink {
 impl Write for Sink {
     fn write(&mut self, buf: &[u8]) -> io::Result<usize> {
         if self.calls_left == 0 {
-            return Err(io::Error::from(ErrorKind::Other));
+            self.calls_left = usize::MAX;
+            return Err(io::Error::from(self.kind));
         }
         self.calls_left -= 1;
         let count = buf.len().min(self.piece);
@@ -72,7 +93,7 @@ impl Write for Sink {
 
     fn flush(&mut self) -> io::Result<()> {
         if self.calls_left == 0 {
-            return Err(io::Error::from(ErrorKind::Other));
+            return Err(io::Error::from(self.kind));
         }
         Ok(())
     }

@@ -6,13 +6,23 @@ mod ample_memory;
 #[cfg(test)]
 mod decision_rows;
 #[cfg(test)]
+mod failing_reads;
+#[cfg(test)]
+mod failing_writes;
+#[cfg(test)]
 mod fakes;
 #[cfg(test)]
 mod file_rows;
 #[cfg(test)]
 mod folding;
 #[cfg(test)]
+mod hostile_rows;
+#[cfg(test)]
+mod ignore_rows;
+#[cfg(test)]
 mod indexed;
+#[cfg(test)]
+mod label_rows;
 #[cfg(test)]
 mod list_rows;
 #[cfg(test)]
@@ -33,6 +43,8 @@ mod sets;
 mod shown;
 #[cfg(test)]
 mod stars;
+#[cfg(test)]
+mod texts;
 #[cfg(test)]
 mod tokens;
 #[cfg(test)]

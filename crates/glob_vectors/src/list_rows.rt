@@ -1,6 +1,6 @@
 //! Path lines against the lines of a pattern file.
 use crate::fakes::{Sink, Source};
-use crate::stars::repeated;
+use crate::texts::repeated;
 use gix_glob::pattern::Case;
 use gix_glob::search::{Watched, has_file_part};
 use glob_lines::{EngineFault, run_list};
@@ -121,73 +121,6 @@ fn the_numbers_of_matching_lines_are_listed(rt: HostRuntime) -> Result<(), Fail>
                 text,
                 "{patterns:?} on {paths:?}, {piece} bytes a call"
             );
-        }
-    }
-    Ok(())
-}
-
-#[test]
-fn a_failed_read_of_patterns_writes_nothing(rt: HostRuntime) -> Result<(), Fail> {
-    let patterns = b"a\n";
-    // a read for each byte, and one that finds the end
-    for successes in 0..5 {
-        let (answer, output) = run(
-            &rt,
-            TOP,
-            Source::new(patterns, 1, successes),
-            Source::new(b"a\n", WHOLE, WHOLE),
-            Sink::new(Vec::new(rt.alloc()), WHOLE, WHOLE),
-        );
-        if successes <= patterns.len() {
-            assert_eq!(rt; answer, Err(EngineFault::Read), "{successes} reads");
-            assert_eq!(rt; output.taken(), b"".as_slice(), "{successes} reads");
-        } else {
-            assert_eq!(rt; answer, Ok(()), "{successes} reads");
-            assert_eq!(rt; output.taken(), b"1\n".as_slice(), "{successes} reads");
-        }
-    }
-    Ok(())
-}
-
-#[test]
-fn a_failed_read_of_paths_writes_nothing(rt: HostRuntime) -> Result<(), Fail> {
-    let paths = b"a\nb";
-    for successes in 0..6 {
-        let (answer, output) = run(
-            &rt,
-            TOP,
-            Source::new(b"a\n", WHOLE, WHOLE),
-            Source::new(paths, 1, successes),
-            Sink::new(Vec::new(rt.alloc()), WHOLE, WHOLE),
-        );
-        if successes <= paths.len() {
-            assert_eq!(rt; answer, Err(EngineFault::Read), "{successes} reads");
-            assert_eq!(rt; output.taken(), b"".as_slice(), "{successes} reads");
-        } else {
-            assert_eq!(rt; answer, Ok(()), "{successes} reads");
-            assert_eq!(rt; output.taken(), b"1\n\n".as_slice(), "{successes} reads");
-        }
-    }
-    Ok(())
-}
-
-#[test]
-fn a_failed_write_leaves_a_beginning(rt: HostRuntime) -> Result<(), Fail> {
-    let text = b"1 2\n!\n";
-    for successes in 0..8 {
-        let (answer, output) = run(
-            &rt,
-            TOP,
-            Source::new(b"a\n*\n", WHOLE, WHOLE),
-            Source::new(b"a\n/a\n", WHOLE, WHOLE),
-            Sink::new(Vec::new(rt.alloc()), 1, successes),
-        );
-        if successes < text.len() {
-            assert_eq!(rt; answer, Err(EngineFault::Write), "{successes} writes");
-            assert_eq!(rt; output.taken(), &text[..successes], "{successes} writes");
-        } else {
-            assert_eq!(rt; answer, Ok(()), "{successes} writes");
-            assert_eq!(rt; output.taken(), text.as_slice(), "{successes} writes");
         }
     }
     Ok(())

@@ -1,51 +1,48 @@
 //! Calls that want memory: each refuses for want of it, or gives the answer of ample memory.
 //!
-//! With ample memory these tests compare answers. `.ci/refuse-memory` runs them with each allocation refused in turn.
+//! `.ci/refuse-memory` runs each of these tests with each of its allocations refused in turn. The test then ends with the
+//! fault of memory, and with no other; what the call leaves is looked at first. Here, with ample memory, each one answers.
+use bitflags::Flags;
 use gix_glob::pattern::Case;
 use gix_glob::search::pattern::{List, Mapping};
-use gix_glob::search::{LoadFault, Pattern as _, Watched, add_patterns_file};
+use gix_glob::search::{Pattern as _, Watched, add_patterns_file};
 use gix_glob::wildmatch::Mode;
 use gix_glob::{Pattern, parse};
-use glob_lines::{EngineFault, PlainLines, run_list, run_wild};
+use glob_lines::{
+    IgnoreLines, LabelLines, PlainLines, bases_are_folders, run_ignore, run_list, run_wild,
+};
 use std::alloc::{AllocError, Global};
+use std::test::Fail;
 use std::{env, fs, process};
+
+mod labels;
 
 const LINES: &[u8] = b"*.rs\n\n!src/\n";
 
-fn list_of(alloc: Global) -> Result<List<PlainLines>, AllocError> {
-    let source = String::from_str(alloc, "d/ig")?;
-    List::from_bytes(alloc, LINES, source, Some(""), PlainLines)
+/// Whether the pattern has this text and these flags.
+fn is_read(read: Option<Pattern>, text: &[u8], bits: u32) -> bool {
+    read.is_some_and(|pattern| pattern.text() == text && pattern.mode().bits() == bits)
 }
 
 #[test]
-fn a_pattern_is_read(rt: HostRuntime) {
-    if let Ok(read) = parse::parse(rt.alloc(), b"!a*") {
-        assert!(rt; read.is_some_and(|pattern| pattern.text() == b"a*".as_slice()));
-    }
-    if let Ok(read) = Pattern::from_bytes(rt.alloc(), b"!a*") {
-        assert!(rt; read.is_some_and(|pattern| pattern.text() == b"a*".as_slice()));
-    }
-    if let Ok(read) = Pattern::from_bytes_without_negation(rt.alloc(), b"!a*") {
-        assert!(rt; read.is_some_and(|pattern| pattern.text() == b"!a*".as_slice()));
-    }
+fn parse_reads_a_line(rt: HostRuntime) -> Result<(), Fail> {
+    let read = parse::parse(rt.alloc(), b"!a*")?;
+    assert!(rt; is_read(read, b"a*", 9));
+    Ok(())
 }
 
 #[test]
-fn copies_are_equal(rt: HostRuntime) {
-    let Ok(list) = list_of(rt.alloc()) else {
-        return;
-    };
-    if let Ok(copy) = list.clone() {
-        assert!(rt; copy == list);
-    }
-    for mapping in &list.patterns {
-        if let Ok(copy) = mapping.clone() {
-            assert!(rt; copy == *mapping);
-        }
-        if let Ok(copy) = mapping.pattern.clone() {
-            assert!(rt; copy == mapping.pattern);
-        }
-    }
+fn from_bytes_reads_a_line(rt: HostRuntime) -> Result<(), Fail> {
+    let read = Pattern::from_bytes(rt.alloc(), b"!a*")?;
+    assert!(rt; is_read(read, b"a*", 9));
+    Ok(())
+}
+
+#[test]
+fn from_bytes_without_negation_reads_a_line(rt: HostRuntime) -> Result<(), Fail> {
+    let read = Pattern::from_bytes_without_negation(rt.alloc(), b"!a*")?;
+    assert!(rt; is_read(read, b"!a*", 1));
+    Ok(())
 }
 
 /// Whether the mappings are those of the lines.
@@ -61,73 +58,104 @@ fn are_read(mappings: &[Mapping<()>]) -> bool {
 }
 
 #[test]
-fn a_list_is_read(rt: HostRuntime) {
-    if let Ok(list) = list_of(rt.alloc()) {
-        assert!(rt; are_read(&list.patterns));
-        assert!(rt;
-            list.base
-                .is_some_and(|base| base.as_slice() == b"d/".as_slice())
-        );
-    }
-    if let Ok(mappings) = PlainLines.bytes_to_patterns(rt.alloc(), LINES, "d/ig") {
-        assert!(rt; are_read(&mappings));
-    }
+fn plain_lines_are_mappings(rt: HostRuntime) -> Result<(), Fail> {
+    let mappings = PlainLines.bytes_to_patterns(rt.alloc(), LINES, "d/ig")?;
+    assert!(rt; are_read(&mappings));
+    Ok(())
 }
 
 #[test]
-fn a_list_is_read_from_a_reader(rt: HostRuntime) {
-    let Ok(source) = String::from_str(rt.alloc(), "d/ig") else {
-        return;
-    };
+fn copies_of_mappings_and_patterns_are_equal(rt: HostRuntime) -> Result<(), Fail> {
+    let mappings = PlainLines.bytes_to_patterns(rt.alloc(), LINES, "d/ig")?;
+    for mapping in &mappings {
+        assert!(rt; mapping.clone()? == *mapping);
+        assert!(rt; mapping.pattern.clone()? == mapping.pattern);
+    }
+    Ok(())
+}
+
+/// The list of the lines of a file in the folder `d`.
+fn list_of(alloc: Global) -> Result<List<PlainLines>, AllocError> {
+    let source = String::from_str(alloc, "d/ig")?;
+    List::from_bytes(alloc, LINES, source, Some(""), PlainLines)
+}
+
+/// Whether it is that list.
+fn is_loaded(list: &List<PlainLines>) -> bool {
+    let base = list.base.as_ref().map(|base| base.as_slice());
+    are_read(&list.patterns) && list.source.is_some() && base == Some(b"d/".as_slice())
+}
+
+#[test]
+fn a_list_is_made_of_bytes(rt: HostRuntime) -> Result<(), Fail> {
+    assert!(rt; is_loaded(&list_of(rt.alloc())?));
+    Ok(())
+}
+
+#[test]
+fn a_copied_list_is_equal(rt: HostRuntime) -> Result<(), Fail> {
+    let list = list_of(rt.alloc())?;
+    assert!(rt; list.clone()? == list);
+    Ok(())
+}
+
+#[test]
+fn a_list_is_read_from_a_reader(rt: HostRuntime) -> Result<(), Fail> {
+    let source = String::from_str(rt.alloc(), "d/ig")?;
     let mut reader = Watched::new(LINES);
     let mut buf = Vec::new(rt.alloc());
-    match List::from_reader(rt.alloc(), &mut reader, source, None, &mut buf, PlainLines) {
-        Ok(list) => assert!(rt; list.is_some_and(|list| are_read(&list.patterns))),
-        Err(fault) => assert!(rt; matches!(fault, LoadFault::Memory)),
-    }
+    let read = List::from_reader(
+        rt.alloc(),
+        &mut reader,
+        source,
+        Some(""),
+        &mut buf,
+        PlainLines,
+    );
     assert!(rt; !reader.failed());
+    assert!(rt; LINES.starts_with(&buf));
+    assert!(rt; read?.is_some_and(|list| is_loaded(&list)));
+    assert!(rt; buf.as_slice() == LINES);
+    Ok(())
 }
 
-/// A file of the lines, or nothing where there is no memory to make it.
-fn file_of_lines(rt: &HostRuntime) -> Option<String> {
+/// A file of the lines.
+fn file_of_lines(rt: &HostRuntime) -> Result<String, Fail> {
     let number = process::id(rt.process());
-    let folder = env::temp_dir(rt).ok()?;
+    let folder = env::temp_dir(rt)?;
     let folder = folder.as_str();
-    let path = format!(in rt.alloc(); "{folder}/glob_vectors-lines-{number}").ok()?;
-    fs::write(rt, path.as_str(), LINES).ok()?;
-    Some(path)
+    let path = format!(in rt.alloc(); "{folder}/glob_vectors-lines-{number}")?;
+    fs::write(rt, path.as_str(), LINES)?;
+    Ok(path)
 }
 
 #[test]
-fn a_list_is_read_from_a_file(rt: HostRuntime) {
-    let Some(path) = file_of_lines(&rt) else {
-        return;
-    };
+fn a_list_is_read_from_a_file(rt: HostRuntime) -> Result<(), Fail> {
+    let path = file_of_lines(&rt)?;
     let mut buf = Vec::new(rt.alloc());
-    if let Ok(source) = path.clone() {
-        match List::from_file(&rt, rt.alloc(), source, None, &mut buf, PlainLines) {
-            Ok(list) => assert!(rt; list.is_some_and(|list| are_read(&list.patterns))),
-            Err(fault) => assert!(rt; matches!(fault, LoadFault::Memory)),
-        }
-    }
-    let _ = fs::remove_file(&rt, path.as_str());
+    let read = path.clone().map(|source| List::from_file(
+        &rt,
+        rt.alloc(),
+        source,
+        None,
+        &mut buf,
+        PlainLines,
+    ));
+    fs::remove_file(&rt, path.as_str())?;
+    assert!(rt; LINES.starts_with(&buf));
+    assert!(rt; read??.is_some_and(|list| are_read(&list.patterns)));
+    Ok(())
 }
 
 #[test]
-fn a_refusal_leaves_the_lists(rt: HostRuntime) {
-    let Some(path) = file_of_lines(&rt) else {
-        return;
-    };
-    let mut lists = Vec::new(rt.alloc());
-    for _ in 0..2 {
-        if let Ok(list) = list_of(rt.alloc()) {
-            let _ = lists.push(list);
-        }
-    }
-    let count = lists.len();
+fn a_refusal_leaves_two_lists(rt: HostRuntime) -> Result<(), Fail> {
+    let mut lists = Vec::with_capacity(rt.alloc(), 2)?;
+    lists.push(list_of(rt.alloc())?)?;
+    lists.push(List::empty(rt.alloc()))?;
+    let path = file_of_lines(&rt)?;
     let mut buf = Vec::new(rt.alloc());
-    if let Ok(source) = path.clone() {
-        let added = add_patterns_file(
+    let added = path.clone().map(|source| {
+        add_patterns_file(
             &rt,
             rt.alloc(),
             &mut lists,
@@ -135,46 +163,39 @@ fn a_refusal_leaves_the_lists(rt: HostRuntime) {
             None,
             &mut buf,
             PlainLines,
-        );
-        match added {
-            Ok(is_added) => {
-                assert!(rt; is_added);
-                assert!(rt; lists.len() == count + 1);
-            }
-            Err(fault) => {
-                assert!(rt; matches!(fault, LoadFault::Memory));
-                assert!(rt; lists.len() == count);
-            }
-        }
-        for list in &lists {
-            assert!(rt; are_read(&list.patterns));
-        }
-    }
-    let _ = fs::remove_file(&rt, path.as_str());
+        )
+    });
+    fs::remove_file(&rt, path.as_str())?;
+    let count = if matches!(added, Ok(Ok(true))) { 3 } else { 2 };
+    assert_eq!(rt; lists.len(), count);
+    let [first, second, ..] = lists.as_slice() else {
+        return Err(Fail::new("a list is lost"));
+    };
+    assert!(rt; is_loaded(first) && *second == List::empty(rt.alloc()));
+    assert!(rt; added??);
+    Ok(())
 }
 
 #[test]
-fn values_are_answered(rt: HostRuntime) {
+fn values_are_answered(rt: HostRuntime) -> Result<(), Fail> {
     let mut reader = Watched::new(b"ab\nb\n".as_slice());
-    let mut writer = Watched::new(Vec::new(rt.alloc()));
+    // with room for all that is written
+    let mut writer = Watched::new(Vec::with_capacity(rt.alloc(), 16)?);
     let mode = Mode::NO_MATCH_SLASH_LITERAL;
     let answer = run_wild(rt.alloc(), b"a*", mode, &mut reader, &mut writer);
     let output = writer.into_inner();
-    match answer {
-        Ok(()) => assert!(rt; output.as_slice() == b"yes\nno\n".as_slice()),
-        // the vector that is written to wants memory too
-        Err(fault) => {
-            assert!(rt; fault != EngineFault::Read);
-            assert!(rt; output.is_empty());
-        }
-    }
+    assert!(rt; output.is_empty() || answer.is_ok());
+    answer?;
+    assert!(rt; output.as_slice() == b"yes\nno\n".as_slice());
+    Ok(())
 }
 
 #[test]
-fn paths_are_answered(rt: HostRuntime) {
+fn paths_are_answered(rt: HostRuntime) -> Result<(), Fail> {
     let mut patterns = Watched::new(LINES);
     let mut paths = Watched::new(b"a.rs\nsrc/\n/\n".as_slice());
-    let mut writer = Watched::new(Vec::new(rt.alloc()));
+    // with room for all that is written
+    let mut writer = Watched::new(Vec::with_capacity(rt.alloc(), 16)?);
     let answer = run_list(
         rt.alloc(),
         &mut patterns,
@@ -185,12 +206,55 @@ fn paths_are_answered(rt: HostRuntime) {
         &mut writer,
     );
     let output = writer.into_inner();
-    match answer {
-        Ok(()) => assert!(rt; output.as_slice() == b"1\n3\n!\n".as_slice()),
-        // the vector that is written to wants memory too
-        Err(fault) => {
-            assert!(rt; fault != EngineFault::Read);
-            assert!(rt; output.is_empty());
-        }
-    }
+    assert!(rt; output.is_empty() || answer.is_ok());
+    answer?;
+    assert!(rt; output.as_slice() == b"1\n3\n!\n".as_slice());
+    Ok(())
+}
+
+#[test]
+fn ignore_lines_are_mappings(rt: HostRuntime) -> Result<(), Fail> {
+    let mappings = IgnoreLines.bytes_to_patterns(rt.alloc(), b"*.rs \r\n#\n!src/", "ig")?;
+    assert!(rt; are_read(&mappings));
+    Ok(())
+}
+
+/// The list of labelled lines: its values are texts.
+fn labels(alloc: Global) -> Result<List<LabelLines>, AllocError> {
+    let source = String::from_str(alloc, "ig")?;
+    List::from_bytes(alloc, b"*.rs\trust\n!x\n", source, None, LabelLines)
+}
+
+#[test]
+fn labelled_lines_are_mappings(rt: HostRuntime) -> Result<(), Fail> {
+    let list = labels(rt.alloc())?;
+    let [first, second] = list.patterns.as_slice() else {
+        return Err(Fail::new("not two mappings"));
+    };
+    assert!(rt; first.value.as_slice() == b"rust".as_slice() && second.value.is_empty());
+    assert!(rt; first.pattern.text() == b"*.rs".as_slice() && second.pattern.is_negative());
+    Ok(())
+}
+
+#[test]
+fn a_copied_list_of_labels_is_equal(rt: HostRuntime) -> Result<(), Fail> {
+    let list = labels(rt.alloc())?;
+    assert!(rt; list.clone()? == list);
+    Ok(())
+}
+
+#[test]
+fn paths_are_decided(rt: HostRuntime) -> Result<(), Fail> {
+    let source = String::from_str(rt.alloc(), "ig")?;
+    let lists = [List::from_bytes(rt.alloc(), LINES, source, None, IgnoreLines)?];
+    assert!(rt; bases_are_folders(&lists));
+    let mut paths = Watched::new(b"a.rs\nsrc/\n/\n".as_slice());
+    // with room for all that is written
+    let mut writer = Watched::new(Vec::with_capacity(rt.alloc(), 32)?);
+    let answer = run_ignore(rt.alloc(), &lists, Case::Sensitive, &mut paths, &mut writer);
+    let output = writer.into_inner();
+    assert!(rt; output.is_empty() || answer.is_ok());
+    answer?;
+    assert!(rt; output.as_slice() == b"ignored 1:1\nkept 1:3\n!\n".as_slice());
+    Ok(())
 }

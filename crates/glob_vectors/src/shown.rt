@@ -5,7 +5,7 @@ use gix_glob::pattern::{Case, Mode, PatternView};
 use gix_glob::search::pattern::List;
 use gix_glob::search::{LoadFault, Watched};
 use gix_glob::wildmatch::{self, Answer};
-use glob_lines::{EngineFault, PlainLines};
+use glob_lines::{EngineFault, IgnoreLines, LabelLines, PlainLines};
 use std::io;
 use std::process::Abort;
 use std::test::Fail;
@@ -21,15 +21,22 @@ fn texts_of_faults(rt: HostRuntime) -> Result<(), Fail> {
         assert_eq!(rt; format!(in rt.alloc(); "{fault}")?.as_str(), text);
         assert_eq!(rt; format!(in rt.alloc(); "{fault:?}")?.as_str(), debug);
     }
-    let fault = LoadFault::Read(io::Error::other("gone"));
-    assert_eq!(rt;
-        format!(in rt.alloc(); "{fault}")?.as_str(),
-        "reading patterns: gone"
-    );
-    assert_eq!(rt;
-        format!(in rt.alloc(); "{fault:?}")?.as_str(),
-        "Read(Custom { kind: Other, error: \"gone\" })"
-    );
+    let rows = [
+        (
+            LoadFault::Memory,
+            "out of memory while loading patterns",
+            "Memory",
+        ),
+        (
+            LoadFault::Read(io::Error::other("gone")),
+            "reading patterns: gone",
+            "Read(Custom { kind: Other, error: \"gone\" })",
+        ),
+    ];
+    for (fault, text, debug) in rows {
+        assert_eq!(rt; format!(in rt.alloc(); "{fault}")?.as_str(), text);
+        assert_eq!(rt; format!(in rt.alloc(); "{fault:?}")?.as_str(), debug);
+    }
     Ok(())
 }
 
@@ -76,9 +83,7 @@ fn patterns_and_lists(rt: HostRuntime) -> Result<(), Fail> {
         format!(in rt.alloc(); "{watched:?}")?.as_str(),
         "Watched { inner: [97], failed: false }"
     );
-    assert_eq!(rt;
-        format!(in rt.alloc(); "{PlainLines:?}")?.as_str(),
-        "PlainLines"
-    );
+    let parsers = format!(in rt.alloc(); "{PlainLines:?} {IgnoreLines:?} {LabelLines:?}")?;
+    assert_eq!(rt; parsers.as_str(), "PlainLines IgnoreLines LabelLines");
     Ok(())
 }

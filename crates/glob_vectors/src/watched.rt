@@ -1,111 +1,134 @@
-//! What a watched reader or writer hands on: no call is tried again, and no piece is cut.
+//! What a watched reader or writer hands on: the bytes, the answer, and whether a call failed.
 use crate::fakes::{Sink, Source};
 use gix_glob::search::Watched;
-use std::io;
 use std::io::{ErrorKind, Read, Write};
 use std::test::Fail;
 
-/// More than a page, which a device takes or gives at once.
-const LONG: usize = 10_000;
+const WHOLE: usize = usize::MAX;
 
 #[test]
-fn a_failed_flush_is_told_and_remembered(rt: HostRuntime) {
+fn reads_are_handed_on(rt: HostRuntime) -> Result<(), Fail> {
+    let long = vec![in rt.alloc(); 7u8; 5_000]?;
+    let mut buf = vec![in rt.alloc(); 0u8; 6_000]?;
+    let mut watched = Watched::new(Source::new(&long, WHOLE, WHOLE));
+    assert_eq!(rt; watched.read(&mut buf)?, 5_000);
+    assert!(rt; buf.starts_with(&long));
+    assert_eq!(rt; watched.read(&mut buf)?, 0);
+    assert!(rt; !watched.failed());
+    Ok(())
+}
+
+#[test]
+fn a_failed_read_is_told_and_not_tried_again(rt: HostRuntime) -> Result<(), Fail> {
+    for kind in [ErrorKind::Interrupted, ErrorKind::PermissionDenied] {
+        let mut buf = [0u8; 3];
+        let mut watched = Watched::new(Source::new(b"abc", 1, 1).failing_with(kind));
+        assert_eq!(rt; watched.read(&mut buf)?, 1);
+        assert!(rt; !watched.failed(), "{kind:?}");
+        let refused = watched.read(&mut buf).err().ok_or("no error")?;
+        assert_eq!(rt; refused.kind(), kind);
+        assert!(rt; watched.failed(), "{kind:?}");
+        assert_eq!(rt; watched.read(&mut buf)?, 1);
+        assert!(rt; watched.failed(), "{kind:?}");
+        assert_eq!(rt; watched.into_inner().rest(), b"c".as_slice());
+    }
+    Ok(())
+}
+
+#[test]
+fn exact_reads_are_handed_on(rt: HostRuntime) -> Result<(), Fail> {
+    let mut buf = [0u8; 3];
+    let mut watched = Watched::new(Source::new(b"abcd", 1, WHOLE));
+    watched.read_exact(&mut buf)?;
+    assert_eq!(rt; buf.as_slice(), b"abc".as_slice());
+    assert!(rt; !watched.failed());
+    // one byte is left, and two are wanted
+    let refused = watched.read_exact(&mut buf[..2]).err().ok_or("no error")?;
+    assert_eq!(rt; refused.kind(), ErrorKind::UnexpectedEof);
+    assert!(rt; watched.failed());
+    assert_eq!(rt; buf.as_slice(), b"dbc".as_slice());
+    assert_eq!(rt; watched.into_inner().rest(), b"".as_slice());
+    Ok(())
+}
+
+#[test]
+fn a_failed_exact_read_is_told(rt: HostRuntime) -> Result<(), Fail> {
+    let mut buf = [0u8; 3];
+    let source = Source::new(b"abcd", 1, 2).failing_with(ErrorKind::PermissionDenied);
+    let mut watched = Watched::new(source);
+    let refused = watched.read_exact(&mut buf).err().ok_or("no error")?;
+    assert_eq!(rt; refused.kind(), ErrorKind::PermissionDenied);
+    assert!(rt; watched.failed());
+    assert_eq!(rt; buf.as_slice(), b"ab\0".as_slice());
+    assert_eq!(rt; watched.into_inner().rest(), b"cd".as_slice());
+    Ok(())
+}
+
+#[test]
+fn writes_are_handed_on(rt: HostRuntime) -> Result<(), Fail> {
+    let long = vec![in rt.alloc(); 7u8; 5_000]?;
+    let mut watched = Watched::new(Sink::new(Vec::new(rt.alloc()), WHOLE, WHOLE));
+    assert_eq!(rt; watched.write(&long)?, 5_000);
+    assert!(rt; !watched.failed());
+    assert_eq!(rt; watched.into_inner().taken(), long.as_slice());
+    // no byte of no bytes is no failure, of some it is
+    let mut watched = Watched::new(Sink::new(Vec::new(rt.alloc()), 0, WHOLE));
+    assert_eq!(rt; watched.write(b"")?, 0);
+    assert!(rt; !watched.failed());
+    assert_eq!(rt; watched.write(b"abc")?, 0);
+    assert!(rt; watched.failed());
+    Ok(())
+}
+
+#[test]
+fn a_failed_write_is_told_and_not_tried_again(rt: HostRuntime) -> Result<(), Fail> {
+    for kind in [ErrorKind::Interrupted, ErrorKind::PermissionDenied] {
+        let sink = Sink::new(Vec::new(rt.alloc()), 2, 1).failing_with(kind);
+        let mut watched = Watched::new(sink);
+        assert_eq!(rt; watched.write(b"abc")?, 2);
+        assert!(rt; !watched.failed(), "{kind:?}");
+        let refused = watched.write(b"c").err().ok_or("no error")?;
+        assert_eq!(rt; refused.kind(), kind);
+        assert!(rt; watched.failed(), "{kind:?}");
+        assert_eq!(rt; watched.into_inner().taken(), b"ab".as_slice());
+    }
+    Ok(())
+}
+
+#[test]
+fn whole_writes_are_handed_on(rt: HostRuntime) -> Result<(), Fail> {
+    let mut watched = Watched::new(Sink::new(Vec::new(rt.alloc()), 1, WHOLE));
+    watched.write_all(b"abc")?;
+    assert!(rt; !watched.failed());
+    assert_eq!(rt; watched.into_inner().taken(), b"abc".as_slice());
+    Ok(())
+}
+
+#[test]
+fn a_failed_whole_write_is_told(rt: HostRuntime) -> Result<(), Fail> {
+    let kind = ErrorKind::PermissionDenied;
+    let rows = [(1, 2, kind, "ab"), (0, WHOLE, ErrorKind::WriteZero, "")];
+    for (piece, successes, told, taken) in rows {
+        let sink = Sink::new(Vec::new(rt.alloc()), piece, successes).failing_with(kind);
+        let mut watched = Watched::new(sink);
+        let refused = watched.write_all(b"abc").err().ok_or("no error")?;
+        assert_eq!(rt; refused.kind(), told, "{piece} bytes a call");
+        assert!(rt; watched.failed(), "{piece} bytes a call");
+        assert_eq!(rt; watched.into_inner().taken(), taken.as_bytes());
+    }
+    Ok(())
+}
+
+#[test]
+fn flushes_are_handed_on(rt: HostRuntime) -> Result<(), Fail> {
+    let kind = ErrorKind::PermissionDenied;
     for (successes, fails) in [(0, true), (1, false)] {
-        let mut watched = Watched::new(Sink::new(Vec::new(rt.alloc()), 1, successes));
-        assert_eq!(rt; watched.flush().is_err(), fails, "{successes} successes");
+        let sink = Sink::new(Vec::new(rt.alloc()), 1, successes).failing_with(kind);
+        let mut watched = Watched::new(sink);
+        let told = watched.flush().err().map(|refused| refused.kind());
+        assert_eq!(rt; told, fails.then_some(kind), "{successes} successes");
         assert_eq!(rt; watched.failed(), fails, "{successes} successes");
+        assert_eq!(rt; watched.into_inner().taken(), b"".as_slice());
     }
-}
-
-/// A reader and writer whose first call is interrupted, and whose later calls move one byte.
-#[derive(Drop)]
-struct InterruptedOnce {
-    was_called: bool,
-}
-
-impl InterruptedOnce {
-    fn call(&mut self) -> io::Result<usize> {
-        if self.was_called {
-            return Ok(1);
-        }
-        self.was_called = true;
-        Err(io::Error::from(ErrorKind::Interrupted))
-    }
-}
-
-impl Read for InterruptedOnce {
-    fn read(&mut self, buf: &mut [u8]) -> io::Result<usize> {
-        let count = self.call()?;
-        Ok(count.min(buf.len()))
-    }
-}
-
-impl Write for InterruptedOnce {
-    fn write(&mut self, buf: &[u8]) -> io::Result<usize> {
-        let count = self.call()?;
-        Ok(count.min(buf.len()))
-    }
-
-    fn flush(&mut self) -> io::Result<()> {
-        let _ = self.call()?;
-        Ok(())
-    }
-}
-
-#[test]
-fn an_interrupted_read_is_told(rt: HostRuntime) -> Result<(), Fail> {
-    let mut watched = Watched::new(InterruptedOnce { was_called: false });
-    let mut piece = [0; 4];
-    let kind = watched.read(&mut piece).err().map(|error| error.kind());
-    assert_eq!(rt; kind, Some(ErrorKind::Interrupted));
-    assert!(rt; watched.failed());
-    assert_eq!(rt; watched.read(&mut piece)?, 1);
-    assert!(rt; watched.failed(), "the flag doesn't turn back");
-    Ok(())
-}
-
-#[test]
-fn an_interrupted_write_is_told(rt: HostRuntime) -> Result<(), Fail> {
-    let mut watched = Watched::new(InterruptedOnce { was_called: false });
-    let kind = watched.write(b"ab").err().map(|error| error.kind());
-    assert_eq!(rt; kind, Some(ErrorKind::Interrupted));
-    assert!(rt; watched.failed());
-    assert_eq!(rt; watched.write(b"ab")?, 1);
-    assert!(rt; watched.failed(), "the flag doesn't turn back");
-    Ok(())
-}
-
-#[test]
-fn an_interrupted_flush_is_told(rt: HostRuntime) -> Result<(), Fail> {
-    let mut watched = Watched::new(InterruptedOnce { was_called: false });
-    assert!(rt; watched.flush().is_err() && watched.failed());
-    watched.flush()?;
-    Ok(())
-}
-
-#[test]
-fn pieces_are_moved_whole(rt: HostRuntime) -> Result<(), Fail> {
-    let bytes = [7; LONG];
-    for (piece, count) in [(usize::MAX, LONG), (4_097, 4_097), (1, 1)] {
-        let mut writer = Watched::new(Sink::new(Vec::new(rt.alloc()), piece, 2));
-        assert_eq!(rt; writer.write(&bytes)?, count, "a writer that takes {piece}");
-        assert_eq!(rt; writer.into_inner().taken(), &bytes[..count]);
-        let mut reader = Watched::new(Source::new(&bytes, piece, 2));
-        let mut room = [0; LONG];
-        assert_eq!(rt;
-            reader.read(&mut room)?,
-            count,
-            "a reader that gives {piece}"
-        );
-        assert_eq!(rt; &room[..count], &bytes[..count]);
-        assert!(rt; !reader.failed());
-    }
-    let mut writer = Watched::new(Sink::new(Vec::new(rt.alloc()), 1, LONG));
-    writer.write_all(&bytes)?;
-    assert_eq!(rt; writer.into_inner().taken(), bytes.as_slice());
-    let mut reader = Watched::new(Source::new(&bytes, 1, LONG));
-    let mut room = [0; LONG];
-    reader.read_exact(&mut room)?;
-    assert_eq!(rt; room.as_slice(), bytes.as_slice());
     Ok(())
 }

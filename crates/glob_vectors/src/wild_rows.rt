@@ -51,69 +51,6 @@ fn each_value_line_is_answered(rt: HostRuntime) -> Result<(), Fail> {
 }
 
 #[test]
-fn a_failed_read_writes_nothing(rt: HostRuntime) -> Result<(), Fail> {
-    let input = b"ab\nb\n";
-    // a read for each byte, and one that finds the end
-    for successes in 0..8 {
-        let (answer, output) = run(
-            rt.alloc(),
-            b"a*",
-            Mode::NO_MATCH_SLASH_LITERAL,
-            Source::new(input, 1, successes),
-            Sink::new(Vec::new(rt.alloc()), 1, WHOLE),
-        );
-        if successes <= input.len() {
-            assert_eq!(rt; answer, Err(EngineFault::Read), "{successes} reads");
-            assert_eq!(rt; output.taken(), b"".as_slice(), "{successes} reads");
-        } else {
-            assert_eq!(rt; answer, Ok(()), "{successes} reads");
-            assert_eq!(rt;
-                output.taken(),
-                b"yes\nno\n".as_slice(),
-                "{successes} reads"
-            );
-        }
-    }
-    Ok(())
-}
-
-#[test]
-fn a_failed_write_leaves_a_beginning(rt: HostRuntime) -> Result<(), Fail> {
-    let text = b"yes\nno\n";
-    for successes in 0..9 {
-        let (answer, output) = run(
-            rt.alloc(),
-            b"a*",
-            Mode::NO_MATCH_SLASH_LITERAL,
-            Source::new(b"ab\nb\n", WHOLE, WHOLE),
-            Sink::new(Vec::new(rt.alloc()), 1, successes),
-        );
-        if successes < text.len() {
-            assert_eq!(rt; answer, Err(EngineFault::Write), "{successes} writes");
-            assert_eq!(rt; output.taken(), &text[..successes], "{successes} writes");
-        } else {
-            assert_eq!(rt; answer, Ok(()), "{successes} writes");
-            assert_eq!(rt; output.taken(), text.as_slice(), "{successes} writes");
-        }
-    }
-    Ok(())
-}
-
-#[test]
-fn a_writer_that_takes_nothing_fails(rt: HostRuntime) -> Result<(), Fail> {
-    let (answer, output) = run(
-        rt.alloc(),
-        b"a*",
-        Mode::NO_MATCH_SLASH_LITERAL,
-        Source::new(b"ab\nb\n", WHOLE, WHOLE),
-        Sink::new(Vec::new(rt.alloc()), 0, WHOLE),
-    );
-    assert_eq!(rt; answer, Err(EngineFault::Write));
-    assert_eq!(rt; output.taken(), b"".as_slice());
-    Ok(())
-}
-
-#[test]
 fn output_is_appended(rt: HostRuntime) -> Result<(), Fail> {
     let (answer, output) = run(
         rt.alloc(),

@@ -1,6 +1,6 @@
 -- The words of a command by their number, and what the engines do for a command.
-use Rattle.std.proofs.Common.{◌≡◌, ◌<◌, ◌≤◌, ℕ, ◌-◌, List, [], ◌∷◌, length, get_or, map, take, drop, Option, take_all, arith}
-use Rattle.std.specs.Io.KnownBytes.{Appends}
+use Rattle.std.proofs.Common.{◌≡◌, ◌⊎◌, inl, inr, ◌<◌, ◌≤◌, ℕ, ◌-◌, List, [], ◌∷◌, length, get_or, map, take, drop, Option, Result, Ok, Err, refl, take_all, arith}
+use Rattle.std.specs.Prelude.{OnErr}
 use Rattle.gix_glob.specs.declared.pattern.Case.{Case}
 use Rattle.gix_glob.specs.declared.wildmatch.Mode.{Mode}
 use Rattle.gix_glob.specs.Loaded.{Listed}
@@ -8,6 +8,8 @@ use Rattle.glob_lines.specs.Decisions.{DecisionsText}
 use Rattle.glob_lines.specs.Mappings.{MappingsText, ReadsBoth}
 use Rattle.glob_lines.specs.Transfers.{ReadsWhole, Run}
 use Rattle.glob_lines.specs.Values.{ValuesText}
+use Rattle.glob_lines.specs.declared.fault.EngineFault.{EngineFault}
+use Rattle.glob_lines.specs.declared.fault.EngineFault.TheVariants.{Memory, Read, Write}
 use Rattle.globline.specs.Words.{AnswersIgnore, AnswersList, AnswersWild, AreIgnoreLists}
 
 -- ---- lists of three and of four
@@ -41,19 +43,26 @@ map-of_three_and_more f (x ∷ y ∷ z ∷ xs) a b c low p q r =
 
 -- ---- the engines
 
-pub answers_wild : (mode : Mode) (pattern : List ℕ) (input_old input_new output_old output_new : Option (List ℕ)) → Run (ReadsWhole input_old input_new) (ValuesText pattern mode) (Appends output_old output_new)
-    → AnswersWild mode pattern input_old input_new output_old output_new
-answers_wild mode pattern input_old input_new output_old output_new run = record { run = run }
+pub answers_wild : (mode : Mode) (pattern : List ℕ) (input_old input_new : Option (List ℕ)) (Written : List ℕ → Type 0) → Run (ReadsWhole input_old input_new) (ValuesText pattern mode) Written
+    → AnswersWild mode pattern input_old input_new Written
+answers_wild mode pattern input_old input_new Written run = record { run = run }
 
-pub answers_list : (case : Case) (file : List ℕ) (root : Option (List ℕ)) (patterns_old patterns_new input_old input_new output_old output_new : Option (List ℕ))
-    → Run (ReadsBoth patterns_old patterns_new input_old input_new) (MappingsText file root case) (Appends output_old output_new)
-    → AnswersList case file root input_old input_new output_old output_new
-answers_list case file root patterns_old patterns_new input_old input_new output_old output_new run = record {
+pub answers_list : (case : Case) (file : List ℕ) (root : Option (List ℕ)) (patterns_old patterns_new input_old input_new : Option (List ℕ)) (Written : List ℕ → Type 0)
+    → Run (ReadsBoth patterns_old patterns_new input_old input_new) (MappingsText file root case) Written
+    → AnswersList case file root input_old input_new Written
+answers_list case file root patterns_old patterns_new input_old input_new Written run = record {
   patterns = run.input.patterns;
   run = record { input = run.input.paths; read = run.read.paths; text = run.text; allowed = run.allowed; written = run.written };
 }
 
-pub answers_ignore : (case : Case) (root : Option (List ℕ)) (files : List (List ℕ)) (lists : List (Listed (Unit {0}))) (input_old input_new output_old output_new : Option (List ℕ))
-    → AreIgnoreLists root files lists → Run (ReadsWhole input_old input_new) (DecisionsText lists case) (Appends output_old output_new)
-    → AnswersIgnore case root files input_old input_new output_old output_new
-answers_ignore case root files lists input_old input_new output_old output_new loaded run = record { lists = lists; loaded = loaded; run = run }
+pub answers_ignore : (case : Case) (root : Option (List ℕ)) (files : List (List ℕ)) (lists : List (Listed (Unit {0}))) (input_old input_new : Option (List ℕ)) (Written : List ℕ → Type 0)
+    → AreIgnoreLists root files lists → Run (ReadsWhole input_old input_new) (DecisionsText lists case) Written
+    → AnswersIgnore case root files input_old input_new Written
+answers_ignore case root files lists input_old input_new Written loaded run = record { lists = lists; loaded = loaded; run = run }
+
+-- what each fault leaves
+pub on_each_fault : {T P Q : Type 0} (r : Result T EngineFault) → (r ≡ Err Memory → P) → (r ≡ Err Read → P) → (r ≡ Err Write → Q) → OnErr r (P ⊎ Q)
+on_each_fault (Ok x) memory read write = tt
+on_each_fault (Err Memory) memory read write = inl (memory refl)
+on_each_fault (Err Read) memory read write = inl (read refl)
+on_each_fault (Err Write) memory read write = inr (write refl)

@@ -1,6 +1,5 @@
 -- What the words of the command line ask for, and what is done then.
 use Rattle.std.specs.Prelude.{◌≡◌, ◌≢◌, ◌⊎◌, ⊤, ℕ, Bool, true, false, List, [], ◌∷◌, map, Option, None, Some, codes, string_bytes}
-use Rattle.std.specs.Io.KnownBytes.{Appends}
 use Rattle.std.specs.List.{list_all}
 use Rattle.std.specs.Option.{option_copied}
 use Rattle.gix_glob.specs.declared.pattern.Case.{Case}
@@ -81,13 +80,13 @@ pub record AreWrong (words : List (List ℕ)) : Type 0 where
   pub ignore : (case : Case) (root : Option (List ℕ)) (files : List (List ℕ)) → ¬ AskIgnore words case root files
 
 -- the input was read whole, and its values were answered
-pub record AnswersWild (mode : Mode) (pattern : List ℕ) (input_old input_new output_old output_new : Option (List ℕ)) : Type 0 where
-  pub run : Run (ReadsWhole input_old input_new) (ValuesText pattern mode) (Appends output_old output_new)
+pub record AnswersWild (mode : Mode) (pattern : List ℕ) (input_old input_new : Option (List ℕ)) (Written : List ℕ → Type 0) : Type 0 where
+  pub run : Run (ReadsWhole input_old input_new) (ValuesText pattern mode) Written
 
 -- the input was read whole, and its paths were answered by the pattern lines that the file gave
-pub record AnswersList (case : Case) (file : List ℕ) (root : Option (List ℕ)) (input_old input_new output_old output_new : Option (List ℕ)) : Type 0 where
+pub record AnswersList (case : Case) (file : List ℕ) (root : Option (List ℕ)) (input_old input_new : Option (List ℕ)) (Written : List ℕ → Type 0) : Type 0 where
   pub patterns : List ℕ
-  pub run : Run (ReadsWhole input_old input_new) (λ paths. MappingsText file root case (record { patterns = patterns; paths = paths })) (Appends output_old output_new)
+  pub run : Run (ReadsWhole input_old input_new) (λ paths. MappingsText file root case (record { patterns = patterns; paths = paths })) Written
 
 -- the list is what the bytes of an ignore file mean, with the base of the file under the root
 pub record IsIgnoreList (bytes file : List ℕ) (root : Option (List ℕ)) (list : Listed (Unit {0})) : Type 0 where
@@ -103,19 +102,19 @@ AreIgnoreLists root (file ∷ files) lists =
     ⊎ ((bytes : List ℕ) × (list : Listed (Unit {0})) × (more : List (Listed (Unit {0}))) × (lists ≡ list ∷ more) × IsIgnoreList bytes file root list × AreIgnoreLists root files more)
 
 -- the files gave lists, the input was read whole, and the lists decided about its paths
-pub record AnswersIgnore (case : Case) (root : Option (List ℕ)) (files : List (List ℕ)) (input_old input_new output_old output_new : Option (List ℕ)) : Type 0 where
+pub record AnswersIgnore (case : Case) (root : Option (List ℕ)) (files : List (List ℕ)) (input_old input_new : Option (List ℕ)) (Written : List ℕ → Type 0) : Type 0 where
   pub lists : List (Listed (Unit {0}))
   pub loaded : AreIgnoreLists root files lists
-  pub run : Run (ReadsWhole input_old input_new) (DecisionsText lists case) (Appends output_old output_new)
+  pub run : Run (ReadsWhole input_old input_new) (DecisionsText lists case) Written
 
--- the command was carried out
-abbrev pub CarriesOut : Command → Option (List ℕ) → Option (List ℕ) → Option (List ℕ) → Option (List ℕ) → Type 0
+-- the command was carried out: its input was read whole, and of its text was written what Written says
+abbrev pub CarriesOut : Command → Option (List ℕ) → Option (List ℕ) → (List ℕ → Type 0) → Type 0
 CarriesOut (command.Wild mode pattern) = AnswersWild mode pattern.now
 CarriesOut (command.List case file root) = AnswersList case file.now (option_copied root)
 CarriesOut (command.Ignore case root files) = AnswersIgnore case (option_copied root) (map string_bytes files.now)
 
--- the words ask for a command, and it was carried out
-pub record AnsweredWords (words : List (List ℕ)) (input_old input_new output_old output_new : Option (List ℕ)) : Type 0 where
+-- the words ask for a command, and it was carried out, as far as Written says
+pub record AnsweredWords (words : List (List ℕ)) (input_old input_new : Option (List ℕ)) (Written : List ℕ → Type 0) : Type 0 where
   pub command : Command
   pub asked : Ask words command
-  pub done : CarriesOut command input_old input_new output_old output_new
+  pub done : CarriesOut command input_old input_new Written

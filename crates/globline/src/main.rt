@@ -6,13 +6,20 @@ mod ignore_files;
 mod words;
 
 use gix_glob::search::Watched;
+use std::fs::File;
+use std::os::fd::{AsRawFd, RawFd};
 use std::process::ExitCode;
-use std::rt::Env;
-use std::{env, io};
+use std::rt::{Env, Files};
+use std::{env, fs, io};
 pub use words::run_words;
+
+/// The last of the three descriptors that a program begins with.
+const STANDARD_ERROR: RawFd = 2;
 
 /// Takes the words of the command line, and ends with the status that they lead to.
 fn main(rt: HostRuntime) -> ExitCode {
+    // a file that is opened takes the lowest number that is free, which must be none of the three standard ones
+    let _stand_ins = [stand_in(&rt), stand_in(&rt), stand_in(&rt)];
     let mut errors = rt.stderr();
     let status = match command_line(&rt) {
         Ok(words) => {
@@ -30,6 +37,16 @@ fn main(rt: HostRuntime) -> ExitCode {
         Err(refused) => words::without_words(refused.kind(), &mut errors),
     };
     ExitCode::from(status)
+}
+
+/// The root folder in the place of a standard input or output that was closed: reading it fails, and so does writing to it.
+fn stand_in<F: Files<File = File>>(rt: &F) -> Option<File> {
+    let folder = fs::open(rt, "/").ok()?;
+    if folder.as_raw_fd() <= STANDARD_ERROR {
+        Some(folder)
+    } else {
+        None
+    }
 }
 
 /// The words after the program's name.

@@ -1,6 +1,8 @@
 //! The words of the command line: what they ask for, and the status that the program ends with.
-ghost use Rattle.std.specs.Prelude.{◌≡◌, ◌≢◌, ◌≤◌, ◌↔◌, false, map, string_bytes, OnOk};
+ghost use Rattle.std.specs.Prelude.{◌≡◌, ◌≢◌, ◌⊎◌, ◌≤◌, ◌↔◌, false, map, string_bytes, OnOk, OnErr};
+ghost use Rattle.std.specs.Io.KnownBytes.{Appends};
 ghost use Rattle.gix_glob.specs.Watched.{has_failed, inner};
+ghost use Rattle.glob_lines.specs.Transfers.{AppendsFront};
 ghost use Rattle.globline.specs.Words.{AnsweredWords, AreWrong, CanRun, CarriesOut};
 
 #[cfg(test)]
@@ -45,9 +47,13 @@ pub fn run_words<F: Files, I: Read, O: Write, E: Write>(
     ensures status { result ≤ 2 }
     // The words were understood, and the lines were answered, all of them.
     ensures answered { result ≡ 0 → AnsweredWords (map string_bytes words.now)
-        (I.remaining (inner input.old)) (I.remaining (inner input.new)) (O.contents (inner output.old)) (O.contents (inner output.new)) }
+        (I.remaining (inner input.old)) (I.remaining (inner input.new)) (Appends (O.contents (inner output.old)) (O.contents (inner output.new))) }
+    // Nothing was written, or a beginning of the lines' answers.
+    ensures fault { result ≡ 1 → (output.new ≡ output.old) ⊎ AnsweredWords (map string_bytes words.now)
+        (I.remaining (inner input.old)) (I.remaining (inner input.new)) (AppendsFront (O.contents (inner output.old)) (O.contents (inner output.new))) }
     ensures wrong { (result ≡ 2) ↔ AreWrong (map string_bytes words.now) }
-    ensures unchanged { result ≡ 2 → output.new ≡ output.old }
+    ensures unread { result ≡ 2 → input.new ≡ input.old }
+    ensures unwritten { result ≡ 2 → output.new ≡ output.old }
 {
     let Some(command) = command_of(words) else {
         return wrong_words(errors);
@@ -80,8 +86,10 @@ fn run<F: Files, I: Read, O: Write>(
     requires readable { has_failed input.old ≡ false }
     requires writable { has_failed output.old ≡ false }
     requires file { CanRun command }
-    ensures { OnOk result (CarriesOut command.entry
-        (I.remaining (inner input.old)) (I.remaining (inner input.new)) (O.contents (inner output.old)) (O.contents (inner output.new))) }
+    ensures ok { OnOk result (CarriesOut command.entry
+        (I.remaining (inner input.old)) (I.remaining (inner input.new)) (Appends (O.contents (inner output.old)) (O.contents (inner output.new)))) }
+    ensures err { OnErr result ((output.new ≡ output.old) ⊎ CarriesOut command.entry
+        (I.remaining (inner input.old)) (I.remaining (inner input.new)) (AppendsFront (O.contents (inner output.old)) (O.contents (inner output.new)))) }
 {
     match command {
         Command::Wild { mode, pattern } => run_wild(alloc, pattern, mode, input, output),

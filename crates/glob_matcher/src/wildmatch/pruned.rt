@@ -4,7 +4,7 @@ ghost use Rattle.glob_matcher.specs.Bytes.{HasByte, star};
 ghost use Rattle.glob_matcher.specs.Tokens.{DirsAt};
 ghost use Rattle.glob_matcher.specs.Matching.{Splits, Holds};
 ghost use Rattle.glob_matcher.specs.Pruning.{IsStart, IsBoundary, IsAttempt};
-ghost use Rattle.glob_matcher.specs.StarSearch.{literal_of, Skips, IsComponentEnd, IsCrossing, IsWithin, IsDescent};
+ghost use Rattle.glob_matcher.specs.Private.StarSearch.{literal_of, Skips, IsComponentEnd, IsCrossing, IsWithin, IsDescent};
 
 #[cfg(test)]
 mod tests;

@@ -6,7 +6,7 @@ ghost use Rattle.glob_matcher.specs.Bytes.{HasByte, IsEscaped, open_bracket, clo
 ghost use Rattle.glob_matcher.specs.Sets.{BeginsRange, BeginsClass, IsFirstFrom, IsUpperEnd, ItemAt, Set, SetAt, member_of, name_of};
 ghost use Rattle.glob_matcher.specs.Sets.{class_holds, item_holds, ItemsAt};
 ghost use Rattle.glob_matcher.specs.Sets.{set_holds as held, range_holds as in_range, is_between as between};
-ghost use Rattle.glob_matcher.specs.Reader.{IsEntry, IsFirstItem};
+ghost use Rattle.glob_matcher.specs.Private.Reader.{IsEntry, IsFirstItem};
 ghost use Rattle.std.specs.List.{list_any};
 
 use super::mode::Mode;

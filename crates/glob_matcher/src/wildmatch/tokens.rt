@@ -2,7 +2,7 @@
 ghost use Rattle.std.specs.Prelude.{◌≡◌, ◌↔◌, ℕ, ◌<◌, ◌≤◌, IsTrue, length};
 ghost use Rattle.glob_matcher.specs.Tokens.{Token, TokenAt, IsRun, IsBounded, IsAfterSlash, IsBeforeSlash};
 ghost use Rattle.glob_matcher.specs.Bytes.{HasByte, slash, star};
-ghost use Rattle.glob_matcher.specs.Reader.{IsToken, is_star, shape_of, Fits};
+ghost use Rattle.glob_matcher.specs.Private.Reader.{IsToken, is_star, shape_of, Fits};
 
 use super::mode::Mode;
 use super::sets::{escaped_at, set_end, set_holds};

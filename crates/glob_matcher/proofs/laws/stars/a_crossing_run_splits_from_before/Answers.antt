@@ -1,4 +1,4 @@
-use Rattle.glob_matcher.proofs.SplitLemmas.{free_before}
+use Rattle.glob_matcher.proofs.lemmas.cutting.SplitLemmas.{free_before}
 use Rattle.glob_matcher.proofs.laws.stars.a_crossing_run_splits_from_before.Goals as goal
 
 pub returns : goal.returns

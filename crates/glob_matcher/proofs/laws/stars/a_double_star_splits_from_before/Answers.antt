@@ -1,4 +1,4 @@
-use Rattle.glob_matcher.proofs.SplitLemmas.{dirs_before}
+use Rattle.glob_matcher.proofs.lemmas.cutting.SplitLemmas.{dirs_before}
 use Rattle.glob_matcher.proofs.laws.stars.a_double_star_splits_from_before.Goals as goal
 
 pub returns : goal.returns

@@ -1,4 +1,4 @@
-use Rattle.glob_matcher.proofs.SplitLemmas.{local_before}
+use Rattle.glob_matcher.proofs.lemmas.cutting.SplitLemmas.{local_before}
 use Rattle.glob_matcher.proofs.laws.stars.a_local_run_splits_from_before.Goals as goal
 
 pub returns : goal.returns

@@ -1,4 +1,4 @@
-use Rattle.glob_matcher.proofs.TokenLemmas.{From-unique}
+use Rattle.glob_matcher.proofs.lemmas.reading.TokenLemmas.{From-unique}
 use Rattle.glob_matcher.proofs.laws.stars.a_pattern_has_one_reading.Goals as goal
 
 pub returns : goal.returns

@@ -1,4 +1,4 @@
-use Rattle.glob_matcher.proofs.OneMoreStar.{same_splits, same_stars}
+use Rattle.glob_matcher.proofs.lemmas.cutting.OneMoreStar.{same_splits, same_stars}
 use Rattle.glob_matcher.proofs.laws.stars.one_more_star_changes_nothing_in_plain_mode.Goals as goal
 
 pub returns-clause-splits : goal.returns-clause-splits

@@ -1,4 +1,4 @@
-use Rattle.glob_matcher.proofs.SplitLemmas.{star_count_alike}
+use Rattle.glob_matcher.proofs.lemmas.cutting.SplitLemmas.{star_count_alike}
 use Rattle.glob_matcher.proofs.laws.stars.star_tokens_are_as_many_in_each_mode.Goals as goal
 
 pub returns : goal.returns

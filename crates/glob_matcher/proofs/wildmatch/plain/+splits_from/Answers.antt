@@ -1,6 +1,6 @@
 use Rattle.std.proofs.Common.{◌≡◌, ◌<◌, length, arith, refl, sym, eq-eqb, eqb-true}
-use Rattle.glob_matcher.proofs.CutLemmas.{end_in, end_out}
-use Rattle.glob_matcher.proofs.Engines.{star_in, star_out, byte_in, byte_out}
+use Rattle.glob_matcher.proofs.lemmas.cutting.CutLemmas.{end_in, end_out}
+use Rattle.glob_matcher.proofs.lemmas.cutting.Engines.{star_in, star_out, byte_in, byte_out}
 use Rattle.glob_matcher.proofs.wildmatch.plain.+splits_from.Goals as goal
 
 pub returns-then-from-pattern : goal.returns-then-from-pattern

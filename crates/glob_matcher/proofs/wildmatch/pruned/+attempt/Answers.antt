@@ -3,11 +3,11 @@ use Rattle.glob_matcher.specs.declared.wildmatch.pruned.Answer.{Answer}
 use Rattle.glob_matcher.specs.declared.wildmatch.pruned.Answer.TheVariants.{Match, NoMatch, AbortToStarStar}
 use Rattle.glob_matcher.specs.Pruning.{IsStart}
 use Rattle.glob_matcher.specs.Tokens.{Free, Local, Dirs, TokenAt}
-use Rattle.glob_matcher.proofs.Starts.{start_next, start_inside, boundary_next}
-use Rattle.glob_matcher.proofs.Shapes.{is_free, is_local, is_dirs, is_nothing, is_one, dirs_boundary}
-use Rattle.glob_matcher.proofs.Alignments.{aligned_next}
-use Rattle.glob_matcher.proofs.AttemptLemmas.{end_match, end_more, value_ends, nothing_here, misses, star_here}
-use Rattle.glob_matcher.proofs.StarLemmas.{first_token, tried_next, cross_none, cross_answer, stay_more, stay_none, stay_answer, free_star, local_star, dirs_star, descent_here, descent_later}
+use Rattle.glob_matcher.proofs.lemmas.reading.Starts.{start_next, start_inside, boundary_next}
+use Rattle.glob_matcher.proofs.lemmas.reading.Shapes.{is_free, is_local, is_dirs, is_nothing, is_one, dirs_boundary}
+use Rattle.glob_matcher.proofs.lemmas.cutting.Alignments.{aligned_next}
+use Rattle.glob_matcher.proofs.lemmas.pruned.AttemptLemmas.{end_match, end_more, value_ends, nothing_here, misses, star_here}
+use Rattle.glob_matcher.proofs.lemmas.cutting.StarLemmas.{first_token, tried_next, cross_none, cross_answer, stay_more, stay_none, stay_answer, free_star, local_star, dirs_star, descent_here, descent_later}
 use Rattle.glob_matcher.proofs.wildmatch.pruned.+attempt.Goals as goal
 
 -- what sends the search on is no match
@@ -19,56 +19,56 @@ pub attempt-returns-in-Free : goal.attempt-returns-in-Free
 attempt-returns-in-Free t c =
     let p = c.args.pattern.now in
     let v = c.args.value.now in
-    let here = is_free c.args.mode p c.tokens.place c.token_at-shape.result.0 c.token_at-shape.result.1 c.token_at-shape.ensures c.in-Free.is in
-    star_here c.args.mode p v c.args.from c.args.at c.tokens.place c.tokens.byte c.tokens.invariant c.args.depth c.cross.result
+    let here = is_free c.token_at-shape.ensures c.in-Free.is in
+    star_here c.args.mode p v c.args.from c.args.at c.tokens.place c.tokens.byte c.tokens.invariant c.args.depth (λ deep. omega arith) c.cross.result
     (free_star c.args.mode p v c.tokens.place c.token_at-shape.result.1 c.tokens.byte c.args.depth c.cross.result here c.tokens.invariant.value_high c.cross.ensures)
 
 pub attempt-returns-in-Local : goal.attempt-returns-in-Local
 attempt-returns-in-Local t c =
     let p = c.args.pattern.now in
     let v = c.args.value.now in
-    let here = is_local c.args.mode p c.tokens.place c.token_at-shape.result.0 c.token_at-shape.result.1 c.token_at-shape.ensures c.in-Local.is in
-    star_here c.args.mode p v c.args.from c.args.at c.tokens.place c.tokens.byte c.tokens.invariant c.args.depth c.stay.result
+    let here = is_local c.token_at-shape.ensures c.in-Local.is in
+    star_here c.args.mode p v c.args.from c.args.at c.tokens.place c.tokens.byte c.tokens.invariant c.args.depth (λ deep. omega arith) c.stay.result
     (local_star c.args.mode p v c.tokens.place c.token_at-shape.result.1 c.tokens.byte c.args.depth c.stay.result here c.tokens.invariant.value_high c.stay.ensures)
 
 pub attempt-returns-in-Dirs : goal.attempt-returns-in-Dirs
 attempt-returns-in-Dirs t c =
     let p = c.args.pattern.now in
     let v = c.args.value.now in
-    let here = is_dirs c.args.mode p c.tokens.place c.token_at-shape.result.0 c.token_at-shape.result.1 c.token_at-shape.ensures c.in-Dirs.is in
-    star_here c.args.mode p v c.args.from c.args.at c.tokens.place c.tokens.byte c.tokens.invariant c.args.depth c.descend.result
+    let here = is_dirs c.token_at-shape.ensures c.in-Dirs.is in
+    star_here c.args.mode p v c.args.from c.args.at c.tokens.place c.tokens.byte c.tokens.invariant c.args.depth (λ deep. omega arith) c.descend.result
     (dirs_star c.args.mode p v c.tokens.place c.token_at-shape.result.1 c.tokens.byte c.args.depth c.descend.result here c.tokens.invariant.value_high (c.descend.ensures c.tokens.place here))
 
 pub attempt-returns-in-Nothing : goal.attempt-returns-in-Nothing
 attempt-returns-in-Nothing t c =
     let p = c.args.pattern.now in
-    let here = is_nothing c.args.mode p c.tokens.place c.token_at-shape.result.0 c.token_at-shape.result.1 c.token_at-shape.ensures c.in-Nothing.is in
-    nothing_here c.args.mode p c.args.value.now c.args.from c.args.at c.tokens.place c.tokens.byte c.tokens.invariant c.args.depth
+    let here = is_nothing c.token_at-shape.ensures c.in-Nothing.is in
+    nothing_here c.args.mode p c.args.value.now c.args.from c.args.at c.tokens.place c.tokens.byte c.tokens.invariant c.args.depth (λ deep. omega arith)
     c.token_at-shape.result.1 here
 
 pub attempt-returns-then-byte-value : goal.attempt-returns-then-byte-value
 attempt-returns-then-byte-value t c =
     let p = c.args.pattern.now in
     let s = c.token_at-shape in
-    let one = is_one c.args.mode p c.tokens.place s.result.0 s.result.1 s.ensures c.in-Byte.is in
-    value_ends c.args.mode p c.args.value.now c.args.from c.args.at c.tokens.place c.tokens.byte c.tokens.invariant c.args.depth
+    let one = is_one s.ensures c.in-Byte.is in
+    value_ends c.args.mode p c.args.value.now c.args.from c.args.at c.tokens.place c.tokens.byte c.tokens.invariant c.args.depth (λ deep. omega arith)
     s.ensures.token s.result.1 one s.ensures.here c.if-byte-value.true
 
 pub attempt-returns-then-not-takes : goal.attempt-returns-then-not-takes
 attempt-returns-then-not-takes t c =
     let p = c.args.pattern.now in
     let s = c.token_at-shape in
-    let one = is_one c.args.mode p c.tokens.place s.result.0 s.result.1 s.ensures c.in-Byte.is in
+    let one = is_one s.ensures c.in-Byte.is in
     let high : c.tokens.byte ≤ length c.args.value.now = c.tokens.invariant.value_high in
     let fits = c.if-not-takes.ensures s.ensures.token s.result.1 s.ensures.here s.ensures.shown in
-    misses c.args.mode p c.args.value.now c.args.from c.args.at c.tokens.place c.tokens.byte c.tokens.invariant c.args.depth
+    misses c.args.mode p c.args.value.now c.args.from c.args.at c.tokens.place c.tokens.byte c.tokens.invariant c.args.depth (λ deep. omega arith)
     s.ensures.token s.result.1 one s.ensures.here (omega arith) (λ f. let never = fits.1 f in cc)
 
 pub attempt-tokens-preserved : goal.attempt-tokens-preserved
 attempt-tokens-preserved t c =
     let p = c.args.pattern.now in
     let s = c.token_at-shape in
-    let one = is_one c.args.mode p c.tokens.place s.result.0 s.result.1 s.ensures c.in-Byte.is in
+    let one = is_one s.ensures c.in-Byte.is in
     let high : c.tokens.byte ≤ length c.args.value.now = c.tokens.invariant.value_high in
     let fits = c.if-not-takes.ensures s.ensures.token s.result.1 s.ensures.here s.ensures.shown in
     aligned_next c.args.mode p c.args.value.now c.args.from c.args.at c.tokens.place c.tokens.byte s.result.1 s.ensures.token
@@ -78,14 +78,14 @@ pub attempt-returns-then-byte-value-2 : goal.attempt-returns-then-byte-value-2
 attempt-returns-then-byte-value-2 t c =
     let p = c.args.pattern.now in
     let inside : c.tokens.place ≤ length p = start_inside c.args.mode p c.tokens.place c.tokens.invariant.start in
-    end_match c.args.mode p c.args.value.now c.args.from c.args.at c.tokens.place c.tokens.byte c.tokens.invariant c.args.depth
+    end_match c.args.mode p c.args.value.now c.args.from c.args.at c.tokens.place c.tokens.byte c.tokens.invariant c.args.depth (λ deep. omega arith)
     (omega arith) c.if-byte-value-2.true
 
 pub attempt-returns-else-byte-value-2 : goal.attempt-returns-else-byte-value-2
 attempt-returns-else-byte-value-2 t c =
     let p = c.args.pattern.now in
     let inside : c.tokens.place ≤ length p = start_inside c.args.mode p c.tokens.place c.tokens.invariant.start in
-    end_more c.args.mode p c.args.value.now c.args.from c.args.at c.tokens.place c.tokens.byte c.tokens.invariant c.args.depth
+    end_more c.args.mode p c.args.value.now c.args.from c.args.at c.tokens.place c.tokens.byte c.tokens.invariant c.args.depth (λ deep. omega arith)
     (omega arith) c.if-byte-value-2.false
 
 pub cross-token_at-shape-requires : goal.cross-token_at-shape-requires
@@ -168,7 +168,7 @@ pub attempt-cross-requires : goal.attempt-cross-requires
 attempt-cross-requires t c =
     let p = c.args.pattern.now in
     let s = c.token_at-shape in
-    let here : TokenAt c.args.mode p c.tokens.place Free s.result.1 = is_free c.args.mode p c.tokens.place s.result.0 s.result.1 s.ensures c.in-Free.is in
+    let here : TokenAt c.args.mode p c.tokens.place Free s.result.1 = is_free s.ensures c.in-Free.is in
     let start : IsStart p s.result.1 c.args.mode = record { place = inl (start_next c.args.mode p c.tokens.place Free s.result.1 c.tokens.invariant.start here) } in
     (search rules, (start, (here.run.whole, (c.tokens.invariant.value_high, omega arith))))
 
@@ -176,7 +176,7 @@ pub attempt-stay-requires : goal.attempt-stay-requires
 attempt-stay-requires t c =
     let p = c.args.pattern.now in
     let s = c.token_at-shape in
-    let here : TokenAt c.args.mode p c.tokens.place Local s.result.1 = is_local c.args.mode p c.tokens.place s.result.0 s.result.1 s.ensures c.in-Local.is in
+    let here : TokenAt c.args.mode p c.tokens.place Local s.result.1 = is_local s.ensures c.in-Local.is in
     let start : IsStart p s.result.1 c.args.mode = record { place = inl (start_next c.args.mode p c.tokens.place Local s.result.1 c.tokens.invariant.start here) } in
     (search rules, (start, (here.run.whole, (c.tokens.invariant.value_high, omega arith))))
 
@@ -184,7 +184,7 @@ pub attempt-descend-requires : goal.attempt-descend-requires
 attempt-descend-requires t c =
     let p = c.args.pattern.now in
     let s = c.token_at-shape in
-    let here : TokenAt c.args.mode p c.tokens.place Dirs s.result.1 = is_dirs c.args.mode p c.tokens.place s.result.0 s.result.1 s.ensures c.in-Dirs.is in (
+    let here : TokenAt c.args.mode p c.tokens.place Dirs s.result.1 = is_dirs s.ensures c.in-Dirs.is in (
       search rules,
       (
         (c.tokens.place, dirs_boundary c.args.mode p c.tokens.place s.result.1 c.tokens.invariant.start here, here),

@@ -1,7 +1,7 @@
 -- An alignment keeps what it began with, and a search has tried the places behind it. Each star token goes one deeper.
 use Rattle.std.proofs.Common.{◌+◌, ◌-◌, ◌*◌, length}
-use Rattle.glob_matcher.proofs.Alignments.{Aligned}
-use Rattle.glob_matcher.proofs.StarLemmas.{Tried}
+use Rattle.glob_matcher.proofs.lemmas.cutting.Alignments.{Aligned}
+use Rattle.glob_matcher.proofs.lemmas.cutting.StarLemmas.{Tried}
 use Rattle.glob_matcher.proofs.wildmatch.pruned.+attempt.Given as goal
 
 abbrev pub decreases-attempt : goal.decreases-attempt

@@ -1,5 +1,5 @@
 use Rattle.std.proofs.Common.{◌-◌, length, arith}
-use Rattle.glob_matcher.proofs.PlaceLemmas.{component_found, component_last}
+use Rattle.glob_matcher.proofs.lemmas.cutting.PlaceLemmas.{component_found, component_last}
 use Rattle.glob_matcher.proofs.wildmatch.pruned.component_end.Goals as goal
 
 pub returns-in-Some : goal.returns-in-Some

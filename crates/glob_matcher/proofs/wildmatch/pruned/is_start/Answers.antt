@@ -1,8 +1,8 @@
 use Rattle.std.proofs.Common.{◌≡◌, ℕ, ◌<◌, ◌≤◌, inl, length, ◌∙◌, ap, subst, arith, eq-eqb}
-use Rattle.glob_matcher.specs.Reader.{shape_of}
-use Rattle.glob_matcher.proofs.Starts.{scan_next, scan_end}
+use Rattle.glob_matcher.specs.Private.Reader.{shape_of}
+use Rattle.glob_matcher.proofs.lemmas.reading.Starts.{scan_next, scan_end}
 use Rattle.glob_matcher.specs.Pruning.{IsBoundary}
-use Rattle.glob_matcher.proofs.PlaceLemmas.{is_equal}
+use Rattle.glob_matcher.proofs.lemmas.cutting.PlaceLemmas.{is_equal}
 use Rattle.glob_matcher.proofs.wildmatch.pruned.is_start.Goals as goal
 use Rattle.glob_matcher.proofs.wildmatch.pruned.is_start.Goals.{then-tokens-test+else-place-from, else-tokens-test}
 

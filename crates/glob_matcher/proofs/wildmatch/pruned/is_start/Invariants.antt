@@ -1,6 +1,6 @@
 -- Tokens spell the pattern up to here, and an attempt's start lies ahead, if it is one.
 use Rattle.std.proofs.Common.{◌-◌, length}
-use Rattle.glob_matcher.proofs.Starts.{Scan}
+use Rattle.glob_matcher.proofs.lemmas.reading.Starts.{Scan}
 use Rattle.glob_matcher.proofs.wildmatch.pruned.is_start.Given as goal
 
 abbrev pub invariant-tokens : goal.invariant-tokens

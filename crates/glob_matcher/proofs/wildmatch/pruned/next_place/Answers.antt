@@ -1,6 +1,6 @@
 use Rattle.std.proofs.Common.{ℕ, ◌+◌, ◌-◌, Option, IfNone, sym, subst, arith}
-use Rattle.glob_matcher.specs.StarSearch.{Skips}
-use Rattle.glob_matcher.proofs.PlaceLemmas.{skips_part, skips_whole_part}
+use Rattle.glob_matcher.specs.Private.StarSearch.{Skips}
+use Rattle.glob_matcher.proofs.lemmas.cutting.PlaceLemmas.{skips_part, skips_whole_part}
 use Rattle.glob_matcher.proofs.wildmatch.pruned.next_place.Goals as goal
 
 pub returns-in_err-offset-clause-none : goal.returns-in_err-offset-clause-none

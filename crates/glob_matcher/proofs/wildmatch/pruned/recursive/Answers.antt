@@ -1,4 +1,4 @@
-use Rattle.glob_matcher.proofs.AttemptLemmas.{whole_match, whole_no_match}
+use Rattle.glob_matcher.proofs.lemmas.pruned.AttemptLemmas.{whole_match, whole_no_match}
 use Rattle.glob_matcher.proofs.wildmatch.pruned.recursive.Goals as goal
 
 pub returns-in-Match : goal.returns-in-Match

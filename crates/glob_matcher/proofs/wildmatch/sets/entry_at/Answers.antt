@@ -1,4 +1,4 @@
-use Rattle.glob_matcher.proofs.Walks.{no_items_outside, no_items_here}
+use Rattle.glob_matcher.proofs.lemmas.reading.Walks.{no_items_outside, no_items_here}
 use Rattle.glob_matcher.proofs.wildmatch.sets.entry_at.Goals as goal
 
 pub returns-then-at-pattern : goal.returns-then-at-pattern

@@ -1,6 +1,6 @@
 use Rattle.std.proofs.Common.{sym, subst, ℕ, Option, false}
 use Rattle.glob_matcher.specs.Sets.{item_holds}
-use Rattle.glob_matcher.proofs.Walks.{IsYetUnheld, unheld_next, held_now, unheld_end}
+use Rattle.glob_matcher.proofs.lemmas.reading.Walks.{IsYetUnheld, unheld_next, held_now, unheld_end}
 use Rattle.glob_matcher.proofs.wildmatch.sets.items_hold.Goals as goal
 
 pub returns-then-holds : goal.returns-then-holds

@@ -1,7 +1,7 @@
 -- No item so far holds the byte.
 use Rattle.std.proofs.Common.{◌-◌, ◌≤◌, length}
 use Rattle.glob_matcher.specs.Sets.{item_holds}
-use Rattle.glob_matcher.proofs.Walks.{IsYetUnheld}
+use Rattle.glob_matcher.proofs.lemmas.reading.Walks.{IsYetUnheld}
 use Rattle.glob_matcher.proofs.wildmatch.sets.items_hold.Given as goal
 
 abbrev pub invariant-items : goal.invariant-items

@@ -1,5 +1,5 @@
 use Rattle.std.proofs.Common.{Some}
-use Rattle.glob_matcher.proofs.SetLemmas.{no_item_without_end}
+use Rattle.glob_matcher.proofs.lemmas.reading.SetLemmas.{no_item_without_end}
 use Rattle.glob_matcher.proofs.wildmatch.sets.range_at.Goals as goal
 
 pub returns-in_default-clause-none : goal.returns-in_default-clause-none

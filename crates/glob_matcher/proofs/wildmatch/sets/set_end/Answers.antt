@@ -1,5 +1,5 @@
 use Rattle.std.proofs.Common.{[], ◌<◌, length, sym, arith, subst, ℕ, Option}
-use Rattle.glob_matcher.proofs.Walks.{IsUnderway, underway_next, set_in}
+use Rattle.glob_matcher.proofs.lemmas.reading.Walks.{IsUnderway, underway_next, set_in}
 use Rattle.glob_matcher.proofs.wildmatch.sets.set_end.Goals as goal
 
 pub items-preserved : goal.items-preserved

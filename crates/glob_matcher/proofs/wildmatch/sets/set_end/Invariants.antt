@@ -1,6 +1,6 @@
 -- The items so far, and those from this place on, are the set's.
 use Rattle.std.proofs.Common.{◌-◌, ◌<◌, ◌≤◌, length}
-use Rattle.glob_matcher.proofs.Walks.{IsUnderway}
+use Rattle.glob_matcher.proofs.lemmas.reading.Walks.{IsUnderway}
 use Rattle.glob_matcher.proofs.wildmatch.sets.set_end.Given as goal
 
 abbrev pub invariant-items : goal.invariant-items

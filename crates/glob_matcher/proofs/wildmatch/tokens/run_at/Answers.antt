@@ -1,5 +1,5 @@
 use Rattle.std.proofs.Common.{sym, refl}
-use Rattle.glob_matcher.proofs.Reading.{plain_run, local_run, dirs_run, free_run}
+use Rattle.glob_matcher.proofs.lemmas.reading.Reading.{plain_run, local_run, dirs_run, free_run}
 use Rattle.glob_matcher.proofs.wildmatch.tokens.run_at.Goals as goal
 
 pub returns-then-not-is_path : goal.returns-then-not-is_path

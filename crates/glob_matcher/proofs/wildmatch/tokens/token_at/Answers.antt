@@ -1,5 +1,5 @@
 use Rattle.std.proofs.Common.{inr, get_or, refl, arith}
-use Rattle.glob_matcher.proofs.Reading.{escaped_token, bare_token, any_token, set_token, broken_token, lone_backslash}
+use Rattle.glob_matcher.proofs.lemmas.reading.Reading.{escaped_token, bare_token, any_token, set_token, broken_token, lone_backslash}
 use Rattle.glob_matcher.proofs.wildmatch.tokens.token_at.Goals as goal
 
 pub returns-in-Some : goal.returns-in-Some

@@ -1,0 +1,115 @@
+/* Calls each export as C calls it, with parameters that answer otherwise where two are swapped, and holds the struct's layout.
+ * .ci/exports builds it by the toolchain's own compiler, without the C library's headers. Status 0 where all is as it should be. */
+#include "gix_glob.h"
+
+int printf(const char *format, ...);
+
+_Static_assert(sizeof(bool) == 1 && sizeof(size_t) == 8 && sizeof(void *) == 8, "the machine");
+_Static_assert(sizeof(struct gix_glob_pattern) == 32, "the struct's size");
+_Static_assert(offsetof(struct gix_glob_pattern, text) == 0, "text");
+_Static_assert(offsetof(struct gix_glob_pattern, text_len) == 8, "text_len");
+_Static_assert(offsetof(struct gix_glob_pattern, first_wildcard_pos) == 16, "first_wildcard_pos");
+_Static_assert(offsetof(struct gix_glob_pattern, mode) == 24, "mode");
+_Static_assert(sizeof(struct gix_glob_lines) == 24, "the size of the lines");
+_Static_assert(offsetof(struct gix_glob_lines, rest) == 0, "rest");
+_Static_assert(offsetof(struct gix_glob_lines, rest_len) == 8, "rest_len");
+_Static_assert(offsetof(struct gix_glob_lines, number) == 16, "number");
+_Static_assert(GIX_GLOB_VERSION == 100, "the version");
+
+static int failed;
+
+#define CHECK(that) ((that) ? (void)0 : (void)(failed++, printf("exports.c:%d: %s\n", __LINE__, #that)))
+#define TEXT(text) (const uint8_t *)(text), sizeof(text) - 1
+
+static struct gix_glob_pattern parsed(const uint8_t *line, size_t len)
+{
+    struct gix_glob_pattern pattern = GIX_GLOB_PATTERN_INIT;
+    CHECK(gix_glob_parse(line, len, &pattern));
+    return pattern;
+}
+
+static void matching(void)
+{
+    CHECK(gix_glob_wildmatch(TEXT("a*"), TEXT("ab"), 0));
+    CHECK(!gix_glob_wildmatch(TEXT("ab"), TEXT("a*"), 0));
+    CHECK(gix_glob_wildmatch(TEXT("*"), TEXT("a/b"), 0));
+    CHECK(!gix_glob_wildmatch(TEXT("*"), TEXT("a/b"), GIX_GLOB_NO_MATCH_SLASH_LITERAL));
+    CHECK(gix_glob_wildmatch(TEXT("A"), TEXT("a"), GIX_GLOB_IGNORE_CASE));
+    CHECK(gix_glob_wildmatch(gix_glob_bytes(NULL), 0, gix_glob_bytes(NULL), 0, 0));
+    CHECK(gix_glob_matches(TEXT("*b"), GIX_GLOB_NO_SUB_DIR | GIX_GLOB_ENDS_WITH, 0, TEXT("ab"), 0));
+    CHECK(gix_glob_matches(TEXT("ab"), GIX_GLOB_NO_SUB_DIR, GIX_GLOB_NONE, TEXT("AB"), GIX_GLOB_IGNORE_CASE));
+    CHECK(!gix_glob_matches(TEXT("ab"), GIX_GLOB_NO_SUB_DIR, GIX_GLOB_NONE, TEXT("AB"), 0));
+    CHECK(!gix_glob_matches(TEXT("a"), GIX_GLOB_NO_SUB_DIR, GIX_GLOB_NONE, TEXT("*"), 0));
+    CHECK(gix_glob_matches_path(TEXT("a/"), TEXT("a"), true, false));
+    CHECK(!gix_glob_matches_path(TEXT("a/"), TEXT("a"), false, true));
+    CHECK(gix_glob_matches_path(TEXT("A"), TEXT("a"), false, true));
+    CHECK(!gix_glob_matches_path(TEXT("a"), TEXT("*"), false, false));
+    CHECK(gix_glob_matches_path(TEXT("*"), TEXT("a"), false, false));
+}
+
+static void parsing(void)
+{
+    struct gix_glob_pattern pattern = parsed(TEXT("!/a[b]/"));
+    CHECK(pattern.text_len == 4 && pattern.text[0] == 'a' && pattern.first_wildcard_pos == 1);
+    CHECK(pattern.mode == (GIX_GLOB_NO_SUB_DIR | GIX_GLOB_MUST_BE_DIR | GIX_GLOB_NEGATIVE | GIX_GLOB_ABSOLUTE));
+    CHECK(parsed(TEXT("x")).first_wildcard_pos == GIX_GLOB_NONE);
+    CHECK(!gix_glob_parse(TEXT(" "), &pattern) && pattern.text_len == 4);
+    CHECK(!gix_glob_parse(gix_glob_bytes(NULL), 0, &pattern));
+}
+
+static void deciding(void)
+{
+    const struct gix_glob_pattern folder = parsed(TEXT("a/")), letter = parsed(TEXT("A")), any = parsed(TEXT("*"));
+    const struct gix_glob_pattern list[] = {any, parsed(TEXT("!b")), parsed(TEXT("a/"))};
+    CHECK(gix_glob_pattern_matches_path(&folder, TEXT("a"), true, false));
+    CHECK(!gix_glob_pattern_matches_path(&folder, TEXT("a"), false, true));
+    CHECK(gix_glob_pattern_matches_path(&letter, TEXT("a"), false, true));
+    CHECK(!gix_glob_pattern_matches_path(&letter, TEXT("a"), true, false));
+    CHECK(!gix_glob_pattern_matches_path(&any, TEXT(""), false, false));
+    CHECK(!gix_glob_pattern_matches_path(&any, TEXT("/a"), false, false));
+    CHECK(!gix_glob_pattern_matches_path(&any, TEXT("a//b"), false, false));
+    CHECK(!gix_glob_pattern_matches_path(&any, TEXT("a/"), false, false));
+    CHECK(gix_glob_last_match(list, 3, TEXT("a"), true, false) == 2);
+    CHECK(gix_glob_last_match(list, 3, TEXT("a"), false, true) == 0);
+    CHECK(gix_glob_last_match(list, 3, TEXT("x/B"), false, true) == 1);
+    CHECK(gix_glob_last_match(list, 3, TEXT("x/B"), true, false) == 0);
+    CHECK(gix_glob_last_match(list, 1, TEXT("a"), true, false) == 0);
+    CHECK(gix_glob_last_match(list, 3, TEXT("a//b"), false, false) == GIX_GLOB_NONE);
+    CHECK(gix_glob_last_match(list, 0, TEXT("a"), false, false) == GIX_GLOB_NONE);
+}
+
+static void ignore_lines(void)
+{
+    static const uint8_t file[] = "\xEF\xBB\xBF*.o \r\n#x\n\n\xEF\xBB\xBFy\r\n!k\\ ";
+    static const struct {
+        size_t taken, text_len;
+        bool has_pattern;
+        uint32_t mode;
+    } wanted[] = {
+        {9, 3, true, GIX_GLOB_NO_SUB_DIR | GIX_GLOB_ENDS_WITH}, {3, 0, false, 0}, {1, 0, false, 0},
+        {6, 4, true, GIX_GLOB_NO_SUB_DIR}, {4, 3, true, GIX_GLOB_NO_SUB_DIR | GIX_GLOB_NEGATIVE},
+    };
+    struct gix_glob_lines lines = gix_glob_lines_of(file, sizeof file - 1);
+    struct gix_glob_pattern pattern = GIX_GLOB_PATTERN_INIT;
+    bool has_pattern = false;
+    for (size_t i = 0; i < sizeof wanted / sizeof *wanted; i++) {
+        const size_t left = lines.rest_len;
+        CHECK(gix_glob_parse_ignore_line(&lines, &pattern, &has_pattern));
+        CHECK(left - lines.rest_len == wanted[i].taken && has_pattern == wanted[i].has_pattern && lines.number == i + 1);
+        CHECK(!has_pattern || (pattern.text_len == wanted[i].text_len && pattern.mode == wanted[i].mode));
+    }
+    CHECK(lines.rest_len == 0 && !gix_glob_parse_ignore_line(&lines, &pattern, &has_pattern));
+    lines = gix_glob_lines_of(NULL, 0);
+    CHECK(!gix_glob_parse_ignore_line(&lines, &pattern, &has_pattern));
+    lines = gix_glob_lines_of(file, 3);
+    CHECK(!gix_glob_parse_ignore_line(&lines, &pattern, &has_pattern));
+}
+
+int main(void)
+{
+    matching();
+    parsing();
+    deciding();
+    ignore_lines();
+    return failed > 0;
+}

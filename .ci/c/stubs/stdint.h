@@ -1,0 +1,5 @@
+/* What gix_glob.h takes of stdint.h. */
+#pragma once
+typedef __UINT8_TYPE__ uint8_t;
+typedef __UINT32_TYPE__ uint32_t;
+#define SIZE_MAX __SIZE_MAX__

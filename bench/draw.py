@@ -1,0 +1,50 @@
+"""The pictures, by matplotlib (Debian: python3-matplotlib)."""
+import sys
+
+
+def axes(title, across, down):
+    try:
+        import matplotlib
+    except ImportError:
+        sys.exit("draw: matplotlib is missing (Debian: python3-matplotlib), so no picture is drawn")
+    matplotlib.use("svg")
+    # the same bytes at each run of the same figures
+    matplotlib.rcParams.update({"svg.hashsalt": "bench", "font.size": 10, "axes.spines.top": False, "axes.spines.right": False})
+    import matplotlib.pyplot as plot
+
+    figure, axis = plot.subplots(figsize=(7, 4))
+    axis.set(title=title, xlabel=across, ylabel=down, yscale="log")
+    axis.grid(True, which="major", alpha=0.3)
+    return figure, axis
+
+
+def save(figure, file):
+    figure.tight_layout()
+    figure.savefig(file, format="svg", metadata={"Date": None})
+    print(f"drew {file}")
+
+
+def hostile(file, counted):
+    """What hostile input costs: `counted` gives the instructions of an engine for a load and a size."""
+    figure, axis = axes("Hostile input", "bytes of pattern and value", "instructions a call")
+    for load, name, length, sizes in (
+        ("dirs", "**/ n times, x", lambda n: 5 * n + 3, range(1, 13)),
+        ("stars", "*a n times, xb", lambda n: 10 * n + 3, (1, 2, 4, 8, 12, 16, 24, 32)),
+    ):
+        for engine, style in (("crate", "--"), ("here", "-")):
+            costs = [counted(engine, load, size) for size in sizes]
+            print(f"{load} {engine}: {' '.join(f'{cost:,.0f}' for cost in costs)}", flush=True)
+            who = "gix-glob" if engine == "crate" else "here"
+            axis.plot([length(size) for size in sizes], costs, style, marker="o", markersize=3, color="C0" if load == "dirs" else "C1", label=f"{name}: {who}")
+    axis.legend(frameon=False)
+    save(figure, file)
+
+
+def lists(file, rows):
+    """What a path costs by the number of patterns: `rows` gives for each program pairs of a number and a cost."""
+    figure, axis = axes("A path against an ignore file", "patterns", "instructions a path")
+    axis.set(xscale="log")
+    for name, points in rows.items():
+        axis.plot([size for size, _ in points], [cost for _, cost in points], "-", marker="o", markersize=3, label=name)
+    axis.legend(frameon=False)
+    save(figure, file)

@@ -1,0 +1,163 @@
+#!/usr/bin/env python3
+"""Counts what a path costs against an ignore file, by the number of patterns: bench/lists.py
+
+It counts `globline`, which `./globline --prove` builds, and beside it `git check-ignore` and ripgrep's matcher, where git, and
+cargo with Debian's librust-ignore-dev, are there. Two runs by valgrind's callgrind, over the paths and over half of them, give
+the instructions a path; what is left, less an empty run, is reading and preparing, a pattern. `--make FOLDER` writes
+FOLDER/patterns and FOLDER/paths of the first size, and runs nothing."""
+import argparse
+import os
+import random
+import re
+import shutil
+import subprocess
+import sys
+import tempfile
+
+HERE = os.path.dirname(os.path.abspath(__file__))
+PROGRAM = os.path.join(os.path.dirname(HERE), "out", "globline")
+
+SYLLABLES = "ba co di fu ge ha jo ki lu me no pa qu ri so ta vu we xi za lib src test build node mod core util main app pkg data conf log tmp".split()
+ENDINGS = "rs c h o py pyc js css html md txt log json toml lock png so a swp bak class gz yml tmp".split()
+
+
+class Load:
+    """A realistic mixture: names, endings, rooted paths and the rest, a fifth for folders, a twentieth negative."""
+
+    def __init__(self, seed):
+        self.random = random.Random(seed)
+        self.names = [self.word() for _ in range(400)]
+
+    def word(self, syllables=None):
+        return "".join(self.random.choice(SYLLABLES) for _ in range(syllables or self.random.choice((1, 2, 2, 3))))
+
+    def ending(self):
+        return self.random.choice(ENDINGS) if self.random.random() < 0.5 else self.word(2)
+
+    def folders(self, count):
+        return "/".join(self.random.choice(self.names) for _ in range(count))
+
+    def pattern(self):
+        kind = self.random.random()
+        if kind < 0.40:
+            text = self.word(3) + ("" if self.random.random() < 0.5 else "." + self.ending())
+        elif kind < 0.62:
+            text = "*." + self.ending()
+        elif kind < 0.74:
+            text = "/" + self.folders(self.random.randrange(1, 4))
+        elif kind < 0.82:
+            text = self.folders(2) + "/*." + self.ending()
+        elif kind < 0.88:
+            text = "**/" + self.word(2) + "/" + self.word(2)
+        elif kind < 0.93:
+            text = self.word(1) + "*." + self.ending()
+        elif kind < 0.96:
+            text = "*" + self.word(1) + "*"
+        elif kind < 0.98:
+            text = self.word(2) + "[0-9]." + self.ending()
+        else:
+            text = self.folders(1) + "/**/" + self.word(2)
+        if self.random.random() < 0.2:
+            text += "/"
+        return "!" + text if self.random.random() < 0.05 else text
+
+    def path(self):
+        parts = [self.random.choice(self.names) for _ in range(self.random.choice((0, 1, 2, 3, 3, 4, 5)))]
+        parts.append(self.word(2) + ("" if self.random.random() < 0.1 else "." + self.ending()))
+        return "/".join(parts)
+
+
+def write(file, lines):
+    with open(file, "w", encoding="ascii") as out:
+        out.writelines(line + "\n" for line in lines)
+
+
+def instructions(words, paths):
+    with open(paths, "rb") as given:
+        done = subprocess.run(
+            ["valgrind", "--tool=callgrind", "--callgrind-out-file=/dev/null", *words],
+            stdin=given, stdout=subprocess.DEVNULL, stderr=subprocess.PIPE, text=True, env={**os.environ, "GIT_CONFIG_GLOBAL": "/dev/null"})
+    # git's status is 1 where no path is ignored
+    found = re.search(r"Collected : (\d+)", done.stderr)
+    if done.returncode > 1 or not found:
+        sys.exit(f"lists: {' '.join(words)}\n{done.stderr}")
+    return int(found[1])
+
+
+def ripgrep():
+    """The program over ripgrep's matcher, built; None where it can't be."""
+    if not shutil.which("cargo") or not os.path.isdir("/usr/share/cargo/registry/ignore-0.4.18"):
+        return None
+    target = f"{HERE}/out/ripgrep"
+    subprocess.run(["cargo", "build", "--quiet", "--release", "--offline", "--target-dir", target], cwd=f"{HERE}/ripgrep", check=True)
+    return f"{target}/release/ripgrep"
+
+
+def programs():
+    """For each program, its words for the file FOLDER/.gitignore of patterns."""
+    rows = {}
+    if not os.path.isfile(PROGRAM):
+        sys.exit(f"lists: there is no {PROGRAM}: ./globline --prove builds it")
+    for command, words in (("list", ["{}", "-"]), ("ignore", ["-", "{}"])):
+        rows[f"globline {command}"] = lambda folder, c=command, w=words: [PROGRAM, c, "sensitive", *[f"{folder}/.gitignore" if it == "{}" else it for it in w]]
+    if shutil.which("git"):
+        rows["git check-ignore"] = lambda folder: [shutil.which("git"), "-C", folder, "check-ignore", "-v", "-n", "--no-index", "--stdin"]
+    matcher = ripgrep()
+    if matcher:
+        rows["ripgrep's matcher"] = lambda folder: [matcher, f"{folder}/.gitignore"]
+    return rows
+
+
+def counted(words, size, folder, paths):
+    """Instructions a path, and of reading and preparing a pattern."""
+    half = paths[: len(paths) // 2]
+    write(f"{folder}/paths", paths)
+    write(f"{folder}/half", half)
+    whole, part = (instructions(words(folder), f"{folder}/{name}") for name in ("paths", "half"))
+    a_path = (whole - part) / (len(paths) - len(half))
+    write(f"{folder}/none", [])
+    os.makedirs(f"{folder}/empty", exist_ok=True)
+    subprocess.run(["git", "init", "-q", f"{folder}/empty"], check=False)
+    write(f"{folder}/empty/.gitignore", [])
+    start = instructions(words(f"{folder}/empty"), f"{folder}/none")
+    return a_path, (part - start - a_path * len(half)) / size
+
+
+def main():
+    args = argparse.ArgumentParser(description=__doc__, formatter_class=argparse.RawDescriptionHelpFormatter)
+    args.add_argument("--sizes", default="10,100,1000,10000")
+    args.add_argument("--paths", type=int, default=1000)
+    args.add_argument("--seed", type=int, default=5)
+    args.add_argument("--make", metavar="FOLDER")
+    args.add_argument("--draw", metavar="FILE.svg")
+    o = args.parse_args()
+    sizes = [int(size) for size in o.sizes.split(",")]
+    rows = {} if o.make else programs()
+    points = {name: [] for name in rows}
+    if rows:
+        print("| Patterns | " + " | ".join(rows) + " |\n|---" + "|---" * len(rows) + "|")
+    for size in sizes:
+        load = Load(o.seed)
+        patterns = [load.pattern() for _ in range(size)]
+        paths = [load.path() for _ in range(o.paths)]
+        if o.make:
+            os.makedirs(o.make, exist_ok=True)
+            write(f"{o.make}/patterns", patterns)
+            write(f"{o.make}/paths", paths)
+            return
+        with tempfile.TemporaryDirectory() as folder:
+            subprocess.run(["git", "init", "-q", folder], check=False)
+            write(f"{folder}/.gitignore", patterns)
+            found = {name: counted(words, size, folder, paths) for name, words in rows.items()}
+        for name, (a_path, _) in found.items():
+            points[name].append((size, a_path))
+        # what git reads before the first path isn't the patterns alone
+        cells = [f"{a_path:,.0f}" + ("" if name.startswith("git") else f" ({a_pattern:,.0f})") for name, (a_path, a_pattern) in found.items()]
+        print(f"| {size:,} | " + " | ".join(cells) + " |", flush=True)
+    if o.draw:
+        import draw
+
+        draw.lists(o.draw, points)
+
+
+main()

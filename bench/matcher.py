@@ -1,0 +1,122 @@
+#!/usr/bin/env python3
+"""Counts what the matcher takes, beside the Rust crate gix-glob: bench/matcher.py SOURCES
+
+SOURCES is a checkout of gix-glob 0.28.0, or the folder src of one. Its files are read where they lie; none is kept here. The
+library is crates/gix_glob_c/out/libgix_glob_c.a, which `examples/c/install PREFIX` or `rt lib` builds. Both are called on the
+same inputs in one process. What is printed is instructions a call, by valgrind's callgrind, less what the harness takes."""
+import argparse
+import os
+import re
+import subprocess
+import sys
+
+HERE = os.path.dirname(os.path.abspath(__file__))
+LIBRARY = os.path.join(os.path.dirname(HERE), "crates", "gix_glob_c", "out", "libgix_glob_c.a")
+ENGINES = ("crate", "here")
+
+
+def said(words, **how):
+    words = [str(word) for word in words]
+    done = subprocess.run(words, stdout=subprocess.PIPE, stderr=subprocess.PIPE, text=True, **how)
+    if done.returncode:
+        sys.exit(f"matcher: {' '.join(words)}\n{done.stdout}{done.stderr}")
+    return done
+
+
+def source(folder, name):
+    for file in (f"{folder}/src/{name}.rs", f"{folder}/{name}.rs", f"{folder}/src--src--{name}.rs.txt", f"{folder}/src/src--src--{name}.rs.txt"):
+        if os.path.isfile(file):
+            return os.path.abspath(file)
+    sys.exit(f"matcher: there is no {name}.rs in {folder}: it is to be a checkout of gix-glob 0.28.0")
+
+
+def memchr():
+    """The sources of the crate memchr, of Debian's librust-memchr-dev or as MEMCHR names them."""
+    if "MEMCHR" in os.environ:
+        return os.environ["MEMCHR"]
+    for folder in ("/usr/share/cargo/registry/memchr-2.5.0",):
+        if os.path.isdir(folder):
+            return folder
+    sys.exit("matcher: install librust-memchr-dev, or name the sources of memchr 2.5 by MEMCHR")
+
+
+def rustc(out, name, file, *more, edition="2024"):
+    said(["rustc", f"--edition={edition}", "-Copt-level=3", "-Ccodegen-units=1", "-Cpanic=abort", "--cap-lints=allow",
+          "-L", out, "--crate-name", name, *more, file], env={**os.environ, "BENCH_OUT": out})
+
+
+def build(out, sources, library):
+    """Builds the crate over small stubs of its dependencies, and the driver over both engines."""
+    if not os.path.isfile(library):
+        sys.exit(f"matcher: there is no {library}: build it by `rt lib` in crates/gix_glob_c")
+    os.makedirs(out, exist_ok=True)
+    kind = ["--crate-type=rlib", "--out-dir", out]
+    # what memchr's build script gives for x86-64
+    flags = [f"--cfg={it}" for it in ("memchr_runtime_simd", "memchr_runtime_sse2", "memchr_runtime_sse42", "memchr_runtime_avx", 'feature="std"', 'feature="alloc"')]
+    rustc(out, "memchr", f"{memchr()}/src/lib.rs", *kind, *flags, edition="2018")
+    for stub in ("bitflags", "gix_utils", "gix_features"):
+        rustc(out, stub, f"{HERE}/stubs/{stub}.rs", *kind)
+    rustc(out, "bstr", f"{HERE}/stubs/bstr.rs", *kind, "--extern", f"memchr={out}/libmemchr.rlib", "--cfg=has_memchr")
+    with open(f"{out}/upstream_mods.rs", "w", encoding="utf-8") as file:
+        for name in ("wildmatch", "pattern", "parse"):
+            file.write(f'#[path = "{source(sources, name)}"]\npub mod {name};\n')
+    uses = [word for it in ("bitflags", "bstr", "gix_utils", "gix_features") for word in ("--extern", f"{it}={out}/lib{it}.rlib")]
+    rustc(out, "upstream", f"{HERE}/upstream.rs", *kind, *uses)
+    rustc(out, "driver", f"{HERE}/driver.rs", "--extern", f"upstream={out}/libupstream.rlib", "-o", f"{out}/driver", f"-Clink-arg={os.path.abspath(library)}")
+    return f"{out}/driver"
+
+
+def once(words):
+    """The instructions of a run, and how many calls it says that it made in a round."""
+    done = said(["valgrind", "--tool=callgrind", "--callgrind-out-file=/dev/null", *words])
+    return int(re.search(r"Collected : (\d+)", done.stderr)[1]), int(done.stdout)
+
+
+def counted(driver, *words):
+    """Instructions a call: two rounds less one, and less those of an engine that does nothing."""
+    rates = []
+    for engine in (words[1], "nothing"):
+        (one, calls), (two, _) = (once([driver, words[0], engine, *words[2:], str(rounds)]) for rounds in (1, 2))
+        rates.append((two - one) / calls)
+    return rates[0] - rates[1]
+
+
+def goals():
+    with open(f"{HERE}/goals.txt", encoding="utf-8") as file:
+        lines = [line.partition("#")[0].split() for line in file]
+    return {words[0]: float(words[1]) for words in lines if words}
+
+
+def judge(driver, loads):
+    """Prints the figures of each load, and answers how many are above their goal."""
+    print("| Load | The crate | Here | Ratio | Goal |\n|---|---|---|---|---|")
+    missed = 0
+    for load, goal in loads.items():
+        how = "count_lines" if load.startswith("lines") else "count"
+        crate, here = (counted(driver, how, engine, load) for engine in ENGINES)
+        missed += here / crate > goal
+        print(f"| `{load}` | {crate:,.0f} | {here:,.0f} | {here / crate:.{3 if here / crate < 0.01 else 2}f} | {goal:.2f} |", flush=True)
+    return missed
+
+
+def main():
+    args = argparse.ArgumentParser(description=__doc__, formatter_class=argparse.RawDescriptionHelpFormatter)
+    args.add_argument("sources")
+    args.add_argument("--library", default=LIBRARY)
+    args.add_argument("--out", default=f"{HERE}/out", help="a folder for what is built")
+    args.add_argument("--only", default="", help="a word that the names of the counted loads hold")
+    args.add_argument("--fuzz", type=int, default=1_000_000, help="how many random inputs the answers are compared on")
+    args.add_argument("--draw", metavar="FILE.svg", help="count hostile inputs of several lengths too, and draw them")
+    options = args.parse_args()
+    driver = build(os.path.abspath(options.out), options.sources, options.library)
+    print("Answers that differ from the crate's, of a load or of random inputs:")
+    print(said([driver, "agree"]).stdout + said([driver, "fuzz", options.fuzz, 1]).stdout)
+    missed = judge(driver, {load: goal for load, goal in goals().items() if options.only in load})
+    if options.draw:
+        import draw
+
+        draw.hostile(options.draw, lambda engine, load, size: counted(driver, "count_hostile", engine, load, str(size)))
+    sys.exit(1 if missed else 0)
+
+
+main()

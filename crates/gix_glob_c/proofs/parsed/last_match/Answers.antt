@@ -1,0 +1,39 @@
+-- The patterns are gone through from the last one on.
+use Rattle.std.proofs.Common.{◌≡◌, ◌+◌, ◌-◌, ◌<◌, ℕ, [], true, length, slice_index_or, arith}
+use Rattle.std.proofs.lemmas.List.Elements.{All-get_or}
+use Rattle.std.proofs.lemmas.Option.{slice_get-get_or}
+use Rattle.gix_glob_c.specs.declared.parsed.GlobPattern.{GlobPattern}
+use Rattle.gix_glob_c.specs.Parsed.{AnswersPath, IsLawful}
+use Rattle.gix_glob_c.proofs.LastLemmas.{LastAnswer-found, NoneFrom-all, NoneFrom-less}
+use Rattle.gix_glob_c.proofs.parsed.last_match.Goals as goal
+
+-- what the reading of an element takes where there is none
+abbrev blank : GlobPattern
+blank = record { text = record { ref_ptr = (0, 0); now = [] }; first_wildcard_pos = 0; mode = 0 }
+
+pub returns-then-is_matched-clause-exact : goal.returns-then-is_matched-clause-exact
+returns-then-is_matched-clause-exact c = λ lawful.
+    let patterns = c.args.patterns.now in
+    let at = c.loop-i.i - 1 in
+    let within : at < length patterns = omega arith in
+    let next : c.loop-i.i ≡ at + 1 = omega arith in
+    let told = c.is_matched.ensures (All-get_or IsLawful patterns at blank within lawful) in
+    LastAnswer-found patterns c.args.path.now c.args.is_dir c.args.fold c.loop-i.i at (slice_index_or patterns at blank) next
+    (slice_get-get_or patterns at blank within) (c.loop-i.invariant lawful) (told.0 c.if-is_matched.true)
+
+pub loop-i-preserved : goal.loop-i-preserved
+loop-i-preserved c = λ lawful.
+    let patterns = c.args.patterns.now in
+    let at = c.loop-i.i - 1 in
+    let within : at < length patterns = omega arith in
+    let next : c.loop-i.i ≡ at + 1 = omega arith in
+    let told = c.is_matched.ensures (All-get_or IsLawful patterns at blank within lawful) in
+    let refused = λ (h : AnswersPath (slice_index_or patterns at blank) c.args.path.now c.args.is_dir c.args.fold).
+    let answered : c.is_matched.result ≡ true = told.1 h in
+    absurd (cc) in
+    NoneFrom-less patterns c.args.path.now c.args.is_dir c.args.fold c.loop-i.i at (slice_index_or patterns at blank) next
+    (slice_get-get_or patterns at blank within) (c.loop-i.invariant lawful) refused
+
+pub returns-clause-exact : goal.returns-clause-exact
+returns-clause-exact c = λ lawful.
+    NoneFrom-all c.args.patterns.now c.args.path.now c.args.is_dir c.args.fold c.loop-i.i (omega arith) (c.loop-i.invariant lawful)

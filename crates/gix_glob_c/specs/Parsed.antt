@@ -1,0 +1,58 @@
+-- What the parts of a pattern mean that C keeps, when they answer for a path, and which of several answers last.
+use Rattle.std.specs.Prelude.{◌≡◌, ◌≤◌, ℕ, Bool, true, false, nat_eq, nat_lt, List, length, slice_get, Option, None, Some, MatchOption, codes, if◌then◌else◌}
+use Rattle.std.specs.List.{ends_with}
+use Rattle.gix_glob.specs.declared.pattern.Mode.{Mode}
+use Rattle.gix_glob.specs.Patterns.{IsPattern, Reads}
+use Rattle.gix_glob.specs.RepositoryPaths.{Answers, IsBasenameStart}
+use Rattle.glob_lines.specs.Paths.{IsPlainPath}
+use Rattle.gix_glob_c.specs.Parts.{case_of, place_of}
+use Rattle.gix_glob_c.specs.declared.parsed.GlobPattern.{GlobPattern}
+
+-- what is known of the text, as the flags of a pattern
+abbrev pub flags_of : GlobPattern → Mode
+flags_of pattern = record { 0 = pattern.mode }
+
+-- the place of the text's first special byte
+abbrev pub first_of : GlobPattern → Option ℕ
+first_of pattern = place_of pattern.text.now pattern.first_wildcard_pos
+
+-- the parts make a pattern
+abbrev pub IsLawful : GlobPattern → Type 0
+IsLawful pattern = IsPattern pattern.text.now (flags_of pattern) (first_of pattern)
+
+-- the parts are those of the one reading of the line
+pub record IsRead (line : List ℕ) (pattern : GlobPattern) : Type 0 where
+  pub reads : Reads line true pattern.text.now (flags_of pattern) (first_of pattern)
+  pub lawful : IsLawful pattern
+
+-- a path from a folder on: plain, and without a slash at its end
+pub record IsPathOfFile (path : List ℕ) : Type 0 where
+  pub plain : IsPlainPath path
+  pub ends : ends_with nat_eq path (codes "/") ≡ false
+
+-- The pattern answers for a path: for the path and for where its last part begins, in path mode.
+pub record AnswersPath (pattern : GlobPattern) (path : List ℕ) (is_dir fold : Bool) : Type 0 where
+  pub is : IsPathOfFile path
+  pub position : Option ℕ
+  pub start : IsBasenameStart path position
+  pub answers : Answers pattern.text.now (flags_of pattern) path position (Some is_dir) (case_of fold) (record { 0 = 1 })
+
+-- the pattern at this index answers for a path
+pub record AnswersAt (patterns : List GlobPattern) (path : List ℕ) (is_dir fold : Bool) (index : ℕ) : Type 0 where
+  pub pattern : GlobPattern
+  pub there : slice_get patterns index ≡ Some pattern
+  pub answers : AnswersPath pattern path is_dir fold
+
+-- the pattern at this index answers, and none behind it does
+pub record IsLastAnswer (patterns : List GlobPattern) (path : List ℕ) (is_dir fold : Bool) (index : ℕ) : Type 0 where
+  pub answers : AnswersAt patterns path is_dir fold index
+  pub last : (later : ℕ) → AnswersAt patterns path is_dir fold later → later ≤ index
+
+-- an index past the list's end stands for none
+abbrev pub index_of : List GlobPattern → ℕ → Option ℕ
+index_of patterns index = if nat_lt index (length patterns) then Some index else None
+
+-- The last of the patterns that answers, where one does.
+abbrev pub LastAnswer : List GlobPattern → List ℕ → Bool → Bool → Option ℕ → Type 0
+LastAnswer patterns path is_dir fold index =
+    MatchOption index ((i : ℕ) → ¬ AnswersAt patterns path is_dir fold i) (IsLastAnswer patterns path is_dir fold)

@@ -1,0 +1,63 @@
+//! The lines of an ignore file, one after the other: `struct gix_glob_lines` of the header.
+ghost use Rattle.std.specs.Prelude.{◌≡◌, ◌↔◌, ◌<◌, ◌+◌, ◌-◌, ◌^◌, [], true, false};
+ghost use Rattle.std.specs.Option.{option_copied};
+ghost use Rattle.gix_glob_c.specs.IgnoreFile.{ReadsText, TakesLine, unread_of};
+
+use crate::parsed::{GlobPattern, gix_glob_parse};
+use glob_lines::{next_ignore_line, without_byte_order_mark};
+
+/// `struct gix_glob_lines`: what is left to read of an ignore file, and how many of its lines were read.
+#[repr(C)]
+#[derive(Copy, Clone)]
+pub struct GlobLines<'a> {
+    /// The bytes behind the lines that were read.
+    pub rest: &'a [u8],
+    /// The number of the line that was read last, from 1; 0 before the first.
+    pub number: usize,
+}
+
+/// Takes the next line off an ignore file, by the rules of [`next_ignore_line`], and reads its pattern. `false` is answered
+/// where no line is left. A line without a pattern leaves `out` as it was, and `has_pattern` false.
+#[unsafe(no_mangle)]
+pub extern "C" fn gix_glob_parse_ignore_line<'a>(
+    lines: &mut GlobLines<'a>,
+    out: &mut GlobPattern<'a>,
+    has_pattern: &mut bool,
+) -> bool
+    ensures ended { (result ≡ false) ↔ (unread_of lines.old ≡ []) }
+    ensures kept { result ≡ false → out.new ≡ out.old }
+    ensures taken { result ≡ true → TakesLine (unread_of lines.old) lines.new.rest.now out.old out.new has_pattern.new }
+    ensures number { result ≡ true → lines.old.number < 2 ^ 64 - 1 → lines.new.number ≡ lines.old.number + 1 }
+{
+    let Some(line) = next_ignore_line(unread(lines)) else {
+        return false;
+    };
+    lines.rest = line.rest;
+    lines.number = lines.number.saturating_add(1);
+    *has_pattern = read_text(line.text, out);
+    true
+}
+
+/// The bytes that are left to read, without a byte order mark at the front of the file.
+fn unread<'a>(lines: &GlobLines<'a>) -> &'a [u8]
+    ensures { result.now ≡ unread_of lines.now }
+{
+    if lines.number == 0 {
+        without_byte_order_mark(lines.rest)
+    } else {
+        lines.rest
+    }
+}
+
+/// Reads the pattern of a line's text; there is none where the line is a comment.
+fn read_text<'a>(text: Option<&'a [u8]>, out: &mut GlobPattern<'a>) -> bool
+    ensures { ReadsText (option_copied text.entry) out.old out.new result }
+{
+    match text {
+        Some(text) => gix_glob_parse(text, out),
+        None => false,
+    }
+}
+
+#[cfg(test)]
+mod tests;

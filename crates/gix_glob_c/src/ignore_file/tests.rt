@@ -1,0 +1,69 @@
+//! The lines of an ignore file, taken off one after the other: rows that were worked out by hand.
+use super::*;
+
+#[test]
+fn lines_are_taken_one_by_one(rt: HostRuntime) {
+    // what is left behind each line, whether it has a pattern, and the text and the mode that `out` then has
+    let rows: [(usize, bool, &[u8], u32); 6] = [
+        (24, true, b"*.o", 3),
+        (21, false, b"*.o", 3),
+        (20, false, b"*.o", 3),
+        (14, true, b"\xef\xbb\xbfy", 1),
+        (7, true, b"build", 5),
+        (0, true, b"k\\ ", 9),
+    ];
+    let mut lines = GlobLines {
+        rest: b"\xef\xbb\xbf*.o \r\n#x\n\n\xef\xbb\xbfy\r\nbuild/\n!k\\  \r\n",
+        number: 0,
+    };
+    let mut out = GlobPattern {
+        text: b"",
+        first_wildcard_pos: usize::MAX,
+        mode: 0,
+    };
+    let mut has_pattern = false;
+    for (number, (left, is_pattern, text, mode)) in rows.into_iter().enumerate() {
+        let is_line = gix_glob_parse_ignore_line(&mut lines, &mut out, &mut has_pattern);
+        assert!(rt; is_line, "line {number}");
+        assert_eq!(rt; lines.number, number + 1, "number of line {number}");
+        assert_eq!(rt; lines.rest.len(), left, "what is left behind line {number}");
+        assert_eq!(rt; has_pattern, is_pattern, "line {number} has a pattern");
+        assert!(rt; out.text == text, "text after line {number}");
+        assert_eq!(rt; out.mode, mode, "mode after line {number}");
+    }
+    assert!(rt; !gix_glob_parse_ignore_line(&mut lines, &mut out, &mut has_pattern));
+    assert_eq!(rt; lines.number, 6);
+}
+
+#[test]
+fn files_end(rt: HostRuntime) {
+    let rows: [(&[u8], usize, usize); 8] = [
+        (b"", 0, 0),
+        (b"\xef\xbb\xbf", 0, 0),
+        (b"\xef\xbb\xbf", 1, 1),
+        (b"\n", 0, 1),
+        (b"\n\n", 0, 2),
+        (b"a", 0, 1),
+        (b"a\r", 0, 1),
+        (b"\\", usize::MAX, 1),
+    ];
+    for (bytes, number, count) in rows {
+        let mut lines = GlobLines {
+            rest: bytes,
+            number,
+        };
+        let mut out = GlobPattern {
+            text: b"",
+            first_wildcard_pos: 0,
+            mode: u32::MAX,
+        };
+        let mut has_pattern = false;
+        let mut taken = 0;
+        for _ in 0..4 {
+            if gix_glob_parse_ignore_line(&mut lines, &mut out, &mut has_pattern) {
+                taken += 1;
+            }
+        }
+        assert_eq!(rt; taken, count, "{bytes:?} from line {number}");
+    }
+}

@@ -1,0 +1,143 @@
+//! Patterns that are read once and matched often: `struct gix_glob_pattern` of the header, and what is asked of it.
+ghost use Rattle.std.specs.Prelude.{◌≡◌, ◌<◌, ◌⊎◌, ◌^◌, ◌-◌, ◌↔◌, length, All, IsTrue, IfSome, true, false};
+ghost use Rattle.gix_glob.specs.Patterns.{HasReading, IsPattern};
+ghost use Rattle.gix_glob.specs.RepositoryPaths.{IsBasenameStart};
+ghost use Rattle.gix_glob_c.specs.Parsed.{AnswersPath, IsLawful, IsPathOfFile, IsRead, LastAnswer, first_of, flags_of, index_of};
+
+use crate::{case_for, place_in};
+use bitflags::Flags;
+use gix_glob::pattern::{self, PatternView, basename_start};
+use gix_glob::wildmatch::Mode;
+use glob_lines::plain_path;
+
+/// What stands for no place and for no index.
+const NONE: usize = usize::MAX;
+
+/// `struct gix_glob_pattern`: the parts of a pattern. Its text is borrowed from the line that was read.
+#[repr(C)]
+#[derive(Copy, Clone)]
+pub struct GlobPattern<'a> {
+    /// The bytes that are matched.
+    pub text: &'a [u8],
+    /// The place of the text's first `*`, `?`, `[` or `\`, counted in bytes from 0. A place past its end stands for none.
+    pub first_wildcard_pos: usize,
+    /// The bits of what is known of the text and of what stood around it.
+    pub mode: u32,
+}
+
+/// Reads a pattern line, as `Pattern::from_bytes` does. A blank line leaves `out` as it was, and is answered by `false`.
+#[unsafe(no_mangle)]
+pub extern "C" fn gix_glob_parse<'a>(line: &'a [u8], out: &mut GlobPattern<'a>) -> bool
+    ensures reads { result ≡ true → IsRead line.now out.new }
+    ensures blank { result ≡ false → ¬ HasReading line.now true }
+    ensures kept { result ≡ false → out.new ≡ out.old }
+{
+    match PatternView::from_bytes(line) {
+        Some(view) => {
+            *out = parts_of(view);
+            true
+        }
+        None => false,
+    }
+}
+
+/// Whether a pattern matches a path, in path mode. The path is that from the folder of the pattern's file on: it isn't
+/// empty, has no slash at its front or end, and no two in a row; any other is matched by nothing.
+#[unsafe(no_mangle)]
+pub extern "C" fn gix_glob_pattern_matches_path(
+    pattern: &GlobPattern<'_>,
+    path: &[u8],
+    is_dir: bool,
+    fold: bool,
+) -> bool
+    ensures other { ¬ IsPathOfFile path.now → result ≡ false }
+    ensures exact { IsLawful pattern.now → (IsTrue result ↔ AnswersPath pattern.now path.now is_dir fold) }
+{
+    is_path(path) && is_matched(pattern, path, basename_start(path), is_dir, fold)
+}
+
+/// The index of the last of the patterns that matches a path, as [`gix_glob_pattern_matches_path`] answers; `usize::MAX`
+/// where none does.
+#[unsafe(no_mangle)]
+pub extern "C" fn gix_glob_last_match(
+    patterns: &[GlobPattern<'_>],
+    path: &[u8],
+    is_dir: bool,
+    fold: bool,
+) -> usize
+    ensures none { (result ≡ 2 ^ 64 - 1) ⊎ (result < length patterns.now) }
+    ensures exact { All IsLawful patterns.now → LastAnswer patterns.now path.now is_dir fold (index_of patterns.now result) }
+{
+    if !is_path(path) {
+        return NONE;
+    }
+    match last_match(patterns, path, is_dir, fold) {
+        Some(index) => index,
+        None => NONE,
+    }
+}
+
+/// The index of the last of the patterns that matches a path.
+fn last_match(patterns: &[GlobPattern<'_>], path: &[u8], is_dir: bool, fold: bool) -> Option<usize>
+    requires { IsPathOfFile path.now }
+    ensures inside { IfSome result (λ index. index < length patterns.now) }
+    ensures exact { All IsLawful patterns.now → LastAnswer patterns.now path.now is_dir fold result }
+{
+    let position = basename_start(path);
+    for i in (0..patterns.len()).rev() {
+        if is_matched(&patterns[i], path, position, is_dir, fold) {
+            return Some(i);
+        }
+    }
+    None
+}
+
+/// The parts of a pattern, as C keeps them.
+pub(crate) fn parts_of<'a>(view: PatternView<'a>) -> GlobPattern<'a>
+    requires { IsPattern view.text.now view.mode view.first_wildcard_pos }
+    ensures text { result.text.now ≡ view.entry.text.now }
+    ensures flags { flags_of result ≡ view.entry.mode }
+    ensures place { first_of result ≡ view.entry.first_wildcard_pos }
+{
+    GlobPattern {
+        text: view.text,
+        first_wildcard_pos: view.first_wildcard_pos.unwrap_or(NONE),
+        mode: view.mode.bits(),
+    }
+}
+
+/// Whether bytes are a path from a folder on.
+fn is_path(path: &[u8]) -> bool
+    ensures { IsTrue result ↔ IsPathOfFile path.now }
+{
+    plain_path(path) && !path.ends_with(b"/")
+}
+
+/// Whether a pattern matches a path whose last part begins at the position.
+fn is_matched(
+    pattern: &GlobPattern<'_>,
+    path: &[u8],
+    position: Option<usize>,
+    is_dir: bool,
+    fold: bool,
+) -> bool
+    requires path { IsPathOfFile path.now }
+    requires start { IsBasenameStart path.now position }
+    ensures { IsLawful pattern.now → (IsTrue result ↔ AnswersPath pattern.now path.now is_dir fold) }
+{
+    let view = PatternView {
+        text: pattern.text,
+        mode: pattern::Mode::from_bits_retain(pattern.mode),
+        first_wildcard_pos: place_in(pattern.text, pattern.first_wildcard_pos),
+    };
+    view.matches_repo_relative_path(
+        path,
+        position,
+        Some(is_dir),
+        case_for(fold),
+        Mode::NO_MATCH_SLASH_LITERAL,
+    )
+}
+
+#[cfg(test)]
+mod tests;

@@ -1,0 +1,4 @@
+pub mod reading
+pub mod cutting
+pub mod pruned
+pub mod two_marks

@@ -1,0 +1,187 @@
+-- One alignment: after some tokens of one byte each, what is known where it stands is known where it began.
+use Rattle.std.proofs.Common.{◌≡◌, ◌⊎◌, inl, inr, ℕ, ◌+◌, ◌-◌, ◌<◌, ◌≤◌, IsTrue, List, [], ◌∷◌, ◌++◌, length, get_or, drop, refl, sym, ◌∙◌, ap, subst, arith, length-drop}
+use Rattle.std.proofs.lemmas.Bool.{cases_lt}
+use Rattle.glob_matcher.specs.declared.wildmatch.mode.Mode.{Mode}
+use Rattle.glob_matcher.specs.Bytes.{HasByte, NoSlash, is_path, slash, star}
+use Rattle.glob_matcher.specs.Tokens.{Token, Byte, Any, OneOf, Free, Local, Dirs, Nothing, TokenAt, From}
+use Rattle.glob_matcher.specs.Matching.{OneByte, Lang, IsCut, SplitsFrom, star_count}
+use Rattle.glob_matcher.specs.Private.Reader.{Fits}
+use Rattle.glob_matcher.specs.Pruning.{IsStart, TakeOneByte, EndsShort}
+use Rattle.glob_matcher.proofs.lemmas.reading.TokenLemmas.{TokenAt-unique, TokenAt-inside}
+use Rattle.glob_matcher.proofs.lemmas.cutting.CutLemmas.{IsOne, one_byte_in, one_byte_out, lang_is_one, one_is_lang, one_in, one_out}
+use Rattle.glob_matcher.proofs.lemmas.cutting.SplitLemmas.{IsStarToken, IsOtherToken, kind_of}
+use Rattle.glob_matcher.proofs.lemmas.cutting.SlashLemmas.{fold_slash, only_slash, ends_in_slash_byte}
+use Rattle.glob_matcher.proofs.lemmas.reading.Starts.{start_next}
+
+-- Place m of the value, where the alignment may begin too, leads to place n.
+pub record Moved (mode : Mode) (p v : List ℕ) (from at place k m n : ℕ) : Type 0 where
+  pub inside : n ≤ length v
+  pub here : SplitsFrom v n p place mode
+  pub behind : from < place → HasByte p (place - 1) slash → get_or v (n - 1) 0 ≡ slash
+  pub level : IsTrue (is_path mode) → NoSlash v at m → NoSlash v k n
+
+-- What the list of tokens from the start on says of the list from here on.
+pub record ListMoved (mode : Mode) (p : List ℕ) (place : ℕ) (ts : List Token) : Type 0 where
+  pub tokens : List Token
+  pub read : From mode p place tokens
+  pub counted : star_count tokens ≡ star_count ts
+  pub single : TakeOneByte ts → TakeOneByte tokens
+
+-- The alignment began at `from` and `at`, and stands at `place` and `k`.
+pub record Aligned (mode : Mode) (p v : List ℕ) (from at place k : ℕ) : Type 0 where
+  pub start : IsStart p place mode
+  pub low : from ≤ place
+  pub value_low : at ≤ k
+  pub value_high : k ≤ length v
+  pub no_star : from < place → ¬ HasByte p from star
+  pub back : SplitsFrom v k p place mode → SplitsFrom v at p from mode
+  pub forth : (m : ℕ) → at ≤ m → m ≤ length v → SplitsFrom v m p from mode → Moved mode p v from at place k m (m + (k - at))
+  pub list : (ts : List Token) → From mode p from ts → ListMoved mode p place ts
+  pub short_back : EndsShort v k p place mode → EndsShort v at p from mode
+  pub short_forth : EndsShort v at p from mode → EndsShort v k p place mode
+
+one_count : (t : Token) (ts : List Token) → IsOne t → star_count (t ∷ ts) ≡ star_count ts
+one_count (Byte b) ts one = refl
+one_count Any ts one = refl
+one_count (OneOf s) ts one = refl
+one_count Free ts one = absurd one
+one_count Local ts one = absurd one
+one_count Dirs ts one = absurd one
+one_count Nothing ts one = absurd one
+
+-- a token of one byte doesn't begin with a star
+pub one_no_star : (mode : Mode) (p : List ℕ) (i : ℕ) (t : Token) (j : ℕ) → IsOne t → TokenAt mode p i t j → ¬ HasByte p i star
+one_no_star mode p i t j one here h = by (kind_of mode p i t j here) where
+  by : IsStarToken p i t j ⊎ IsOtherToken p i t j → ⊥
+  by (inl x) =
+      let more : star_count (t ∷ []) ≡ star_count [] + 1 = x.counts [] in
+      let none : star_count (t ∷ []) ≡ star_count [] = one_count t [] one in
+      omega arith
+  by (inr x) = x.no_star h
+
+one_single : (t : Token) (ts : List Token) → IsOne t → TakeOneByte (t ∷ ts) → TakeOneByte ts
+one_single (Byte b) ts one x = x
+one_single Any ts one x = x
+one_single (OneOf s) ts one x = x
+one_single Free ts one x = absurd one
+one_single Local ts one x = absurd one
+one_single Dirs ts one x = absurd one
+one_single Nothing ts one x = absurd one
+
+pub single_one : (t : Token) (ts : List Token) → TakeOneByte (t ∷ ts) → IsOne t
+single_one (Byte b) ts x = tt
+single_one Any ts x = tt
+single_one (OneOf s) ts x = tt
+single_one Free ts x = x
+single_one Local ts x = x
+single_one Dirs ts x = x
+single_one Nothing ts x = x
+
+-- the list after a token of one byte
+pub list_next : (mode : Mode) (p : List ℕ) (i : ℕ) (t : Token) (j : ℕ) (ts : List Token) → IsOne t → TokenAt mode p i t j
+    → From mode p i ts → ListMoved mode p j ts
+list_next mode p i t j [] one here read = let inside = TokenAt-inside mode p i t j here in absurd (omega arith)
+list_next mode p i t j (u ∷ us) one here read =
+    let same = TokenAt-unique mode p i t u j read.0 here read.1 in
+    let one' : IsOne u = subst IsOne same.0 one in record {
+      tokens = us;
+      read = subst (λ (n : ℕ). From mode p n us) (sym same.1) read.2;
+      counted = sym (one_count u us one');
+      single = one_single u us one';
+    }
+
+pub list_then : (mode : Mode) (p : List ℕ) (i j : ℕ) (ts : List Token) → ListMoved mode p i ts
+    → ((us : List Token) → From mode p i us → ListMoved mode p j us) → ListMoved mode p j ts
+list_then mode p i j ts x next =
+    let y = next x.tokens x.read in
+    record { tokens = y.tokens; read = y.read; counted = y.counted ∙ x.counted; single = λ s. y.single (x.single s) }
+
+-- one more byte taken by the beginning of a list
+short_in : (mode : Mode) (p v : List ℕ) (i j k : ℕ) (t : Token) → TokenAt mode p i t j → k < length v
+    → Fits mode t (get_or v k 0) → EndsShort v (k + 1) p j mode → EndsShort v k p i mode
+short_in mode p v i j k t here inside fits later =
+    let one = one_byte_in (Fits mode t) v k inside fits in record {
+      beginning = t ∷ later.beginning;
+      next = later.next;
+      rest = later.rest;
+      read = (j, here, later.read);
+      cut = (get_or v k 0 ∷ [], drop (k + 1) v, one.1, one_is_lang mode t (get_or v k 0 ∷ []) one.0, later.cut);
+    }
+
+pub short_out : (mode : Mode) (p v : List ℕ) (i j k : ℕ) (t : Token) → IsOne t → TokenAt mode p i t j → k < length v
+    → EndsShort v k p i mode → Fits mode t (get_or v k 0) × EndsShort v (k + 1) p j mode
+short_out mode p v i j k t one here inside all = out all.beginning all.read all.cut where
+  out : (ts : List Token) → From mode p i (ts ++ all.next ∷ all.rest) → IsCut mode ts (drop k v)
+      → Fits mode t (get_or v k 0) × EndsShort v (k + 1) p j mode
+  out [] read cut =
+      let none : length v - k ≡ 0 = sym (length-drop k v) ∙ ap (λ (xs : List ℕ). length xs) cut in absurd (omega arith)
+  out (u ∷ us) read cut =
+      let same = TokenAt-unique mode p i u t read.0 j read.1 here in
+      let piece : OneByte (Fits mode t) cut.0 =
+      lang_is_one mode t cut.0 one (subst (λ (x : Token). Lang mode x cut.0) same.0 cut.3) in
+      let parts = one_byte_out (Fits mode t) v k cut.0 cut.1 cut.2 piece in (
+        parts.1,
+        record {
+          beginning = us;
+          next = all.next;
+          rest = all.rest;
+          read = subst (λ (n : ℕ). From mode p n (us ++ all.next ∷ all.rest)) same.1 read.2;
+          cut = subst (λ (xs : List ℕ). IsCut mode us xs) parts.2 cut.4;
+        },
+      )
+
+-- what a byte taken moves
+moved_next : (mode : Mode) (p v : List ℕ) (from at place k m n next : ℕ) (t : Token) → Moved mode p v from at place k m n → k ≤ n
+    → IsOne t → TokenAt mode p place t next → Fits mode t (get_or v k 0) → Moved mode p v from at next (k + 1) m (n + 1)
+moved_next mode p v from at place k m n next t x low one here fits =
+    let out = one_out mode p v place next n t one here x.here in
+    let inside : n < length v = out.0 in record {
+      inside = omega arith;
+      here = out.2;
+      behind = λ past is.
+          let same : t ≡ Byte slash = ends_in_slash_byte mode p place t next one here is in
+          let back : n + 1 - 1 ≡ n = omega arith in
+          let taken : Fits mode (Byte slash) (get_or v n 0) = subst (λ (u : Token). Fits mode u (get_or v n 0)) same out.1 in
+          subst (λ (q : ℕ). get_or v q 0 ≡ slash) (sym back) (fold_slash mode (get_or v n 0) taken);
+      level = λ path none. record {
+        at = λ q above below is.
+            let before : NoSlash v k n = x.level path none in
+            at_last q path before above is (cases_lt q n) (omega arith) out.1;
+      };
+    } where
+      at_last : (q : ℕ) → IsTrue (is_path mode) → NoSlash v k n → k + 1 ≤ q → get_or v q 0 ≡ slash → (q < n) ⊎ (n ≤ q) → q ≤ n
+          → Fits mode t (get_or v n 0) → ⊥
+      at_last q path before above is (inl less) most taken = before.at q (omega arith) less is
+      at_last q path before above is (inr more) most taken =
+          let same : q ≡ n = omega arith in
+          let byte : get_or v n 0 ≡ slash = subst (λ (r : ℕ). get_or v r 0 ≡ slash) same is in
+          let first : get_or v k 0 ≡ slash =
+          only_slash mode t (get_or v k 0) path (subst (λ (c : ℕ). Fits mode t c) byte taken) fits in
+          before.at k (omega arith) (omega arith) first
+
+pub aligned_next : (mode : Mode) (p v : List ℕ) (from at place k next : ℕ) (t : Token) → Aligned mode p v from at place k
+    → IsOne t → TokenAt mode p place t next → place < next → k < length v → Fits mode t (get_or v k 0)
+    → Aligned mode p v from at next (k + 1)
+aligned_next mode p v from at place k next t x one here past inside fits =
+    let low : from ≤ place = x.low in
+    let value_low : at ≤ k = x.value_low in record {
+      start = record { place = inl (start_next mode p place t next x.start here) };
+      low = omega arith;
+      value_low = omega arith;
+      value_high = omega arith;
+      no_star = λ more h. first h (cases_lt from place);
+      back = λ s. x.back (one_in mode p v place next k t here inside fits s);
+      forth = λ m low high s.
+          let same : m + (k + 1 - at) ≡ m + (k - at) + 1 = omega arith in
+          subst (λ (n : ℕ). Moved mode p v from at next (k + 1) m n) (sym same)
+          (moved_next mode p v from at place k m (m + (k - at)) next t (x.forth m low high s) (omega arith) one here fits);
+      list = λ ts read. list_then mode p place next ts (x.list ts read) (λ us. list_next mode p place t next us one here);
+      short_back = λ s. x.short_back (short_in mode p v place next k t here inside fits s);
+      short_forth = λ s. (short_out mode p v place next k t one here inside (x.short_forth s)).1;
+    } where
+      first : HasByte p from star → (from < place) ⊎ (place ≤ from) → ⊥
+      first h (inl more) = x.no_star more h
+      first h (inr same) =
+          let low : from ≤ place = x.low in
+          let is : from ≡ place = omega arith in
+          one_no_star mode p place t next one here (subst (λ (n : ℕ). HasByte p n star) is h)

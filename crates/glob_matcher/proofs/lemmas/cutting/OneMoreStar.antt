@@ -1,0 +1,251 @@
+-- One more star at the start of a star token: in plain mode the pattern's tokens stay as they are.
+use Rattle.std.proofs.Common.{◌≡◌, ◌⊎◌, inl, inr, ℕ, ◌+◌, ◌-◌, ◌<◌, ◌≤◌, ◌↔◌, false, List, [], ◌∷◌, length, refl, sym, ◌∙◌, ap, subst, arith}
+use Rattle.std.specs.List.{insert}
+use Rattle.std.proofs.lemmas.Bool.{cases_lt}
+use Rattle.std.proofs.lemmas.List.Edits.{length-insert, get_or-insert_at, get_or-insert_below, get_or-insert_above}
+use Rattle.glob_matcher.specs.declared.wildmatch.mode.Mode.{Mode}
+use Rattle.glob_matcher.specs.Bytes.{HasByte, is_path, star, slash}
+use Rattle.glob_matcher.specs.Tokens.{Token, Byte, Any, OneOf, Free, Local, Dirs, Nothing, TokenAt, IsRun, From, Tokens}
+use Rattle.glob_matcher.specs.Matching.{Splits, HasStars, star_count}
+use Rattle.glob_matcher.specs.Pruning.{Spells, IsBoundary}
+use Rattle.glob_matcher.proofs.lemmas.reading.SetLemmas.{HasByte-unique}
+use Rattle.glob_matcher.proofs.lemmas.reading.TokenLemmas.{TokenAt-unique, TokenAt-inside, run_lead}
+use Rattle.glob_matcher.proofs.lemmas.reading.Existence.{From-short}
+use Rattle.glob_matcher.proofs.lemmas.cutting.SplitLemmas.{slash_token}
+use Rattle.glob_matcher.proofs.lemmas.reading.ForwardReading.{Alike, alike_flip, from_alike, spells_alike}
+
+-- ---- the bytes
+
+module _ (p : List ℕ) (i : ℕ) (lead : HasByte p i star) where
+  abbrev q : List ℕ
+  q = insert p i star
+
+  long : length q ≡ length p + 1
+  long = let inside : i < length p = lead.inside in length-insert p i star (omega arith)
+
+  star_at : HasByte q i star
+  star_at =
+      let inside : i < length p = lead.inside in
+      let more = long in
+      record { inside = omega arith; is = get_or-insert_at p i star 0 (omega arith) }
+
+  -- up to the star that was there, the bytes are the same
+  before : (x c : ℕ) → x < i + 1 → HasByte p x c → HasByte q x c
+  before x c below h = elim (cases_lt x i) [
+    | inl less ↦
+        let inside : i < length p = lead.inside in
+        let more = long in
+        record { inside = omega arith; is = get_or-insert_below p i star 0 x less (omega arith) ∙ h.is }
+    | inr last ↦
+        let at : i ≡ x = omega arith in
+        let same : star ≡ c = HasByte-unique p x star c (subst (λ (k : ℕ). HasByte p k star) at lead) h in
+        subst (λ (d : ℕ). HasByte q x d) same (subst (λ (k : ℕ). HasByte q k star) at star_at)
+  ]
+
+  before_back : (x c : ℕ) → x < i + 1 → HasByte q x c → HasByte p x c
+  before_back x c below h = elim (cases_lt x i) [
+    | inl less ↦
+        let inside : i < length p = lead.inside in
+        record { inside = omega arith; is = sym (get_or-insert_below p i star 0 x less (omega arith)) ∙ h.is }
+    | inr last ↦
+        let at : i ≡ x = omega arith in
+        let same : star ≡ c = HasByte-unique q x star c (subst (λ (k : ℕ). HasByte q k star) at star_at) h in
+        subst (λ (d : ℕ). HasByte p x d) same (subst (λ (k : ℕ). HasByte p k star) at lead)
+  ]
+
+  alike_before : Alike p 0 q 0 (i + 1)
+  alike_before = record {
+    there = λ x y c f h.
+        let below : x < 0 + (i + 1) = f.below in
+        let sum : x + 0 ≡ y + 0 = f.same in
+        let at : x ≡ y = omega arith in
+        subst (λ (k : ℕ). HasByte q k c) at (before x c (omega arith) h);
+    back = λ x y c f h.
+        let below : x < 0 + (i + 1) = f.below in
+        let sum : x + 0 ≡ y + 0 = f.same in
+        let at : y ≡ x = omega arith in
+        before_back x c (omega arith) (subst (λ (k : ℕ). HasByte q k c) at h);
+  }
+
+  -- from that star on, the bytes stand one place further
+  after : (x c : ℕ) → i ≤ x → HasByte p x c → HasByte q (x + 1) c
+  after x c low h =
+      let inside : i < length p = lead.inside in
+      let there : x < length p = h.inside in
+      let more = long in
+      record { inside = omega arith; is = get_or-insert_above p i star 0 x low (omega arith) ∙ h.is }
+
+  after_back : (x c : ℕ) → i ≤ x → HasByte q (x + 1) c → HasByte p x c
+  after_back x c low h =
+      let inside : i < length p = lead.inside in
+      let there : x + 1 < length q = h.inside in
+      let more = long in
+      record { inside = omega arith; is = sym (get_or-insert_above p i star 0 x low (omega arith)) ∙ h.is }
+
+  alike_after : (n : ℕ) → Alike p i q (i + 1) n
+  alike_after n = record {
+    there = λ x y c f h.
+        let sum : x + (i + 1) ≡ y + i = f.same in
+        let at : x + 1 ≡ y = omega arith in
+        subst (λ (k : ℕ). HasByte q k c) at (after x c f.low h);
+    back = λ x y c f h.
+        let sum : x + (i + 1) ≡ y + i = f.same in
+        let at : y ≡ x + 1 = omega arith in
+        after_back x c f.low (subst (λ (k : ℕ). HasByte q k c) at h);
+  }
+
+  longer_run : (j : ℕ) → IsRun p i j → IsRun q i (j + 1)
+  longer_run j run =
+      let some : i < j = run.some in record {
+        some = omega arith;
+        stars = λ k low below. by k low below (cases_lt i k);
+        whole = λ h. run.whole (after_back j star (omega arith) h);
+      } where
+        by : (k : ℕ) → i ≤ k → k < j + 1 → (i < k) ⊎ (k ≤ i) → HasByte q k star
+        by k low below (inl past) =
+            let at : (k - 1) + 1 ≡ k = omega arith in
+            subst (λ (m : ℕ). HasByte q m star) at (after (k - 1) star (omega arith) (run.stars (k - 1) (omega arith) (omega arith)))
+        by k low below (inr first) =
+            let at : i ≡ k = omega arith in
+            subst (λ (m : ℕ). HasByte q m star) at star_at
+
+  -- the tokens after the run
+  rest_there : (mode : Mode) (j : ℕ) (ts : List Token) → is_path mode ≡ false → i ≤ j → From mode p j ts → From mode q (j + 1) ts
+  rest_there mode j ts plain low read =
+      let more = long in
+      let short : j + length ts ≤ length p = From-short mode p j ts read in
+      from_alike p i q (i + 1) (length p + 1) (alike_after (length p + 1)) (omega arith) (omega arith) mode j (j + 1) ts plain
+      (record { low = low; below = omega arith; same = omega arith }) read
+
+  rest_back : (mode : Mode) (j : ℕ) (ts : List Token) → is_path mode ≡ false → i ≤ j → From mode q (j + 1) ts → From mode p j ts
+  rest_back mode j ts plain low read =
+      let more = long in
+      let short : j + 1 + length ts ≤ length q = From-short mode q (j + 1) ts read in
+      from_alike q (i + 1) p i (length p + 1) (alike_flip p i q (i + 1) (length p + 1) (alike_after (length p + 1)))
+      (omega arith) (omega arith) mode (j + 1) j ts plain
+      (record { low = omega arith; below = omega arith; same = omega arith }) read
+
+-- ---- the tokens
+
+-- Where two texts spell the same tokens and each reading of the one's rest is one of the other's, so are the whole readings.
+read_over : (mode : Mode) (p q : List ℕ) (ts : List Token) (x i y j : ℕ) → Spells mode p x ts i → Spells mode q y ts j
+    → ((us : List Token) → From mode p i us → From mode q j us) → (us : List Token) → From mode p x us → From mode q y us
+read_over mode p q [] x i y j e f rest us read =
+    subst (λ (n : ℕ). From mode q n us) (sym f) (rest us (subst (λ (n : ℕ). From mode p n us) e read))
+read_over mode p q (t ∷ ts) x i y j e f rest [] read =
+    let inside = TokenAt-inside mode p x t e.0 e.1 in
+    absurd (omega arith)
+read_over mode p q (t ∷ ts) x i y j e f rest (u ∷ us) read =
+    let same = TokenAt-unique mode p x t u e.0 read.0 e.1 read.1 in (
+      f.0,
+      subst (λ (w : Token). TokenAt mode q y w f.0) same.0 f.1,
+      read_over mode p q ts e.0 i f.0 j e.2 f.2 rest us (subst (λ (n : ℕ). From mode p n us) (sym same.1) read.2),
+    )
+
+module _ (mode : Mode) (p : List ℕ) (ts : List Token) (i j : ℕ) (plain : is_path mode ≡ false) (spelled : Spells mode p 0 ts i)
+    (free : TokenAt mode p i Free j) where
+  lead : HasByte p i star
+  lead = run_lead p i j free.run
+
+  low : i ≤ j
+  low = let some : i < j = free.run.some in omega arith
+
+  spelled_too : Spells mode (insert p i star) 0 ts i
+  spelled_too =
+      spells_alike p (insert p i star) (i + 1) (alike_before p i lead) mode 0 ts i plain (omega arith) lead.inside spelled
+
+  free_too : TokenAt mode (insert p i star) i Free (j + 1)
+  free_too = record { run = longer_run p i lead j free.run; bounded = λ path. cc }
+
+  pub reads_there : (us : List Token) → Tokens mode p us → Tokens mode (insert p i star) us
+  reads_there =
+      read_over mode p (insert p i star) ts 0 i 0 i spelled spelled_too
+      (read_over mode p (insert p i star) (Free ∷ []) i j i (j + 1) (j, free, refl) (j + 1, free_too, refl)
+      (λ us read. rest_there p i lead mode j us plain low read))
+
+  pub reads_back : (us : List Token) → Tokens mode (insert p i star) us → Tokens mode p us
+  reads_back =
+      read_over mode (insert p i star) p ts 0 i 0 i spelled_too spelled
+      (read_over mode (insert p i star) p (Free ∷ []) i (j + 1) i j (j + 1, free_too, refl) (j, free, refl)
+      (λ us read. rest_back p i lead mode j us plain low read))
+
+-- ---- the count of star tokens
+
+-- a reading in plain mode, with as many star tokens
+record PlainReading (mode : Mode) (p : List ℕ) (i n : ℕ) : Type 0 where
+  tokens : List Token
+  read : From mode p i tokens
+  counted : star_count tokens ≡ n
+
+plain_reading : (m mode : Mode) (p : List ℕ) (i : ℕ) (ts : List Token) → is_path mode ≡ false → From m p i ts
+    → PlainReading mode p i (star_count ts)
+plain_reading m mode p i [] plain e = record { tokens = []; read = e; counted = refl }
+plain_reading m mode p i (Byte b ∷ ts) plain e =
+    let r = plain_reading m mode p e.0 ts plain e.2 in
+    record { tokens = Byte b ∷ r.tokens; read = (e.0, e.1, r.read); counted = r.counted }
+plain_reading m mode p i (Any ∷ ts) plain e =
+    let r = plain_reading m mode p e.0 ts plain e.2 in
+    record { tokens = Any ∷ r.tokens; read = (e.0, e.1, r.read); counted = r.counted }
+plain_reading m mode p i (OneOf s ∷ ts) plain e =
+    let r = plain_reading m mode p e.0 ts plain e.2 in
+    record { tokens = OneOf s ∷ r.tokens; read = (e.0, e.1, r.read); counted = r.counted }
+plain_reading m mode p i (Nothing ∷ ts) plain e =
+    let r = plain_reading m mode p e.0 ts plain e.2 in
+    record { tokens = Nothing ∷ r.tokens; read = (e.0, e.1, r.read); counted = r.counted }
+plain_reading m mode p i (Free ∷ ts) plain e =
+    let r = plain_reading m mode p e.0 ts plain e.2 in
+    record {
+      tokens = Free ∷ r.tokens;
+      read = (e.0, record { run = e.1.run; bounded = λ path. cc }, r.read);
+      counted = ap (λ (k : ℕ). k + 1) r.counted;
+    }
+plain_reading m mode p i (Local ∷ ts) plain e =
+    let r = plain_reading m mode p e.0 ts plain e.2 in
+    record {
+      tokens = Free ∷ r.tokens;
+      read = (e.0, record { run = e.1.run; bounded = λ path. cc }, r.read);
+      counted = ap (λ (k : ℕ). k + 1) r.counted;
+    }
+plain_reading m mode p i (Dirs ∷ ts) plain e =
+    let r = plain_reading m mode p e.0 ts plain e.2 in
+    record {
+      tokens = Free ∷ Byte slash ∷ r.tokens;
+      read = (
+        e.1.at,
+        record { run = e.1.run; bounded = λ path. cc },
+        (e.1.at + 1, slash_token mode p e.1.at e.1.slash, subst (λ (k : ℕ). From mode p k r.tokens) e.1.after r.read),
+      );
+      counted = ap (λ (k : ℕ). k + 1) r.counted;
+    }
+
+-- ---- the law
+
+-- one more star changes nothing of what the pattern splits in plain mode
+pub same_splits : (mode : Mode) (p v : List ℕ) (i j : ℕ) → is_path mode ≡ false → IsBoundary p i mode → TokenAt mode p i Free j
+    → Splits v p mode ↔ Splits v (insert p i star) mode
+same_splits mode p v i j plain start free = (
+  λ s. record { tokens = s.tokens; read = reads_there mode p start.tokens i j plain start.spelled free s.tokens s.read; cut = s.cut },
+  λ s. record { tokens = s.tokens; read = reads_back mode p start.tokens i j plain start.spelled free s.tokens s.read; cut = s.cut },
+)
+
+-- nor of the number of its star tokens
+pub same_stars : (mode : Mode) (p : List ℕ) (i j n : ℕ) → is_path mode ≡ false → IsBoundary p i mode → TokenAt mode p i Free j
+    → HasStars p n ↔ HasStars (insert p i star) n
+same_stars mode p i j n plain start free = (
+  λ s.
+      let r = plain_reading s.mode mode p 0 s.tokens plain s.read in
+      record {
+        mode = mode;
+        tokens = r.tokens;
+        read = reads_there mode p start.tokens i j plain start.spelled free r.tokens r.read;
+        counted = r.counted ∙ s.counted;
+      },
+  λ s.
+      let r = plain_reading s.mode mode (insert p i star) 0 s.tokens plain s.read in
+      record {
+        mode = mode;
+        tokens = r.tokens;
+        read = reads_back mode p start.tokens i j plain start.spelled free r.tokens r.read;
+        counted = r.counted ∙ s.counted;
+      },
+)

@@ -1,0 +1,71 @@
+-- Slashes under folding, and which tokens of one byte take one.
+use Rattle.std.proofs.Common.{◌≡◌, ◌⊎◌, inl, inr, ℕ, ◌+◌, ◌-◌, ◌<◌, ◌≤◌, Bool, true, false, IsTrue, if◌then◌else◌, List, refl, sym, ◌∙◌, ap, subst, arith, rules, tests}
+use Rattle.std.proofs.lemmas.Bool.{cases_lt}
+use Rattle.std.proofs.lemmas.Str.Ascii.{lowercase_is}
+use Rattle.std.specs.Char.{to_ascii_lowercase}
+use Rattle.glob_matcher.specs.declared.wildmatch.mode.Mode.{Mode}
+use Rattle.glob_matcher.specs.Bytes.{HasByte, fold, folds, is_path, slash, question_mark, close_bracket}
+use Rattle.glob_matcher.specs.Sets.{Set, set_holds}
+use Rattle.glob_matcher.specs.Tokens.{Token, Byte, Any, OneOf, Free, Local, Dirs, Nothing, TokenAt}
+use Rattle.glob_matcher.specs.Private.Reader.{Fits}
+use Rattle.glob_matcher.proofs.lemmas.reading.SetLemmas.{HasByte-unique, two_bytes}
+use Rattle.glob_matcher.proofs.lemmas.cutting.CutLemmas.{IsOne}
+use Rattle.glob_matcher.proofs.lemmas.reading.Existence.{items_close}
+
+lowercase_slash : (c : ℕ) → to_ascii_lowercase c ≡ slash → c ≡ slash
+lowercase_slash c is = by (cases_lt c 65) (cases_lt 90 c) where
+  by : (c < 65) ⊎ (65 ≤ c) → (90 < c) ⊎ (c ≤ 90) → c ≡ slash
+  by (inl below) _ = let same : to_ascii_lowercase c ≡ c = (lowercase_is c).1 below in sym same ∙ is
+  by (inr from) (inl above) = let same : to_ascii_lowercase c ≡ c = (lowercase_is c).2 above in sym same ∙ is
+  by (inr from) (inr to) = let letter : to_ascii_lowercase c ≡ c + 32 = (lowercase_is c).0 (from, to) in omega arith
+
+-- a slash folds to itself, and nothing else does
+pub fold-slash : (mode : Mode) → fold mode slash ≡ slash
+fold-slash mode = by (folds mode) where
+  by : (b : Bool) → (if b then to_ascii_lowercase slash else slash) ≡ slash
+  by true = refl
+  by false = refl
+
+pub fold_slash : (mode : Mode) (c : ℕ) → fold mode c ≡ fold mode slash → c ≡ slash
+fold_slash mode c is = by (folds mode) (is ∙ fold-slash mode) where
+  by : (b : Bool) → (if b then to_ascii_lowercase c else c) ≡ slash → c ≡ slash
+  by true e = lowercase_slash c e
+  by false e = e
+
+no_slash_in_set : (mode : Mode) (s : Set) → IsTrue (is_path mode) → IsTrue (set_holds mode s slash) → ⊥
+no_slash_in_set mode s path holds = search (rules, tests)
+
+-- in path mode a token of one byte that takes a slash takes nothing else
+pub only_slash : (mode : Mode) (t : Token) (c : ℕ) → IsTrue (is_path mode) → Fits mode t slash → Fits mode t c → c ≡ slash
+only_slash mode (Byte b) c path x y = fold_slash mode c (y ∙ sym x)
+only_slash mode Any c path x y = absurd (x path refl)
+only_slash mode (OneOf s) c path x y = absurd (no_slash_in_set mode s path x)
+only_slash mode Free c path x y = absurd x
+only_slash mode Local c path x y = absurd x
+only_slash mode Dirs c path x y = absurd x
+only_slash mode Nothing c path x y = absurd x
+
+-- a token of one byte whose spelling ends in a slash is a slash
+pub ends_in_slash_byte : (mode : Mode) (p : List ℕ) (i : ℕ) (t : Token) (j : ℕ) → IsOne t → TokenAt mode p i t j
+    → HasByte p (j - 1) slash → t ≡ Byte slash
+ends_in_slash_byte mode p i (Byte b) j one (inl e) last =
+    let after : j ≡ i + 2 = e.1 in
+    let place : j - 1 ≡ i + 1 = omega arith in
+    ap Byte (HasByte-unique p (i + 1) b slash e.0.byte (subst (λ (n : ℕ). HasByte p n slash) place last))
+ends_in_slash_byte mode p i (Byte b) j one (inr e) last =
+    let after : j ≡ i + 1 = e.5 in
+    let place : j - 1 ≡ i = omega arith in
+    ap Byte (HasByte-unique p i b slash e.0 (subst (λ (n : ℕ). HasByte p n slash) place last))
+ends_in_slash_byte mode p i Any j one e last =
+    let after : j ≡ i + 1 = e.1 in
+    let place : j - 1 ≡ i = omega arith in
+    absurd (two_bytes p i question_mark slash e.0 (subst (λ (n : ℕ). HasByte p n slash) place last) (λ h. omega arith))
+ends_in_slash_byte mode p i (OneOf s) j one e last =
+    let close : HasByte p e.close close_bracket = items_close p _ _ _ s.items e.close e.items in
+    let after : j ≡ e.close + 1 = e.after in
+    let place : j - 1 ≡ e.close = omega arith in
+    absurd (two_bytes p e.close close_bracket slash close (subst (λ (n : ℕ). HasByte p n slash) place last) (λ h. omega arith))
+ends_in_slash_byte mode p i Free j one e last = absurd one
+ends_in_slash_byte mode p i Local j one e last = absurd one
+ends_in_slash_byte mode p i Dirs j one e last = absurd one
+ends_in_slash_byte mode p i Nothing j one e last = absurd one

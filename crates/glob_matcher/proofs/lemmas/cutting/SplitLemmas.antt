@@ -1,0 +1,140 @@
+-- What begins with a star token is split at earlier places too, and how many star tokens a pattern has.
+use Rattle.std.proofs.Common.{◌≡◌, ◌≢◌, ◌⊎◌, inl, inr, ℕ, zero, suc, ◌+◌, ◌-◌, ◌<◌, ◌≤◌, List, [], ◌∷◌, length, get_or, refl, sym, ◌∙◌, ap, subst, arith}
+use Rattle.std.proofs.lemmas.Bool.{cases_lt}
+use Rattle.glob_matcher.specs.declared.wildmatch.mode.Mode.{Mode}
+use Rattle.glob_matcher.specs.Bytes.{HasByte, NoSlash, backslash, open_bracket, question_mark, slash, star}
+use Rattle.glob_matcher.specs.Tokens.{Token, Byte, Any, OneOf, Free, Local, Dirs, Nothing, TokenAt, ByteAt, IsRun, IsBroken, From}
+use Rattle.glob_matcher.specs.Matching.{SplitsFrom, star_count}
+use Rattle.glob_matcher.specs.Private.Reader.{AfterSlash}
+use Rattle.glob_matcher.proofs.lemmas.reading.SetLemmas.{HasByte-unique, two_bytes}
+use Rattle.glob_matcher.proofs.lemmas.reading.TokenLemmas.{IsRun-unique, run_lead, TokenAt-unique, TokenAt-inside}
+use Rattle.glob_matcher.proofs.lemmas.cutting.CutLemmas.{free_in, free_out, local_in, local_out, dirs_in, dirs_out}
+
+pub free_before : (mode : Mode) (p v : List ℕ) (i j k e : ℕ) → TokenAt mode p i Free j → k ≤ e → e ≤ length v
+    → SplitsFrom v e p i mode → SplitsFrom v k p i mode
+free_before mode p v i j k e here low inside all =
+    let out = free_out mode p v i j e here inside all in
+    let later : e ≤ out.0 = out.1 in
+    free_in mode p v i j k out.0 here (omega arith) out.2 out.3
+
+-- two stretches without slash, one after the other
+pub no_slash_join : (v : List ℕ) (i j k : ℕ) → NoSlash v i j → NoSlash v j k → NoSlash v i k
+no_slash_join v i j k x y = record { at = λ m low below. at m low below (cases_lt m j) } where
+  at : (m : ℕ) → i ≤ m → m < k → (m < j) ⊎ (j ≤ m) → get_or v m 0 ≢ slash
+  at m low below (inl before) = x.at m low before
+  at m low below (inr after) = y.at m after below
+
+pub local_before : (mode : Mode) (p v : List ℕ) (i j k e : ℕ) → TokenAt mode p i Local j → k ≤ e → e ≤ length v → NoSlash v k e
+    → SplitsFrom v e p i mode → SplitsFrom v k p i mode
+local_before mode p v i j k e here low inside none all =
+    let out = local_out mode p v i j e here inside all in
+    let later : e ≤ out.0 = out.1 in
+    local_in mode p v i j k out.0 here (omega arith) out.2 (no_slash_join v k e out.0 none out.3) out.4
+
+pub dirs_before : (mode : Mode) (p v : List ℕ) (i j k e : ℕ) → TokenAt mode p i Dirs j → k < e → e ≤ length v
+    → get_or v (e - 1) 0 ≡ slash → SplitsFrom v e p i mode → SplitsFrom v k p i mode
+dirs_before mode p v i j k e here low inside is all =
+    let out = dirs_out mode p v i j e here inside all in by out.0 out.1 out.2 where
+      by : (f : ℕ) → (f ≡ e) ⊎ AfterSlash v e f → SplitsFrom v f p j mode → SplitsFrom v k p i mode
+      by f (inl same) later =
+          dirs_in mode p v i j k e here (record { past = low; inside = inside; slash = is })
+          (subst (λ (n : ℕ). SplitsFrom v n p j mode) same later)
+      by f (inr after) later =
+          let past : e < f = after.past in
+          dirs_in mode p v i j k f here (record { past = omega arith; inside = after.inside; slash = after.slash }) later
+
+-- a star token: a run of stars, with a slash after it or without
+pub record IsStarToken (p : List ℕ) (i : ℕ) (t : Token) (j : ℕ) : Type 0 where
+  pub stop : ℕ
+  pub run : IsRun p i stop
+  pub after : (j ≡ stop) ⊎ (HasByte p stop slash × (j ≡ stop + 1))
+  pub counts : (ts : List Token) → star_count (t ∷ ts) ≡ star_count ts + 1
+
+-- another token: it is the same in each mode
+pub record IsOtherToken (p : List ℕ) (i : ℕ) (t : Token) (j : ℕ) : Type 0 where
+  pub alike : (mode : Mode) → TokenAt mode p i t j
+  pub counts : (ts : List Token) → star_count (t ∷ ts) ≡ star_count ts
+  pub no_star : ¬ HasByte p i star
+
+byte_no_star : (p : List ℕ) (i b j : ℕ) → ByteAt p i b j → ¬ HasByte p i star
+byte_no_star p i b j (inl e) h = two_bytes p i backslash star e.0.escape h (λ is. omega arith)
+byte_no_star p i b j (inr e) h = e.1 (HasByte-unique p i b star e.0 h)
+
+broken_no_star : (p : List ℕ) (i : ℕ) → IsBroken p i → ¬ HasByte p i star
+broken_no_star p i (inl e) h = two_bytes p i backslash star e.0 h (λ is. omega arith)
+broken_no_star p i (inr e) h = two_bytes p i open_bracket star e.0 h (λ is. omega arith)
+
+pub kind_of : (mode : Mode) (p : List ℕ) (i : ℕ) (t : Token) (j : ℕ) → TokenAt mode p i t j
+    → IsStarToken p i t j ⊎ IsOtherToken p i t j
+kind_of mode p i (Byte b) j e = inr (record { alike = λ m. e; counts = λ ts. refl; no_star = byte_no_star p i b j e })
+kind_of mode p i Any j e =
+    inr (record { alike = λ m. e; counts = λ ts. refl; no_star = λ h. two_bytes p i question_mark star e.0 h (λ is. omega arith) })
+kind_of mode p i (OneOf s) j e =
+    inr (record { alike = λ m. e; counts = λ ts. refl; no_star = λ h. two_bytes p i open_bracket star e.bracket h (λ is. omega arith) })
+kind_of mode p i Free j e = inl (record { stop = j; run = e.run; after = inl refl; counts = λ ts. refl })
+kind_of mode p i Local j e = inl (record { stop = j; run = e.run; after = inl refl; counts = λ ts. refl })
+kind_of mode p i Dirs j e = inl (record { stop = e.at; run = e.run; after = inr (e.slash, e.after); counts = λ ts. refl })
+kind_of mode p i Nothing j e =
+    inr (record { alike = λ m. e; counts = λ ts. refl; no_star = broken_no_star p i e.0 })
+
+-- a bare slash is a token of its own
+pub slash_token : (mode : Mode) (p : List ℕ) (i : ℕ) → HasByte p i slash → TokenAt mode p i (Byte slash) (i + 1)
+slash_token mode p i h = inr (h, (λ e. omega arith), (λ e. omega arith), (λ e. omega arith), (λ e. omega arith), refl)
+
+-- the tokens after a slash
+after_slash_token : (mode : Mode) (p : List ℕ) (i : ℕ) (ts : List Token) → HasByte p i slash → From mode p i ts
+    → (us : List Token) × From mode p (i + 1) us × (length ts ≡ length us + 1) × (star_count ts ≡ star_count us)
+after_slash_token mode p i [] h read = let inside = h.inside in absurd (omega arith)
+after_slash_token mode p i (t ∷ ts) h read =
+    let same = TokenAt-unique mode p i t (Byte slash) read.0 (i + 1) read.1 (slash_token mode p i h) in
+    let long : length (t ∷ ts) ≡ length ts + 1 = omega arith in
+    (ts, subst (λ (n : ℕ). From mode p n ts) same.1 read.2, long, ap (λ (u : Token). star_count (u ∷ ts)) same.0)
+
+-- the number of star tokens from a place on is the same in each mode
+module _ (m n : Mode) (p : List ℕ) where
+  Agree : ℕ → Type 0
+  Agree bound = (i : ℕ) (ts us : List Token) → length ts ≤ bound → From m p i ts → From n p i us → star_count ts ≡ star_count us
+
+  after_stars : (bound i j k : ℕ) (ts us : List Token) → Agree bound → length ts ≤ bound
+      → (stop : ℕ) → (j ≡ stop) ⊎ (HasByte p stop slash × (j ≡ stop + 1)) → (k ≡ stop) ⊎ (HasByte p stop slash × (k ≡ stop + 1))
+      → From m p j ts → From n p k us → star_count ts ≡ star_count us
+  unfolding Agree
+  after_stars bound i j k ts us later few stop (inl a) (inl b) x y =
+      later stop ts us few (subst (λ (q : ℕ). From m p q ts) a x) (subst (λ (q : ℕ). From n p q us) b y)
+  after_stars bound i j k ts us later few stop (inl a) (inr b) x y =
+      let past = after_slash_token m p stop ts b.0 (subst (λ (q : ℕ). From m p q ts) a x) in
+      past.3 ∙ later (stop + 1) past.0 us (omega (arith, past.2)) past.1 (subst (λ (q : ℕ). From n p q us) b.1 y)
+  after_stars bound i j k ts us later few stop (inr a) (inl b) x y =
+      let past = after_slash_token n p stop us a.0 (subst (λ (q : ℕ). From n p q us) b y) in
+      later (stop + 1) ts past.0 few (subst (λ (q : ℕ). From m p q ts) a.1 x) past.1 ∙ sym past.3
+  after_stars bound i j k ts us later few stop (inr a) (inr b) x y =
+      later (stop + 1) ts us few (subst (λ (q : ℕ). From m p q ts) a.1 x) (subst (λ (q : ℕ). From n p q us) b.1 y)
+
+  step : (bound i j k : ℕ) (t u : Token) (ts us : List Token) → Agree bound → length ts ≤ bound
+      → IsStarToken p i t j ⊎ IsOtherToken p i t j → IsStarToken p i u k ⊎ IsOtherToken p i u k
+      → TokenAt n p i u k → From m p j ts → From n p k us → star_count (t ∷ ts) ≡ star_count (u ∷ us)
+  unfolding Agree
+  step bound i j k t u ts us later few (inl a) (inl b) here x y =
+      let same = IsRun-unique p i a.stop b.stop a.run b.run in
+      let again = after_stars bound i j k ts us later few b.stop
+      (subst (λ (q : ℕ). (j ≡ q) ⊎ (HasByte p q slash × (j ≡ q + 1))) same a.after) b.after x y in
+      a.counts ts ∙ (ap (λ (q : ℕ). q + 1) again ∙ sym (b.counts us))
+  step bound i j k t u ts us later few (inl a) (inr b) here x y = absurd (b.no_star (run_lead p i a.stop a.run))
+  step bound i j k t u ts us later few (inr a) (inl b) here x y = absurd (a.no_star (run_lead p i b.stop b.run))
+  step bound i j k t u ts us later few (inr a) (inr b) here x y =
+      let same = TokenAt-unique n p i t u j k (a.alike n) here in
+      a.counts ts ∙ (later k ts us few (subst (λ (q : ℕ). From m p q ts) same.1 x) y ∙ sym (b.counts us))
+
+  agree : (bound : ℕ) → Agree bound
+  unfolding Agree
+  agree bound i [] [] few x y = refl
+  agree bound i [] (u ∷ us) few x y = let inside = TokenAt-inside n p i u y.0 y.1 in absurd (omega arith)
+  agree bound i (t ∷ ts) [] few x y = let inside = TokenAt-inside m p i t x.0 x.1 in absurd (omega arith)
+  agree zero i (t ∷ ts) (u ∷ us) few x y = absurd (omega arith)
+  agree (suc bound) i (t ∷ ts) (u ∷ us) few x y =
+      step bound i x.0 y.0 t u ts us (agree bound) (omega arith) (kind_of m p i t x.0 x.1) (kind_of n p i u y.0 y.1) y.1 x.2 y.2
+
+pub star_count_alike : (m n : Mode) (p : List ℕ) (i : ℕ) (ts us : List Token) → From m p i ts → From n p i us
+    → star_count ts ≡ star_count us
+unfolding Agree
+star_count_alike m n p i ts us x y = agree m n p (length ts) i ts us (omega arith) x y

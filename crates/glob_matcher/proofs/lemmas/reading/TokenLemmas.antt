@@ -1,0 +1,145 @@
+-- A pattern is read in one way: a place decides its token and where that ends, and so the tokens from it on.
+use Rattle.std.proofs.Common.{◌≡◌, ◌⊎◌, inl, inr, ℕ, ◌+◌, ◌<◌, List, [], ◌∷◌, length, refl, sym, ◌∙◌, ap, subst, arith}
+use Rattle.glob_matcher.specs.declared.wildmatch.mode.Mode.{Mode}
+use Rattle.glob_matcher.specs.Bytes.{HasByte, star, question_mark, open_bracket, backslash, slash}
+use Rattle.glob_matcher.specs.Sets.{Set, SetAt}
+use Rattle.glob_matcher.specs.Tokens.{Token, Byte, Any, OneOf, Free, Local, Dirs, Nothing, TokenAt, ByteAt, FreeAt, LocalAt, DirsAt, IsRun, IsBounded, IsBroken, From}
+use Rattle.glob_matcher.proofs.lemmas.reading.SetLemmas.{HasByte-unique, IsEscaped-unique, two_bytes, SetAt-unique}
+
+-- a run of stars ends in one place
+run_not_longer : (p : List ℕ) (i j k : ℕ) → IsRun p i j → IsRun p i k → j < k → ⊥
+run_not_longer p i j k x y longer = let some : i < j = x.some in x.whole (y.stars j (omega arith) longer)
+
+pub IsRun-unique : (p : List ℕ) (i j k : ℕ) → IsRun p i j → IsRun p i k → j ≡ k
+IsRun-unique p i j k x y =
+    let above : j < k → ⊥ = run_not_longer p i j k x y in
+    let below : k < j → ⊥ = run_not_longer p i k j y x in
+    omega arith
+
+-- a run begins with a star
+pub run_lead : (p : List ℕ) (i j : ℕ) → IsRun p i j → HasByte p i star
+run_lead p i j x = let some : i < j = x.some in x.stars i (omega arith) some
+
+-- a byte token doesn't begin with what begins another token
+byte_lead : (p : List ℕ) (i b j c : ℕ) → ByteAt p i b j → HasByte p i c
+    → (c ≡ star) ⊎ ((c ≡ question_mark) ⊎ (c ≡ open_bracket)) → ⊥
+byte_lead p i b j c (inl e) h (inl is) = let same : c ≡ backslash = HasByte-unique p i c backslash h e.0.escape in omega arith
+byte_lead p i b j c (inl e) h (inr (inl is)) = let same : c ≡ backslash = HasByte-unique p i c backslash h e.0.escape in omega arith
+byte_lead p i b j c (inl e) h (inr (inr is)) = let same : c ≡ backslash = HasByte-unique p i c backslash h e.0.escape in omega arith
+byte_lead p i b j c (inr e) h (inl is) = e.1 (HasByte-unique p i b c e.0 h ∙ is)
+byte_lead p i b j c (inr e) h (inr (inl is)) = e.2 (HasByte-unique p i b c e.0 h ∙ is)
+byte_lead p i b j c (inr e) h (inr (inr is)) = e.3 (HasByte-unique p i b c e.0 h ∙ is)
+
+byte_or_broken : (p : List ℕ) (i b j : ℕ) → ByteAt p i b j → IsBroken p i → ⊥
+byte_or_broken p i b j (inl e) (inl f) = let inside : i + 1 < length p = e.0.byte.inside in let last : i + 1 ≡ length p = f.1 in omega arith
+byte_or_broken p i b j (inl e) (inr f) = two_bytes p i backslash open_bracket e.0.escape f.0 (λ h. omega arith)
+byte_or_broken p i b j (inr e) (inl f) = e.4 (HasByte-unique p i b backslash e.0 f.0)
+byte_or_broken p i b j (inr e) (inr f) = e.3 (HasByte-unique p i b open_bracket e.0 f.0)
+
+-- what matches nothing begins with a backslash or a bracket
+broken_lead : (p : List ℕ) (i c : ℕ) → IsBroken p i → HasByte p i c → (c ≡ star) ⊎ (c ≡ question_mark) → ⊥
+broken_lead p i c (inl e) h (inl is) = let same : c ≡ backslash = HasByte-unique p i c backslash h e.0 in omega arith
+broken_lead p i c (inl e) h (inr is) = let same : c ≡ backslash = HasByte-unique p i c backslash h e.0 in omega arith
+broken_lead p i c (inr e) h (inl is) = let same : c ≡ open_bracket = HasByte-unique p i c open_bracket h e.0 in omega arith
+broken_lead p i c (inr e) h (inr is) = let same : c ≡ open_bracket = HasByte-unique p i c open_bracket h e.0 in omega arith
+
+set_or_broken : (p : List ℕ) (i : ℕ) (s : Set) (j : ℕ) → SetAt p i s j → IsBroken p i → ⊥
+set_or_broken p i s j e (inl f) = two_bytes p i open_bracket backslash e.bracket f.0 (λ h. omega arith)
+set_or_broken p i s j e (inr f) = f.1 s j e
+
+bytes_unique : (p : List ℕ) (i a b j k : ℕ) → ByteAt p i a j → ByteAt p i b k → (a ≡ b) × (j ≡ k)
+bytes_unique p i a b j k (inl e) (inl f) = (IsEscaped-unique p i a b e.0 f.0, e.1 ∙ sym f.1)
+bytes_unique p i a b j k (inl e) (inr f) = absurd (f.4 (HasByte-unique p i b backslash f.0 e.0.escape))
+bytes_unique p i a b j k (inr e) (inl f) = absurd (e.4 (HasByte-unique p i a backslash e.0 f.0.escape))
+bytes_unique p i a b j k (inr e) (inr f) = (HasByte-unique p i a b e.0 f.0, e.5 ∙ sym f.5)
+
+free_or_local : (mode : Mode) (p : List ℕ) (i j k : ℕ) → FreeAt mode p i j → LocalAt mode p i k → ⊥
+free_or_local mode p i j k e f =
+    let same : j ≡ k = IsRun-unique p i j k e.run f.run in
+    f.unbounded (subst (λ (n : ℕ). IsBounded p i n) same (e.bounded f.path).0)
+
+free_or_dirs : (mode : Mode) (p : List ℕ) (i j k : ℕ) → FreeAt mode p i j → DirsAt mode p i k → ⊥
+free_or_dirs mode p i j k e f =
+    let same : f.at ≡ j = IsRun-unique p i f.at j f.run e.run in
+    (e.bounded f.path).1 (subst (λ (n : ℕ). HasByte p n slash) same f.slash)
+
+local_or_dirs : (mode : Mode) (p : List ℕ) (i j k : ℕ) → LocalAt mode p i j → DirsAt mode p i k → ⊥
+local_or_dirs mode p i j k e f =
+    let same : f.at ≡ j = IsRun-unique p i f.at j f.run e.run in
+    e.unbounded (subst (λ (n : ℕ). IsBounded p i n) same f.bounded)
+
+-- A place decides its token, and where that ends.
+pub TokenAt-unique : (mode : Mode) (p : List ℕ) (i : ℕ) (t u : Token) (j k : ℕ)
+    → TokenAt mode p i t j → TokenAt mode p i u k → (t ≡ u) × (j ≡ k)
+TokenAt-unique mode p i (Byte b) (Byte c) j k e f = let same = bytes_unique p i b c j k e f in (ap Byte same.0, same.1)
+TokenAt-unique mode p i (Byte b) Any j k e f = absurd (byte_lead p i b j question_mark e f.0 (inr (inl refl)))
+TokenAt-unique mode p i (Byte b) (OneOf t) j k e f = absurd (byte_lead p i b j open_bracket e f.bracket (inr (inr refl)))
+TokenAt-unique mode p i (Byte b) Free j k e f = absurd (byte_lead p i b j star e (run_lead p i k f.run) (inl refl))
+TokenAt-unique mode p i (Byte b) Local j k e f = absurd (byte_lead p i b j star e (run_lead p i k f.run) (inl refl))
+TokenAt-unique mode p i (Byte b) Dirs j k e f = absurd (byte_lead p i b j star e (run_lead p i f.at f.run) (inl refl))
+TokenAt-unique mode p i (Byte b) Nothing j k e f = absurd (byte_or_broken p i b j e f.0)
+TokenAt-unique mode p i Any (Byte c) j k e f = absurd (byte_lead p i c k question_mark f e.0 (inr (inl refl)))
+TokenAt-unique mode p i Any Any j k e f = (refl, e.1 ∙ sym f.1)
+TokenAt-unique mode p i Any (OneOf t) j k e f = absurd (two_bytes p i question_mark open_bracket e.0 f.bracket (λ h. omega arith))
+TokenAt-unique mode p i Any Free j k e f = absurd (two_bytes p i question_mark star e.0 (run_lead p i k f.run) (λ h. omega arith))
+TokenAt-unique mode p i Any Local j k e f = absurd (two_bytes p i question_mark star e.0 (run_lead p i k f.run) (λ h. omega arith))
+TokenAt-unique mode p i Any Dirs j k e f = absurd (two_bytes p i question_mark star e.0 (run_lead p i f.at f.run) (λ h. omega arith))
+TokenAt-unique mode p i Any Nothing j k e f = absurd (broken_lead p i question_mark f.0 e.0 (inr refl))
+TokenAt-unique mode p i (OneOf s) (Byte c) j k e f = absurd (byte_lead p i c k open_bracket f e.bracket (inr (inr refl)))
+TokenAt-unique mode p i (OneOf s) Any j k e f = absurd (two_bytes p i open_bracket question_mark e.bracket f.0 (λ h. omega arith))
+TokenAt-unique mode p i (OneOf s) (OneOf t) j k e f = let same = SetAt-unique p i s t j k e f in (ap OneOf same.0, same.1)
+TokenAt-unique mode p i (OneOf s) Free j k e f = absurd (two_bytes p i open_bracket star e.bracket (run_lead p i k f.run) (λ h. omega arith))
+TokenAt-unique mode p i (OneOf s) Local j k e f = absurd (two_bytes p i open_bracket star e.bracket (run_lead p i k f.run) (λ h. omega arith))
+TokenAt-unique mode p i (OneOf s) Dirs j k e f = absurd (two_bytes p i open_bracket star e.bracket (run_lead p i f.at f.run) (λ h. omega arith))
+TokenAt-unique mode p i (OneOf s) Nothing j k e f = absurd (set_or_broken p i s j e f.0)
+TokenAt-unique mode p i Free (Byte c) j k e f = absurd (byte_lead p i c k star f (run_lead p i j e.run) (inl refl))
+TokenAt-unique mode p i Free Any j k e f = absurd (two_bytes p i star question_mark (run_lead p i j e.run) f.0 (λ h. omega arith))
+TokenAt-unique mode p i Free (OneOf t) j k e f = absurd (two_bytes p i star open_bracket (run_lead p i j e.run) f.bracket (λ h. omega arith))
+TokenAt-unique mode p i Free Free j k e f = (refl, IsRun-unique p i j k e.run f.run)
+TokenAt-unique mode p i Free Local j k e f = absurd (free_or_local mode p i j k e f)
+TokenAt-unique mode p i Free Dirs j k e f = absurd (free_or_dirs mode p i j k e f)
+TokenAt-unique mode p i Free Nothing j k e f = absurd (broken_lead p i star f.0 (run_lead p i j e.run) (inl refl))
+TokenAt-unique mode p i Local (Byte c) j k e f = absurd (byte_lead p i c k star f (run_lead p i j e.run) (inl refl))
+TokenAt-unique mode p i Local Any j k e f = absurd (two_bytes p i star question_mark (run_lead p i j e.run) f.0 (λ h. omega arith))
+TokenAt-unique mode p i Local (OneOf t) j k e f = absurd (two_bytes p i star open_bracket (run_lead p i j e.run) f.bracket (λ h. omega arith))
+TokenAt-unique mode p i Local Free j k e f = absurd (free_or_local mode p i k j f e)
+TokenAt-unique mode p i Local Local j k e f = (refl, IsRun-unique p i j k e.run f.run)
+TokenAt-unique mode p i Local Dirs j k e f = absurd (local_or_dirs mode p i j k e f)
+TokenAt-unique mode p i Local Nothing j k e f = absurd (broken_lead p i star f.0 (run_lead p i j e.run) (inl refl))
+TokenAt-unique mode p i Dirs (Byte c) j k e f = absurd (byte_lead p i c k star f (run_lead p i e.at e.run) (inl refl))
+TokenAt-unique mode p i Dirs Any j k e f = absurd (two_bytes p i star question_mark (run_lead p i e.at e.run) f.0 (λ h. omega arith))
+TokenAt-unique mode p i Dirs (OneOf t) j k e f = absurd (two_bytes p i star open_bracket (run_lead p i e.at e.run) f.bracket (λ h. omega arith))
+TokenAt-unique mode p i Dirs Free j k e f = absurd (free_or_dirs mode p i k j f e)
+TokenAt-unique mode p i Dirs Local j k e f = absurd (local_or_dirs mode p i k j f e)
+TokenAt-unique mode p i Dirs Dirs j k e f = (refl, e.after ∙ (ap (λ (n : ℕ). n + 1) (IsRun-unique p i e.at f.at e.run f.run) ∙ sym f.after))
+TokenAt-unique mode p i Dirs Nothing j k e f = absurd (broken_lead p i star f.0 (run_lead p i e.at e.run) (inl refl))
+TokenAt-unique mode p i Nothing (Byte c) j k e f = absurd (byte_or_broken p i c k f e.0)
+TokenAt-unique mode p i Nothing Any j k e f = absurd (broken_lead p i question_mark e.0 f.0 (inr refl))
+TokenAt-unique mode p i Nothing (OneOf t) j k e f = absurd (set_or_broken p i t k f e.0)
+TokenAt-unique mode p i Nothing Free j k e f = absurd (broken_lead p i star e.0 (run_lead p i k f.run) (inl refl))
+TokenAt-unique mode p i Nothing Local j k e f = absurd (broken_lead p i star e.0 (run_lead p i k f.run) (inl refl))
+TokenAt-unique mode p i Nothing Dirs j k e f = absurd (broken_lead p i star e.0 (run_lead p i f.at f.run) (inl refl))
+TokenAt-unique mode p i Nothing Nothing j k e f = (refl, e.1 ∙ sym f.1)
+
+-- a token begins inside the pattern
+pub TokenAt-inside : (mode : Mode) (p : List ℕ) (i : ℕ) (t : Token) (j : ℕ) → TokenAt mode p i t j → i < length p
+TokenAt-inside mode p i (Byte b) j (inl e) = e.0.escape.inside
+TokenAt-inside mode p i (Byte b) j (inr e) = e.0.inside
+TokenAt-inside mode p i Any j e = e.0.inside
+TokenAt-inside mode p i (OneOf s) j e = e.bracket.inside
+TokenAt-inside mode p i Free j e = (run_lead p i j e.run).inside
+TokenAt-inside mode p i Local j e = (run_lead p i j e.run).inside
+TokenAt-inside mode p i Dirs j e = (run_lead p i e.at e.run).inside
+TokenAt-inside mode p i Nothing j (inl e, after) = e.0.inside
+TokenAt-inside mode p i Nothing j (inr e, after) = e.0.inside
+
+-- The tokens from a place on are one list.
+pub From-unique : (mode : Mode) (p : List ℕ) (i : ℕ) (ts us : List Token) → From mode p i ts → From mode p i us → ts ≡ us
+From-unique mode p i [] [] e f = refl
+From-unique mode p i [] (u ∷ us) e f = let inside = TokenAt-inside mode p i u f.0 f.1 in absurd (omega arith)
+From-unique mode p i (t ∷ ts) [] e f = let inside = TokenAt-inside mode p i t e.0 e.1 in absurd (omega arith)
+From-unique mode p i (t ∷ ts) (u ∷ us) e f =
+    let here = TokenAt-unique mode p i t u e.0 f.0 e.1 f.1 in
+    let head : t ≡ u = here.0 in
+    let tail : ts ≡ us = From-unique mode p f.0 ts us (subst (λ (n : ℕ). From mode p n ts) here.1 e.2) f.2 in
+    cc

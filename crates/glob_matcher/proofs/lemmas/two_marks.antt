@@ -1,0 +1,5 @@
+pub mod Components
+pub mod States
+pub mod Budget
+pub mod Scans
+pub mod Texts

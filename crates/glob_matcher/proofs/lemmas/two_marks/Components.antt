@@ -1,0 +1,192 @@
+-- Components of a value: where one ends, and where the next begins. In plain mode each byte is a component of its own.
+use Rattle.std.proofs.Common.{◌≡◌, ◌≢◌, ◌⊎◌, inl, inr, ℕ, zero, suc, ◌+◌, ◌-◌, ◌<◌, ◌≤◌, Bool, true, false, not, ◌==◌, IsTrue, List, [], ◌∷◌, length, get_or, drop, refl, sym, ◌∙◌, ap, subst, arith, add-one, add-zero, drop-cons, if◌then◌else◌, eq-eqb, eqb-true, ne_eqb, ◌&&◌, length-drop, Option, Some, None}
+use Rattle.std.proofs.Math.ListN.{drop_of_length-le}
+use Rattle.std.proofs.lemmas.Bool.{cases_lt, eqb-false}
+use Rattle.std.proofs.lemmas.Bool.Decides.{eqb_tells}
+use Rattle.glob_matcher.specs.declared.wildmatch.mode.Mode.{Mode}
+use Rattle.glob_matcher.specs.declared.wildmatch.engine.Mark.{Mark}
+use Rattle.glob_matcher.specs.Bytes.{fold, folds, is_path, slash}
+use Rattle.glob_matcher.specs.Tokens.{Token, Byte, Any, OneOf, Free, Local, Dirs, Nothing}
+use Rattle.glob_matcher.specs.Private.Reader.{Fits}
+use Rattle.glob_matcher.proofs.lemmas.cutting.SlashLemmas.{fold_slash}
+use Rattle.glob_matcher.specs.Private.Components.{ends_by, ends, separates_by, separates, reach, next_component}
+
+-- with a local mark: the byte here ends no component
+abbrev pub IsInner : Mode → List ℕ → ℕ → Option Mark → Type 0
+IsInner mode v j None = Unit {0}
+IsInner mode v j (Some m) = ends mode (get_or v j 0) ≡ false
+
+ends_plain_by : (path : Bool) (b : ℕ) → path ≡ false → ends_by path b ≡ true
+ends_plain_by true b plain = cc
+ends_plain_by false b plain = refl
+
+pub ends_plain : (mode : Mode) (b : ℕ) → is_path mode ≡ false → ends mode b ≡ true
+ends_plain mode b plain = ends_plain_by (is_path mode) b plain
+
+ends_slash_by : (path : Bool) (b : ℕ) → path ≡ true → ends_by path b ≡ true → b ≡ slash
+ends_slash_by true b path end = eqb-true b slash end
+ends_slash_by false b path end = cc
+
+inner_by : (path : Bool) (b : ℕ) → path ≡ true → b ≢ slash → ends_by path b ≡ false
+inner_by true b path other = ne_eqb b slash other
+inner_by false b path other = cc
+
+pub inner : (mode : Mode) (b : ℕ) → IsTrue (is_path mode) → b ≢ slash → ends mode b ≡ false
+inner mode b path other = inner_by (is_path mode) b path other
+
+slash_ends_by : (path : Bool) (b : ℕ) → b ≡ slash → ends_by path b ≡ true
+slash_ends_by true b is = eq-eqb b slash is
+slash_ends_by false b is = refl
+
+pub slash_ends : (mode : Mode) (b : ℕ) → b ≡ slash → ends mode b ≡ true
+slash_ends mode b is = slash_ends_by (is_path mode) b is
+
+pub ends_or_not : (mode : Mode) (b : ℕ) → (ends mode b ≡ true) ⊎ (ends mode b ≡ false)
+ends_or_not mode b = cases (ends mode b) where
+  cases : (e : Bool) → (e ≡ true) ⊎ (e ≡ false)
+  cases true = inl refl
+  cases false = inr refl
+
+same_end : (path : Bool) (b c : ℕ) → (b ≡ slash → c ≡ slash) → (c ≡ slash → b ≡ slash) → ends_by path b ≡ ends_by path c
+same_end false b c to from = refl
+same_end true b c to from = elim (eqb_tells b slash) [
+  | inl is ↦ is.0 ∙ sym (eq-eqb c slash (to is.1))
+  | inr other ↦ other.0 ∙ sym (ne_eqb c slash (λ is. other.1 (from is)))
+]
+
+separates_wild : (path : Bool) (c : ℕ) → (IsTrue path → c ≢ slash) → not path ≡ ends_by path c
+separates_wild true c other = sym (ne_eqb c slash (other refl))
+separates_wild false c other = refl
+
+set_not_slash : (path : Bool) (c : ℕ) (held : Bool) → IsTrue (not (path && c == slash) && held) → IsTrue path → c ≢ slash
+set_not_slash true c held holds path is =
+    let same : (c == slash) ≡ true = eq-eqb c slash is in
+    let wrong : not (true && (c == slash)) && held ≡ true = holds in
+    let out : false ≡ true = subst (λ (b : Bool). not (true && b) && held ≡ true) same wrong in cc
+set_not_slash false c held holds path is = let wrong : false ≡ true = path in cc
+
+-- Where a token takes a byte, both end a component or neither does.
+pub separates-fits : (mode : Mode) (t : Token) (c : ℕ) → Fits mode t c → separates mode t ≡ ends mode c
+separates-fits mode (Byte b) c fits =
+    same_end (is_path mode) b c
+    (λ is. fold_slash mode c (subst (λ (x : ℕ). fold mode c ≡ fold mode x) is fits))
+    (λ is. fold_slash mode b (sym (subst (λ (x : ℕ). fold mode x ≡ fold mode b) is fits)))
+separates-fits mode Any c fits = separates_wild (is_path mode) c fits
+separates-fits mode (OneOf s) c fits = separates_wild (is_path mode) c (set_not_slash (is_path mode) c _ fits)
+separates-fits mode Free c fits = absurd fits
+separates-fits mode Local c fits = absurd fits
+separates-fits mode Dirs c fits = absurd fits
+separates-fits mode Nothing c fits = absurd fits
+
+separates_slash_by : (path : Bool) (t : Token) → path ≡ true → separates_by path t ≡ true → t ≡ Byte slash
+separates_slash_by path (Byte b) is apart = ap Byte (ends_slash_by path b is apart)
+separates_slash_by true Any is apart = cc
+separates_slash_by false Any is apart = cc
+separates_slash_by true (OneOf s) is apart = cc
+separates_slash_by false (OneOf s) is apart = cc
+separates_slash_by path Free is apart = cc
+separates_slash_by path Local is apart = cc
+separates_slash_by path Dirs is apart = cc
+separates_slash_by path Nothing is apart = cc
+
+-- in path mode the slash alone ends a component
+pub separates-slash : (mode : Mode) (t : Token) → IsTrue (is_path mode) → separates mode t ≡ true → t ≡ Byte slash
+separates-slash mode t path apart = separates_slash_by (is_path mode) t path apart
+
+next_at : (mode : Mode) (v : List ℕ) (x : ℕ) → x < length v
+    → next_component mode v x ≡ x + (if ends mode (get_or v x 0) then 1 else suc (reach mode (drop (suc x) v)))
+unfolding next_component reach
+next_at mode v x inside = ap (λ (bs : List ℕ). x + reach mode bs) (drop-cons v x 0 inside)
+
+pub next-end : (mode : Mode) (v : List ℕ) (x : ℕ) → x < length v → ends mode (get_or v x 0) ≡ true → next_component mode v x ≡ x + 1
+next-end mode v x inside end =
+    next_at mode v x inside ∙ ap (λ (b : Bool). x + (if b then 1 else suc (reach mode (drop (suc x) v)))) end
+
+pub next-past : (mode : Mode) (v : List ℕ) (x : ℕ) → length v ≤ x → next_component mode v x ≡ x + 1
+unfolding next_component reach
+next-past mode v x past = ap (λ (bs : List ℕ). x + reach mode bs) (drop_of_length-le v past)
+
+next-inner_suc : (mode : Mode) (v : List ℕ) (x : ℕ) → x < length v → ends mode (get_or v x 0) ≡ false
+    → next_component mode v (suc x) ≡ next_component mode v x
+unfolding next_component
+next-inner_suc mode v x inside within =
+    let here : next_component mode v x ≡ x + suc (reach mode (drop (suc x) v)) =
+    next_at mode v x inside ∙ ap (λ (b : Bool). x + (if b then 1 else suc (reach mode (drop (suc x) v)))) within in
+    let there : next_component mode v (suc x) ≡ suc x + reach mode (drop (suc x) v) = refl in
+    omega arith
+
+pub next-inner : (mode : Mode) (v : List ℕ) (x : ℕ) → x < length v → ends mode (get_or v x 0) ≡ false
+    → next_component mode v (x + 1) ≡ next_component mode v x
+next-inner mode v x inside within = rw add-one (next-inner_suc mode v x inside within)
+
+reach_some : (mode : Mode) (bs : List ℕ) → 1 ≤ reach mode bs
+unfolding reach
+reach_some mode [] = omega arith
+reach_some mode (b ∷ bs) = cases (ends mode b) where
+  cases : (e : Bool) → 1 ≤ (if e then 1 else suc (reach mode bs))
+  cases true = omega arith
+  cases false = omega arith
+
+pub next_past : (mode : Mode) (v : List ℕ) (x : ℕ) → x < next_component mode v x
+unfolding next_component
+next_past mode v x = let some : 1 ≤ reach mode (drop x v) = reach_some mode (drop x v) in omega arith
+
+reach_high : (mode : Mode) (bs : List ℕ) → reach mode bs ≤ suc (length bs)
+unfolding reach
+reach_high mode [] = omega arith
+reach_high mode (b ∷ bs) = cases (ends mode b) (reach_high mode bs) where
+  cases : (e : Bool) → reach mode bs ≤ suc (length bs) → (if e then 1 else suc (reach mode bs)) ≤ suc (suc (length bs))
+  cases true h = omega arith
+  cases false h = omega arith
+
+pub next_high : (mode : Mode) (v : List ℕ) (x : ℕ) → x ≤ length v → next_component mode v x ≤ length v + 1
+unfolding next_component
+next_high mode v x inside =
+    let high : reach mode (drop x v) ≤ suc (length (drop x v)) = reach_high mode (drop x v) in
+    let long : length (drop x v) ≡ length v - x = length-drop x v in
+    omega arith
+
+next_mono_one : (mode : Mode) (v : List ℕ) (x : ℕ) → next_component mode v x ≤ next_component mode v (x + 1)
+next_mono_one mode v x = elim (cases_lt x (length v)) [
+  | inl inside ↦ elim (ends_or_not mode (get_or v x 0)) [
+    | inl end ↦
+        let here : next_component mode v x ≡ x + 1 = next-end mode v x inside end in
+        let past : x + 1 < next_component mode v (x + 1) = next_past mode v (x + 1) in omega arith
+    | inr within ↦ let same : next_component mode v (x + 1) ≡ next_component mode v x = next-inner mode v x inside within in omega arith
+  ]
+  | inr outside ↦
+      let here : next_component mode v x ≡ x + 1 = next-past mode v x outside in
+      let past : x + 1 < next_component mode v (x + 1) = next_past mode v (x + 1) in omega arith
+]
+
+next_mono_by : (mode : Mode) (v : List ℕ) (x d : ℕ) → next_component mode v x ≤ next_component mode v (x + d)
+next_mono_by mode v x zero = let same : next_component mode v x ≡ next_component mode v (x + 0) = ap (next_component mode v) (sym (add-zero x)) in omega arith
+next_mono_by mode v x (suc d) =
+    let so_far : next_component mode v x ≤ next_component mode v (x + d) = next_mono_by mode v x d in
+    let one : next_component mode v (x + d) ≤ next_component mode v (x + d + 1) = next_mono_one mode v (x + d) in
+    let place : x + d + 1 ≡ x + suc d = omega arith in
+    let same : next_component mode v (x + d + 1) ≡ next_component mode v (x + suc d) = ap (next_component mode v) place in
+    omega arith
+
+-- A later place is before no earlier component.
+pub next_mono : (mode : Mode) (v : List ℕ) (x y : ℕ) → x ≤ y → next_component mode v x ≤ next_component mode v y
+next_mono mode v x y low =
+    let so_far : next_component mode v x ≤ next_component mode v (x + (y - x)) = next_mono_by mode v x (y - x) in
+    let place : x + (y - x) ≡ y = omega arith in
+    let same : next_component mode v (x + (y - x)) ≡ next_component mode v y = ap (next_component mode v) place in
+    omega arith
+
+-- What ends a component at a later place ends this one or a later one.
+pub next_before_end : (mode : Mode) (v : List ℕ) (x y : ℕ) → x ≤ y → y < length v → ends mode (get_or v y 0) ≡ true
+    → next_component mode v x ≤ y + 1
+next_before_end mode v x y low inside end =
+    let so_far : next_component mode v x ≤ next_component mode v y = next_mono mode v x y low in
+    let here : next_component mode v y ≡ y + 1 = next-end mode v y inside end in
+    omega arith
+
+-- in plain mode each byte is a component
+pub next_plain : (mode : Mode) (v : List ℕ) (x : ℕ) → is_path mode ≡ false → next_component mode v x ≡ x + 1
+next_plain mode v x plain = elim (cases_lt x (length v)) [
+  | inl inside ↦ next-end mode v x inside (ends_plain mode (get_or v x 0) plain)
+  | inr outside ↦ next-past mode v x outside
+]

@@ -1,0 +1,16 @@
+-- No slash was passed so far, and each byte passed is counted.
+use Rattle.std.proofs.Common.{◌≡◌, ◌+◌, ◌-◌, ◌≤◌, length}
+use Rattle.glob_matcher.specs.Bytes.{NoSlash}
+use Rattle.glob_matcher.proofs.wildmatch.engine.Engine.next_directory.Given as goal
+
+abbrev pub invariant-bytes : goal.invariant-bytes
+invariant-bytes g l = record {
+  place : l.reached.place ≡ l.fn.mark.place;
+  low : l.fn.mark.at ≤ l.reached.at;
+  inside : l.fn.mark.at ≤ length g.M.Match.value → l.reached.at ≤ length g.M.Match.value;
+  bare : NoSlash g.M.Match.value l.fn.mark.at l.reached.at;
+  count : l.self + l.fn.mark.at ≡ l.fn.self + l.reached.at;
+}
+
+abbrev pub decreases-bytes : goal.decreases-bytes
+decreases-bytes g l = length g.M.Match.value + 1 - l.reached.at

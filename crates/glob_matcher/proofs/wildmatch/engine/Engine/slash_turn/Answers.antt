@@ -1,0 +1,39 @@
+use Rattle.std.proofs.Common.{◌≡◌, ◌+◌, ◌<◌, ℕ, length, get_or, false, true, ap, refl, sym, subst, arith}
+use Rattle.glob_matcher.specs.Bytes.{slash}
+use Rattle.glob_matcher.specs.Tokens.{Byte}
+use Rattle.glob_matcher.specs.Private.Reader.{Fits}
+use Rattle.glob_matcher.proofs.lemmas.two_marks.States.{literal_token, misses_byte, stands_past_slash}
+use Rattle.glob_matcher.proofs.lemmas.two_marks.Budget.{allows_past_slash, counted_on}
+use Rattle.glob_matcher.proofs.lemmas.two_marks.Scans.{slash_is_itself}
+use Rattle.glob_matcher.proofs.wildmatch.engine.Engine.slash_turn.Goals as goal
+
+pub returns-then-not-has : goal.returns-then-not-has
+returns-then-not-has g c =
+    let m = g.M.Match in
+    record {
+      meaning = record {
+        stands = c.requires.stands;
+        missed =
+            misses_byte m.value c.args.state.at
+            (literal_token m.mode m.pattern c.args.state.place c.requires.place (slash_is_itself _ c.requires.is)) refl
+            c.requires.stands.inside (λ fits.
+            let wrong : false ≡ true = c.if-not-has.ensures.answer.1
+            (subst (λ (b : ℕ). (c.args.state.at < length m.value) × Fits m.mode (Byte b) (get_or m.value c.args.state.at 0)) c.requires.is fits) in
+            cc);
+      };
+      allows = λ n a. record { before = c.args.self.now; one = c.has.ensures.count; allows = a };
+      counts = omega (arith, c.has.ensures.count);
+    }
+
+pub returns : goal.returns
+returns g c =
+    let m = g.M.Match in
+    let token = literal_token m.mode m.pattern c.args.state.place c.requires.place (slash_is_itself _ c.requires.is) in
+    let fits =
+    subst (λ (b : ℕ). (c.args.state.at < length m.value) × Fits m.mode (Byte b) (get_or m.value c.args.state.at 0)) (sym c.requires.is)
+    (c.if-not-has.ensures.answer.0 refl) in
+    record {
+      meaning = stands_past_slash c.requires.stands token refl fits.0 fits.1 (ap Byte c.requires.is);
+      allows = λ n a. counted_on c.has.ensures.count (allows_past_slash token.token (c.args.state.place + 1) token.here fits.0 fits.1 a);
+      counts = omega (arith, c.has.ensures.count);
+    }

@@ -1,0 +1,14 @@
+-- The match is that of the call, and the count is kept behind the reference that is passed.
+use Rattle.std.proofs.Common.{◌-◌, ◌^◌, take}
+use Rattle.glob_matcher.proofs.lemmas.two_marks.Texts.{short}
+use Rattle.glob_matcher.proofs.wildmatch.two_marks.marked.Given as goal
+
+abbrev pub ghosts-run : goal.ghosts-run
+ghosts-run g a = record {
+  pattern = take (2 ^ 64 - 1) a.pattern.now;
+  value = take (2 ^ 64 - 1) a.value.now;
+  mode = a.mode;
+  count = a.steps.ghost_name;
+  short_pattern = short a.pattern.now;
+  short_value = short a.value.now;
+}

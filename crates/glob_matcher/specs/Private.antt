@@ -1,0 +1,8 @@
+-- Words that only private clauses cite: what the functions of the crate say to one another.
+pub mod Reader
+pub mod StarSearch
+pub mod Scans
+pub mod States
+pub mod Budget
+pub mod Turns
+pub mod Components

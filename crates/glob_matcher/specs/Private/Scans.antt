@@ -1,0 +1,62 @@
+-- What the engine with two marks looks for from a mark: the byte that follows a star in the pattern, or the pattern's end.
+-- Nothing public cites it.
+use Rattle.std.specs.Prelude.{◌≡◌, ◌≢◌, ℕ, ◌+◌, ◌*◌, ◌<◌, ◌≤◌, true, false, List, length, slice_index}
+use Rattle.glob_matcher.specs.declared.wildmatch.mode.Mode.{Mode}
+use Rattle.glob_matcher.specs.declared.wildmatch.engine.Mark.{Mark}
+use Rattle.glob_matcher.specs.declared.wildmatch.needle.Follow.{Follow}
+use Rattle.glob_matcher.specs.declared.wildmatch.needle.Follow.TheVariants as follow
+use Rattle.glob_matcher.specs.declared.wildmatch.scan.Scan.{Scan}
+use Rattle.glob_matcher.specs.declared.wildmatch.scan.Scan.TheVariants as scan
+use Rattle.glob_matcher.specs.Bytes.{HasByte, folds, star, question_mark, open_bracket, backslash, slash}
+
+-- a byte that is a token by itself: it begins no other
+abbrev pub StandsForItself : ℕ → Type 0
+StandsForItself b = (b ≢ star) × (b ≢ question_mark) × (b ≢ open_bracket) × (b ≢ backslash)
+
+-- this follows at place i of the pattern
+abbrev pub Follows : Mode → List ℕ → ℕ → Follow → Type 0
+Follows mode p i (follow.Byte b) = HasByte p i b × StandsForItself b × (folds mode ≡ false)
+Follows mode p i (follow.Folded b) = HasByte p i b × StandsForItself b × (folds mode ≡ true)
+Follows mode p i follow.End = i ≡ length p
+
+-- a mark has moved, over bytes of which P doesn't hold
+pub record Passed (v : List ℕ) (P : ℕ → Type 0) (from to : Mark) : Type 0 where
+  pub same : to.place ≡ from.place
+  pub low : from.at ≤ to.at
+  pub inside : to.at ≤ length v
+  pub unsuited : (k : ℕ) → from.at ≤ k → k < to.at → ¬ P (slice_index v k)
+
+-- where a scan has come to
+abbrev pub reached_by : Scan → Mark
+reached_by (scan.Found m) = m
+reached_by (scan.Blocked m) = m
+reached_by (scan.Undecided m) = m
+
+-- what a scan from a mark comes to, for a byte of which P holds
+abbrev pub HasScanned : List ℕ → (ℕ → Type 0) → Mark → Scan → Type 0
+HasScanned v P from (scan.Found m) = Passed v P from m × (m.at < length v) × P (slice_index v m.at)
+HasScanned v P from (scan.Blocked m) = Passed v P from m × (m.at < length v) × (¬ P (slice_index v m.at)) × (slice_index v m.at ≡ slash)
+HasScanned v P from (scan.Undecided m) = Passed v P from m
+
+-- the steps at the place that a scan has come to: a test, and a mark that can't move
+abbrev pub last_steps : Scan → ℕ
+last_steps (scan.Found m) = 1
+last_steps (scan.Blocked m) = 2
+last_steps (scan.Undecided m) = 0
+
+-- a scan that goes on has passed so many bytes
+abbrev pub MovesBy : ℕ → ℕ → Scan → Type 0
+MovesBy count at (scan.Found m) = Unit {0}
+MovesBy count at (scan.Blocked m) = Unit {0}
+MovesBy count at (scan.Undecided m) = m.at ≡ at + count
+
+-- a scan from a mark, and the count of its steps: two for each byte that was passed
+pub record IsScan (v : List ℕ) (P : ℕ → Type 0) (from : Mark) (s : Scan) (before after : ℕ) : Type 0 where
+  pub meaning : HasScanned v P from s
+  pub count : after + 2 * from.at ≡ before + 2 * (reached_by s).at + last_steps s
+
+-- the scan was not stopped by a slash
+abbrev pub IsUnblocked : Scan → Type 0
+IsUnblocked (scan.Found m) = Unit {0}
+IsUnblocked (scan.Blocked m) = ⊥
+IsUnblocked (scan.Undecided m) = Unit {0}

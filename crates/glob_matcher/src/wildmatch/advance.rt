@@ -1,0 +1,181 @@
+//! The turns of the engine with two marks: the token at a place of the pattern is tested at a place of the value, and after a
+//! literal byte the ones that follow it, up to a slash.
+ghost use Rattle.std.specs.Prelude.{◌≡◌, ◌≢◌, ◌<◌, ◌≤◌, false, length, slice_index};
+ghost use Rattle.glob_matcher.specs.Bytes.{slash};
+ghost use Rattle.glob_matcher.specs.Tokens.{FreeAt, LocalAt, DirsAt};
+ghost use Rattle.glob_matcher.specs.Private.Reader.{IsToken, is_star};
+ghost use Rattle.glob_matcher.specs.Private.Scans.{StandsForItself};
+ghost use Rattle.glob_matcher.specs.Private.States.{StandsAt};
+ghost use Rattle.glob_matcher.specs.Private.Turns.{IsTurn};
+
+use super::engine::{Engine, Match};
+use super::needle::stands_for_itself;
+use super::state::{Crossing, State, Turn};
+use super::tokens::Shape;
+use std::sync::ledger::Ledger;
+
+impl<'s, 'a, L: Ledger, M: Match> Engine<'s, 'a, L, M> {
+    /// A turn at a question mark, a set or an escaped byte.
+    #[inline(always)]
+    fn single_turn(&mut self, state: State, shape: Shape, after: usize) -> Turn
+        requires stands { StandsAt M.mode M.pattern M.value state }
+        requires token { IsToken M.mode M.pattern state.place shape after }
+        requires single { is_star shape ≡ false }
+        requires place { state.place < length M.pattern }
+        ensures { IsTurn M.mode M.pattern M.value state result self.old self.new }
+    {
+        if !self.takes(shape, state.place, state.at) {
+            return Turn::Miss(state);
+        }
+        let next = State {
+            place: after,
+            at: state.at + 1,
+            ..state
+        };
+        if shape.is_slash() {
+            return Turn::On(State {
+                local: None,
+                ..next
+            });
+        }
+        Turn::On(next)
+    }
+
+    /// A turn at a run of stars that crosses slashes: both marks are forgotten, and one is set. At the pattern's end it takes
+    /// the rest of the value.
+    #[inline(always)]
+    fn free_turn(&mut self, state: State, after: usize) -> Turn
+        requires stands { StandsAt M.mode M.pattern M.value state }
+        requires token { FreeAt M.mode M.pattern state.place after }
+        requires inside { after ≤ length M.pattern }
+        ensures { IsTurn M.mode M.pattern M.value state result self.old self.new }
+    {
+        if after == self.pattern_len() {
+            return Turn::Match;
+        }
+        let mark = self.set_mark(after, state.at);
+        Turn::On(State {
+            place: after,
+            at: state.at,
+            crossing: Crossing::Free(mark),
+            local: None,
+        })
+    }
+
+    /// A turn at a double star with its slash: both marks are forgotten, and one is set.
+    #[inline(always)]
+    fn dirs_turn(&mut self, state: State, after: usize) -> Turn
+        requires stands { StandsAt M.mode M.pattern M.value state }
+        requires token { DirsAt M.mode M.pattern state.place after }
+        requires inside { after ≤ length M.pattern }
+        ensures { IsTurn M.mode M.pattern M.value state result self.old self.new }
+    {
+        let mark = self.set_mark(after, state.at);
+        Turn::On(State {
+            place: after,
+            at: state.at,
+            crossing: Crossing::Dirs(mark),
+            local: None,
+        })
+    }
+
+    /// A turn at a run of stars within a component: its mark is set, and the crossing one stays.
+    #[inline(always)]
+    fn local_turn(&mut self, state: State, after: usize) -> Turn
+        requires stands { StandsAt M.mode M.pattern M.value state }
+        requires token { LocalAt M.mode M.pattern state.place after }
+        requires inside { after ≤ length M.pattern }
+        ensures { IsTurn M.mode M.pattern M.value state result self.old self.new }
+    {
+        let mark = self.set_mark(after, state.at);
+        Turn::On(State {
+            place: after,
+            local: Some(mark),
+            ..state
+        })
+    }
+
+    /// A turn at a star, a question mark, a set or an escape.
+    #[inline(always)]
+    fn special_turn(&mut self, state: State) -> Turn
+        requires stands { StandsAt M.mode M.pattern M.value state }
+        requires place { state.place < length M.pattern }
+        ensures { IsTurn M.mode M.pattern M.value state result self.old self.new }
+    {
+        let (shape, after) = self.token_at(state.place);
+        match shape {
+            Shape::Free => self.free_turn(state, after),
+            Shape::Dirs => self.dirs_turn(state, after),
+            Shape::Local => self.local_turn(state, after),
+            Shape::Nothing => Turn::NoMatch,
+            Shape::Byte(_) | Shape::Any | Shape::Set => self.single_turn(state, shape, after),
+        }
+    }
+
+    /// A turn at a slash.
+    #[inline(always)]
+    fn slash_turn(&mut self, state: State) -> Turn
+        requires stands { StandsAt M.mode M.pattern M.value state }
+        requires place { state.place < length M.pattern }
+        requires is { slice_index M.pattern state.place ≡ slash }
+        ensures { IsTurn M.mode M.pattern M.value state result self.old self.new }
+    {
+        if !self.has(state.at, b'/') {
+            return Turn::Miss(state);
+        }
+        Turn::On(State {
+            place: state.place + 1,
+            at: state.at + 1,
+            local: None,
+            ..state
+        })
+    }
+
+    /// Turns at bytes that are tokens by themselves, up to a slash or another token: the marks stay.
+    #[inline(always)]
+    fn literal_turns(&mut self, state: State) -> Turn
+        requires stands { StandsAt M.mode M.pattern M.value state }
+        requires place { state.place < length M.pattern }
+        requires literal { StandsForItself (slice_index M.pattern state.place) }
+        requires other { slice_index M.pattern state.place ≢ slash }
+        ensures { IsTurn M.mode M.pattern M.value state result self.old self.new }
+    {
+        let mut place = state.place;
+        let mut at = state.at;
+        'bytes: while place < self.pattern_len() {
+            let byte = self.pattern_byte(place);
+            if byte == b'/' || !stands_for_itself(byte) {
+                break;
+            }
+            if !self.has(at, byte) {
+                return Turn::Miss(State { place, at, ..state });
+            }
+            place += 1;
+            at += 1;
+        }
+        Turn::On(State { place, at, ..state })
+    }
+
+    /// The token at this place of the pattern, or the pattern's end, is tested at this place of the value. After a byte that
+    /// is a token by itself, the ones that follow it are tested too, up to a slash.
+    #[inline(always)]
+    pub fn take_turn(&mut self, state: State) -> Turn
+        requires { StandsAt M.mode M.pattern M.value state }
+        ensures { IsTurn M.mode M.pattern M.value state result self.old self.new }
+    {
+        if state.place >= self.pattern_len() {
+            if self.ends_at(state.at) {
+                return Turn::Match;
+            }
+            return Turn::Miss(state);
+        }
+        let byte = self.pattern_byte(state.place);
+        if byte == b'/' {
+            return self.slash_turn(state);
+        }
+        if !stands_for_itself(byte) {
+            return self.special_turn(state);
+        }
+        self.literal_turns(state)
+    }
+}

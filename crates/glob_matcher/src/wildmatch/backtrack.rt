@@ -1,0 +1,167 @@
+//! The ways back to a mark, where a token does not fit: to the local mark if it can move, else to the crossing one.
+ghost use Rattle.std.specs.Prelude.{◌≡◌, ◌≢◌, ◌+◌, ◌<◌, ◌≤◌, IfSome, IfNone, None, Some, length, slice_index};
+ghost use Rattle.glob_matcher.specs.Bytes.{NoSlash, slash};
+ghost use Rattle.glob_matcher.specs.Private.Scans.{IsUnblocked, reached_by};
+ghost use Rattle.glob_matcher.specs.Private.States.{IsLeft, IsMissed, IsNextDirectory, IsScanFor};
+ghost use Rattle.glob_matcher.specs.Private.Budget.{AllowsLeft, AllowsMissed};
+ghost use Rattle.glob_matcher.specs.Private.Turns.{IsBacktrack, IsBacktrackWithin};
+
+use super::engine::{Engine, Mark, Match};
+use super::needle::{End, Exact, Folded, Follow};
+use super::scan::Scan;
+use super::state::{Crossing, State};
+use std::sync::ledger::Ledger;
+
+impl<'s, 'a, L: Ledger, M: Match> Engine<'s, 'a, L, M> {
+    /// Moves a mark to the next place after a slash.
+    #[inline(always)]
+    fn next_directory(&mut self, mark: Mark) -> Option<Mark>
+        ensures moved { IfSome result (λ m. IsNextDirectory M.value mark m) }
+        ensures moves { IfSome result (λ m. self.new + mark.at ≡ self.old + m.at) }
+        ensures unable { IfNone result (NoSlash M.value mark.at (length M.value)) }
+        ensures count { IfNone result (mark.at ≤ length M.value → self.new + mark.at ≡ self.old + length M.value + 1) }
+    {
+        let mut reached = mark;
+        'bytes: while let Some((moved, byte)) = self.pass(reached) {
+            reached = moved;
+            if byte == b'/' {
+                return Some(reached);
+            }
+        }
+        None
+    }
+
+    /// Scans from the mark of a run of stars that crosses slashes.
+    #[inline(always)]
+    fn scan_from(&mut self, mark: Mark) -> Scan
+        requires place { mark.place ≤ length M.pattern }
+        requires at { mark.at ≤ length M.value }
+        ensures meaning { IsScanFor M.mode M.pattern M.value mark result self.old self.new }
+        ensures free { IsUnblocked result }
+    {
+        match self.follow_at(mark.place()) {
+            Some(Follow::Byte(byte)) => self.scan(mark, Exact(byte)),
+            Some(Follow::Folded(byte)) => self.scan(mark, Folded(byte)),
+            Some(Follow::End) => Scan::Undecided(mark),
+            None => Scan::Undecided(mark),
+        }
+    }
+
+    /// Scans from the local mark, within its component.
+    #[inline(always)]
+    fn scan_from_within(&mut self, mark: Mark) -> Scan
+        requires place { mark.place ≤ length M.pattern }
+        requires at { mark.at ≤ length M.value }
+        ensures meaning { IsScanFor M.mode M.pattern M.value mark result self.old self.new }
+        ensures bare { NoSlash M.value mark.at (reached_by result).at }
+    {
+        match self.follow_at(mark.place()) {
+            Some(Follow::Byte(byte)) => self.scan_within(mark, Exact(byte)),
+            Some(Follow::Folded(byte)) => self.scan_within(mark, Folded(byte)),
+            Some(Follow::End) => self.scan_within(mark, End),
+            None => Scan::Undecided(mark),
+        }
+    }
+
+    /// Goes back to the mark of a run of stars that crosses slashes, at its next place.
+    #[inline(always)]
+    fn back_to_free(&mut self, mark: Mark) -> Option<State>
+        requires { IsLeft M.mode M.pattern M.value (Crossing.Free mark) }
+        ensures { IsBacktrack M.mode M.pattern M.value (AllowsLeft M.mode M.pattern M.value (Crossing.Free mark) self.old) result self.old self.new }
+    {
+        let Some((moved, _)) = self.pass(mark) else {
+            return None;
+        };
+        match self.scan_from(moved) {
+            Scan::Blocked(_) => None,
+            Scan::Undecided(reached) => Some(State {
+                place: reached.place(),
+                at: reached.at(),
+                crossing: Crossing::Free(reached),
+                local: None,
+            }),
+            Scan::Found(found) => Some(State {
+                place: found.place() + 1,
+                at: found.at() + 1,
+                crossing: Crossing::Free(found),
+                local: None,
+            }),
+        }
+    }
+
+    /// Goes back to the crossing mark, at its next place.
+    #[inline(always)]
+    fn back_to_crossing(&mut self, crossing: Crossing) -> Option<State>
+        requires { IsLeft M.mode M.pattern M.value crossing }
+        ensures { IsBacktrack M.mode M.pattern M.value (AllowsLeft M.mode M.pattern M.value crossing self.old) result self.old self.new }
+    {
+        match crossing {
+            Crossing::Unmet => None,
+            Crossing::Free(mark) => self.back_to_free(mark),
+            Crossing::Dirs(mark) => match self.next_directory(mark) {
+                None => None,
+                Some(moved) => Some(State {
+                    place: moved.place(),
+                    at: moved.at(),
+                    crossing: Crossing::Dirs(moved),
+                    local: None,
+                }),
+            },
+        }
+    }
+
+    /// The local mark once the byte after its star is matched: where that is a slash, the mark is forgotten.
+    #[inline(always)]
+    fn local_past(&self, mark: Mark) -> Option<Mark>
+        requires { mark.place < length M.pattern }
+        ensures forgotten { slice_index M.pattern mark.place ≡ slash → result ≡ None }
+        ensures kept { slice_index M.pattern mark.place ≢ slash → result ≡ Some mark }
+    {
+        if self.pattern_byte(mark.place()) == b'/' {
+            None
+        } else {
+            Some(mark)
+        }
+    }
+
+    /// Goes back to the local mark, at its next place in the component; `None` where there is none.
+    #[inline(always)]
+    fn back_to_local(&mut self, state: State) -> Option<State>
+        requires { IsMissed M.mode M.pattern M.value state }
+        ensures { IsBacktrackWithin M.mode M.pattern M.value state result self.old self.new }
+    {
+        let Some(mark) = state.local else {
+            return None;
+        };
+        let Some(moved) = self.pass_within_or_end(mark) else {
+            return None;
+        };
+        match self.scan_from_within(moved) {
+            Scan::Blocked(_) => None,
+            Scan::Undecided(reached) => Some(State {
+                place: reached.place(),
+                at: reached.at(),
+                local: Some(reached),
+                ..state
+            }),
+            Scan::Found(found) => Some(State {
+                place: found.place() + 1,
+                at: found.at() + 1,
+                local: self.local_past(found),
+                ..state
+            }),
+        }
+    }
+
+    /// Goes back to a mark from where a token does not fit.
+    #[inline(always)]
+    pub fn backtrack(&mut self, state: State) -> Option<State>
+        requires { IsMissed M.mode M.pattern M.value state }
+        ensures { IsBacktrack M.mode M.pattern M.value (AllowsMissed M.mode M.pattern M.value state self.old) result self.old self.new }
+    {
+        match self.back_to_local(state) {
+            Some(next) => Some(next),
+            None => self.back_to_crossing(state.crossing),
+        }
+    }
+}

@@ -1,0 +1,96 @@
+//! What follows a star in the pattern, where the engine with two marks can scan for it byte by byte.
+ghost use Rattle.std.specs.Prelude.{◌≡◌, ◌↔◌, ◌<◌, ◌≤◌, IsTrue, IfSome, IfNone, length, slice_index};
+ghost use Rattle.std.specs.Char.{to_ascii_lowercase};
+ghost use Rattle.glob_matcher.specs.Private.Scans.{Follows, StandsForItself};
+
+use super::mode::Mode;
+
+/// What follows a star: a byte that is a token by itself, or the pattern's end.
+#[derive(Copy, Clone)]
+pub enum Follow {
+    /// This byte, where case counts.
+    Byte(u8),
+    /// This byte, where case does not count.
+    Folded(u8),
+    /// The pattern's end.
+    End,
+}
+
+/// What a scan looks for. Each way to compare is a type, so that each has a loop of its own.
+pub trait Needle: Copy {
+    ghost use Rattle.std.specs.Prelude.{ℕ};
+
+    ghost suits: { Self → ℕ → Type 0 };
+
+    /// Whether a byte of the value is what is looked for.
+    fn takes(self, byte: u8) -> bool
+        ensures { IsTrue result ↔ suits self byte };
+}
+
+/// A byte, where case counts.
+#[derive(Copy, Clone)]
+pub struct Exact(pub u8);
+
+/// A byte, where case does not count.
+#[derive(Copy, Clone)]
+pub struct Folded(pub u8);
+
+/// The pattern's end, which is at no byte.
+#[derive(Copy, Clone)]
+pub struct End;
+
+impl Needle for Exact {
+    ghost suits = { λ n b. b ≡ n.0 };
+
+    #[inline(always)]
+    fn takes(self, byte: u8) -> bool {
+        byte == self.0
+    }
+}
+
+impl Needle for Folded {
+    ghost suits = { λ n b. to_ascii_lowercase b ≡ to_ascii_lowercase n.0 };
+
+    #[inline(always)]
+    fn takes(self, byte: u8) -> bool {
+        byte.to_ascii_lowercase() == self.0.to_ascii_lowercase()
+    }
+}
+
+impl Needle for End {
+    ghost suits = { λ n b. ⊥ };
+
+    #[inline(always)]
+    fn takes(self, _: u8) -> bool {
+        false
+    }
+}
+
+/// Whether a byte is a token by itself: it begins no other.
+#[inline(always)]
+pub fn stands_for_itself(byte: u8) -> bool
+    ensures { IsTrue result ↔ StandsForItself byte }
+{
+    !matches!(byte, b'*' | b'?' | b'[' | b'\\')
+}
+
+/// What follows at this place of the pattern; `None` where it is a token of another kind.
+#[inline(always)]
+pub fn follow_at(pattern: &[u8], place: usize, mode: Mode) -> Option<Follow>
+    requires { place ≤ length pattern.now }
+    ensures follows { IfSome result (λ follow. Follows mode pattern.now place follow) }
+    ensures other { IfNone result ((place < length pattern.now) × ¬ StandsForItself (slice_index pattern.now place)) }
+{
+    if place >= pattern.len() {
+        return Some(Follow::End);
+    }
+    let byte = pattern[place];
+    if !stands_for_itself(byte) {
+        return None;
+    }
+    if mode.folds() {
+        Some(Follow::Folded(byte))
+    } else {
+        Some(Follow::Byte(byte))
+    }
+}

@@ -1,0 +1,16 @@
+-- What the callers say of their answers.
+use Rattle.std.specs.Prelude.{◌↔◌, ℕ, Bool, true, false, IsTrue, List, Option, Some}
+use Rattle.gix_glob.specs.declared.pattern.Case.TheVariants.{Sensitive}
+use Rattle.gix_glob.specs.declared.pattern.Mode.{Mode}
+use Rattle.gix_glob.specs.Patterns.{Reads}
+use Rattle.gix_glob.specs.RepositoryPaths.{Answers, IsBasenameStart}
+
+-- The answer is yes exactly if the pattern that the line reads as answers for the path of a file, in path mode.
+pub record LineAnswers (line path : List ℕ) (answer : Bool) : Type 0 where
+  pub body : List ℕ
+  pub flags : Mode
+  pub place : Option ℕ
+  pub position : Option ℕ
+  pub read : Reads line true body flags place
+  pub start : IsBasenameStart path position
+  pub exact : IsTrue answer ↔ Answers body flags path position (Some false) Sensitive (record { 0 = 1 })

@@ -1,0 +1,57 @@
+//! Short callers of `gix_glob` and `glob_lines`, as a stranger would write them: their contracts follow from the public ones alone.
+#![tactic(auto)]
+
+ghost use Rattle.std.specs.Prelude.{◌≡◌, true, false, map, string_bytes, IfOk};
+ghost use Rattle.gix_glob.specs.Bytes.{HasByte, slash};
+ghost use Rattle.gix_glob.specs.Lists.{entry_of};
+ghost use Rattle.gix_glob.specs.Patterns.{HasReading};
+ghost use Rattle.glob_lines.specs.Ignore.{Ignore};
+ghost use Rattle.glob_uses.specs.Uses.{LineAnswers};
+
+use gix_glob::pattern::{Case, PatternView, basename_start};
+use gix_glob::search::pattern::List;
+use gix_glob::wildmatch::Mode;
+use glob_lines::{IgnoreLines, laws};
+use std::alloc::{AllocError, Global};
+
+/// Whether a pattern line matches the path of a file. It takes no memory.
+pub fn matches_line(line: &[u8], path: &[u8]) -> bool
+    requires { ¬ HasByte path.now 0 slash }
+    ensures blank { ¬ HasReading line.now true → result ≡ false }
+    ensures answers { HasReading line.now true → LineAnswers line.now path.now result }
+{
+    let Some(pattern) = PatternView::from_bytes(line) else {
+        return false;
+    };
+    let (start, mode) = (basename_start(path), Mode::NO_MATCH_SLASH_LITERAL);
+    pattern.matches_repo_relative_path(path, start, Some(false), Case::Sensitive, mode)
+}
+
+/// The rules of an ignore file's bytes, for the paths of the folder that it stands in.
+pub fn rules(alloc: Global, file: &[u8], name: &str) -> Result<List<IgnoreLines>, AllocError>
+    ensures { IfOk result (λ list. Ignore file.now (map (entry_of (λ _. tt)) list.patterns.items)) }
+{
+    let name = String::from_str(alloc, name)?;
+    let list = List::from_bytes(alloc, file, name, None, IgnoreLines)?;
+    // a law does nothing: it is called for what it ensures
+    laws::ignore_entries_are_these();
+    Ok(list)
+}
+
+#[cfg(test)]
+mod tests {
+    use super::*;
+
+    #[test]
+    fn uses(rt: HostRuntime) {
+        assert!(rt; matches_line(b"*.rs", b"src/lib.rs"));
+        assert!(rt; !matches_line(b"/*.rs", b"src/lib.rs"));
+        assert!(rt; !matches_line(b"", b"x"));
+        let Ok(list) = rules(rt.alloc(), b"#c\n*.rs \n!x\r\n", ".gitignore") else {
+            return assert!(rt; false, "no memory");
+        };
+        assert_eq!(rt; list.patterns.len(), 2);
+        assert_eq!(rt; list.patterns[1].sequence_number, 3);
+        assert!(rt; list.patterns[1].pattern.is_negative());
+    }
+}

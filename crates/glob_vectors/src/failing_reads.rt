@@ -1,0 +1,206 @@
+//! Readers that fail at one read, each read in turn: the fault is told, nothing is written, and what was read is kept.
+use crate::fakes::{Sink, Source};
+use crate::modes::path;
+use gix_glob::pattern::Case;
+use gix_glob::search::pattern::List;
+use gix_glob::search::{LoadFault, Watched, add_patterns_file};
+use glob_lines::{
+    EngineFault, IgnoreLines, PlainLines, bases_are_folders, run_ignore, run_list, run_wild,
+};
+use std::alloc::{AllocError, Global};
+use std::io::ErrorKind;
+use std::process::Abort;
+use std::test::Fail;
+
+const WHOLE: usize = usize::MAX;
+
+/// What a failed read may say. An interrupted read isn't tried again either.
+const KINDS: [ErrorKind; 2] = [ErrorKind::Interrupted, ErrorKind::Other];
+
+const PATTERNS: &[u8] = b"a*\n*\n";
+
+const PATHS: &[u8] = b"ab\nb\n/\n";
+
+const NUMBERS: &[u8] = b"1 2\n2\n!\n";
+
+const DECISIONS: &[u8] = b"kept 1:1\nnone\n!\n";
+
+const VALUES: &[u8] = b"ab\nb\n";
+
+const ANSWERS: &[u8] = b"yes\nno\n";
+
+#[test]
+fn from_reader_tells_each_failed_read(rt: HostRuntime) -> Result<(), Fail> {
+    for kind in KINDS {
+        // a read for each byte, and one that finds the end
+        for successes in 0..PATTERNS.len() + 2 {
+            let fails = successes <= PATTERNS.len();
+            let mut buf = b"old".to_vec(rt.alloc())?;
+            let mut reader = Watched::new(Source::new(PATTERNS, 1, successes).failing_with(kind));
+            let source = String::from_str(rt.alloc(), "d/ig")?;
+            match List::from_reader(rt.alloc(), &mut reader, source, None, &mut buf, PlainLines) {
+                Err(LoadFault::Read(error)) => {
+                    assert!(rt; fails, "{kind:?} after {successes} reads");
+                    assert_eq!(rt; error.kind(), kind, "after {successes} reads");
+                    assert_eq!(rt; buf.as_slice(), &PATTERNS[..successes], "{kind:?}");
+                }
+                answer => {
+                    let list = answer?.ok_or("no list")?;
+                    assert!(rt; !fails, "{kind:?} after {successes} reads");
+                    assert_eq!(rt; list.patterns.len(), 2, "{kind:?}");
+                    assert_eq!(rt; buf.as_slice(), PATTERNS, "{kind:?}");
+                }
+            }
+            assert_eq!(rt; reader.failed(), fails, "{kind:?} after {successes} reads");
+        }
+    }
+    Ok(())
+}
+
+fn list_of(alloc: Global, bytes: &[u8]) -> Result<List<PlainLines>, AllocError> {
+    let source = String::from_str(alloc, "d/ig")?;
+    List::from_bytes(alloc, bytes, source, None, PlainLines)
+}
+
+#[test]
+fn a_name_that_is_too_long_leaves_two_lists(rt: HostRuntime) -> Result<(), Fail> {
+    let mut lists = Vec::new(rt.alloc());
+    lists.push(list_of(rt.alloc(), PATTERNS)?)?;
+    lists.push(list_of(rt.alloc(), VALUES)?)?;
+    let name = "a".repeat(rt.alloc(), 300)?;
+    let mut buf = b"old".to_vec(rt.alloc())?;
+    let refused = add_patterns_file(
+        &rt,
+        rt.alloc(),
+        &mut lists,
+        name,
+        None,
+        &mut buf,
+        PlainLines,
+    );
+    assert!(rt; matches!(refused, Err(LoadFault::Read(_))));
+    assert!(rt; buf.is_empty());
+    let [first, second] = lists.as_slice() else {
+        return Err(Fail::new("not two lists"));
+    };
+    assert!(rt; *first == list_of(rt.alloc(), PATTERNS)?);
+    assert!(rt; *second == list_of(rt.alloc(), VALUES)?);
+    Ok(())
+}
+
+#[test]
+fn run_wild_tells_each_failed_read(rt: HostRuntime) {
+    for kind in KINDS {
+        // a read for each byte, and one that finds the end
+        for successes in 0..VALUES.len() + 2 {
+            let fails = successes <= VALUES.len();
+            let mut reader = Watched::new(Source::new(VALUES, 1, successes).failing_with(kind));
+            let mut writer = Watched::new(Sink::new(Vec::new(rt.alloc()), WHOLE, WHOLE));
+            let answer = run_wild(rt.alloc(), b"a*", path(), &mut reader, &mut writer);
+            let told = if fails {
+                Err(EngineFault::Read)
+            } else {
+                Ok(())
+            };
+            let written = if fails { 0 } else { ANSWERS.len() };
+            assert_eq!(rt; answer, told, "{kind:?} after {successes} reads");
+            assert_eq!(rt; reader.failed(), fails, "{kind:?} after {successes} reads");
+            assert!(rt; !writer.failed(), "{kind:?} after {successes} reads");
+            let output = writer.into_inner();
+            assert_eq!(rt;
+                output.taken(),
+                &ANSWERS[..written],
+                "{kind:?} after {successes} reads"
+            );
+        }
+    }
+}
+
+/// Runs `run_list` over readers of which at most one fails, and compares what it answers and leaves.
+fn check_list(
+    rt: &(impl Abort + AllocGlobal),
+    patterns: Source<'_>,
+    paths: Source<'_>,
+    failing: (bool, bool),
+    row: (ErrorKind, usize),
+) {
+    let mut patterns = Watched::new(patterns);
+    let mut paths = Watched::new(paths);
+    let mut writer = Watched::new(Sink::new(Vec::new(rt.alloc()), WHOLE, WHOLE));
+    let answer = run_list(
+        rt.alloc(),
+        &mut patterns,
+        "f",
+        None,
+        Case::Sensitive,
+        &mut paths,
+        &mut writer,
+    );
+    let fails = failing.0 || failing.1;
+    let told = if fails {
+        Err(EngineFault::Read)
+    } else {
+        Ok(())
+    };
+    let written = if fails { 0 } else { NUMBERS.len() };
+    assert_eq!(rt; answer, told, "{row:?}");
+    assert_eq!(rt; (patterns.failed(), paths.failed()), failing, "{row:?}");
+    assert!(rt; !writer.failed(), "{row:?}");
+    let output = writer.into_inner();
+    assert_eq!(rt; output.taken(), &NUMBERS[..written], "{row:?}");
+}
+
+#[test]
+fn run_list_tells_each_failed_read_of_patterns(rt: HostRuntime) {
+    for kind in KINDS {
+        for successes in 0..PATTERNS.len() + 2 {
+            let patterns = Source::new(PATTERNS, 1, successes).failing_with(kind);
+            let paths = Source::new(PATHS, 1, WHOLE);
+            let failing = (successes <= PATTERNS.len(), false);
+            check_list(&rt, patterns, paths, failing, (kind, successes));
+        }
+    }
+}
+
+#[test]
+fn run_list_tells_each_failed_read_of_paths(rt: HostRuntime) {
+    for kind in KINDS {
+        for successes in 0..PATHS.len() + 2 {
+            let patterns = Source::new(PATTERNS, 1, WHOLE);
+            let paths = Source::new(PATHS, 1, successes).failing_with(kind);
+            let failing = (false, successes <= PATHS.len());
+            check_list(&rt, patterns, paths, failing, (kind, successes));
+        }
+    }
+}
+
+#[test]
+fn run_ignore_tells_each_failed_read(rt: HostRuntime) -> Result<(), Fail> {
+    let source = String::from_str(rt.alloc(), "ig")?;
+    let lists = [List::from_bytes(rt.alloc(), b"!a*\n", source, None, IgnoreLines)?];
+    assert!(rt; bases_are_folders(&lists));
+    for kind in KINDS {
+        for successes in 0..PATHS.len() + 2 {
+            let fails = successes <= PATHS.len();
+            let mut paths = Watched::new(Source::new(PATHS, 1, successes).failing_with(kind));
+            let mut writer = Watched::new(Sink::new(Vec::new(rt.alloc()), WHOLE, WHOLE));
+            let answer = run_ignore(rt.alloc(), &lists, Case::Sensitive, &mut paths, &mut writer);
+            let told = if fails {
+                Err(EngineFault::Read)
+            } else {
+                Ok(())
+            };
+            let written = if fails { 0 } else { DECISIONS.len() };
+            assert_eq!(rt; answer, told, "{kind:?} after {successes} reads");
+            assert_eq!(rt; paths.failed(), fails, "{kind:?} after {successes} reads");
+            assert!(rt; !writer.failed(), "{kind:?} after {successes} reads");
+            let output = writer.into_inner();
+            assert_eq!(rt;
+                output.taken(),
+                &DECISIONS[..written],
+                "{kind:?} after {successes} reads"
+            );
+        }
+    }
+    Ok(())
+}
