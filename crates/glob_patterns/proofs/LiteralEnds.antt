@@ -11,8 +11,8 @@ use Rattle.glob_patterns.specs.Folding.{EndsAlike}
 use Rattle.glob_patterns.specs.Patterns.{is_joining, is_special}
 use Rattle.glob_matcher.specs.Tokens.{Token, Byte, Any, OneOf, Free, Local, Dirs, Nothing, TokenAt, From, IsRun}
 use Rattle.glob_matcher.specs.Matching.{Splits, SplitsFrom}
-use Rattle.glob_matcher.proofs.CutLemmas.{step_out, one_out, end_out, nothing_out}
-use Rattle.glob_matcher.proofs.Existence.{items_close, From-short, TokenAt-past}
+use Rattle.glob_matcher.proofs.lemmas.cutting.CutLemmas.{step_out, one_out, end_out, nothing_out}
+use Rattle.glob_matcher.proofs.lemmas.reading.Existence.{items_close, From-short, TokenAt-past}
 use Rattle.glob_patterns.proofs.LiteralLemmas.{IsLiteral, IsCopied, literal_out, alike_from}
 
 -- no byte from place n on may belong to a token of more than one byte

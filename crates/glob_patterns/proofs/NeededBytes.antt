@@ -7,9 +7,9 @@ use Rattle.glob_patterns.specs.Folding.{HasAlike}
 use Rattle.glob_patterns.specs.Patterns.{IsUnescapedUpTo, is_joining}
 use Rattle.glob_matcher.specs.Tokens.{Token, Byte, Any, OneOf, Free, Local, Dirs, Nothing, TokenAt, From}
 use Rattle.glob_matcher.specs.Matching.{Splits, SplitsFrom}
-use Rattle.glob_matcher.proofs.CutLemmas.{step_out, one_out}
-use Rattle.glob_matcher.proofs.Existence.{From-short, TokenAt-past}
-use Rattle.glob_matcher.proofs.SetLemmas.{HasByte-unique}
+use Rattle.glob_matcher.proofs.lemmas.cutting.CutLemmas.{step_out, one_out}
+use Rattle.glob_matcher.proofs.lemmas.reading.Existence.{From-short, TokenAt-past}
+use Rattle.glob_matcher.proofs.lemmas.reading.SetLemmas.{HasByte-unique}
 
 module _ (mode : Mode) (p v : List ℕ) (i b : ℕ) (clean : IsUnescapedUpTo p i) (h : HasByte p i b) (plain : is_joining b ≡ false) where
   not_joining : (c : ℕ) → HasByte p i c → is_joining c ≡ true → ⊥
