@@ -20,9 +20,9 @@ mod hostile_rows;
 #[cfg(test)]
 mod ignore_rows;
 #[cfg(test)]
-mod label_rows;
-#[cfg(test)]
 mod indexed;
+#[cfg(test)]
+mod label_rows;
 #[cfg(test)]
 mod list_rows;
 #[cfg(test)]
