@@ -10,3 +10,4 @@ mod row;
 mod table;
 
 pub use index::ListIndex;
+pub use rests::rest_of;

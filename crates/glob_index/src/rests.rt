@@ -13,7 +13,7 @@ use gix_glob::{laws, search};
 
 /// What is left of a path under the base of the list, and where the last part of it begins. `position` is where that of the
 /// path begins.
-pub(crate) fn rest_of<'a, T: search::Pattern>(
+pub fn rest_of<'a, T: search::Pattern>(
     list: &List<T>,
     path: &'a [u8],
     position: Option<usize>,

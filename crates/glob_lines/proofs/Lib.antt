@@ -8,7 +8,6 @@ pub mod NumberedLemmas
 pub mod NumbersLemmas
 pub mod PathsLemmas
 pub mod PlainLemmas
-pub mod StrippingLemmas
 pub mod TransferLemmas
 pub mod OneText
 pub mod TrimLemmas

@@ -5,11 +5,11 @@ ghost use Rattle.gix_glob.specs.Loaded.{listed};
 ghost use Rattle.gix_glob.specs.Paths.{IsFolder, IsPlainPath};
 ghost use Rattle.gix_glob.specs.RepositoryPaths.{IsBasenameStart};
 
-use crate::rests::rest_of;
 use gix_glob::pattern::{Case, basename_start};
 use gix_glob::search;
 use gix_glob::search::pattern::List;
 use gix_glob::wildmatch::Mode;
+use glob_index::rest_of;
 
 /// Which pattern decides about a path, in a stack of lists where a later one decides over an earlier one: the last mapping, of
 /// the last list that has one, that matches what the base of its list leaves of the path. The answer is the place of the list

@@ -14,7 +14,6 @@ mod list;
 mod numbered;
 mod paths;
 mod plain;
-mod rests;
 mod transfer;
 mod wild;
 

@@ -18,12 +18,12 @@ use crate::laws;
 use crate::lines::Lines;
 use crate::paths::{path_of, plain_path};
 use crate::plain::PlainLines;
-use crate::rests::rest_of;
 use crate::transfer::{read_whole, write_whole};
 use gix_glob::pattern::{Case, basename_start};
 use gix_glob::search::Watched;
 use gix_glob::search::pattern::{List, Mapping};
 use gix_glob::wildmatch::Mode;
+use glob_index::rest_of;
 use std::alloc::{AllocError, Global};
 use std::io::{Read, Write};
 
