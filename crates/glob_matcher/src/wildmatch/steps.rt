@@ -8,7 +8,7 @@ use std::sync::ledger::{Blank, Book, Ledger, Share};
 /// runs.
 ///
 /// A step is one token, or the pattern's end, tested at one place of the value; one mark set; or one mark moved by one byte
-/// or found unable to move. The bound is in `docs/MATCHING.md`.
+/// or found unable to move. The bound is in `docs/ENGINES.md`.
 #[derive(Drop)]
 pub struct Steps<L: Ledger> {
     book: Book<L>,
