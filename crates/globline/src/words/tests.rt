@@ -249,6 +249,16 @@ fn a_file_that_cannot_be_read_is_told(rt: HostRuntime) -> Result<(), Fail> {
     Ok(())
 }
 
+/// The file that a mark stands for: one of the two, a directory, or none that is there.
+fn file_of<'a>(mark: char, first: &'a str, second: &'a str) -> &'a str {
+    match mark {
+        'a' => first,
+        'b' => second,
+        '.' => ".",
+        _ => "no/such/file",
+    }
+}
+
 #[test]
 fn ignore_tells_what_decides(rt: HostRuntime) -> Result<(), Fail> {
     let number = process::id(rt.process());
@@ -260,7 +270,6 @@ fn ignore_tells_what_decides(rt: HostRuntime) -> Result<(), Fail> {
     fs::write(&rt, first, "x\n*.o\n")?;
     fs::write(&rt, second, "#\n!keep.o \r\n")?;
     let paths: &[u8] = b"x\nA.O\nd/keep.o\n/x\na\n";
-    // the files by their marks: `a` and `b` are there, `.` is a directory, and `-` is missing
     let rows: [(&str, &str, &str, &[u8]); 5] = [
         (
             "sensitive",
@@ -286,12 +295,7 @@ fn ignore_tells_what_decides(rt: HostRuntime) -> Result<(), Fail> {
     for (case, root, marks, text) in rows {
         let mut words = words_of(rt.alloc(), &["ignore", case, root])?;
         for mark in marks.chars() {
-            let file = match mark {
-                'a' => first,
-                'b' => second,
-                '.' => ".",
-                _ => "no/such/file",
-            };
+            let file = file_of(mark, first, second);
             words.push(String::from_str(rt.alloc(), file)?)?;
         }
         let mut input = Watched::new(paths);
