@@ -1,5 +1,6 @@
 pub mod DecidingLemmas
 pub mod DecisionsLemmas
+pub mod FoundLemmas
 pub mod IgnoreLemmas
 pub mod LabelLemmas
 pub mod LinesLemmas

@@ -1,15 +1,17 @@
 //! The engine that lists, for each path line, the numbers of the pattern lines that match it.
-ghost use Rattle.std.specs.Prelude.{◌≡◌, ◌↔◌, ◌||◌, false, map, option_map, IsTrue, IfOk, OnOk, IsErrOf};
+ghost use Rattle.std.specs.Prelude.{◌≡◌, ◌↔◌, ◌||◌, ◌∷◌, [], false, map, option_map, IsTrue, IfOk, OnOk, IsErrOf};
 ghost use Rattle.std.specs.Option.{ForSome, option_copied};
 ghost use Rattle.std.specs.Vec.{vec_items};
 ghost use Rattle.std.specs.Io.KnownBytes.{Appends};
 ghost use Rattle.gix_glob.specs.Bytes.{HasByte};
 ghost use Rattle.gix_glob.specs.Lists.{entry_of};
-ghost use Rattle.gix_glob.specs.Paths.{IsFolder, has_file_part};
+ghost use Rattle.gix_glob.specs.Paths.{IsFolder, IsPlainPath, has_file_part};
 ghost use Rattle.gix_glob.specs.RepositoryPaths.{IsBasenameStart};
 ghost use Rattle.gix_glob.specs.Watched.{has_failed, inner};
+ghost use Rattle.glob_index.specs.Index.{IsIndex};
 ghost use Rattle.glob_lines.specs.Mappings.{MappingsText, MatchesText, ReadsBoth, WritesMatches, WritesNumbers};
 ghost use Rattle.glob_lines.specs.Transfers.{AppendsFront, Run};
+ghost use Rattle.glob_lines.specs.Private.Answering.{WritesAnswering};
 ghost use Rattle.glob_lines.specs.Private.Growing.{Adds};
 
 use crate::decimal::append_decimal;
@@ -23,9 +25,10 @@ use gix_glob::pattern::{Case, basename_start};
 use gix_glob::search::Watched;
 use gix_glob::search::pattern::{List, Mapping};
 use gix_glob::wildmatch::Mode;
-use glob_index::rest_of;
+use glob_index::{ListIndex, rest_of};
 use std::alloc::{AllocError, Global};
 use std::io::{Read, Write};
+use std::slice;
 
 /// Reads pattern lines, and path lines, each to its end, and writes for each path line the numbers of the pattern lines
 /// that match it.
@@ -90,24 +93,28 @@ fn matches_of(
     ensures { IfOk result (λ text.
         MatchesText (map (entry_of (λ _. tt)) list.now.patterns.items) (option_map vec_items list.now.base) case paths.now text.items) }
 {
+    let index = ListIndex::new(alloc, slice::from_ref(list), case)?;
     let mut text = Vec::new(alloc);
     for line in Lines::new(paths) {
-        append_matches(&mut text, list, case, line)?;
+        append_matches(alloc, &mut text, &index, list, line)?;
         text.push(b'\n')?;
     }
     Ok(text)
 }
 
-/// Appends what is written for a path line, without the line feed.
+/// Appends what is written for a path line, without the line feed. The index is that of the list.
 fn append_matches(
+    alloc: Global,
     text: &mut Vec<u8>,
+    index: &ListIndex<'_, PlainLines>,
     list: &List<PlainLines>,
-    case: Case,
     line: &[u8],
 ) -> Result<(), AllocError>
-    requires { ForSome (option_map vec_items list.now.base) IsFolder }
+    requires made { IsIndex {V = Unit {0}} (λ _. tt) index.now }
+    requires one { index.now.lists.now ≡ list.now ∷ [] }
+    requires folder { ForSome (option_map vec_items list.now.base) IsFolder }
     ensures { OnOk result (Adds
-        (WritesMatches (map (entry_of (λ _. tt)) list.now.patterns.items) (option_map vec_items list.now.base) case line.now)
+        (WritesMatches (map (entry_of (λ _. tt)) list.now.patterns.items) (option_map vec_items list.now.base) index.now.case line.now)
         text.old.items text.new.items) }
 {
     if !plain_path(line) {
@@ -115,12 +122,41 @@ fn append_matches(
         return Ok(());
     }
     let (path, is_dir) = path_of(line);
-    match rest_of(list, path, basename_start(path), case) {
-        Some((rest, position)) => {
-            append_numbers(text, &list.patterns, rest, position, is_dir, case)
-        }
-        None => Ok(()),
+    let Some((rest, position)) = rest_of(list, path, basename_start(path), index.case) else {
+        return Ok(());
+    };
+    if index.pays_for(path) {
+        append_found(alloc, text, index, list, path, is_dir)
+    } else {
+        append_numbers(text, &list.patterns, rest, position, is_dir, index.case)
     }
+}
+
+/// Appends the numbers of the mappings that match a path, found by the index of the list.
+fn append_found(
+    alloc: Global,
+    text: &mut Vec<u8>,
+    index: &ListIndex<'_, PlainLines>,
+    list: &List<PlainLines>,
+    path: &[u8],
+    is_dir: bool,
+) -> Result<(), AllocError>
+    requires made { IsIndex {V = Unit {0}} (λ _. tt) index.now }
+    requires one { index.now.lists.now ≡ list.now ∷ [] }
+    requires plain { IsPlainPath path.now }
+    requires folder { ForSome (option_map vec_items list.now.base) IsFolder }
+    ensures { OnOk result (Adds
+        (WritesAnswering (map (entry_of (λ _. tt)) list.now.patterns.items) (option_map vec_items list.now.base) path.now is_dir index.now.case)
+        text.old.items text.new.items) }
+{
+    let found = index.matches(alloc, path, is_dir)?;
+    let mut separator: &[u8] = b"";
+    for pair in found.as_slice() {
+        text.extend_from_slice(separator)?;
+        append_decimal(text, list.patterns[pair.1].sequence_number)?;
+        separator = b" ";
+    }
+    Ok(())
 }
 
 /// Appends the numbers of the mappings that match what is left of a path.

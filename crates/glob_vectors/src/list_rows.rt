@@ -83,7 +83,9 @@ fn the_numbers_of_matching_lines_are_listed(rt: HostRuntime) -> Result<(), Fail>
     let paths_of_a: &[u8] = b"a/b\nb\na/x/b\na/x/y.c\nA/b\n";
     let many_stars = repeated(rt.alloc(), ("*a", 64, "\nb\n"))?;
     let many_paths = repeated(rt.alloc(), ("a", 64, "\nb\n"))?;
-    let rows: [(Question<'_>, &[u8], &[u8], &[u8]); 12] = [
+    // so many that the index is asked, and three that match one path
+    let mixed: &[u8] = b"a\n*.c\nb/\n!a\nc\nd\ne\nf\n*x*\na\n";
+    let rows: [(Question<'_>, &[u8], &[u8], &[u8]); 13] = [
         (
             TOP,
             b"*.rs\n\nsrc/\n",
@@ -101,6 +103,12 @@ fn the_numbers_of_matching_lines_are_listed(rt: HostRuntime) -> Result<(), Fail>
         (TOP, b"*", b"\xff\n\x00", b"1\n1\n"),
         (TOP, b"a", b"", b""),
         (TOP, &many_stars, &many_paths, b"1\n2\n"),
+        (
+            TOP,
+            mixed,
+            b"a\nb/\nb\nb/a.c\nx/a\nz\n",
+            b"1 4 10\n3\n\n2\n1 4 10\n\n",
+        ),
     ];
     for (question, patterns, paths, text) in rows {
         for piece in [1, WHOLE] {

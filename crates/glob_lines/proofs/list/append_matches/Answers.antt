@@ -3,6 +3,8 @@ use Rattle.std.proofs.Common.{option_map}
 use Rattle.std.proofs.lemmas.Result.{on_ok_weaker}
 use Rattle.std.specs.Vec.{vec_items}
 use Rattle.gix_glob.specs.Paths.{IsPlainPath}
+use Rattle.gix_glob.specs.Stripping.{NothingLeft}
+use Rattle.glob_lines.proofs.FoundLemmas.{numbers_under}
 use Rattle.glob_lines.proofs.MappingsLemmas.{writes_nothing, writes_numbers}
 use Rattle.glob_lines.proofs.PathsLemmas.{IsPlainPath-marked}
 use Rattle.glob_lines.proofs.list.append_matches.Goals as goal
@@ -11,16 +13,31 @@ pub rest_of-requires-clause-plain : goal.rest_of-requires-clause-plain
 rest_of-requires-clause-plain c =
     IsPlainPath-marked c.args.line.now c.path_of-is_dir.result.0.now c.path_of-is_dir.result.1 (c.plain_path.ensures.0 c.if-not-plain_path.false) c.path_of-is_dir.ensures
 
-pub returns-in-Some : goal.returns-in-Some
-returns-in-Some c =
+pub append_found-requires-clause-plain : goal.append_found-requires-clause-plain
+append_found-requires-clause-plain c =
+    IsPlainPath-marked c.args.line.now c.path_of-is_dir.result.0.now c.path_of-is_dir.result.1 (c.plain_path.ensures.0 c.if-not-plain_path.false) c.path_of-is_dir.ensures
+
+pub returns-then-pays_for : goal.returns-then-pays_for
+returns-then-pays_for c =
+    let plain : IsPlainPath c.args.line.now = c.plain_path.ensures.0 c.if-not-plain_path.false in
+    let base = option_map vec_items c.args.list.now.base in
+    on_ok_weaker c.append_found.result
+    (λ adds. writes_numbers _ base c.args.index.now.case c.args.line.now c.path_of-is_dir.result.0.now c.in-Some.rest.now c.path_of-is_dir.result.1 _ _
+    plain c.path_of-is_dir.ensures c.in-Some.ensures.0
+    (numbers_under _ base c.path_of-is_dir.result.0.now c.in-Some.rest.now c.in-Some.position c.path_of-is_dir.result.1 c.args.index.now.case _ _ c.in-Some.ensures.0 c.in-Some.ensures.1 adds))
+    c.append_found.ensures
+
+pub returns-else-pays_for : goal.returns-else-pays_for
+returns-else-pays_for c =
     let plain : IsPlainPath c.args.line.now = c.plain_path.ensures.0 c.if-not-plain_path.false in
     on_ok_weaker c.append_numbers.result
-    (writes_numbers _ (option_map vec_items c.args.list.now.base) c.args.case c.args.line.now c.path_of-is_dir.result.0.now c.in-Some.rest.now c.path_of-is_dir.result.1 _ _
+    (writes_numbers _ (option_map vec_items c.args.list.now.base) c.args.index.now.case c.args.line.now c.path_of-is_dir.result.0.now c.in-Some.rest.now c.path_of-is_dir.result.1 _ _
     plain c.path_of-is_dir.ensures c.in-Some.ensures.0)
     (rw c.deref.ensures.value at c.append_numbers.ensures)
 
-pub returns-in-None : goal.returns-in-None
-returns-in-None c =
+pub returns-in_default : goal.returns-in_default
+returns-in_default c =
     let plain : IsPlainPath c.args.line.now = c.plain_path.ensures.0 c.if-not-plain_path.false in
-    writes_nothing _ (option_map vec_items c.args.list.now.base) c.args.case c.args.line.now c.path_of-is_dir.result.0.now c.path_of-is_dir.result.1 _
-    plain c.path_of-is_dir.ensures c.in-None.ensures
+    let nothing : NothingLeft c.args.index.now.case (option_map vec_items c.args.list.now.base) c.path_of-is_dir.result.0.now = rw c.in_default.is at c.rest_of.ensures in
+    writes_nothing _ (option_map vec_items c.args.list.now.base) c.args.index.now.case c.args.line.now c.path_of-is_dir.result.0.now c.path_of-is_dir.result.1 _
+    plain c.path_of-is_dir.ensures nothing

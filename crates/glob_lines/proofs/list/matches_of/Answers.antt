@@ -10,8 +10,12 @@ loop-line-preserved c =
     (c.in_ok-push.ensures.items ∙ ap (λ l. l ++ 10 ∷ []) adds.grown ∙ append_assoc c.loop-line.text.items adds.added (10 ∷ []))
 
 pub returns : goal.returns
-returns c = record {
-  lines = _;
-  cut = Lines-lines_of c.args.paths.now;
-  writes = IsWrittenUpTo-all _ _ _ _ c.loop-line.invariant c.in-None.ensures.steps.0;
-}
+returns c =
+    let written = IsWrittenUpTo-all _ _ _ _ c.loop-line.invariant c.in-None.ensures.steps.0 in record {
+      lines = _;
+      cut = Lines-lines_of c.args.paths.now;
+      writes = rw c.in_ok-index.ensures.1 at written;
+    }
+
+pub append_matches-requires-clause-one : goal.append_matches-requires-clause-one
+append_matches-requires-clause-one c = c.in_ok-index.ensures.0 ∙ c.from_ref.ensures.value
