@@ -234,6 +234,7 @@ impl Item {
 }
 
 /// The place after the set whose bracket stands at this place. `None` where no set begins.
+#[inline(never)]
 pub fn set_end(pattern: &[u8], at: usize) -> Option<usize>
     requires { HasByte pattern.now at open_bracket }
     ensures found { IfSome result (λ end. (set : Set) × SetAt pattern.now at set end) }
@@ -334,6 +335,7 @@ fn items_hold(pattern: &[u8], start: usize, byte: u8, mode: Mode) -> bool
 }
 
 /// Whether the set whose bracket stands at this place holds a byte.
+#[inline(never)]
 pub fn set_holds(pattern: &[u8], at: usize, byte: u8, mode: Mode) -> bool
     requires { at < length pattern.now }
     ensures { (set : Set) (end : ℕ) → SetAt pattern.now at set end → result ≡ held mode set byte }
