@@ -2,8 +2,12 @@
 #![tactic(auto)]
 
 ghost use Rattle.std.specs.Prelude.{◌≡◌, true, false, map, string_bytes, IfOk};
+ghost use Rattle.gix_glob.specs.declared.pattern.Case.{Case};
 ghost use Rattle.gix_glob.specs.Bytes.{HasByte, slash};
+ghost use Rattle.gix_glob.specs.Deciding.{BasesAreFolders, Decides};
 ghost use Rattle.gix_glob.specs.Lists.{entry_of};
+ghost use Rattle.gix_glob.specs.Loaded.{listed};
+ghost use Rattle.gix_glob.specs.Paths.{IsPlainPath};
 ghost use Rattle.gix_glob.specs.Patterns.{HasReading};
 ghost use Rattle.glob_lines.specs.Ignore.{Ignore};
 ghost use Rattle.glob_uses.specs.Uses.{LineAnswers};
@@ -11,7 +15,7 @@ ghost use Rattle.glob_uses.specs.Uses.{LineAnswers};
 use gix_glob::pattern::{Case, PatternView, basename_start};
 use gix_glob::search::pattern::List;
 use gix_glob::wildmatch::Mode;
-use glob_lines::{IgnoreLines, laws};
+use glob_lines::{IgnoreLines, bases_are_folders, decide, laws, plain_path};
 use std::alloc::{AllocError, Global};
 
 /// Whether a pattern line matches the path of a file. It takes no memory.
@@ -38,6 +42,21 @@ pub fn rules(alloc: Global, file: &[u8], name: &str) -> Result<List<IgnoreLines>
     Ok(list)
 }
 
+/// Which rule of several ignore files decides about a path: the place of its file and its place among the file's rules, both
+/// from 0. `None` where none matches, where the path is no path of a repository, and where a base is that of no folder.
+pub fn last_rule(lists: &[List<IgnoreLines>], path: &[u8], is_dir: bool) -> Option<(usize, usize)>
+    ensures { IsPlainPath path.now → BasesAreFolders (map (listed {V = Unit {0}} (λ _. tt)) lists.now)
+        → Decides (map (listed {V = Unit {0}} (λ _. tt)) lists.now) path.now is_dir Case.Sensitive result }
+{
+    if !plain_path(path) {
+        return None;
+    }
+    if !bases_are_folders(lists) {
+        return None;
+    }
+    decide(lists, path, is_dir, Case::Sensitive)
+}
+
 #[cfg(test)]
 mod tests {
     use super::*;
@@ -53,5 +72,9 @@ mod tests {
         assert_eq!(rt; list.patterns.len(), 2);
         assert_eq!(rt; list.patterns[1].sequence_number, 3);
         assert!(rt; list.patterns[1].pattern.is_negative());
+        let lists = [list];
+        assert_eq!(rt; last_rule(&lists, b"src/lib.rs", false), Some((0, 0)));
+        assert_eq!(rt; last_rule(&lists, b"x", false), Some((0, 1)));
+        assert_eq!(rt; last_rule(&lists, b"y", false), None);
     }
 }
