@@ -1,10 +1,10 @@
--- What a pattern matches: the language of each token, and the cutting of a value into pieces.
-use Rattle.std.specs.Prelude.{◌≡◌, ◌≢◌, ◌⊎◌, ℕ, ◌+◌, ◌≤◌, ⊤, Bool, IsTrue, List, [], ◌∷◌, ◌++◌, drop}
+-- A pattern matches a value (`Splits`) where the value is a concatenation of pieces, one from each token's written language.
+use Rattle.std.specs.Prelude.{◌≡◌, ◌≢◌, ◌⊎◌, ℕ, ⊤, IsTrue, List, [], ◌∷◌, ◌++◌, drop}
 use Rattle.std.specs.List.{AllByRecursion}
 use Rattle.glob_matcher.specs.declared.wildmatch.mode.Mode.{Mode}
 use Rattle.glob_matcher.specs.Bytes.{EndsInSlash, fold, is_path, slash}
 use Rattle.glob_matcher.specs.Sets.{set_holds}
-use Rattle.glob_matcher.specs.Tokens.{Token, Byte, Any, OneOf, Free, Local, Dirs, Nothing, From, Tokens}
+use Rattle.glob_matcher.specs.Tokens.{Token, Byte, Any, OneOf, Free, Local, Dirs, Nothing, From}
 
 -- one byte, of which P holds
 abbrev pub OneByte : (ℕ → Type 0) → List ℕ → Type 0
@@ -30,34 +30,12 @@ IsCut mode [] value = value ≡ []
 IsCut mode (t ∷ ts) value =
     (piece rest : List ℕ) × (value ≡ piece ++ rest) × Lang mode t piece × IsCut mode ts rest
 
--- The pattern matches the value: the value is a concatenation of pieces, one from each token's written language.
-pub record Splits (value pattern : List ℕ) (mode : Mode) : Type 0 where
-  pub tokens : List Token
-  pub read : Tokens mode pattern tokens
-  pub cut : IsCut mode tokens value
-
--- The value's bytes from place k on are cut by the tokens from place i of the pattern on.
+-- The value's bytes from place k on are cut so, by the tokens from place i of the pattern on.
 pub record SplitsFrom (value : List ℕ) (k : ℕ) (pattern : List ℕ) (i : ℕ) (mode : Mode) : Type 0 where
   pub tokens : List Token
   pub read : From mode pattern i tokens
   pub cut : IsCut mode tokens (drop k value)
 
--- how many of the tokens are star tokens
-abbrev pub star_count : List Token → ℕ
-star_count [] = 0
-star_count (Free ∷ ts) = star_count ts + 1
-star_count (Local ∷ ts) = star_count ts + 1
-star_count (Dirs ∷ ts) = star_count ts + 1
-star_count (_ ∷ ts) = star_count ts
-
--- the pattern has n star tokens; the number is the same in each mode
-pub record HasStars (pattern : List ℕ) (n : ℕ) : Type 0 where
-  pub mode : Mode
-  pub tokens : List Token
-  pub read : Tokens mode pattern tokens
-  pub counted : star_count tokens ≡ n
-
--- A yes implies the fact. A no excludes it, where the pattern has at most 63 star tokens.
-pub record Holds (answer : Bool) (fact : Type 0) (pattern : List ℕ) : Type 0 where
-  pub yes : IsTrue answer → fact
-  pub excludes : (n : ℕ) → HasStars pattern n → n ≤ 63 → fact → IsTrue answer
+-- The pattern matches the value: the whole value is cut by the tokens of the whole pattern.
+abbrev pub Splits : List ℕ → List ℕ → Mode → Type 0
+Splits value pattern mode = SplitsFrom value 0 pattern 0 mode

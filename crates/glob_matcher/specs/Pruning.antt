@@ -1,16 +1,32 @@
--- The pruned recursive engine: where an attempt may begin, what its answers mean, and where an abort must come.
-use Rattle.std.specs.Prelude.{◌≡◌, ◌≢◌, ◌↔◌, ◌⊎◌, ℕ, ◌+◌, ◌≤◌, ⊤, IsTrue, List, [], ◌∷◌, ◌++◌, length, drop}
+-- The pruned recursive engine: where an attempt may begin, what its answers mean, where an abort must come, and up to which
+-- number of star tokens its answers are exact.
+use Rattle.std.specs.Prelude.{◌≡◌, ◌≢◌, ◌↔◌, ◌⊎◌, ℕ, ◌+◌, ◌≤◌, ⊤, Bool, IsTrue, List, [], ◌∷◌, ◌++◌, length, drop}
 use Rattle.glob_matcher.specs.declared.wildmatch.mode.Mode.{Mode}
 use Rattle.glob_matcher.specs.declared.wildmatch.pruned.Answer.{Answer}
 use Rattle.glob_matcher.specs.declared.wildmatch.pruned.Answer.TheVariants.{Match, NoMatch, AbortAll, AbortToStarStar, RecursionLimitReached}
 use Rattle.glob_matcher.specs.Bytes.{HasByte, NoSlash, is_path, star}
-use Rattle.glob_matcher.specs.Tokens.{Token, Byte, Any, OneOf, Free, Dirs, TokenAt, DirsAt, From}
-use Rattle.glob_matcher.specs.Matching.{IsCut, SplitsFrom, star_count}
+use Rattle.glob_matcher.specs.Tokens.{Token, Byte, Any, OneOf, Free, Local, Dirs, TokenAt, DirsAt, Spells, From, Tokens}
+use Rattle.glob_matcher.specs.Matching.{IsCut, SplitsFrom}
 
--- The tokens are spelled, one after the other, from place i up to place j.
-abbrev pub Spells : Mode → List ℕ → ℕ → List Token → ℕ → Type 0
-Spells mode pattern i [] j = i ≡ j
-Spells mode pattern i (t ∷ ts) j = (k : ℕ) × TokenAt mode pattern i t k × Spells mode pattern k ts j
+-- how many of the tokens are star tokens
+abbrev pub star_count : List Token → ℕ
+star_count [] = 0
+star_count (Free ∷ ts) = star_count ts + 1
+star_count (Local ∷ ts) = star_count ts + 1
+star_count (Dirs ∷ ts) = star_count ts + 1
+star_count (_ ∷ ts) = star_count ts
+
+-- the pattern has n star tokens; the number is the same in each mode
+pub record HasStars (pattern : List ℕ) (n : ℕ) : Type 0 where
+  pub mode : Mode
+  pub tokens : List Token
+  pub read : Tokens mode pattern tokens
+  pub counted : star_count tokens ≡ n
+
+-- A yes implies the fact. A no excludes it, where the pattern has at most 63 star tokens.
+pub record Holds (answer : Bool) (fact : Type 0) (pattern : List ℕ) : Type 0 where
+  pub yes : IsTrue answer → fact
+  pub excludes : (n : ℕ) → HasStars pattern n → n ≤ 63 → fact → IsTrue answer
 
 -- place i is a token's start or the pattern's end: tokens spell what stands before it
 pub record IsBoundary (pattern : List ℕ) (i : ℕ) (mode : Mode) : Type 0 where

@@ -83,10 +83,14 @@ TokenAt mode pattern i Local j = LocalAt mode pattern i j
 TokenAt mode pattern i Dirs j = DirsAt mode pattern i j
 TokenAt mode pattern i Nothing j = IsBroken pattern i × (j ≡ length pattern)
 
--- The tokens from place i on, up to the pattern's end.
+-- The tokens are spelled, one after the other, from place i up to place j.
+abbrev pub Spells : Mode → List ℕ → ℕ → List Token → ℕ → Type 0
+Spells mode pattern i [] j = i ≡ j
+Spells mode pattern i (t ∷ ts) j = (k : ℕ) × TokenAt mode pattern i t k × Spells mode pattern k ts j
+
+-- the tokens from place i on, up to the pattern's end
 abbrev pub From : Mode → List ℕ → ℕ → List Token → Type 0
-From mode pattern i [] = i ≡ length pattern
-From mode pattern i (t ∷ ts) = (j : ℕ) × TokenAt mode pattern i t j × From mode pattern j ts
+From mode pattern i ts = Spells mode pattern i ts (length pattern)
 
 -- the tokens whose spellings, joined, are the pattern
 abbrev pub Tokens : Mode → List ℕ → List Token → Type 0

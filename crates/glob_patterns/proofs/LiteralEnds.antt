@@ -128,8 +128,7 @@ is_tail front end none =
 pub literal_ends : (front end v : List ℕ) (mode : Mode) → list_any is_joining end ≡ false → Splits v (front ++ end) mode → EndsAlike mode v end
 literal_ends front end v mode none s =
     let p : List ℕ = front ++ end in
-    let whole : SplitsFrom v 0 p 0 mode = record { tokens = s.tokens; read = s.read; cut = s.cut } in
-    let out = to_tail (length front) mode p v (length front) 0 0 (omega arith) (omega arith) (is_tail front end none) (omega arith) whole in
+    let out = to_tail (length front) mode p v (length front) 0 0 (omega arith) (omega arith) (is_tail front end none) (omega arith) s in
     let long : length p ≡ length front + length end = length-append front end in
     let sum : out.place + (length p - length front) ≡ length v = out.fits in
     let start : length v - length end ≡ out.place = omega arith in record {

@@ -85,31 +85,25 @@ alike_at mode xs ys same m inside =
 literal_everywhere : (p : List ℕ) → list_any is_special p ≡ false → IsLiteral p 0 (length p)
 literal_everywhere p none = record { at = λ y low high. false_from_ne_true (is_special (get_or p y 0)) (λ some. false≢true (sym none ∙ list_any_at is_special p y 0 high some)) }
 
-from_start : (v p : List ℕ) (mode : Mode) → Splits v p mode → SplitsFrom v 0 p 0 mode
-from_start v p mode s = record { tokens = s.tokens; read = s.read; cut = s.cut }
-
-to_start : (v p : List ℕ) (mode : Mode) → SplitsFrom v 0 p 0 mode → Splits v p mode
-to_start v p mode s = record { tokens = s.tokens; read = s.read; cut = s.cut }
-
 -- A text without special bytes splits exactly the values that are equal to it, up to case where the mode folds.
 pub literal_splits : (p v : List ℕ) (mode : Mode) → list_any is_special p ≡ false → Splits v p mode ↔ AreAlike mode v p
 literal_splits p v mode none =
     let plain = literal_everywhere p none in (
-      λ s. (let out = literal_out mode p v (length p) 0 (length p) 0 (length p) (omega arith) (omega arith) (omega arith) (omega arith) plain (from_start v p mode s) in
+      λ s. (let out = literal_out mode p v (length p) 0 (length p) 0 (length p) (omega arith) (omega arith) (omega arith) (omega arith) plain s in
           let ends = end_out mode p v (length p) (length p) refl out.2 in
           let reach = out.0 in
           alike_from mode v p (omega arith) (λ m inside. out.1.at m m (omega arith) (omega arith) refl)),
       λ same. (let long = alike_length mode v p same in
-          to_start v p mode (literal_in mode p v (length p) 0 (length p) 0 (length p) (omega arith) (omega arith) (omega arith) (omega arith) plain
+          literal_in mode p v (length p) 0 (length p) 0 (length p) (omega arith) (omega arith) (omega arith) (omega arith) plain
           (record { at = λ x y low high sum. let here : x ≡ y = omega arith in subst (λ (m : ℕ). fold mode (get_or v x 0) ≡ fold mode (get_or p m 0)) here (alike_at mode v p same x (omega arith)) })
-          (end_in mode p v (length p) (length p) refl (omega arith)))),
+          (end_in mode p v (length p) (length p) refl (omega arith))),
     )
 
 -- A text with a literal front splits only values that begin with it, up to case where the mode folds.
 pub literal_front : (p v : List ℕ) (mode : Mode) (n : ℕ) → n ≤ length p → IsLiteral p 0 n → Splits v p mode
     → (n ≤ length v) × AreAlike mode (take n p) (take n v)
 literal_front p v mode n inside plain s =
-    let out = literal_out mode p v n 0 n 0 n (omega arith) (omega arith) inside (omega arith) plain (from_start v p mode s) in
+    let out = literal_out mode p v n 0 n 0 n (omega arith) (omega arith) inside (omega arith) plain s in
     let reach = out.0 in (
       reach,
       alike_from mode (take n p) (take n v) (simp length-take (omega arith))
@@ -153,7 +147,7 @@ module _ (mode : Mode) (lit : List ℕ) (none : list_any is_special lit ≡ fals
             (λ m below. rw get_or-drop (sym (out.1.at (length v - length lit + m) (suc m) (omega arith) (omega arith) (omega arith)))),
       )
 
-  star_out : (v : List ℕ) → SplitsFrom v 0 (42 ∷ lit) 0 mode → (length lit ≤ length v) × AreAlike mode lit (drop (length v - length lit) v)
+  star_out : (v : List ℕ) → Splits v (42 ∷ lit) mode → (length lit ≤ length v) × AreAlike mode lit (drop (length v - length lit) v)
   star_out v s = ⊎_elim
       (λ path. (let out = local_out mode (42 ∷ lit) v 0 1 0 (local_star path) (omega arith) s in literal_end v out.0 out.2 out.4))
       (λ plain. (let out = free_out mode (42 ∷ lit) v 0 1 0 (free_star plain) (omega arith) s in literal_end v out.0 out.2 out.3))
@@ -170,7 +164,7 @@ module _ (mode : Mode) (lit : List ℕ) (none : list_any is_special lit ≡ fals
       ∙ sym (alike_at mode lit (drop (length v - length lit) v) same m (omega arith))
 
   star_in : (v : List ℕ) → (is_path mode ≡ false) ⊎ (list_any (λ b. b == slash) v ≡ false)
-      → length lit ≤ length v → AreAlike mode lit (drop (length v - length lit) v) → SplitsFrom v 0 (42 ∷ lit) 0 mode
+      → length lit ≤ length v → AreAlike mode lit (drop (length v - length lit) v) → Splits v (42 ∷ lit) mode
   star_in v open_or_bare fits same =
       let later : SplitsFrom v (length v - length lit) (42 ∷ lit) 1 mode =
       literal_in mode (42 ∷ lit) v (length lit) (length v - length lit) (length v) 1 (length (42 ∷ lit)) (omega arith) (omega arith) (omega arith) (omega arith) plain_behind
@@ -196,7 +190,7 @@ pub star_literal_out : (p v : List ℕ) (mode : Mode) → is_star_and_literal p 
 star_literal_out p v mode shape s =
     let both = and_parts _ _ shape in
     let whole : p ≡ 42 ∷ drop 1 p = (starts_is Decides-eqb p (codes "*") _ refl).0 both.0 in
-    star_out mode (drop 1 p) (not_true _ both.1) v (subst (λ (q : List ℕ). SplitsFrom v 0 q 0 mode) whole (from_start v p mode s))
+    star_out mode (drop 1 p) (not_true _ both.1) v (subst (λ (q : List ℕ). Splits v q mode) whole s)
 
 -- They split all of them in plain mode, and in path mode those without slash.
 pub star_literal_in : (p v : List ℕ) (mode : Mode) → is_star_and_literal p ≡ true → (is_path mode ≡ false) ⊎ (list_any (λ b. b == slash) v ≡ false)
@@ -204,7 +198,7 @@ pub star_literal_in : (p v : List ℕ) (mode : Mode) → is_star_and_literal p �
 star_literal_in p v mode shape open_or_bare fits same =
     let both = and_parts _ _ shape in
     let whole : p ≡ 42 ∷ drop 1 p = (starts_is Decides-eqb p (codes "*") _ refl).0 both.0 in
-    to_start v p mode (subst (λ (q : List ℕ). SplitsFrom v 0 q 0 mode) (sym whole) (star_in mode (drop 1 p) (not_true _ both.1) v open_or_bare fits same))
+    subst (λ (q : List ℕ). Splits v q mode) (sym whole) (star_in mode (drop 1 p) (not_true _ both.1) v open_or_bare fits same)
 
 -- where a text has no special byte by the place of the first, it has none at all
 pub literal_from_place : (p : List ℕ) → first_special p ≡ None → list_any is_special p ≡ false

@@ -60,4 +60,4 @@ module _ (mode : Mode) (p v : List ℕ) (i b : ℕ) (clean : IsUnescapedUpTo p i
 -- A value that is split has each literal byte of the text, up to case where the mode folds.
 pub literal_bytes : (p v : List ℕ) (mode : Mode) (i b : ℕ) → IsUnescapedUpTo p i → HasByte p i b → is_joining b ≡ false → Splits v p mode → HasAlike mode v b
 literal_bytes p v mode i b clean h plain s =
-    to_byte mode p v i b clean h plain i 0 0 (omega arith) (omega arith) (omega arith) (record { tokens = s.tokens; read = s.read; cut = s.cut })
+    to_byte mode p v i b clean h plain i 0 0 (omega arith) (omega arith) (omega arith) s

@@ -12,14 +12,10 @@ use Rattle.glob_matcher.specs.Bytes.{NoSlash, is_path, slash}
 use Rattle.glob_matcher.specs.declared.wildmatch.scan.Scan.{Scan}
 use Rattle.glob_matcher.specs.declared.wildmatch.scan.Scan.TheVariants as scan
 use Rattle.glob_matcher.specs.Tokens.{Token, Byte, TokenAt, IsAfterSlash}
-use Rattle.glob_matcher.specs.Matching.{SplitsFrom}
+use Rattle.glob_matcher.specs.Matching.{Splits, SplitsFrom}
 use Rattle.glob_matcher.specs.Private.Reader.{Fits, AfterSlash}
 use Rattle.glob_matcher.specs.Private.Scans.{StandsForItself, last_steps, reached_by}
 use Rattle.glob_matcher.specs.Private.Components.{separates, next_component}
-
--- the pattern matches the value
-abbrev pub Whole : Mode → List ℕ → List ℕ → Type 0
-Whole mode p v = SplitsFrom v 0 p 0 mode
 
 -- A later success of a mark: from a place past it, the rest of the pattern splits the rest of the value.
 pub record LaterFree (mode : Mode) (p v : List ℕ) (place at : ℕ) : Type 0 where
@@ -101,10 +97,10 @@ WithinKnown mode p v i j c (Some m) = LocalKnown mode p v i j c m.place m.at
 pub record Stands (mode : Mode) (p v : List ℕ) (i j : ℕ) (c : Crossing) (l : Option Mark) : Type 0 where
   pub low : i ≤ length p
   pub inside : j ≤ length v
-  pub sound : SplitsFrom v j p i mode → Whole mode p v
-  pub sound_local : LaterWithin mode p v l → Whole mode p v
-  pub sound_crossing : LaterCrossing mode p v c → Whole mode p v
-  pub complete : Whole mode p v → SplitsFrom v j p i mode ⊎ (LaterWithin mode p v l ⊎ LaterCrossing mode p v c)
+  pub sound : SplitsFrom v j p i mode → Splits v p mode
+  pub sound_local : LaterWithin mode p v l → Splits v p mode
+  pub sound_crossing : LaterCrossing mode p v c → Splits v p mode
+  pub complete : Splits v p mode → SplitsFrom v j p i mode ⊎ (LaterWithin mode p v l ⊎ LaterCrossing mode p v c)
   pub ahead : LaterCrossing mode p v c → Ahead mode p v i j
   pub crossing : CrossingKnown mode p v c
   pub local : WithinKnown mode p v i j c l
@@ -114,8 +110,8 @@ StandsAt mode p v s = Stands mode p v s.place s.at s.crossing s.local
 
 -- What holds once the token does not fit and the local mark cannot move: a match is a later success of the crossing mark.
 pub record IsLeft (mode : Mode) (p v : List ℕ) (c : Crossing) : Type 0 where
-  pub sound : LaterCrossing mode p v c → Whole mode p v
-  pub complete : Whole mode p v → LaterCrossing mode p v c
+  pub sound : LaterCrossing mode p v c → Splits v p mode
+  pub complete : Splits v p mode → LaterCrossing mode p v c
   pub crossing : CrossingKnown mode p v c
 
 -- the engine stands here, and the token does not fit
@@ -125,14 +121,14 @@ pub record IsMissed (mode : Mode) (p v : List ℕ) (s : State) : Type 0 where
 
 -- what a turn comes to
 abbrev pub IsOutcome : Mode → List ℕ → List ℕ → Turn → Type 0
-IsOutcome mode p v turn.Match = Whole mode p v
-IsOutcome mode p v turn.NoMatch = ¬ Whole mode p v
+IsOutcome mode p v turn.Match = Splits v p mode
+IsOutcome mode p v turn.NoMatch = ¬ Splits v p mode
 IsOutcome mode p v (turn.Miss s) = IsMissed mode p v s
 IsOutcome mode p v (turn.On next) = StandsAt mode p v next
 
 -- where going back to a mark leads: to a state, or nowhere
 abbrev pub Resumes : Mode → List ℕ → List ℕ → Option State → Type 0
-Resumes mode p v None = ¬ Whole mode p v
+Resumes mode p v None = ¬ Splits v p mode
 Resumes mode p v (Some next) = StandsAt mode p v next
 
 -- where going back to the local mark leads: to a state, or to the crossing mark

@@ -4,8 +4,8 @@ ghost use Rattle.std.specs.List.{insert};
 ghost use Rattle.glob_matcher.specs.declared.wildmatch.mode.Mode.{Mode};
 ghost use Rattle.glob_matcher.specs.Bytes.{NoSlash, is_path, slash, star};
 ghost use Rattle.glob_matcher.specs.Tokens.{Token, Free, Local, Dirs, TokenAt, From, Tokens};
-ghost use Rattle.glob_matcher.specs.Matching.{Splits, SplitsFrom, HasStars, star_count};
-ghost use Rattle.glob_matcher.specs.Pruning.{IsBoundary};
+ghost use Rattle.glob_matcher.specs.Matching.{Splits, SplitsFrom};
+ghost use Rattle.glob_matcher.specs.Pruning.{HasStars, IsBoundary, star_count};
 
 // ---- star tokens at earlier places
 

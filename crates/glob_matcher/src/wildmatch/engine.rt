@@ -7,7 +7,7 @@ ghost use Rattle.glob_matcher.specs.Bytes.{slash};
 ghost use Rattle.glob_matcher.specs.Tokens.{Token, Byte, TokenAt};
 ghost use Rattle.glob_matcher.specs.Private.Reader.{IsToken, shape_of, Fits};
 ghost use Rattle.glob_matcher.specs.Private.Scans.{Follows, StandsForItself};
-ghost use Rattle.glob_matcher.specs.Private.States.{Whole};
+ghost use Rattle.glob_matcher.specs.Matching.{Splits};
 ghost use Rattle.glob_matcher.specs.Steps.{step_limit};
 
 use super::mode::Mode;
@@ -272,7 +272,7 @@ pub fn run<'s, 'a, L: Ledger, M: Match>(
     requires value { value.now ≡ M.value }
     requires mode { mode ≡ M.mode }
     requires count { steps.ghost_name ≡ M.count }
-    ensures exact { IsTrue result.0 ↔ Whole mode pattern.now value.now }
+    ensures exact { IsTrue result.0 ↔ Splits value.now pattern.now mode }
     ensures same { result.1.ghost_name ≡ steps.entry.ghost_name }
     ensures count { result.1.now ≤ steps.old + step_limit (length pattern.now) (length value.now) }
 {

@@ -2,8 +2,8 @@
 ghost use Rattle.std.specs.Prelude.{◌≡◌, ◌↔◌, ℕ, ◌+◌, ◌<◌, ◌≤◌, IsTrue, IfSome, IfNone, Some, length};
 ghost use Rattle.glob_matcher.specs.Bytes.{HasByte, star};
 ghost use Rattle.glob_matcher.specs.Tokens.{DirsAt};
-ghost use Rattle.glob_matcher.specs.Matching.{Splits, Holds};
-ghost use Rattle.glob_matcher.specs.Pruning.{IsStart, IsBoundary, IsAttempt};
+ghost use Rattle.glob_matcher.specs.Matching.{Splits};
+ghost use Rattle.glob_matcher.specs.Pruning.{Holds, IsStart, IsBoundary, IsAttempt};
 ghost use Rattle.glob_matcher.specs.Private.StarSearch.{literal_of, Skips, IsComponentEnd, IsCrossing, IsWithin, IsDescent};
 
 #[cfg(test)]

@@ -9,7 +9,6 @@
 ghost use Rattle.std.specs.Prelude.{◌≢◌, ◌↔◌, ◌+◌, ◌<◌, ◌≤◌, true, IsTrue, length};
 ghost use Rattle.glob_matcher.specs.Bytes.{close_bracket, question_mark, slash, star};
 ghost use Rattle.glob_matcher.specs.Matching.{Splits};
-ghost use Rattle.glob_matcher.specs.Private.States.{Whole};
 ghost use Rattle.glob_matcher.specs.Steps.{step_bound, step_limit};
 
 use super::engine::{Engine, Match, is_short, run};
@@ -31,7 +30,7 @@ impl<'s, 'a, L: Ledger, M: Match> Engine<'s, 'a, L, M> {
     /// Whether the pattern ends in such a byte, and the value does not end in it.
     #[inline(always)]
     fn ends_otherwise(&mut self) -> bool
-        ensures meaning { IsTrue result → ¬ Whole M.mode M.pattern M.value }
+        ensures meaning { IsTrue result → ¬ Splits M.value M.pattern M.mode }
         ensures count { self.new ≤ self.old + 1 }
     {
         let len = self.pattern_len();
@@ -45,7 +44,7 @@ impl<'s, 'a, L: Ledger, M: Match> Engine<'s, 'a, L, M> {
     /// Whether the pattern matches the value.
     #[inline(always)]
     pub fn search(&mut self) -> bool
-        ensures exact { IsTrue result ↔ Whole M.mode M.pattern M.value }
+        ensures exact { IsTrue result ↔ Splits M.value M.pattern M.mode }
         ensures count { self.new ≤ self.old + step_limit (length M.pattern) (length M.value) }
     {
         if self.ends_otherwise() {

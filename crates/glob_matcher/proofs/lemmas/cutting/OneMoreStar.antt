@@ -5,9 +5,9 @@ use Rattle.std.proofs.lemmas.Bool.{cases_lt}
 use Rattle.std.proofs.lemmas.List.Edits.{length-insert, get_or-insert_at, get_or-insert_below, get_or-insert_above}
 use Rattle.glob_matcher.specs.declared.wildmatch.mode.Mode.{Mode}
 use Rattle.glob_matcher.specs.Bytes.{HasByte, is_path, star, slash}
-use Rattle.glob_matcher.specs.Tokens.{Token, Byte, Any, OneOf, Free, Local, Dirs, Nothing, TokenAt, IsRun, From, Tokens}
-use Rattle.glob_matcher.specs.Matching.{Splits, HasStars, star_count}
-use Rattle.glob_matcher.specs.Pruning.{Spells, IsBoundary}
+use Rattle.glob_matcher.specs.Tokens.{Token, Byte, Any, OneOf, Free, Local, Dirs, Nothing, TokenAt, IsRun, Spells, From, Tokens}
+use Rattle.glob_matcher.specs.Matching.{Splits}
+use Rattle.glob_matcher.specs.Pruning.{HasStars, IsBoundary, star_count}
 use Rattle.glob_matcher.proofs.lemmas.reading.SetLemmas.{HasByte-unique}
 use Rattle.glob_matcher.proofs.lemmas.reading.TokenLemmas.{TokenAt-unique, TokenAt-inside, run_lead}
 use Rattle.glob_matcher.proofs.lemmas.reading.Existence.{From-short}

@@ -4,7 +4,8 @@ use Rattle.std.proofs.lemmas.Bool.{cases_lt}
 use Rattle.glob_matcher.specs.declared.wildmatch.mode.Mode.{Mode}
 use Rattle.glob_matcher.specs.Bytes.{HasByte, NoSlash, backslash, open_bracket, question_mark, slash, star}
 use Rattle.glob_matcher.specs.Tokens.{Token, Byte, Any, OneOf, Free, Local, Dirs, Nothing, TokenAt, ByteAt, IsRun, IsBroken, From}
-use Rattle.glob_matcher.specs.Matching.{SplitsFrom, star_count}
+use Rattle.glob_matcher.specs.Matching.{SplitsFrom}
+use Rattle.glob_matcher.specs.Pruning.{star_count}
 use Rattle.glob_matcher.specs.Private.Reader.{AfterSlash}
 use Rattle.glob_matcher.proofs.lemmas.reading.SetLemmas.{HasByte-unique, two_bytes}
 use Rattle.glob_matcher.proofs.lemmas.reading.TokenLemmas.{IsRun-unique, run_lead, TokenAt-unique, TokenAt-inside}

@@ -8,9 +8,9 @@ use Rattle.glob_matcher.specs.declared.wildmatch.pruned.Answer.TheVariants.{Matc
 use Rattle.glob_matcher.specs.declared.wildmatch.tokens.Shape.{Shape}
 use Rattle.glob_matcher.specs.Bytes.{HasByte, NoSlash, fold, is_path, slash, star}
 use Rattle.glob_matcher.specs.Tokens.{Token, Byte, Any, OneOf, Free, Local, Dirs, Nothing, TokenAt, DirsAt, From}
-use Rattle.glob_matcher.specs.Matching.{SplitsFrom, star_count}
+use Rattle.glob_matcher.specs.Matching.{SplitsFrom}
 use Rattle.glob_matcher.specs.Private.Reader.{IsToken, AfterSlash, shape_of}
-use Rattle.glob_matcher.specs.Pruning.{HasRoom, BeginsCrossing, IsAttempt}
+use Rattle.glob_matcher.specs.Pruning.{HasRoom, BeginsCrossing, IsAttempt, star_count}
 use Rattle.glob_matcher.specs.Private.StarSearch.{literal_of, Skips, IsComponentEnd, IsCrossing, IsWithin, IsDescent}
 use Rattle.glob_matcher.proofs.lemmas.reading.TokenLemmas.{TokenAt-unique, TokenAt-inside, run_lead}
 use Rattle.glob_matcher.proofs.lemmas.cutting.CutLemmas.{IsOne, one_in, one_out, free_in, free_out, local_in, local_out, dirs_in_empty, dirs_in, dirs_out, end_out, nothing_out}

@@ -8,9 +8,9 @@ use Rattle.glob_matcher.specs.declared.wildmatch.pruned.Answer.{Answer}
 use Rattle.glob_matcher.specs.declared.wildmatch.pruned.Answer.TheVariants.{Match, NoMatch, AbortAll}
 use Rattle.glob_matcher.specs.Bytes.{HasByte, star}
 use Rattle.glob_matcher.specs.Tokens.{Token, Free, Dirs, Nothing, TokenAt, From}
-use Rattle.glob_matcher.specs.Matching.{Splits, SplitsFrom, Holds, star_count}
+use Rattle.glob_matcher.specs.Matching.{Splits, SplitsFrom}
 use Rattle.glob_matcher.specs.Private.Reader.{Fits}
-use Rattle.glob_matcher.specs.Pruning.{HasRoom, Excludes, TakeOneByte, IsFlat, EndsShort, BeginsCrossing, IsAttempt}
+use Rattle.glob_matcher.specs.Pruning.{Holds, HasRoom, Excludes, TakeOneByte, IsFlat, EndsShort, BeginsCrossing, IsAttempt, star_count}
 use Rattle.glob_matcher.proofs.lemmas.reading.TokenLemmas.{TokenAt-unique, TokenAt-inside, run_lead}
 use Rattle.glob_matcher.proofs.lemmas.cutting.CutLemmas.{IsOne, one_out, end_in, end_out, nothing_out}
 use Rattle.glob_matcher.proofs.lemmas.cutting.SplitLemmas.{star_count_alike}
@@ -225,9 +225,9 @@ module _ (mode : Mode) (p v : List ℕ) (from at place k : ℕ) (x : Aligned mod
 
 -- ---- whole patterns
 
-pub whole_match : (mode : Mode) (p v : List ℕ) → SplitsFrom v 0 p 0 mode → Holds true (Splits v p mode) p
+pub whole_match : (mode : Mode) (p v : List ℕ) → Splits v p mode → Holds true (Splits v p mode) p
 whole_match mode p v s = record {
-  yes = λ e. record { tokens = s.tokens; read = s.read; cut = s.cut };
+  yes = λ e. s;
   excludes = λ n stars few all. refl;
 }
 
@@ -240,5 +240,5 @@ whole_no_match mode p v answer x no_match = record {
       star_count_alike mode stars.mode p 0 all.tokens stars.tokens all.read stars.read in
       let is : star_count stars.tokens ≡ n = stars.counted in
       let room : HasRoom p 0 mode 0 = record { tokens = all.tokens; read = all.read; few = omega arith } in
-      absurd ((x.excludes room).here no_match (record { tokens = all.tokens; read = all.read; cut = all.cut }));
+      absurd ((x.excludes room).here no_match all);
 }

@@ -5,8 +5,8 @@ use Rattle.glob_matcher.specs.declared.wildmatch.sets.Item.{Item}
 use Rattle.glob_matcher.specs.declared.wildmatch.sets.Item.TheVariants as item
 use Rattle.glob_matcher.specs.Bytes.{HasByte, star, close_bracket, slash}
 use Rattle.glob_matcher.specs.Sets.{ItemAt, ItemsAt, IsUpperEnd, member_of}
-use Rattle.glob_matcher.specs.Tokens.{Token, Byte, Any, OneOf, Free, Local, Dirs, Nothing, TokenAt, DirsAt, IsRun}
-use Rattle.glob_matcher.specs.Pruning.{Spells, IsBoundary, IsDirsSlash, IsStart}
+use Rattle.glob_matcher.specs.Tokens.{Token, Byte, Any, OneOf, Free, Local, Dirs, Nothing, TokenAt, DirsAt, IsRun, Spells}
+use Rattle.glob_matcher.specs.Pruning.{IsBoundary, IsDirsSlash, IsStart}
 use Rattle.glob_matcher.proofs.lemmas.reading.TokenLemmas.{TokenAt-unique, TokenAt-inside}
 use Rattle.glob_matcher.proofs.lemmas.reading.Existence.{items_close, TokenAt-past}
 use Rattle.glob_matcher.proofs.lemmas.cutting.SplitLemmas.{slash_token}

@@ -9,10 +9,10 @@ use Rattle.glob_matcher.specs.declared.wildmatch.state.Crossing.{Crossing}
 use Rattle.glob_matcher.specs.declared.wildmatch.state.Crossing.TheVariants as crossing
 use Rattle.glob_matcher.specs.Bytes.{HasByte, NoSlash, backslash, close_bracket, is_path, open_bracket, question_mark, slash, star}
 use Rattle.glob_matcher.specs.Tokens.{Token, Byte, Any, OneOf, Free, Local, Dirs, Nothing, TokenAt, IsRun, IsAfterSlash, IsBeforeSlash}
-use Rattle.glob_matcher.specs.Matching.{SplitsFrom}
+use Rattle.glob_matcher.specs.Matching.{Splits, SplitsFrom}
 use Rattle.glob_matcher.specs.Private.Reader.{IsToken, Fits, AfterSlash, is_star, shape_of}
 use Rattle.glob_matcher.specs.Private.Components.{ends, separates, next_component}
-use Rattle.glob_matcher.specs.Private.States.{Whole, LaterFree, LaterDirs, LaterLocal, LaterCrossing, LaterWithin, Ahead, Far, Near, FreeKnown, LocalKnown, WithinKnown, Stands, IsLeft, IsNextDirectory}
+use Rattle.glob_matcher.specs.Private.States.{LaterFree, LaterDirs, LaterLocal, LaterCrossing, LaterWithin, Ahead, Far, Near, FreeKnown, LocalKnown, WithinKnown, Stands, IsLeft, IsNextDirectory}
 use Rattle.glob_matcher.proofs.lemmas.reading.SetLemmas.{HasByte-unique, two_bytes}
 use Rattle.glob_matcher.proofs.lemmas.reading.TokenLemmas.{TokenAt-unique}
 use Rattle.glob_matcher.proofs.lemmas.cutting.CutLemmas.{free_in, free_out, local_in, local_out, dirs_in_empty, dirs_in, dirs_out, nothing_out, end_in, end_out}
@@ -205,7 +205,7 @@ misses_byte {mode} {p} v {i} {s} {k} j x single inside unfit all =
 
 -- What matches nothing ends the search.
 pub nothing_met : {mode : Mode} {p v : List ℕ} {i : ℕ} (k : ℕ) {j : ℕ} {c : Crossing} {l : Option Mark} → Stands mode p v i j c l
-    → TokenAt mode p i Nothing k → ¬ Whole mode p v
+    → TokenAt mode p i Nothing k → ¬ Splits v p mode
 nothing_met {mode} {p} {v} {i} k {j} {c} {l} st here whole = elim (st.complete whole) [
   | inl all ↦ nothing_out mode p v i k j here st.inside all
   | inr (inl later) ↦ let n = local_near mode p v i j c l st.local later in nothing_out mode p v i k n.e here n.inside n.splits
@@ -243,7 +243,7 @@ far_ahead {mode} {v} {j} start f =
 -- A match comes through here, where each later success of a mark does.
 comes_here : {mode : Mode} {p v : List ℕ} {i j : ℕ} {c : Crossing} {l : Option Mark} → Stands mode p v i j c l
     → (Near mode p v i j → SplitsFrom v j p i mode) → (Ahead mode p v i j → SplitsFrom v j p i mode)
-    → Whole mode p v → SplitsFrom v j p i mode
+    → Splits v p mode → SplitsFrom v j p i mode
 comes_here {mode} {p} {v} {i} {j} {c} {l} st near ahead whole = elim (st.complete whole) [
   | inl all ↦ all
   | inr (inl later) ↦ near (local_near mode p v i j c l st.local later)
@@ -252,7 +252,7 @@ comes_here {mode} {p} {v} {i} {j} {c} {l} st near ahead whole = elim (st.complet
 
 -- A run of stars that ends the pattern takes the rest of the value.
 pub free_last : {mode : Mode} {p v : List ℕ} {i k j : ℕ} {c : Crossing} {l : Option Mark} → Stands mode p v i j c l
-    → TokenAt mode p i Free k → k ≡ length p → Whole mode p v
+    → TokenAt mode p i Free k → k ≡ length p → Splits v p mode
 free_last {mode} {p} {v} {i} {k} {j} st here last =
     st.sound (free_in mode p v i k j (length v) here st.inside (omega arith) (end_in mode p v k (length v) last (omega arith)))
 
@@ -298,7 +298,7 @@ free_met {mode} {p} {v} {i} {k} {j} m st here k_low more e f =
       free_known_here : FreeKnown mode p v k
       free_known_here = free_known v here k_low more
 
-      through : Whole mode p v → SplitsFrom v j p i mode
+      through : Splits v p mode → SplitsFrom v j p i mode
       through = comes_here st
           (λ n. free_from v j n.e here n.low n.inside n.splits)
           (λ a. free_from v j a.e here (omega (arith, a.past)) a.inside a.splits)
@@ -355,7 +355,7 @@ dirs_met {mode} {p} {v} {i} {k} {j} {c} {l} m st here k_low e f =
       after_slash : IsAfterSlash p i
       after_slash = here.bounded.before
 
-      through : Whole mode p v → SplitsFrom v j p i mode
+      through : Splits v p mode → SplitsFrom v j p i mode
       through whole = elim (st.complete whole) [
         | inl all ↦ all
         | inr (inl later) ↦ absurd (no_local_after_slash mode p v i j c l st.local after_slash later)
@@ -545,7 +545,7 @@ left_stuck {mode} {p} {v} {m} st miss stuck = record {
   none later (inr is) = later.bare.at m.at (omega arith) later.past is
 
 -- No crossing token was met, and nothing fits.
-pub unmet_left : {mode : Mode} {p v : List ℕ} → IsLeft mode p v crossing.Unmet → ¬ Whole mode p v
+pub unmet_left : {mode : Mode} {p v : List ℕ} → IsLeft mode p v crossing.Unmet → ¬ Splits v p mode
 unmet_left left whole = left.complete whole
 
 pub free_moved : {mode : Mode} {p v : List ℕ} {m : Mark} (n : Mark) → IsLeft mode p v (crossing.Free m) → m.at < length v
@@ -586,7 +586,7 @@ free_moved {mode} {p} {v} {m} n left inside e f =
         local = tt;
       }
 
-pub free_stuck : {mode : Mode} {p v : List ℕ} {m : Mark} → IsLeft mode p v (crossing.Free m) → length v ≤ m.at → ¬ Whole mode p v
+pub free_stuck : {mode : Mode} {p v : List ℕ} {m : Mark} → IsLeft mode p v (crossing.Free m) → length v ≤ m.at → ¬ Splits v p mode
 free_stuck {v} {m} left past whole =
     let later = left.complete whole in
     let x : m.at < later.e = later.past in let y : later.e ≤ length v = later.inside in omega arith
@@ -631,7 +631,7 @@ dirs_moved {mode} {p} {v} {m} {n} left next =
         local = tt;
       }
 
-pub dirs_stuck : {mode : Mode} {p v : List ℕ} {m : Mark} → IsLeft mode p v (crossing.Dirs m) → NoSlash v m.at (length v) → ¬ Whole mode p v
+pub dirs_stuck : {mode : Mode} {p v : List ℕ} {m : Mark} → IsLeft mode p v (crossing.Dirs m) → NoSlash v m.at (length v) → ¬ Splits v p mode
 dirs_stuck {v} {m} left bare whole =
     let later = left.complete whole in
     let x : m.at < later.e = later.after.past in
@@ -640,7 +640,7 @@ dirs_stuck {v} {m} left bare whole =
 
 -- The pattern's end, and the value's.
 pub end_met : {mode : Mode} {p v : List ℕ} {i j : ℕ} {c : Crossing} {l : Option Mark} → Stands mode p v i j c l → i ≡ length p
-    → length v ≤ j → Whole mode p v
+    → length v ≤ j → Splits v p mode
 end_met {mode} {p} {v} {i} {j} st at_end past = st.sound (end_in mode p v i j at_end past)
 
 pub end_missed : (mode : Mode) (p v : List ℕ) (i j : ℕ) → i ≡ length p → (length v ≤ j → ⊥) → ¬ SplitsFrom v j p i mode
