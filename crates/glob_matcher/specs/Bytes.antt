@@ -1,6 +1,7 @@
 -- Bytes at places of a text, the bits of a mode, and folding.
 use Rattle.std.specs.Prelude.{◌≡◌, ◌≢◌, ℕ, ◌+◌, ◌<◌, ◌≤◌, Bool, List, [], ◌∷◌, ◌++◌, length, slice_index, ◌==◌, bit_and, if◌then◌else◌}
 use Rattle.std.specs.Char.{to_ascii_lowercase}
+use Rattle.std.specs.List.{list_any}
 use Rattle.glob_matcher.specs.declared.wildmatch.mode.Mode.{Mode}
 
 -- the bytes with a meaning of their own
@@ -52,6 +53,10 @@ pub record EndsInSlash (text : List ℕ) : Type 0 where
 -- no place from k up to e has a slash
 pub record NoSlash (value : List ℕ) (k e : ℕ) : Type 0 where
   pub at : (m : ℕ) → k ≤ m → m < e → slice_index value m ≢ slash
+
+-- whether some byte is a slash
+abbrev pub has_slash : List ℕ → Bool
+has_slash text = list_any (λ b. b == slash) text
 
 -- the bits of a mode, as a number
 abbrev pub bits : Mode → ℕ

@@ -1,8 +1,7 @@
 -- A pattern matches a value (`Splits`) where the value is a concatenation of pieces, one from each token's written language.
-use Rattle.std.specs.Prelude.{◌≡◌, ◌≢◌, ◌⊎◌, ℕ, ⊤, IsTrue, List, [], ◌∷◌, ◌++◌, drop}
-use Rattle.std.specs.List.{AllByRecursion}
+use Rattle.std.specs.Prelude.{◌≡◌, ◌≢◌, ◌⊎◌, ℕ, ⊤, IsTrue, List, [], ◌∷◌, ◌++◌, length, drop}
 use Rattle.glob_matcher.specs.declared.wildmatch.mode.Mode.{Mode}
-use Rattle.glob_matcher.specs.Bytes.{EndsInSlash, fold, is_path, slash}
+use Rattle.glob_matcher.specs.Bytes.{EndsInSlash, NoSlash, fold, is_path, slash}
 use Rattle.glob_matcher.specs.Sets.{set_holds}
 use Rattle.glob_matcher.specs.Tokens.{Token, Byte, Any, OneOf, Free, Local, Dirs, Nothing, From}
 
@@ -10,17 +9,13 @@ use Rattle.glob_matcher.specs.Tokens.{Token, Byte, Any, OneOf, Free, Local, Dirs
 abbrev pub OneByte : (ℕ → Type 0) → List ℕ → Type 0
 OneByte P bytes = (b : ℕ) × (bytes ≡ b ∷ []) × P b
 
--- no byte is a slash
-abbrev pub HasNoSlash : List ℕ → Type 0
-HasNoSlash bytes = AllByRecursion (λ b. b ≢ slash) bytes
-
 -- The byte strings of a token.
 abbrev pub Lang : Mode → Token → List ℕ → Type 0
 Lang mode (Byte b) bytes = OneByte (λ c. fold mode c ≡ fold mode b) bytes
 Lang mode Any bytes = OneByte (λ c. IsTrue (is_path mode) → c ≢ slash) bytes
 Lang mode (OneOf set) bytes = OneByte (λ c. IsTrue (set_holds mode set c)) bytes
 Lang mode Free bytes = ⊤
-Lang mode Local bytes = HasNoSlash bytes
+Lang mode Local bytes = NoSlash bytes 0 (length bytes)
 Lang mode Dirs bytes = (bytes ≡ []) ⊎ EndsInSlash bytes
 Lang mode Nothing bytes = ⊥
 

@@ -9,7 +9,7 @@ use Rattle.std.proofs.lemmas.List.Quantifiers.{position-Some}
 use Rattle.std.proofs.lemmas.List.Sums.{fails_before_first}
 use Rattle.std.proofs.lemmas.Slice.Eq.{starts_is}
 use Rattle.glob_matcher.specs.declared.wildmatch.mode.Mode.{Mode}
-use Rattle.glob_matcher.specs.Bytes.{HasByte, fold, is_path, slash, star}
+use Rattle.glob_matcher.specs.Bytes.{HasByte, NoSlash, fold, has_slash, is_path, slash, star}
 use Rattle.glob_patterns.specs.Folding.{AreAlike}
 use Rattle.glob_patterns.specs.Patterns.{is_special, is_star_and_literal, first_special}
 use Rattle.glob_matcher.specs.Tokens.{Byte, Free, Local, TokenAt, IsRun}
@@ -111,6 +111,10 @@ literal_front p v mode n inside plain s =
           ap (fold mode) (get_or-take n p m 0 small) ∙ sym (out.1.at m m (omega arith) small refl) ∙ ap (fold mode) (sym (get_or-take n v m 0 small))),
     )
 
+-- where the test finds no slash, no place has one
+no_slash : (v : List ℕ) → has_slash v ≡ false → NoSlash v 0 (length v)
+no_slash v none = record { at = λ m low inside is. false≢true (sym none ∙ list_any_at (λ b. b == slash) v m 0 inside (eq-eqb _ _ is)) }
+
 -- A star before a literal.
 literal_behind : (lit : List ℕ) → list_any is_special lit ≡ false → (y : ℕ) → 1 ≤ y → y < suc (length lit) → is_special (get_or (42 ∷ lit) y 0) ≡ false
 literal_behind lit none zero low high = absurd (omega arith)
@@ -163,20 +167,17 @@ module _ (mode : Mode) (lit : List ℕ) (none : list_any is_special lit ≡ fals
       ∙ ap (fold mode) (sym (get_or-drop (length v - length lit) v m 0))
       ∙ sym (alike_at mode lit (drop (length v - length lit) v) same m (omega arith))
 
-  star_in : (v : List ℕ) → (is_path mode ≡ false) ⊎ (list_any (λ b. b == slash) v ≡ false)
+  star_in : (v : List ℕ) → (is_path mode ≡ false) ⊎ (has_slash v ≡ false)
       → length lit ≤ length v → AreAlike mode lit (drop (length v - length lit) v) → Splits v (42 ∷ lit) mode
   star_in v open_or_bare fits same =
       let later : SplitsFrom v (length v - length lit) (42 ∷ lit) 1 mode =
       literal_in mode (42 ∷ lit) v (length lit) (length v - length lit) (length v) 1 (length (42 ∷ lit)) (omega arith) (omega arith) (omega arith) (omega arith) plain_behind
       (record { at = ends_copied v fits same })
       (end_in mode (42 ∷ lit) v (length (42 ∷ lit)) (length v) refl (omega arith)) in
-      let bare : is_path mode ≡ true → (m : ℕ) → m < length v → get_or v m 0 ≡ slash → ⊥ =
-      λ path m inside is. ⊎_elim
-      (λ (plain : is_path mode ≡ false). false≢true (sym plain ∙ path))
-      (λ (slashless : list_any (λ b. b == slash) v ≡ false). false≢true (sym slashless ∙ list_any_at (λ b. b == slash) v m 0 inside (eq-eqb _ _ is)))
-      open_or_bare in
+      let bare : is_path mode ≡ true → NoSlash v 0 (length v) =
+      λ path. ⊎_elim (λ (plain : is_path mode ≡ false). absurd (false≢true (sym plain ∙ path))) (no_slash v) open_or_bare in
       ⊎_elim
-      (λ path. local_in mode (42 ∷ lit) v 0 1 0 (length v - length lit) (local_star path) (omega arith) (omega arith) (record { at = λ m low high is. bare path m (omega arith) is }) later)
+      (λ path. local_in mode (42 ∷ lit) v 0 1 0 (length v - length lit) (local_star path) (omega arith) (omega arith) (record { at = λ m low high. (bare path).at m low (omega arith) }) later)
       (λ plain. free_in mode (42 ∷ lit) v 0 1 0 (length v - length lit) (free_star plain) (omega arith) (omega arith) later)
       (cases_Bool (is_path mode))
 
@@ -193,7 +194,7 @@ star_literal_out p v mode shape s =
     star_out mode (drop 1 p) (not_true _ both.1) v (subst (λ (q : List ℕ). Splits v q mode) whole s)
 
 -- They split all of them in plain mode, and in path mode those without slash.
-pub star_literal_in : (p v : List ℕ) (mode : Mode) → is_star_and_literal p ≡ true → (is_path mode ≡ false) ⊎ (list_any (λ b. b == slash) v ≡ false)
+pub star_literal_in : (p v : List ℕ) (mode : Mode) → is_star_and_literal p ≡ true → (is_path mode ≡ false) ⊎ (has_slash v ≡ false)
     → length (drop 1 p) ≤ length v → AreAlike mode (drop 1 p) (drop (length v - length (drop 1 p)) v) → Splits v p mode
 star_literal_in p v mode shape open_or_bare fits same =
     let both = and_parts _ _ shape in

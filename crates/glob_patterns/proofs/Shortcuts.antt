@@ -1,10 +1,9 @@
 -- What may be answered without the matcher.
-use Rattle.std.proofs.Common.{◌≡◌, ◌↔◌, ◌⊎◌, inl, inr, ⊎_elim, ℕ, Bool, true, false, not, ◌||◌, ◌==◌, IsTrue, List, [], ◌∷◌, length, take, drop, map, None, Some, refl, sym, ◌∙◌, ap, subst, arith}
-use Rattle.std.specs.List.{list_any}
+use Rattle.std.proofs.Common.{◌≡◌, ◌↔◌, ◌⊎◌, inl, inr, ⊎_elim, ℕ, Bool, true, false, not, ◌||◌, IsTrue, List, [], ◌∷◌, length, take, drop, map, None, Some, refl, sym, ◌∙◌, ap, subst, arith}
 use Rattle.std.proofs.lemmas.List.{length-take-le}
 use Rattle.std.proofs.lemmas.Bool.{false≢true, or_cases}
 use Rattle.glob_matcher.specs.declared.wildmatch.mode.Mode.{Mode}
-use Rattle.glob_matcher.specs.Bytes.{fold, folds, is_path, slash}
+use Rattle.glob_matcher.specs.Bytes.{fold, folds, has_slash, is_path}
 use Rattle.glob_patterns.specs.Folding.{AreAlike, EndsAlike}
 use Rattle.glob_patterns.specs.Private.Fronts.{BeginsAlike}
 use Rattle.glob_matcher.specs.Matching.{Splits}
@@ -43,10 +42,10 @@ end_refused answer p v mode shape refused exact = (
 )
 
 -- a star and a literal are compared with the value's end, where the star may take all bytes of the value
-pub end_exact : (answer : Bool) (p v : List ℕ) (mode : Mode) → is_star_and_literal p ≡ true → (not (is_path mode) || not (list_any (λ b. b == slash) v)) ≡ true
+pub end_exact : (answer : Bool) (p v : List ℕ) (mode : Mode) → is_star_and_literal p ≡ true → (not (is_path mode) || not (has_slash v)) ≡ true
     → IsTrue answer ↔ EndsAlike mode v (drop 1 p) → IsTrue answer ↔ Splits v p mode
 end_exact answer p v mode shape free exact =
-    let one_component : (is_path mode ≡ false) ⊎ (list_any (λ b. b == slash) v ≡ false) =
+    let one_component : (is_path mode ≡ false) ⊎ (has_slash v ≡ false) =
     ⊎_elim (λ h. inl (not_true _ h)) (λ h. inr (not_true _ h)) (or_cases _ _ free) in (
       λ yes. (let ends = exact.0 yes in star_literal_in p v mode shape one_component ends.fits ends.alike),
       λ s. (let out = star_literal_out p v mode shape s in exact.1 (record { fits = out.0; alike = out.1 })),

@@ -7,7 +7,7 @@ use Rattle.std.proofs.lemmas.Bool.Decides.{Decides-eqb}
 use Rattle.std.proofs.lemmas.List.{append_cancel_left}
 use Rattle.std.proofs.lemmas.Slice.Eq.{starts_is}
 use Rattle.glob_patterns.specs.declared.pattern.mode.Mode.{Mode}
-use Rattle.glob_patterns.specs.Patterns.{Reads, sum_of_bits, has_slash, sign_of, slash_if, shown, is_star_and_literal, is_negative, is_absolute, is_for_directories}
+use Rattle.glob_patterns.specs.Patterns.{Reads, sum_of_bits, sign_of, slash_if, shown, is_star_and_literal, is_negative, is_absolute, is_for_directories}
 use Rattle.glob_patterns.proofs.FlagBits.{is_negative-sum, is_absolute-sum, is_for_directories-sum}
 
 -- a slash that stands is a slash

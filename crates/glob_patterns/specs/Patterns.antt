@@ -5,7 +5,7 @@ use Rattle.std.specs.Char.{is_ascii_whitespace}
 use Rattle.std.specs.Str.{bytes_eq}
 use Rattle.bstr.specs.Utf8.{lossy_chars}
 use Rattle.glob_patterns.specs.declared.pattern.mode.Mode.{Mode}
-use Rattle.glob_matcher.specs.Bytes.{HasByte, star, question_mark, open_bracket, close_bracket, backslash, slash}
+use Rattle.glob_matcher.specs.Bytes.{HasByte, has_slash, star, question_mark, open_bracket, close_bracket, backslash, slash}
 
 -- which of the named bits stand in a pattern's mode
 abbrev pub is_without_sub_dir : Mode → Bool
@@ -47,10 +47,6 @@ first_special text = position is_special text
 -- a star, and no special byte after it
 abbrev pub is_star_and_literal : List ℕ → Bool
 is_star_and_literal text = starts_with nat_eq text (codes "*") && not (list_any is_special (drop 1 text))
-
--- some byte is a slash
-abbrev pub has_slash : List ℕ → Bool
-has_slash text = list_any (λ b. b == slash) text
 
 -- empty, or ASCII whitespace alone
 abbrev pub is_blank : List ℕ → Bool

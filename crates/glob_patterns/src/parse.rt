@@ -2,8 +2,9 @@
 ghost use Rattle.std.specs.Prelude.{◌≡◌, ◌↔◌, ◌++◌, IsTrue, IsNone, IfOk, IsOkAnd, MatchOption, true, if◌then◌else◌, codes, nat_eq};
 ghost use Rattle.std.specs.List.{starts_with, ends_with, list_any};
 ghost use Rattle.std.specs.Str.{bytes_eq};
-ghost use Rattle.glob_patterns.specs.Patterns.{Reads, HasReading, is_blank, without_negation, sign_of, slash_if, sum_of_bits, has_slash, is_wildcard, is_special, is_star_and_literal, first_special};
+ghost use Rattle.glob_patterns.specs.Patterns.{Reads, HasReading, is_blank, without_negation, sign_of, slash_if, sum_of_bits, is_wildcard, is_special, is_star_and_literal, first_special};
 ghost use Rattle.glob_patterns.specs.PatternParts.{IsReadFrom};
+ghost use Rattle.glob_matcher.specs.Bytes.{has_slash};
 
 use crate::pattern::{Mode, Pattern};
 use bitflags::Flags;

@@ -1,9 +1,8 @@
 //! Whether a value matches, and the comparisons that decide it without the matcher.
 ghost use Rattle.std.specs.Prelude.{◌≡◌, ◌↔◌, ◌||◌, not, IsTrue};
-ghost use Rattle.glob_matcher.specs.Bytes.{is_path};
+ghost use Rattle.glob_matcher.specs.Bytes.{has_slash, is_path};
 ghost use Rattle.glob_patterns.specs.Folding.{AreAlike, EndsAlike};
 ghost use Rattle.glob_patterns.specs.Private.Fronts.{BeginsAlike};
-ghost use Rattle.glob_patterns.specs.Patterns.{has_slash};
 
 use super::Pattern;
 use crate::parse;

@@ -6,7 +6,7 @@ use Rattle.std.proofs.lemmas.List.{take-append-drop, drop-drop, get_or-drop, len
 use Rattle.glob_matcher.specs.declared.wildmatch.mode.Mode.{Mode}
 use Rattle.glob_matcher.specs.Bytes.{EndsInSlash, NoSlash, slash}
 use Rattle.glob_matcher.specs.Tokens.{Token, Byte, Any, OneOf, Free, Local, Dirs, Nothing, TokenAt, From}
-use Rattle.glob_matcher.specs.Matching.{OneByte, HasNoSlash, Lang, IsCut, SplitsFrom}
+use Rattle.glob_matcher.specs.Matching.{OneByte, Lang, IsCut, SplitsFrom}
 use Rattle.glob_matcher.specs.Private.Reader.{Fits, AfterSlash}
 use Rattle.glob_matcher.proofs.lemmas.reading.TokenLemmas.{TokenAt-unique, TokenAt-inside}
 
@@ -83,15 +83,6 @@ one_is_lang mode Free piece w = absurd w.2
 one_is_lang mode Local piece w = absurd w.2
 one_is_lang mode Dirs piece w = absurd w.2
 one_is_lang mode Nothing piece w = absurd w.2
-
-no_slash_at : (xs : List ℕ) → HasNoSlash xs → (m : ℕ) → m < length xs → get_or xs m 0 ≢ slash
-no_slash_at [] all m below = absurd (omega arith)
-no_slash_at (x ∷ xs) all zero below = all.0
-no_slash_at (x ∷ xs) all (suc m) below = no_slash_at xs all.1 m (omega arith)
-
-has_no_slash : (xs : List ℕ) → ((m : ℕ) → m < length xs → get_or xs m 0 ≢ slash) → HasNoSlash xs
-has_no_slash [] none = tt
-has_no_slash (x ∷ xs) none = (none 0 (omega arith), has_no_slash xs (λ m below. none (suc m) (omega arith)))
 
 -- What the first token takes, and what the rest splits.
 pub step_in : (mode : Mode) (p v : List ℕ) (i j k e : ℕ) (t : Token) (piece : List ℕ) → TokenAt mode p i t j
@@ -180,10 +171,11 @@ pub local_in : (mode : Mode) (p v : List ℕ) (i j k e : ℕ) → TokenAt mode p
     → SplitsFrom v e p j mode → SplitsFrom v k p i mode
 local_in mode p v i j k e here low high none later =
     let x = stretch v k e low high in
-    let bare : HasNoSlash (take (e - k) (drop k v)) =
-    has_no_slash (take (e - k) (drop k v)) (λ m below.
-    let long = x.long in
-    rw (piece_at v k e (take (e - k) (drop k v)) x m below) (none.at (k + m) (omega arith) (omega arith))) in
+    let bare : NoSlash (take (e - k) (drop k v)) 0 (length (take (e - k) (drop k v))) = record {
+      at = λ m low_in_piece below.
+          let long = x.long in
+          rw (piece_at v k e (take (e - k) (drop k v)) x m below) (none.at (k + m) (omega arith) (omega arith));
+    } in
     step_in mode p v i j k e Local (take (e - k) (drop k v)) here x bare later
 
 pub local_out : (mode : Mode) (p v : List ℕ) (i j k : ℕ) → TokenAt mode p i Local j → k ≤ length v
@@ -196,7 +188,7 @@ local_out mode p v i j k here inside all =
           let long = x.long in
           let same = piece_at v k out.0 out.1 x (m - k) (omega arith) in
           let sum : k + (m - k) ≡ m = omega arith in
-          rw sum at (rw same at (no_slash_at out.1 out.3 (m - k) (omega arith)));
+          rw sum at (rw same at (out.3.at (m - k) (omega arith) (omega arith)));
     } in
     (out.0, x.low, x.high, none, out.4)
 
