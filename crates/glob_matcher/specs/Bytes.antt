@@ -1,5 +1,5 @@
 -- Bytes at places of a text, the bits of a mode, and folding.
-use Rattle.std.specs.Prelude.{◌≡◌, ◌≢◌, ℕ, ◌+◌, ◌<◌, ◌≤◌, Bool, List, [], ◌∷◌, ◌++◌, length, slice_index, ◌==◌, bit_and, if◌then◌else◌}
+use Rattle.std.specs.Prelude.{◌≡◌, ◌≢◌, ℕ, ◌+◌, ◌<◌, ◌≤◌, Bool, false, List, [], ◌∷◌, ◌++◌, length, slice_index, ◌==◌, bit_and, ◌||◌, if◌then◌else◌}
 use Rattle.std.specs.Char.{to_ascii_lowercase}
 use Rattle.std.specs.List.{list_any}
 use Rattle.glob_matcher.specs.declared.wildmatch.mode.Mode.{Mode}
@@ -34,6 +34,18 @@ exclamation_mark = 33
 
 abbrev pub caret : ℕ
 caret = 94
+
+-- the wildcards, escaped or not
+abbrev pub is_wildcard : ℕ → Bool
+is_wildcard b = (b == star || b == question_mark) || b == open_bracket
+
+-- the special bytes, which may mean more than themselves: the wildcards, and the backslash
+abbrev pub is_special : ℕ → Bool
+is_special b = is_wildcard b || b == backslash
+
+-- a byte that isn't special: bare, it is a token by itself, and begins no other
+abbrev pub StandsForItself : ℕ → Type 0
+StandsForItself b = is_special b ≡ false
 
 -- place i is inside the text, and the byte there is b
 pub record HasByte (text : List ℕ) (i b : ℕ) : Type 0 where

@@ -1,7 +1,7 @@
 -- The tokens of a pattern, by the places where they are spelled.
 use Rattle.std.specs.Prelude.{◌≡◌, ◌≢◌, ◌⊎◌, ℕ, ◌+◌, ◌-◌, ◌<◌, ◌≤◌, IsTrue, List, [], ◌∷◌, length}
 use Rattle.glob_matcher.specs.declared.wildmatch.mode.Mode.{Mode}
-use Rattle.glob_matcher.specs.Bytes.{HasByte, IsEscaped, is_path, star, question_mark, open_bracket, backslash, slash}
+use Rattle.glob_matcher.specs.Bytes.{HasByte, IsEscaped, StandsForItself, is_path, star, question_mark, open_bracket, backslash, slash}
 use Rattle.glob_matcher.specs.Sets.{Set, SetAt}
 
 -- a token of a pattern
@@ -41,11 +41,11 @@ pub record IsBounded (pattern : List ℕ) (i j : ℕ) : Type 0 where
   pub before : IsAfterSlash pattern i
   pub after : IsBeforeSlash pattern j
 
--- The byte b is spelled from place i up to place j: escaped, or bare where it isn't special.
+-- The byte b is spelled from place i up to place j: escaped, or bare where it stands for itself.
 abbrev pub ByteAt : List ℕ → ℕ → ℕ → ℕ → Type 0
 ByteAt pattern i b j =
     (IsEscaped pattern i b × (j ≡ i + 2))
-    ⊎ (HasByte pattern i b × (b ≢ star) × (b ≢ question_mark) × (b ≢ open_bracket) × (b ≢ backslash) × (j ≡ i + 1))
+    ⊎ (HasByte pattern i b × StandsForItself b × (j ≡ i + 1))
 
 -- a run that crosses slashes: any in plain mode, and in path mode a bounded one with no bare slash after it
 pub record FreeAt (mode : Mode) (pattern : List ℕ) (i j : ℕ) : Type 0 where

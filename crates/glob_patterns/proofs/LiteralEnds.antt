@@ -8,7 +8,7 @@ use Rattle.std.proofs.lemmas.List.Folds.{list_any_at}
 use Rattle.glob_matcher.specs.declared.wildmatch.mode.Mode.{Mode}
 use Rattle.glob_matcher.specs.Bytes.{HasByte, close_bracket, fold, slash, star}
 use Rattle.glob_patterns.specs.Folding.{EndsAlike}
-use Rattle.glob_patterns.specs.Patterns.{is_joining, is_special}
+use Rattle.glob_patterns.specs.Patterns.{is_joining}
 use Rattle.glob_matcher.specs.Tokens.{Token, Byte, Any, OneOf, Free, Local, Dirs, Nothing, TokenAt, From, IsRun}
 use Rattle.glob_matcher.specs.Matching.{Splits, SplitsFrom}
 use Rattle.glob_matcher.proofs.lemmas.cutting.CutLemmas.{step_out, one_out, end_out, nothing_out}
@@ -67,7 +67,7 @@ straddles : (mode : Mode) (p v : List ℕ) (n i j k : ℕ) (t : Token) → IsTai
     → SplitsFrom v k p i mode → EndsInTail mode v p n
 straddles mode p v n i j k (Byte b) tail low past inside (inl e) all =
     from_escape mode p v n i k b tail (omega (arith, e.1)) (let in_text = e.0.byte.inside in omega (arith, e.1)) e.0.byte (inl (e.0, refl)) all
-straddles mode p v n i j k (Byte b) tail low past inside (inr e) all = absurd (omega (arith, e.5))
+straddles mode p v n i j k (Byte b) tail low past inside (inr e) all = absurd (omega (arith, e.2))
 straddles mode p v n i j k Any tail low past inside e all = absurd (omega (arith, e.1))
 straddles mode p v n i j k (OneOf s) tail low past inside e all =
     absurd (not_in_tail p n e.close close_bracket tail (omega (arith, e.after)) (items_close p _ _ _ _ _ e.items) refl)

@@ -1,7 +1,7 @@
 -- What a stretch without special bytes splits: the value has the same bytes there, up to case where the mode folds.
 use Rattle.std.proofs.Common.{◌≡◌, ◌↔◌, ◌⊎◌, inr, ⊎_elim, ℕ, zero, suc, ◌+◌, ◌-◌, ◌<◌, ◌≤◌, Bool, true, false, not, ◌==◌, List, ◌∷◌, length, get_or, take, drop, map, None, Some, refl, sym, ◌∙◌, ap, subst, arith, codes, nat_lt}
 use Rattle.std.specs.List.{list_any, position_or_len}
-use Rattle.std.proofs.lemmas.Bool.{or_parts, and_parts, eqb-false, eq-eqb, ltb-false, cases_Bool, cases_eq, false≢true, false_from_ne_true}
+use Rattle.std.proofs.lemmas.Bool.{and_parts, eq-eqb, ltb-false, cases_Bool, cases_eq, false≢true, false_from_ne_true}
 use Rattle.std.proofs.lemmas.Bool.Decides.{Decides-eqb}
 use Rattle.std.proofs.lemmas.List.{get_or-map, ext_get_or, length-map, length-take, length-drop, get_or-take, get_or-drop}
 use Rattle.std.proofs.lemmas.List.Folds.{list_any_at, list_any_none}
@@ -9,9 +9,9 @@ use Rattle.std.proofs.lemmas.List.Quantifiers.{position-Some}
 use Rattle.std.proofs.lemmas.List.Sums.{fails_before_first}
 use Rattle.std.proofs.lemmas.Slice.Eq.{starts_is}
 use Rattle.glob_matcher.specs.declared.wildmatch.mode.Mode.{Mode}
-use Rattle.glob_matcher.specs.Bytes.{HasByte, NoSlash, fold, has_slash, is_path, slash, star}
+use Rattle.glob_matcher.specs.Bytes.{HasByte, NoSlash, fold, has_slash, is_path, is_special, slash, star}
 use Rattle.glob_patterns.specs.Folding.{AreAlike}
-use Rattle.glob_patterns.specs.Patterns.{is_special, is_star_and_literal, first_special}
+use Rattle.glob_patterns.specs.Patterns.{is_star_and_literal, first_special}
 use Rattle.glob_matcher.specs.Tokens.{Byte, Free, Local, TokenAt, IsRun}
 use Rattle.glob_matcher.specs.Matching.{Splits, SplitsFrom}
 use Rattle.glob_matcher.proofs.lemmas.cutting.CutLemmas.{end_in, end_out, one_in, one_out, free_in, free_out, local_in, local_out}
@@ -26,11 +26,7 @@ pub record IsCopied (mode : Mode) (v p : List ℕ) (k i j : ℕ) : Type 0 where
 
 -- a byte that isn't special is a token of its own
 literal_token : (mode : Mode) (p : List ℕ) (i : ℕ) → i < length p → is_special (get_or p i 0) ≡ false → TokenAt mode p i (Byte (get_or p i 0)) (i + 1)
-literal_token mode p i inside plain =
-    let outer = or_parts _ _ plain in
-    let middle = or_parts _ _ outer.0 in
-    let inner = or_parts _ _ middle.0 in
-    inr (record { inside = inside; is = refl }, eqb-false _ _ inner.0, eqb-false _ _ inner.1, eqb-false _ _ middle.1, eqb-false _ _ outer.1, refl)
+literal_token mode p i inside plain = inr (record { inside = inside; is = refl }, plain, refl)
 
 -- what splits a value past a literal stretch, where the value has its bytes
 pub literal_out : (mode : Mode) (p v : List ℕ) (n k e i j : ℕ) → k + n ≡ e → i + n ≡ j → j ≤ length p → k ≤ length v → IsLiteral p i j

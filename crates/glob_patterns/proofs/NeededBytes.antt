@@ -22,7 +22,7 @@ module _ (mode : Mode) (p v : List ℕ) (i b : ℕ) (clean : IsUnescapedUpTo p i
   covers : (j e k : ℕ) (t : Token) → j ≤ i → i < e → k ≤ length v → TokenAt mode p j t e → SplitsFrom v k p j mode → HasAlike mode v b
   covers j e k (Byte c) low past inside (inl x) all = absurd (clean.no_escape j low x.0.escape)
   covers j e k (Byte c) low past inside (inr x) all =
-      let same : j ≡ i = omega (arith, x.5) in
+      let same : j ≡ i = omega (arith, x.2) in
       let byte : b ≡ c = HasByte-unique p i b c h (at_place c j same x.0) in
       let one = one_out mode p v j e k (Byte c) tt (inr x) all in
       record { place = k; inside = one.0; alike = one.1 ∙ ap (fold mode) (sym byte) }

@@ -5,7 +5,7 @@ use Rattle.std.specs.Char.{is_ascii_whitespace}
 use Rattle.std.specs.Str.{bytes_eq}
 use Rattle.bstr.specs.Utf8.{lossy_chars}
 use Rattle.glob_patterns.specs.declared.pattern.mode.Mode.{Mode}
-use Rattle.glob_matcher.specs.Bytes.{HasByte, has_slash, star, question_mark, open_bracket, close_bracket, backslash, slash}
+use Rattle.glob_matcher.specs.Bytes.{HasByte, has_slash, is_special, open_bracket, close_bracket, backslash, slash}
 
 -- which of the named bits stand in a pattern's mode
 abbrev pub is_without_sub_dir : Mode → Bool
@@ -22,14 +22,6 @@ is_negative mode = bit_and mode.0 8 == 8
 
 abbrev pub is_absolute : Mode → Bool
 is_absolute mode = bit_and mode.0 16 == 16
-
--- the wildcards, escaped or not
-abbrev pub is_wildcard : ℕ → Bool
-is_wildcard b = (b == star || b == question_mark) || b == open_bracket
-
--- the bytes that may mean more than themselves: the wildcards, and the backslash
-abbrev pub is_special : ℕ → Bool
-is_special b = is_wildcard b || b == backslash
 
 -- the bytes that a token of more than one byte may have as its last: the special ones, the slash and the bracket that closes
 abbrev pub is_joining : ℕ → Bool

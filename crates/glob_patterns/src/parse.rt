@@ -2,9 +2,9 @@
 ghost use Rattle.std.specs.Prelude.{◌≡◌, ◌↔◌, ◌++◌, IsTrue, IsNone, IfOk, IsOkAnd, MatchOption, true, if◌then◌else◌, codes, nat_eq};
 ghost use Rattle.std.specs.List.{starts_with, ends_with, list_any};
 ghost use Rattle.std.specs.Str.{bytes_eq};
-ghost use Rattle.glob_patterns.specs.Patterns.{Reads, HasReading, is_blank, without_negation, sign_of, slash_if, sum_of_bits, is_wildcard, is_special, is_star_and_literal, first_special};
+ghost use Rattle.glob_patterns.specs.Patterns.{Reads, HasReading, is_blank, without_negation, sign_of, slash_if, sum_of_bits, is_star_and_literal, first_special};
 ghost use Rattle.glob_patterns.specs.PatternParts.{IsReadFrom};
-ghost use Rattle.glob_matcher.specs.Bytes.{has_slash};
+ghost use Rattle.glob_matcher.specs.Bytes.{has_slash, is_special, is_wildcard};
 
 use crate::pattern::{Mode, Pattern};
 use bitflags::Flags;
@@ -67,28 +67,28 @@ fn is_whitespace(bytes: &[u8]) -> bool
 pub(crate) fn first_wildcard_pos(text: &[u8]) -> Option<usize>
     ensures { result ≡ first_special text.now }
 {
-    text.iter().position(|b| is_glob_character(*b))
+    text.iter().position(|b| is_special(*b))
 }
 
 /// Whether a byte may mean more than itself.
-fn is_glob_character(b: u8) -> bool
+fn is_special(b: u8) -> bool
     ensures { result ≡ is_special b }
 {
     matches!(b, b'*' | b'?' | b'[' | b'\\')
 }
 
 /// Whether some byte may mean more than itself.
-fn has_glob_character(bytes: &[u8]) -> bool
+fn has_special(bytes: &[u8]) -> bool
     ensures { result ≡ list_any is_special bytes.now }
 {
-    bytes.iter().any(|b| is_glob_character(*b))
+    bytes.iter().any(|b| is_special(*b))
 }
 
 /// Whether the text is a star with no such byte after it.
 pub(crate) fn is_ends_with(text: &[u8]) -> bool
     ensures { result ≡ is_star_and_literal text.now }
 {
-    text.starts_with(b"*") && !has_glob_character(&text[1..])
+    text.starts_with(b"*") && !has_special(&text[1..])
 }
 
 /// Whether the text has a slash.

@@ -115,7 +115,8 @@ impl Pattern {
 impl Pattern {
     ghost use Rattle.std.specs.Prelude.{◌≡◌};
     ghost use Rattle.std.specs.List.{list_any};
-    ghost use Rattle.glob_patterns.specs.Patterns.{is_negative, is_wildcard};
+    ghost use Rattle.glob_matcher.specs.Bytes.{is_wildcard};
+    ghost use Rattle.glob_patterns.specs.Patterns.{is_negative};
     ghost use Rattle.glob_patterns.specs.PatternParts.{text_of, mode_of, place_of};
 
     /// The parts of the pattern, its text borrowed.

@@ -7,11 +7,7 @@ use Rattle.glob_matcher.specs.declared.wildmatch.needle.Follow.{Follow}
 use Rattle.glob_matcher.specs.declared.wildmatch.needle.Follow.TheVariants as follow
 use Rattle.glob_matcher.specs.declared.wildmatch.scan.Scan.{Scan}
 use Rattle.glob_matcher.specs.declared.wildmatch.scan.Scan.TheVariants as scan
-use Rattle.glob_matcher.specs.Bytes.{HasByte, folds, star, question_mark, open_bracket, backslash, slash}
-
--- a byte that is a token by itself: it begins no other
-abbrev pub StandsForItself : ℕ → Type 0
-StandsForItself b = (b ≢ star) × (b ≢ question_mark) × (b ≢ open_bracket) × (b ≢ backslash)
+use Rattle.glob_matcher.specs.Bytes.{HasByte, StandsForItself, folds, slash}
 
 -- this follows at place i of the pattern
 abbrev pub Follows : Mode → List ℕ → ℕ → Follow → Type 0

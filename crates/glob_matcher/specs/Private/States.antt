@@ -8,13 +8,13 @@ use Rattle.glob_matcher.specs.declared.wildmatch.state.Crossing.TheVariants as c
 use Rattle.glob_matcher.specs.declared.wildmatch.state.State.{State}
 use Rattle.glob_matcher.specs.declared.wildmatch.state.Turn.{Turn}
 use Rattle.glob_matcher.specs.declared.wildmatch.state.Turn.TheVariants as turn
-use Rattle.glob_matcher.specs.Bytes.{NoSlash, is_path, slash}
+use Rattle.glob_matcher.specs.Bytes.{NoSlash, StandsForItself, is_path, slash}
 use Rattle.glob_matcher.specs.declared.wildmatch.scan.Scan.{Scan}
 use Rattle.glob_matcher.specs.declared.wildmatch.scan.Scan.TheVariants as scan
 use Rattle.glob_matcher.specs.Tokens.{Token, Byte, TokenAt, IsAfterSlash}
 use Rattle.glob_matcher.specs.Matching.{Splits, SplitsFrom}
 use Rattle.glob_matcher.specs.Private.Reader.{Fits, AfterSlash}
-use Rattle.glob_matcher.specs.Private.Scans.{StandsForItself, last_steps, reached_by}
+use Rattle.glob_matcher.specs.Private.Scans.{last_steps, reached_by}
 use Rattle.glob_matcher.specs.Private.Components.{separates, next_component}
 
 -- A later success of a mark: from a place past it, the rest of the pattern splits the rest of the value.

@@ -1,10 +1,9 @@
 //! The turns of the engine with two marks: the token at a place of the pattern is tested at a place of the value, and after a
 //! literal byte the ones that follow it, up to a slash.
 ghost use Rattle.std.specs.Prelude.{◌≡◌, ◌≢◌, ◌<◌, ◌≤◌, false, length, slice_index};
-ghost use Rattle.glob_matcher.specs.Bytes.{slash};
+ghost use Rattle.glob_matcher.specs.Bytes.{StandsForItself, slash};
 ghost use Rattle.glob_matcher.specs.Tokens.{FreeAt, LocalAt, DirsAt};
 ghost use Rattle.glob_matcher.specs.Private.Reader.{IsToken, is_star};
-ghost use Rattle.glob_matcher.specs.Private.Scans.{StandsForItself};
 ghost use Rattle.glob_matcher.specs.Private.States.{StandsAt};
 ghost use Rattle.glob_matcher.specs.Private.Turns.{IsTurn};
 

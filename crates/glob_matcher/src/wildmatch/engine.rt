@@ -3,10 +3,10 @@
 //! The bytes of the value are read by the methods of this module alone, and each that reads one counts one step. So no other
 //! module can read the value without a step, or count in another place. `holds` looks at the length alone, and counts none.
 ghost use Rattle.std.specs.Prelude.{◌≡◌, ◌≢◌, ◌↔◌, ◌⊎◌, ℕ, ◌+◌, ◌-◌, ◌^◌, ◌<◌, ◌≤◌, IsTrue, IfSome, IfNone, length, slice_index};
-ghost use Rattle.glob_matcher.specs.Bytes.{slash};
+ghost use Rattle.glob_matcher.specs.Bytes.{StandsForItself, slash};
 ghost use Rattle.glob_matcher.specs.Tokens.{Token, Byte, TokenAt};
 ghost use Rattle.glob_matcher.specs.Private.Reader.{IsToken, shape_of, Fits};
-ghost use Rattle.glob_matcher.specs.Private.Scans.{Follows, StandsForItself};
+ghost use Rattle.glob_matcher.specs.Private.Scans.{Follows};
 ghost use Rattle.glob_matcher.specs.Matching.{Splits};
 ghost use Rattle.glob_matcher.specs.Steps.{step_limit};
 

@@ -1,7 +1,8 @@
 //! What follows a star in the pattern, where the engine with two marks can scan for it byte by byte.
 ghost use Rattle.std.specs.Prelude.{◌≡◌, ◌↔◌, ◌<◌, ◌≤◌, IsTrue, IfSome, IfNone, length, slice_index};
 ghost use Rattle.std.specs.Char.{to_ascii_lowercase};
-ghost use Rattle.glob_matcher.specs.Private.Scans.{Follows, StandsForItself};
+ghost use Rattle.glob_matcher.specs.Bytes.{StandsForItself};
+ghost use Rattle.glob_matcher.specs.Private.Scans.{Follows};
 
 use super::mode::Mode;
 

@@ -8,11 +8,11 @@ ghost use Rattle.glob_patterns.specs.declared.pattern.mode.Mode as pattern;
 ghost use Rattle.glob_patterns.specs.declared.pattern.Pattern.{Pattern};
 ghost use Rattle.glob_patterns.specs.declared.pattern.case.Case.{Case};
 ghost use Rattle.glob_patterns.specs.Folding.{AreAlike, EndsAlike, HasAlike};
-ghost use Rattle.glob_matcher.specs.Bytes.{HasByte};
+ghost use Rattle.glob_matcher.specs.Bytes.{HasByte, is_special};
 ghost use Rattle.glob_matcher.specs.Matching.{Splits};
 ghost use Rattle.glob_patterns.specs.PatternParts.{text_of, SamePattern, pattern_cmp};
 ghost use Rattle.glob_patterns.specs.Readings.{reading_of};
-ghost use Rattle.glob_patterns.specs.Patterns.{HasReading, IsUnescapedUpTo, Reads, SameReading, displayed, is_absolute, is_joining, is_negative, is_special, shown};
+ghost use Rattle.glob_patterns.specs.Patterns.{HasReading, IsUnescapedUpTo, Reads, SameReading, displayed, is_absolute, is_joining, is_negative, shown};
 
 use crate::pattern::{Case, Pattern};
 use std::hash::Hash;

@@ -27,7 +27,7 @@ run_last p i j run end =
 last_token : (mode : Mode) (p : List ℕ) (i : ℕ) (t : Token) (j : ℕ) → TokenAt mode p i t j → j ≡ length p → IsAlone (last p)
     → (t ≡ Byte (last p)) ⊎ (t ≡ Nothing)
 last_token mode p i (Byte b) j (inl e) end alone = inl (ap Byte (sym (last_is p (i + 1) b (omega (arith, e.1)) e.0.byte)))
-last_token mode p i (Byte b) j (inr e) end alone = inl (ap Byte (sym (last_is p i b (omega (arith, e.5)) e.0)))
+last_token mode p i (Byte b) j (inr e) end alone = inl (ap Byte (sym (last_is p i b (omega (arith, e.2)) e.0)))
 last_token mode p i Any j e end alone = absurd (alone.1 (last_is p i question_mark (omega (arith, e.1)) e.0))
 last_token mode p i (OneOf s) j e end alone =
     absurd (alone.2 (last_is p e.close close_bracket (omega (arith, e.after)) (items_close p _ _ _ _ _ e.items)))

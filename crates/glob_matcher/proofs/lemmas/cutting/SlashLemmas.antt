@@ -53,7 +53,7 @@ ends_in_slash_byte mode p i (Byte b) j one (inl e) last =
     let place : j - 1 ≡ i + 1 = omega arith in
     ap Byte (HasByte-unique p (i + 1) b slash e.0.byte (subst (λ (n : ℕ). HasByte p n slash) place last))
 ends_in_slash_byte mode p i (Byte b) j one (inr e) last =
-    let after : j ≡ i + 1 = e.5 in
+    let after : j ≡ i + 1 = e.2 in
     let place : j - 1 ≡ i = omega arith in
     ap Byte (HasByte-unique p i b slash e.0 (subst (λ (n : ℕ). HasByte p n slash) place last))
 ends_in_slash_byte mode p i Any j one e last =

@@ -8,7 +8,7 @@ use Rattle.glob_matcher.specs.Matching.{SplitsFrom}
 use Rattle.glob_matcher.specs.Pruning.{star_count}
 use Rattle.glob_matcher.specs.Private.Reader.{AfterSlash}
 use Rattle.glob_matcher.proofs.lemmas.reading.SetLemmas.{HasByte-unique, two_bytes}
-use Rattle.glob_matcher.proofs.lemmas.reading.TokenLemmas.{IsRun-unique, run_lead, TokenAt-unique, TokenAt-inside}
+use Rattle.glob_matcher.proofs.lemmas.reading.TokenLemmas.{IsRun-unique, not_special, run_lead, TokenAt-unique, TokenAt-inside}
 use Rattle.glob_matcher.proofs.lemmas.cutting.CutLemmas.{free_in, free_out, local_in, local_out, dirs_in, dirs_out}
 
 pub free_before : (mode : Mode) (p v : List ℕ) (i j k e : ℕ) → TokenAt mode p i Free j → k ≤ e → e ≤ length v
@@ -59,7 +59,7 @@ pub record IsOtherToken (p : List ℕ) (i : ℕ) (t : Token) (j : ℕ) : Type 0 
 
 byte_no_star : (p : List ℕ) (i b j : ℕ) → ByteAt p i b j → ¬ HasByte p i star
 byte_no_star p i b j (inl e) h = two_bytes p i backslash star e.0.escape h (λ is. omega arith)
-byte_no_star p i b j (inr e) h = e.1 (HasByte-unique p i b star e.0 h)
+byte_no_star p i b j (inr e) h = not_special b star e.1 refl (HasByte-unique p i b star e.0 h)
 
 broken_no_star : (p : List ℕ) (i : ℕ) → IsBroken p i → ¬ HasByte p i star
 broken_no_star p i (inl e) h = two_bytes p i backslash star e.0 h (λ is. omega arith)
@@ -80,7 +80,7 @@ kind_of mode p i Nothing j e =
 
 -- a bare slash is a token of its own
 pub slash_token : (mode : Mode) (p : List ℕ) (i : ℕ) → HasByte p i slash → TokenAt mode p i (Byte slash) (i + 1)
-slash_token mode p i h = inr (h, (λ e. omega arith), (λ e. omega arith), (λ e. omega arith), (λ e. omega arith), refl)
+slash_token mode p i h = inr (h, refl, refl)
 
 -- the tokens after a slash
 after_slash_token : (mode : Mode) (p : List ℕ) (i : ℕ) (ts : List Token) → HasByte p i slash → From mode p i ts

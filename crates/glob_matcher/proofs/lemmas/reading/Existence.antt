@@ -9,7 +9,7 @@ use Rattle.glob_matcher.specs.declared.wildmatch.sets.Item.TheVariants as item
 use Rattle.glob_matcher.specs.Bytes.{HasByte, is_path, star, question_mark, open_bracket, close_bracket, backslash}
 use Rattle.glob_matcher.specs.Sets.{Set, SetAt, ItemAt, ItemsAt, IsUpperEnd, member_of}
 use Rattle.glob_matcher.specs.Tokens.{Token, Byte, Any, OneOf, Free, Local, Dirs, Nothing, TokenAt, IsRun, IsBounded, From, Tokens}
-use Rattle.glob_matcher.proofs.lemmas.reading.TokenLemmas.{TokenAt-inside}
+use Rattle.glob_matcher.proofs.lemmas.reading.TokenLemmas.{TokenAt-inside, stands_for_itself}
 
 -- a set's text ends in its closing bracket
 pub items_close : (p : List ℕ) (first : Bool) (low : Option ℕ) (i : ℕ) (xs : List Item) (j : ℕ) → ItemsAt p first low i xs j
@@ -54,7 +54,7 @@ set_inside p i s j e =
 -- a token ends past its place
 pub TokenAt-past : (mode : Mode) (p : List ℕ) (i : ℕ) (t : Token) (j : ℕ) → TokenAt mode p i t j → i < j
 TokenAt-past mode p i (Byte b) j (inl e) = omega (arith, e.1)
-TokenAt-past mode p i (Byte b) j (inr e) = omega (arith, e.5)
+TokenAt-past mode p i (Byte b) j (inr e) = omega (arith, e.2)
 TokenAt-past mode p i Any j e = omega (arith, e.1)
 TokenAt-past mode p i (OneOf s) j e = set_past p i s j e
 TokenAt-past mode p i Free j e = e.run.some
@@ -132,7 +132,7 @@ some_token mode p i inside none = elim (eqb_tells (get_or p i 0) backslash) [
         | inl same ↦ let run = run_exists p i (record { inside = inside; is = same.1 }) in star_token mode p i run.0 run.1 run.2 none
         | inr not_star ↦
             none (Byte (get_or p i 0)) (i + 1)
-            (inr (record { inside = inside; is = refl }, not_star.1, not_any.1, not_set.1, not_escape.1, refl)) (omega arith)
+            (inr (record { inside = inside; is = refl }, stands_for_itself (get_or p i 0) not_star.1 not_any.1 not_set.1 not_escape.1, refl)) (omega arith)
       ]
     ]
   ]

@@ -247,8 +247,8 @@ module _ (p : List ℕ) (a : ℕ) (q : List ℕ) (b n : ℕ) where
       let end : j ≡ x + 2 = e.1 in
       inl (escaped_alike p a q b n l x y c f (omega arith) e.0, omega arith)
   token_alike l mode x y (Byte c) j m plain f inside sum broken (inr e) =
-      let end : j ≡ x + 1 = e.5 in
-      inr (l.there x y c f e.0, e.1, e.2, e.3, e.4, omega arith)
+      let end : j ≡ x + 1 = e.2 in
+      inr (l.there x y c f e.0, e.1, omega arith)
   token_alike l mode x y Any j m plain f inside sum broken e =
       let end : j ≡ x + 1 = e.1 in
       (l.there x y question_mark f e.0, omega arith)

@@ -6,6 +6,7 @@ use Rattle.glob_matcher.specs.Bytes.{HasByte, IsEscaped, is_path, star, question
 use Rattle.glob_matcher.specs.Sets.{Set, SetAt}
 use Rattle.glob_matcher.specs.Tokens.{Byte, Any, OneOf, Free, Local, Dirs, Nothing, IsRun, IsBounded, IsBroken}
 use Rattle.glob_matcher.specs.Private.Reader.{IsToken}
+use Rattle.glob_matcher.proofs.lemmas.reading.TokenLemmas.{stands_for_itself}
 
 pub escaped_token : (mode : Mode) (p : List ℕ) (i b : ℕ) → IsEscaped p i b → IsToken mode p i (shape.Byte b) (i + 2)
 escaped_token mode p i b e =
@@ -16,7 +17,7 @@ pub bare_token : (mode : Mode) (p : List ℕ) (i b : ℕ) → HasByte p i b → 
     → b ≢ backslash → IsToken mode p i (shape.Byte b) (i + 1)
 bare_token mode p i b e s q o t =
     let inside : i < length p = e.inside in
-    record { token = Byte b; here = inr (e, s, q, o, t, refl); shown = refl; past = omega arith; inside = omega arith }
+    record { token = Byte b; here = inr (e, stands_for_itself b s q o t, refl); shown = refl; past = omega arith; inside = omega arith }
 
 pub any_token : (mode : Mode) (p : List ℕ) (i : ℕ) → HasByte p i question_mark → IsToken mode p i shape.Any (i + 1)
 any_token mode p i e =

@@ -21,7 +21,7 @@ run_inside p i j run =
 -- a token ends inside the pattern
 pub token_end : (mode : Mode) (p : List ℕ) (i : ℕ) (t : Token) (j : ℕ) → TokenAt mode p i t j → j ≤ length p
 token_end mode p i (Byte b) j (inl e) = let inside : i + 1 < length p = e.0.byte.inside in let after : j ≡ i + 2 = e.1 in omega arith
-token_end mode p i (Byte b) j (inr e) = let inside : i < length p = e.0.inside in let after : j ≡ i + 1 = e.5 in omega arith
+token_end mode p i (Byte b) j (inr e) = let inside : i < length p = e.0.inside in let after : j ≡ i + 1 = e.2 in omega arith
 token_end mode p i Any j e = let inside : i < length p = e.0.inside in let after : j ≡ i + 1 = e.1 in omega arith
 token_end mode p i (OneOf s) j e =
     let close : HasByte p e.close close_bracket = items_close p _ _ _ s.items e.close e.items in

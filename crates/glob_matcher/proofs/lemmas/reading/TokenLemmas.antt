@@ -1,7 +1,8 @@
 -- A pattern is read in one way: a place decides its token and where that ends, and so the tokens from it on.
-use Rattle.std.proofs.Common.{◌≡◌, ◌⊎◌, inl, inr, ℕ, ◌+◌, ◌<◌, List, [], ◌∷◌, length, refl, sym, ◌∙◌, ap, subst, arith}
+use Rattle.std.proofs.Common.{◌≡◌, ◌≢◌, ◌⊎◌, inl, inr, ⊎_elim, ℕ, ◌+◌, ◌<◌, true, List, [], ◌∷◌, length, refl, sym, ◌∙◌, ap, subst, arith}
+use Rattle.std.proofs.lemmas.Bool.{eqb-true, false≢true, false_from_ne_true, or_cases}
 use Rattle.glob_matcher.specs.declared.wildmatch.mode.Mode.{Mode}
-use Rattle.glob_matcher.specs.Bytes.{HasByte, star, question_mark, open_bracket, backslash, slash}
+use Rattle.glob_matcher.specs.Bytes.{HasByte, StandsForItself, is_special, star, question_mark, open_bracket, backslash, slash}
 use Rattle.glob_matcher.specs.Sets.{Set, SetAt}
 use Rattle.glob_matcher.specs.Tokens.{Token, Byte, Any, OneOf, Free, Local, Dirs, Nothing, TokenAt, ByteAt, FreeAt, LocalAt, DirsAt, IsRun, IsBounded, IsBroken, From}
 use Rattle.glob_matcher.proofs.lemmas.reading.SetLemmas.{HasByte-unique, IsEscaped-unique, two_bytes, SetAt-unique}
@@ -20,21 +21,36 @@ IsRun-unique p i j k x y =
 pub run_lead : (p : List ℕ) (i j : ℕ) → IsRun p i j → HasByte p i star
 run_lead p i j x = let some : i < j = x.some in x.stars i (omega arith) some
 
+-- a byte that stands for itself is no special one
+pub not_special : (b c : ℕ) → StandsForItself b → is_special c ≡ true → b ≢ c
+not_special b c own special is = false≢true (sym own ∙ (ap is_special is ∙ special))
+
+-- a byte that is none of the special ones stands for itself
+pub stands_for_itself : (b : ℕ) → b ≢ star → b ≢ question_mark → b ≢ open_bracket → b ≢ backslash → StandsForItself b
+stands_for_itself b not_star not_any not_set not_escape = false_from_ne_true (is_special b) (λ special.
+  ⊎_elim
+    (λ wild. ⊎_elim
+      (λ either. ⊎_elim (λ is. not_star (eqb-true b star is)) (λ is. not_any (eqb-true b question_mark is)) (or_cases _ _ either))
+      (λ is. not_set (eqb-true b open_bracket is))
+      (or_cases _ _ wild))
+    (λ is. not_escape (eqb-true b backslash is))
+    (or_cases _ _ special))
+
 -- a byte token doesn't begin with what begins another token
 byte_lead : (p : List ℕ) (i b j c : ℕ) → ByteAt p i b j → HasByte p i c
     → (c ≡ star) ⊎ ((c ≡ question_mark) ⊎ (c ≡ open_bracket)) → ⊥
 byte_lead p i b j c (inl e) h (inl is) = let same : c ≡ backslash = HasByte-unique p i c backslash h e.0.escape in omega arith
 byte_lead p i b j c (inl e) h (inr (inl is)) = let same : c ≡ backslash = HasByte-unique p i c backslash h e.0.escape in omega arith
 byte_lead p i b j c (inl e) h (inr (inr is)) = let same : c ≡ backslash = HasByte-unique p i c backslash h e.0.escape in omega arith
-byte_lead p i b j c (inr e) h (inl is) = e.1 (HasByte-unique p i b c e.0 h ∙ is)
-byte_lead p i b j c (inr e) h (inr (inl is)) = e.2 (HasByte-unique p i b c e.0 h ∙ is)
-byte_lead p i b j c (inr e) h (inr (inr is)) = e.3 (HasByte-unique p i b c e.0 h ∙ is)
+byte_lead p i b j c (inr e) h (inl is) = not_special b star e.1 refl (HasByte-unique p i b c e.0 h ∙ is)
+byte_lead p i b j c (inr e) h (inr (inl is)) = not_special b question_mark e.1 refl (HasByte-unique p i b c e.0 h ∙ is)
+byte_lead p i b j c (inr e) h (inr (inr is)) = not_special b open_bracket e.1 refl (HasByte-unique p i b c e.0 h ∙ is)
 
 byte_or_broken : (p : List ℕ) (i b j : ℕ) → ByteAt p i b j → IsBroken p i → ⊥
 byte_or_broken p i b j (inl e) (inl f) = let inside : i + 1 < length p = e.0.byte.inside in let last : i + 1 ≡ length p = f.1 in omega arith
 byte_or_broken p i b j (inl e) (inr f) = two_bytes p i backslash open_bracket e.0.escape f.0 (λ h. omega arith)
-byte_or_broken p i b j (inr e) (inl f) = e.4 (HasByte-unique p i b backslash e.0 f.0)
-byte_or_broken p i b j (inr e) (inr f) = e.3 (HasByte-unique p i b open_bracket e.0 f.0)
+byte_or_broken p i b j (inr e) (inl f) = not_special b backslash e.1 refl (HasByte-unique p i b backslash e.0 f.0)
+byte_or_broken p i b j (inr e) (inr f) = not_special b open_bracket e.1 refl (HasByte-unique p i b open_bracket e.0 f.0)
 
 -- what matches nothing begins with a backslash or a bracket
 broken_lead : (p : List ℕ) (i c : ℕ) → IsBroken p i → HasByte p i c → (c ≡ star) ⊎ (c ≡ question_mark) → ⊥
@@ -49,9 +65,9 @@ set_or_broken p i s j e (inr f) = f.1 s j e
 
 bytes_unique : (p : List ℕ) (i a b j k : ℕ) → ByteAt p i a j → ByteAt p i b k → (a ≡ b) × (j ≡ k)
 bytes_unique p i a b j k (inl e) (inl f) = (IsEscaped-unique p i a b e.0 f.0, e.1 ∙ sym f.1)
-bytes_unique p i a b j k (inl e) (inr f) = absurd (f.4 (HasByte-unique p i b backslash f.0 e.0.escape))
-bytes_unique p i a b j k (inr e) (inl f) = absurd (e.4 (HasByte-unique p i a backslash e.0 f.0.escape))
-bytes_unique p i a b j k (inr e) (inr f) = (HasByte-unique p i a b e.0 f.0, e.5 ∙ sym f.5)
+bytes_unique p i a b j k (inl e) (inr f) = absurd (not_special b backslash f.1 refl (HasByte-unique p i b backslash f.0 e.0.escape))
+bytes_unique p i a b j k (inr e) (inl f) = absurd (not_special a backslash e.1 refl (HasByte-unique p i a backslash e.0 f.0.escape))
+bytes_unique p i a b j k (inr e) (inr f) = (HasByte-unique p i a b e.0 f.0, e.2 ∙ sym f.2)
 
 free_or_local : (mode : Mode) (p : List ℕ) (i j k : ℕ) → FreeAt mode p i j → LocalAt mode p i k → ⊥
 free_or_local mode p i j k e f =

@@ -12,11 +12,11 @@ use Rattle.std.specs.Prelude.{OnSome}
 use Rattle.glob_matcher.specs.declared.wildmatch.state.State.{State}
 use Rattle.glob_matcher.specs.declared.wildmatch.state.Crossing.{Crossing}
 use Rattle.glob_matcher.specs.declared.wildmatch.state.Crossing.TheVariants as crossing
-use Rattle.glob_matcher.specs.Bytes.{NoSlash, fold, folds, is_path, slash}
+use Rattle.glob_matcher.specs.Bytes.{NoSlash, StandsForItself, fold, folds, is_path, is_special, slash}
 use Rattle.glob_matcher.specs.Tokens.{Byte}
 use Rattle.glob_matcher.specs.Matching.{SplitsFrom}
 use Rattle.glob_matcher.specs.Private.Reader.{Fits}
-use Rattle.glob_matcher.specs.Private.Scans.{Follows, StandsForItself, IsScan, HasScanned, Passed, last_steps, reached_by}
+use Rattle.glob_matcher.specs.Private.Scans.{Follows, IsScan, HasScanned, Passed, last_steps, reached_by}
 use Rattle.glob_matcher.specs.Private.States.{IsMet, IsScanFor, Stands}
 use Rattle.glob_matcher.specs.Private.Budget.{Allows}
 use Rattle.glob_matcher.proofs.lemmas.two_marks.Components.{inner}
@@ -313,4 +313,4 @@ progress_on None a b c low more = more
 progress_on (Some s) a b c low more = omega arith
 
 pub slash_is_itself : (b : ℕ) → b ≡ slash → StandsForItself b
-slash_is_itself b is = (λ e. omega arith, λ e. omega arith, λ e. omega arith, λ e. omega arith)
+slash_is_itself b is = ap is_special is

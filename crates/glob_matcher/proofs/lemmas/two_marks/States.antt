@@ -7,7 +7,7 @@ use Rattle.glob_matcher.specs.declared.wildmatch.tokens.Shape.TheVariants as sha
 use Rattle.glob_matcher.specs.declared.wildmatch.engine.Mark.{Mark}
 use Rattle.glob_matcher.specs.declared.wildmatch.state.Crossing.{Crossing}
 use Rattle.glob_matcher.specs.declared.wildmatch.state.Crossing.TheVariants as crossing
-use Rattle.glob_matcher.specs.Bytes.{HasByte, NoSlash, backslash, close_bracket, is_path, open_bracket, question_mark, slash, star}
+use Rattle.glob_matcher.specs.Bytes.{HasByte, NoSlash, StandsForItself, backslash, close_bracket, is_path, open_bracket, question_mark, slash, star}
 use Rattle.glob_matcher.specs.Tokens.{Token, Byte, Any, OneOf, Free, Local, Dirs, Nothing, TokenAt, IsRun, IsAfterSlash, IsBeforeSlash}
 use Rattle.glob_matcher.specs.Matching.{Splits, SplitsFrom}
 use Rattle.glob_matcher.specs.Private.Reader.{IsToken, Fits, AfterSlash, is_star, shape_of}
@@ -45,7 +45,7 @@ slash_token mode {p} i (Byte b) j c (inl e) fits h =
     let place : i + 1 ≡ j - 1 = omega (arith, e.1) in
     ap Byte (HasByte-unique p (j - 1) b slash (has_byte_at place e.0.byte) h)
 slash_token mode {p} i (Byte b) j c (inr e) fits h =
-    let place : i ≡ j - 1 = omega (arith, e.5) in
+    let place : i ≡ j - 1 = omega (arith, e.2) in
     ap Byte (HasByte-unique p (j - 1) b slash (has_byte_at place e.0) h)
 slash_token mode {p} i Any j c e fits h =
     let place : i ≡ j - 1 = omega (arith, e.1) in
@@ -654,12 +654,11 @@ inner_of mode p v i j c (Some m) t known fits other =
     inner mode (get_or v j 0) known.path (not_slash_here mode t (get_or v j 0) known.path fits other)
 
 -- A byte that begins no other token is a token by itself.
-abbrev pub literal_token : (mode : Mode) (p : List ℕ) (i : ℕ) → i < length p
-    → (get_or p i 0 ≢ star) × (get_or p i 0 ≢ question_mark) × (get_or p i 0 ≢ open_bracket) × (get_or p i 0 ≢ backslash)
+abbrev pub literal_token : (mode : Mode) (p : List ℕ) (i : ℕ) → i < length p → StandsForItself (get_or p i 0)
     → IsToken mode p i (shape.Byte (get_or p i 0)) (i + 1)
 literal_token mode p i inside plain = record {
   token = Byte (get_or p i 0);
-  here = inr (record { inside = inside; is = refl }, plain.0, plain.1, plain.2, plain.3, refl);
+  here = inr (record { inside = inside; is = refl }, plain, refl);
   shown = refl;
   past = omega arith;
   inside = omega arith;

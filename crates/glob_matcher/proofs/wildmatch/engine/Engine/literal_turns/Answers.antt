@@ -1,7 +1,7 @@
 use Rattle.std.proofs.Common.{◌≡◌, ℕ, ◌+◌, ◌<◌, length, get_or, false, true, refl, sym, ◌∙◌, subst, arith}
 use Rattle.glob_matcher.specs.Tokens.{Byte}
 use Rattle.glob_matcher.specs.Private.Reader.{Fits}
-use Rattle.glob_matcher.specs.Private.Scans.{StandsForItself}
+use Rattle.glob_matcher.specs.Bytes.{StandsForItself}
 use Rattle.glob_matcher.proofs.lemmas.two_marks.States.{inner_of, literal_token, misses_byte, stands_on}
 use Rattle.glob_matcher.proofs.lemmas.two_marks.Budget.{allows_on, counted_on}
 use Rattle.glob_matcher.proofs.lemmas.two_marks.Scans.{byte_of}
