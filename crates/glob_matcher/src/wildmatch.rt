@@ -14,6 +14,8 @@ mod scan;
 mod sets;
 mod state;
 mod steps;
+#[cfg(test)]
+mod tests;
 pub(crate) mod tokens;
 mod two_marks;
 

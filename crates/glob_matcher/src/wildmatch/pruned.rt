@@ -1,5 +1,5 @@
 //! The pruned recursive engine: one alignment of pattern and value at a time, and aborts that spare the rest.
-ghost use Rattle.std.specs.Prelude.{◌≡◌, ◌↔◌, ℕ, ◌+◌, ◌<◌, ◌≤◌, IsTrue, IfSome, IfNone, Some, length};
+ghost use Rattle.std.specs.Prelude.{◌≡◌, ◌≢◌, ◌↔◌, ℕ, ◌+◌, ◌<◌, ◌≤◌, IsTrue, IfSome, IfNone, Some, length};
 ghost use Rattle.glob_matcher.specs.Bytes.{HasByte, star};
 ghost use Rattle.glob_matcher.specs.Tokens.{DirsAt};
 ghost use Rattle.glob_matcher.specs.Matching.{Splits};
@@ -48,18 +48,18 @@ fn ends_at_slash(shape: Shape, next: usize, slash: usize) -> bool
 
 /// Whether an attempt may begin at a place of the pattern, counted in bytes from 0: where a token starts, at the slash that
 /// ends a double star's token, and at the pattern's end.
-pub fn is_start(pattern: &[u8], from: usize, mode: Mode) -> bool
-    ensures { IsTrue result ↔ IsStart pattern.now from mode }
+pub fn is_start(pattern: &[u8], place: usize, mode: Mode) -> bool
+    ensures { IsTrue result ↔ IsStart pattern.now place mode }
 {
-    let mut place = 0;
-    'tokens: while place < pattern.len() && place < from {
-        let (shape, next) = token_at(pattern, place, mode);
-        if ends_at_slash(shape, next, from) {
+    let mut start = 0;
+    'tokens: while start < pattern.len() && start < place {
+        let (shape, next) = token_at(pattern, start, mode);
+        if ends_at_slash(shape, next, place) {
             return true;
         }
-        place = next;
+        start = next;
     }
-    place == from
+    start == place
 }
 
 impl Shape {
@@ -76,8 +76,8 @@ impl Shape {
 
 /// The first place of a byte, up to folding.
 fn find_byte(bytes: &[u8], byte: u8, mode: Mode) -> Option<usize>
-    ensures found { IfSome result (λ place. Skips mode bytes.now (Some byte) 0 place) }
-    ensures inside { IfSome result (λ place. place < length bytes.now) }
+    ensures found { IfSome result (λ at. Skips mode bytes.now (Some byte) 0 at) }
+    ensures inside { IfSome result (λ at. at < length bytes.now) }
     ensures none { IfNone result (Skips mode bytes.now (Some byte) 0 (length bytes.now)) }
 {
     if mode.folds() && byte.is_ascii_alphabetic() {
@@ -90,22 +90,22 @@ fn find_byte(bytes: &[u8], byte: u8, mode: Mode) -> Option<usize>
 /// The first place, from one place on and before another, where the wanted byte stands; where none is wanted, the first.
 fn next_place(
     value: &[u8],
-    from: usize,
+    at: usize,
     until: usize,
     wanted: Option<u8>,
     mode: Mode,
 ) -> Option<usize>
-    requires low { from ≤ until }
+    requires low { at ≤ until }
     requires inside { until ≤ length value.now }
-    ensures found { IfSome result (λ place. Skips mode value.now wanted from place) }
-    ensures inside { IfSome result (λ place. place < until) }
-    ensures none { IfNone result (Skips mode value.now wanted from until) }
+    ensures found { IfSome result (λ found. Skips mode value.now wanted at found) }
+    ensures inside { IfSome result (λ found. found < until) }
+    ensures none { IfNone result (Skips mode value.now wanted at until) }
 {
     let Some(byte) = wanted else {
-        return if from < until { Some(from) } else { None };
+        return if at < until { Some(at) } else { None };
     };
-    let offset = find_byte(&value[from..until], byte, mode)?;
-    Some(from + offset)
+    let offset = find_byte(&value[at..until], byte, mode)?;
+    Some(at + offset)
 }
 
 /// Where the component at a place of the value ends: at the first slash, or at the value's end.
@@ -119,76 +119,88 @@ fn component_end(value: &[u8], at: usize) -> usize
     }
 }
 
-/// One attempt to match the value from the place `at` on with the tokens from the place `from` of the pattern on.
-///
-/// Places are counted in bytes from 0. `from` is one where [`is_start`] answers true, `at` is inside the value or its end,
-/// and `depth`, the number of star tokens that the attempt stands below, is at most 64. Where `depth` and the star tokens
-/// from `from` on make at most 63, each answer means what [`Answer`] says, and an abort comes where one must; with more,
-/// only a [`Answer::Match`] says anything. It takes no memory. The rules are in `docs/ENGINES.md`, "The pruned recursive
-/// engine".
-#[cycle(attempt)]
-pub fn attempt(
-    pattern: &[u8],
-    from: usize,
-    value: &[u8],
-    at: usize,
-    mode: Mode,
-    depth: usize,
-) -> Answer
-    requires start { IsStart pattern.now from mode }
-    requires inside { at ≤ length value.now }
-    requires shallow { depth ≤ 64 }
-    ensures { IsAttempt result pattern.now from value.now at mode depth }
+/// The answer at the pattern's end: a match where the value ends too.
+fn end_answer(value: &[u8], at: usize) -> Answer
+    ensures ends { at ≡ length value.now → result ≡ Answer.Match }
+    ensures more { at ≢ length value.now → result ≡ Answer.NoMatch }
 {
-    if depth == MAX_DEPTH {
-        return Answer::RecursionLimitReached;
-    }
-    let mut place = from;
-    let mut byte = at;
-    'tokens: while place < pattern.len() {
-        let (shape, next) = token_at(pattern, place, mode);
-        match shape {
-            Shape::Free => return cross(pattern, next, value, byte, mode, depth),
-            Shape::Local => return stay(pattern, next, value, byte, mode, depth),
-            Shape::Dirs => return descend(pattern, next, value, byte, mode, depth),
-            Shape::Nothing => return Answer::AbortAll,
-            Shape::Byte(_) | Shape::Any | Shape::Set => {
-                if byte == value.len() {
-                    return Answer::AbortAll;
-                }
-                if !shape.takes(pattern, place, value[byte], mode) {
-                    return Answer::NoMatch;
-                }
-                place = next;
-                byte += 1;
-            }
-        }
-    }
-    if byte == value.len() {
+    if at == value.len() {
         Answer::Match
     } else {
         Answer::NoMatch
     }
 }
 
+/// One attempt to match the value from the place `at` on with the tokens from the place `place` of the pattern on.
+///
+/// Places are counted in bytes from 0. `place` is one where [`is_start`] answers true, `at` is inside the value or its end,
+/// and `depth`, the number of star tokens that the attempt stands below, is at most 64. Where `depth` and the star tokens
+/// from `place` on make at most 63, each answer means what [`Answer`] says, and an abort comes where one must; with more,
+/// only a [`Answer::Match`] says anything. It takes no memory. The rules are in `docs/ENGINES.md`, "The pruned recursive
+/// engine".
+#[cycle(attempt)]
+pub fn attempt(
+    pattern: &[u8],
+    mut place: usize,
+    value: &[u8],
+    mut at: usize,
+    mode: Mode,
+    depth: usize,
+) -> Answer
+    requires start { IsStart pattern.now place mode }
+    requires inside { at ≤ length value.now }
+    requires shallow { depth ≤ 64 }
+    ensures { IsAttempt result pattern.now place value.now at mode depth }
+{
+    if depth == MAX_DEPTH {
+        return Answer::RecursionLimitReached;
+    }
+    'tokens: while place < pattern.len() {
+        let (shape, next) = token_at(pattern, place, mode);
+        match shape {
+            Shape::Free => return cross(pattern, next, value, at, mode, depth),
+            Shape::Local => return stay(pattern, next, value, at, mode, depth),
+            Shape::Dirs => return descend(pattern, next, value, at, mode, depth),
+            Shape::Nothing => return Answer::AbortAll,
+            Shape::Byte(_) | Shape::Any | Shape::Set => {
+                if at == value.len() {
+                    return Answer::AbortAll;
+                }
+                if !shape.takes(pattern, place, value[at], mode) {
+                    return Answer::NoMatch;
+                }
+                place = next;
+                at += 1;
+            }
+        }
+    }
+    end_answer(value, at)
+}
+
 /// Tries the rest of the pattern at each place of the value from one on.
 #[cycle(attempt)]
-fn cross(pattern: &[u8], from: usize, value: &[u8], at: usize, mode: Mode, depth: usize) -> Answer
-    requires start { IsStart pattern.now from mode }
-    requires no_star { ¬ HasByte pattern.now from star }
+fn cross(
+    pattern: &[u8],
+    place: usize,
+    value: &[u8],
+    mut at: usize,
+    mode: Mode,
+    depth: usize,
+) -> Answer
+    requires start { IsStart pattern.now place mode }
+    requires no_star { ¬ HasByte pattern.now place star }
     requires inside { at ≤ length value.now }
     requires shallow { depth < 64 }
-    ensures { IsCrossing result pattern.now from value.now at mode depth }
+    ensures { IsCrossing result pattern.now place value.now at mode depth }
 {
-    if from == pattern.len() {
+    if place == pattern.len() {
         return Answer::Match;
     }
-    let (shape, _) = token_at(pattern, from, mode);
+    let (shape, _) = token_at(pattern, place, mode);
     let wanted = shape.literal();
-    let mut place = at;
-    'places: while let Some(found) = next_place(value, place, value.len(), wanted, mode) {
-        match attempt(pattern, from, value, found, mode, depth + 1) {
-            Answer::NoMatch | Answer::AbortToStarStar => place = found + 1,
+    'places: while let Some(found) = next_place(value, at, value.len(), wanted, mode) {
+        match attempt(pattern, place, value, found, mode, depth + 1) {
+            Answer::NoMatch | Answer::AbortToStarStar => at = found + 1,
             answer => return answer,
         }
     }
@@ -197,27 +209,33 @@ fn cross(pattern: &[u8], from: usize, value: &[u8], at: usize, mode: Mode, depth
 
 /// Tries the rest of the pattern at each place of the value's component from one on.
 #[cycle(attempt)]
-fn stay(pattern: &[u8], from: usize, value: &[u8], at: usize, mode: Mode, depth: usize) -> Answer
-    requires start { IsStart pattern.now from mode }
-    requires no_star { ¬ HasByte pattern.now from star }
+fn stay(
+    pattern: &[u8],
+    place: usize,
+    value: &[u8],
+    mut at: usize,
+    mode: Mode,
+    depth: usize,
+) -> Answer
+    requires start { IsStart pattern.now place mode }
+    requires no_star { ¬ HasByte pattern.now place star }
     requires inside { at ≤ length value.now }
     requires shallow { depth < 64 }
-    ensures { IsWithin result pattern.now from value.now at mode depth }
+    ensures { IsWithin result pattern.now place value.now at mode depth }
 {
     let end = component_end(value, at);
-    if from == pattern.len() {
+    if place == pattern.len() {
         if end < value.len() {
             return Answer::AbortToStarStar;
         }
         return Answer::Match;
     }
-    let (shape, _) = token_at(pattern, from, mode);
+    let (shape, _) = token_at(pattern, place, mode);
     let wanted = shape.literal();
     let until = value.len().min(end + 1);
-    let mut place = at;
-    'places: while let Some(found) = next_place(value, place, until, wanted, mode) {
-        match attempt(pattern, from, value, found, mode, depth + 1) {
-            Answer::NoMatch => place = found + 1,
+    'places: while let Some(found) = next_place(value, at, until, wanted, mode) {
+        match attempt(pattern, place, value, found, mode, depth + 1) {
+            Answer::NoMatch => at = found + 1,
             answer => return answer,
         }
     }
@@ -226,15 +244,22 @@ fn stay(pattern: &[u8], from: usize, value: &[u8], at: usize, mode: Mode, depth:
 
 /// Tries the rest of the pattern here, and after each slash of the value from here on.
 #[cycle(attempt)]
-fn descend(pattern: &[u8], from: usize, value: &[u8], at: usize, mode: Mode, depth: usize) -> Answer
-    requires token { (i : ℕ) × IsBoundary pattern.now i mode × DirsAt mode pattern.now i from }
+fn descend(
+    pattern: &[u8],
+    place: usize,
+    value: &[u8],
+    at: usize,
+    mode: Mode,
+    depth: usize,
+) -> Answer
+    requires token { (i : ℕ) × IsBoundary pattern.now i mode × DirsAt mode pattern.now i place }
     requires inside { at ≤ length value.now }
     requires shallow { depth < 64 }
-    ensures { (i : ℕ) → DirsAt mode pattern.now i from → IsDescent result pattern.now i from value.now at mode depth }
+    ensures { (i : ℕ) → DirsAt mode pattern.now i place → IsDescent result pattern.now i place value.now at mode depth }
 {
-    match attempt(pattern, from, value, at, mode, depth + 1) {
+    match attempt(pattern, place, value, at, mode, depth + 1) {
         Answer::Match => Answer::Match,
-        _ => cross(pattern, from - 1, value, at, mode, depth),
+        _ => cross(pattern, place - 1, value, at, mode, depth),
     }
 }
 

@@ -3,9 +3,6 @@ ghost use Rattle.std.specs.Prelude.{◌+◌, ◌<◌, ◌≤◌, length};
 ghost use Rattle.glob_matcher.specs.Bytes.{NoSlash};
 ghost use Rattle.glob_matcher.specs.Private.Scans.{IsScan, IsUnblocked, MovesBy, reached_by};
 
-#[cfg(test)]
-mod tests;
-
 use super::engine::{Engine, Mark, Match};
 use super::needle::Needle;
 use std::sync::ledger::Ledger;

@@ -1,7 +1,7 @@
 -- Where an alignment ends, what it answers means what the contract says: at the pattern's end, at a token of one byte, at one that
 -- matches nothing, and at a star token.
-use Rattle.std.proofs.Common.{◌≡◌, ◌≢◌, ◌⊎◌, inl, inr, ℕ, ◌+◌, ◌-◌, ◌<◌, ◌≤◌, true, false, List, [], ◌∷◌, ◌++◌, length, get_or, refl, subst, arith}
-use Rattle.std.proofs.lemmas.Bool.{cases_lt}
+use Rattle.std.proofs.Common.{◌≡◌, ◌≢◌, ◌⊎◌, inl, inr, ℕ, ◌+◌, ◌-◌, ◌<◌, ◌≤◌, true, false, List, [], ◌∷◌, ◌++◌, length, get_or, refl, sym, subst, arith}
+use Rattle.std.proofs.lemmas.Bool.{cases_eq, cases_lt}
 use Rattle.std.proofs.Math.ListN.{drop_of_length-le}
 use Rattle.glob_matcher.specs.declared.wildmatch.mode.Mode.{Mode}
 use Rattle.glob_matcher.specs.declared.wildmatch.pruned.Answer.{Answer}
@@ -55,7 +55,7 @@ module _ (mode : Mode) (p v : List ℕ) (from at place k : ℕ) (x : Aligned mod
     by [] read = let inside = TokenAt-inside mode p place e.next read.0 read.1 in omega arith
     by (t ∷ ts) read = let inside = TokenAt-inside mode p place t read.0 read.1 in omega arith
 
-  pub end_match : (depth : ℕ) → depth ≢ 64 → place ≡ length p → k ≡ length v → IsAttempt Match p from v at mode depth
+  end_match : (depth : ℕ) → depth ≢ 64 → place ≡ length p → k ≡ length v → IsAttempt Match p from v at mode depth
   end_match depth shallow at_end all = record {
     split = λ e. x.back (end_in mode p v place k at_end (omega arith));
     excludes = λ room. record {
@@ -73,7 +73,7 @@ module _ (mode : Mode) (p v : List ℕ) (from at place k : ℕ) (x : Aligned mod
     limit = λ deep. absurd (shallow deep);
   }
 
-  pub end_more : (depth : ℕ) → depth ≢ 64 → place ≡ length p → k ≢ length v → IsAttempt NoMatch p from v at mode depth
+  end_more : (depth : ℕ) → depth ≢ 64 → place ≡ length p → k ≢ length v → IsAttempt NoMatch p from v at mode depth
   end_more depth shallow at_end more = record {
     split = λ e. cc;
     excludes = λ room. record {
@@ -94,6 +94,13 @@ module _ (mode : Mode) (p v : List ℕ) (from at place k : ℕ) (x : Aligned mod
     path = λ e. cc;
     limit = λ deep. absurd (shallow deep);
   }
+
+  pub end_here : (depth : ℕ) → depth ≢ 64 → place ≡ length p → (answer : Answer) → (k ≡ length v → answer ≡ Match)
+      → (k ≢ length v → answer ≡ NoMatch) → IsAttempt answer p from v at mode depth
+  end_here depth shallow at_end answer ends more = elim (cases_eq k (length v)) [
+    | inl all ↦ subst (λ (a : Answer). IsAttempt a p from v at mode depth) (sym (ends all)) (end_match depth shallow at_end all)
+    | inr left ↦ subst (λ (a : Answer). IsAttempt a p from v at mode depth) (sym (more left)) (end_more depth shallow at_end left)
+  ]
 
   -- at a token that nothing of the value from here on splits
   lost : ((n : ℕ) → k ≤ n → n ≤ length v → ¬ SplitsFrom v n p place mode) → Excludes AbortAll p from v at mode

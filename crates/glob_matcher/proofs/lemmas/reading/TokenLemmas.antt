@@ -28,11 +28,11 @@ not_special b c own special is = false≢true (sym own ∙ (ap is_special is ∙
 -- a byte that is none of the special ones stands for itself
 pub stands_for_itself : (b : ℕ) → b ≢ star → b ≢ question_mark → b ≢ open_bracket → b ≢ backslash → StandsForItself b
 stands_for_itself b not_star not_any not_set not_escape = false_from_ne_true (is_special b) (λ special.
-  ⊎_elim
+    ⊎_elim
     (λ wild. ⊎_elim
-      (λ either. ⊎_elim (λ is. not_star (eqb-true b star is)) (λ is. not_any (eqb-true b question_mark is)) (or_cases _ _ either))
-      (λ is. not_set (eqb-true b open_bracket is))
-      (or_cases _ _ wild))
+    (λ either. ⊎_elim (λ is. not_star (eqb-true b star is)) (λ is. not_any (eqb-true b question_mark is)) (or_cases _ _ either))
+    (λ is. not_set (eqb-true b open_bracket is))
+    (or_cases _ _ wild))
     (λ is. not_escape (eqb-true b backslash is))
     (or_cases _ _ special))
 

@@ -6,7 +6,7 @@ use Rattle.glob_matcher.specs.Tokens.{Free, Local, Dirs, TokenAt}
 use Rattle.glob_matcher.proofs.lemmas.reading.Starts.{start_next, start_inside, boundary_next}
 use Rattle.glob_matcher.proofs.lemmas.reading.Shapes.{is_free, is_local, is_dirs, is_nothing, is_one, dirs_boundary}
 use Rattle.glob_matcher.proofs.lemmas.cutting.Alignments.{aligned_next}
-use Rattle.glob_matcher.proofs.lemmas.pruned.AttemptLemmas.{end_match, end_more, value_ends, nothing_here, misses, star_here}
+use Rattle.glob_matcher.proofs.lemmas.pruned.AttemptLemmas.{end_here, value_ends, nothing_here, misses, star_here}
 use Rattle.glob_matcher.proofs.lemmas.cutting.StarLemmas.{first_token, tried_next, cross_none, cross_answer, stay_more, stay_none, stay_answer, free_star, local_star, dirs_star, descent_here, descent_later}
 use Rattle.glob_matcher.proofs.wildmatch.pruned.+attempt.Goals as goal
 
@@ -20,48 +20,48 @@ attempt-returns-in-Free t c =
     let p = c.args.pattern.now in
     let v = c.args.value.now in
     let here = is_free c.token_at-shape.ensures c.in-Free.is in
-    star_here c.args.mode p v c.args.from c.args.at c.tokens.place c.tokens.byte c.tokens.invariant c.args.depth (λ deep. omega arith) c.cross.result
-    (free_star c.args.mode p v c.tokens.place c.token_at-shape.result.1 c.tokens.byte c.args.depth c.cross.result here c.tokens.invariant.value_high c.cross.ensures)
+    star_here c.args.mode p v c.args.place c.args.at c.tokens.place c.tokens.at c.tokens.invariant c.args.depth (λ deep. omega arith) c.cross.result
+    (free_star c.args.mode p v c.tokens.place c.token_at-shape.result.1 c.tokens.at c.args.depth c.cross.result here c.tokens.invariant.value_high c.cross.ensures)
 
 pub attempt-returns-in-Local : goal.attempt-returns-in-Local
 attempt-returns-in-Local t c =
     let p = c.args.pattern.now in
     let v = c.args.value.now in
     let here = is_local c.token_at-shape.ensures c.in-Local.is in
-    star_here c.args.mode p v c.args.from c.args.at c.tokens.place c.tokens.byte c.tokens.invariant c.args.depth (λ deep. omega arith) c.stay.result
-    (local_star c.args.mode p v c.tokens.place c.token_at-shape.result.1 c.tokens.byte c.args.depth c.stay.result here c.tokens.invariant.value_high c.stay.ensures)
+    star_here c.args.mode p v c.args.place c.args.at c.tokens.place c.tokens.at c.tokens.invariant c.args.depth (λ deep. omega arith) c.stay.result
+    (local_star c.args.mode p v c.tokens.place c.token_at-shape.result.1 c.tokens.at c.args.depth c.stay.result here c.tokens.invariant.value_high c.stay.ensures)
 
 pub attempt-returns-in-Dirs : goal.attempt-returns-in-Dirs
 attempt-returns-in-Dirs t c =
     let p = c.args.pattern.now in
     let v = c.args.value.now in
     let here = is_dirs c.token_at-shape.ensures c.in-Dirs.is in
-    star_here c.args.mode p v c.args.from c.args.at c.tokens.place c.tokens.byte c.tokens.invariant c.args.depth (λ deep. omega arith) c.descend.result
-    (dirs_star c.args.mode p v c.tokens.place c.token_at-shape.result.1 c.tokens.byte c.args.depth c.descend.result here c.tokens.invariant.value_high (c.descend.ensures c.tokens.place here))
+    star_here c.args.mode p v c.args.place c.args.at c.tokens.place c.tokens.at c.tokens.invariant c.args.depth (λ deep. omega arith) c.descend.result
+    (dirs_star c.args.mode p v c.tokens.place c.token_at-shape.result.1 c.tokens.at c.args.depth c.descend.result here c.tokens.invariant.value_high (c.descend.ensures c.tokens.place here))
 
 pub attempt-returns-in-Nothing : goal.attempt-returns-in-Nothing
 attempt-returns-in-Nothing t c =
     let p = c.args.pattern.now in
     let here = is_nothing c.token_at-shape.ensures c.in-Nothing.is in
-    nothing_here c.args.mode p c.args.value.now c.args.from c.args.at c.tokens.place c.tokens.byte c.tokens.invariant c.args.depth (λ deep. omega arith)
+    nothing_here c.args.mode p c.args.value.now c.args.place c.args.at c.tokens.place c.tokens.at c.tokens.invariant c.args.depth (λ deep. omega arith)
     c.token_at-shape.result.1 here
 
-pub attempt-returns-then-byte-value : goal.attempt-returns-then-byte-value
-attempt-returns-then-byte-value t c =
+pub attempt-returns-then-at-value : goal.attempt-returns-then-at-value
+attempt-returns-then-at-value t c =
     let p = c.args.pattern.now in
     let s = c.token_at-shape in
     let one = is_one s.ensures c.in-Byte.is in
-    value_ends c.args.mode p c.args.value.now c.args.from c.args.at c.tokens.place c.tokens.byte c.tokens.invariant c.args.depth (λ deep. omega arith)
-    s.ensures.token s.result.1 one s.ensures.here c.if-byte-value.true
+    value_ends c.args.mode p c.args.value.now c.args.place c.args.at c.tokens.place c.tokens.at c.tokens.invariant c.args.depth (λ deep. omega arith)
+    s.ensures.token s.result.1 one s.ensures.here c.if-at-value.true
 
 pub attempt-returns-then-not-takes : goal.attempt-returns-then-not-takes
 attempt-returns-then-not-takes t c =
     let p = c.args.pattern.now in
     let s = c.token_at-shape in
     let one = is_one s.ensures c.in-Byte.is in
-    let high : c.tokens.byte ≤ length c.args.value.now = c.tokens.invariant.value_high in
+    let high : c.tokens.at ≤ length c.args.value.now = c.tokens.invariant.value_high in
     let fits = c.if-not-takes.ensures s.ensures.token s.result.1 s.ensures.here s.ensures.shown in
-    misses c.args.mode p c.args.value.now c.args.from c.args.at c.tokens.place c.tokens.byte c.tokens.invariant c.args.depth (λ deep. omega arith)
+    misses c.args.mode p c.args.value.now c.args.place c.args.at c.tokens.place c.tokens.at c.tokens.invariant c.args.depth (λ deep. omega arith)
     s.ensures.token s.result.1 one s.ensures.here (omega arith) (λ f. let never = fits.1 f in cc)
 
 pub attempt-tokens-preserved : goal.attempt-tokens-preserved
@@ -69,41 +69,34 @@ attempt-tokens-preserved t c =
     let p = c.args.pattern.now in
     let s = c.token_at-shape in
     let one = is_one s.ensures c.in-Byte.is in
-    let high : c.tokens.byte ≤ length c.args.value.now = c.tokens.invariant.value_high in
+    let high : c.tokens.at ≤ length c.args.value.now = c.tokens.invariant.value_high in
     let fits = c.if-not-takes.ensures s.ensures.token s.result.1 s.ensures.here s.ensures.shown in
-    aligned_next c.args.mode p c.args.value.now c.args.from c.args.at c.tokens.place c.tokens.byte s.result.1 s.ensures.token
+    aligned_next c.args.mode p c.args.value.now c.args.place c.args.at c.tokens.place c.tokens.at s.result.1 s.ensures.token
     c.tokens.invariant one s.ensures.here s.ensures.past (omega arith) (fits.0 refl)
 
-pub attempt-returns-then-byte-value-2 : goal.attempt-returns-then-byte-value-2
-attempt-returns-then-byte-value-2 t c =
+pub attempt-returns : goal.attempt-returns
+attempt-returns t c =
     let p = c.args.pattern.now in
     let inside : c.tokens.place ≤ length p = start_inside c.args.mode p c.tokens.place c.tokens.invariant.start in
-    end_match c.args.mode p c.args.value.now c.args.from c.args.at c.tokens.place c.tokens.byte c.tokens.invariant c.args.depth (λ deep. omega arith)
-    (omega arith) c.if-byte-value-2.true
-
-pub attempt-returns-else-byte-value-2 : goal.attempt-returns-else-byte-value-2
-attempt-returns-else-byte-value-2 t c =
-    let p = c.args.pattern.now in
-    let inside : c.tokens.place ≤ length p = start_inside c.args.mode p c.tokens.place c.tokens.invariant.start in
-    end_more c.args.mode p c.args.value.now c.args.from c.args.at c.tokens.place c.tokens.byte c.tokens.invariant c.args.depth (λ deep. omega arith)
-    (omega arith) c.if-byte-value-2.false
+    end_here c.args.mode p c.args.value.now c.args.place c.args.at c.tokens.place c.tokens.at c.tokens.invariant c.args.depth (λ deep. omega arith)
+    (omega arith) c.end_answer.result c.end_answer.ensures.ends c.end_answer.ensures.more
 
 pub cross-token_at-shape-requires : goal.cross-token_at-shape-requires
 cross-token_at-shape-requires t c =
-    let inside : c.args.from ≤ length c.args.pattern.now = start_inside c.args.mode c.args.pattern.now c.args.from c.requires.start in
+    let inside : c.args.place ≤ length c.args.pattern.now = start_inside c.args.mode c.args.pattern.now c.args.place c.requires.start in
     omega arith
 
 pub stay-token_at-shape-requires : goal.stay-token_at-shape-requires
 stay-token_at-shape-requires t c =
-    let inside : c.args.from ≤ length c.args.pattern.now = start_inside c.args.mode c.args.pattern.now c.args.from c.requires.start in
+    let inside : c.args.place ≤ length c.args.pattern.now = start_inside c.args.mode c.args.pattern.now c.args.place c.requires.start in
     omega arith
 
 pub cross-returns-in_default-attempt : goal.cross-returns-in_default-attempt
 cross-returns-in_default-attempt t c =
     let p = c.args.pattern.now in
     let s = c.token_at-shape in
-    let first = first_token c.args.mode p c.args.from s.result.1 c.literal-wanted.result s.result.0 c.requires.no_star s.ensures c.literal-wanted.ensures in
-    cross_answer c.args.mode p c.args.value.now c.args.from c.args.at c.places.place c.in-Some.found c.args.depth c.literal-wanted.result
+    let first = first_token c.args.mode p c.args.place s.result.1 c.literal-wanted.result s.result.0 c.requires.no_star s.ensures c.literal-wanted.ensures in
+    cross_answer c.args.mode p c.args.value.now c.args.place c.args.at c.places.at c.in-Some.found c.args.depth c.literal-wanted.result
     c.attempt.result c.requires.no_star c.places.invariant first c.in-Some.ensures.found c.in-Some.ensures.inside c.attempt.ensures
     c.in_default-attempt.not-NoMatch c.in_default-attempt.not-AbortToStarStar
 
@@ -111,8 +104,8 @@ pub cross-places-preserved : goal.cross-places-preserved
 cross-places-preserved t c =
     let p = c.args.pattern.now in
     let s = c.token_at-shape in
-    let first = first_token c.args.mode p c.args.from s.result.1 c.literal-wanted.result s.result.0 c.requires.no_star s.ensures c.literal-wanted.ensures in
-    tried_next c.args.mode p c.args.value.now c.args.from (c.args.depth + 1) c.args.at c.places.place (length c.args.value.now) c.in-Some.found
+    let first = first_token c.args.mode p c.args.place s.result.1 c.literal-wanted.result s.result.0 c.requires.no_star s.ensures c.literal-wanted.ensures in
+    tried_next c.args.mode p c.args.value.now c.args.place (c.args.depth + 1) c.args.at c.places.at (length c.args.value.now) c.in-Some.found
     c.literal-wanted.result c.attempt.result c.places.invariant first c.in-Some.ensures.found c.in-Some.ensures.inside c.attempt.ensures
     (not_match c.attempt.result c.in-NoMatch.is)
 
@@ -120,30 +113,30 @@ pub cross-returns : goal.cross-returns
 cross-returns t c =
     let p = c.args.pattern.now in
     let s = c.token_at-shape in
-    let first = first_token c.args.mode p c.args.from s.result.1 c.literal-wanted.result s.result.0 c.requires.no_star s.ensures c.literal-wanted.ensures in
-    cross_none c.args.mode p c.args.value.now c.args.from c.args.at c.places.place c.args.depth c.literal-wanted.result
+    let first = first_token c.args.mode p c.args.place s.result.1 c.literal-wanted.result s.result.0 c.requires.no_star s.ensures c.literal-wanted.ensures in
+    cross_none c.args.mode p c.args.value.now c.args.place c.args.at c.places.at c.args.depth c.literal-wanted.result
     c.places.invariant first c.in_default.ensures.none
 
 pub descend-returns-in-Match : goal.descend-returns-in-Match
-descend-returns-in-Match t c = λ i here. descent_here c.args.mode c.args.pattern.now c.args.value.now i c.args.from c.args.at c.args.depth here c.requires.inside (c.attempt.ensures.split c.in-Match.is)
+descend-returns-in-Match t c = λ i here. descent_here c.args.mode c.args.pattern.now c.args.value.now i c.args.place c.args.at c.args.depth here c.requires.inside (c.attempt.ensures.split c.in-Match.is)
 
 pub descend-returns-in_default : goal.descend-returns-in_default
 descend-returns-in_default t c = λ i here.
-    let after : c.args.from ≡ here.at + 1 = here.after in
-    descent_later c.args.mode c.args.pattern.now c.args.value.now i c.args.from (c.args.from - 1) c.args.at c.args.depth c.attempt.result c.cross.result
+    let after : c.args.place ≡ here.at + 1 = here.after in
+    descent_later c.args.mode c.args.pattern.now c.args.value.now i c.args.place (c.args.place - 1) c.args.at c.args.depth c.attempt.result c.cross.result
     here (omega arith) c.requires.inside c.attempt.ensures c.in_default.not-Match c.cross.ensures
 
 pub stay-returns-then-end-value : goal.stay-returns-then-end-value
 stay-returns-then-end-value t c =
-    stay_more c.args.mode c.args.pattern.now c.args.value.now c.args.from c.args.at c.component_end-end.result c.args.depth
-    c.if-from-pattern.true c.requires.inside c.component_end-end.ensures (λ e. let before = c.if-end-value.true in omega arith)
+    stay_more c.args.mode c.args.pattern.now c.args.value.now c.args.place c.args.at c.component_end-end.result c.args.depth
+    c.if-place-pattern.true c.requires.inside c.component_end-end.ensures (λ e. let before = c.if-end-value.true in omega arith)
 
 pub stay-places-preserved : goal.stay-places-preserved
 stay-places-preserved t c =
     let p = c.args.pattern.now in
     let s = c.token_at-shape in
-    let first = first_token c.args.mode p c.args.from s.result.1 c.literal-wanted.result s.result.0 c.requires.no_star s.ensures c.literal-wanted.ensures in
-    tried_next c.args.mode p c.args.value.now c.args.from (c.args.depth + 1) c.args.at c.places.place c.min-until.result c.in-Some.found
+    let first = first_token c.args.mode p c.args.place s.result.1 c.literal-wanted.result s.result.0 c.requires.no_star s.ensures c.literal-wanted.ensures in
+    tried_next c.args.mode p c.args.value.now c.args.place (c.args.depth + 1) c.args.at c.places.at c.min-until.result c.in-Some.found
     c.literal-wanted.result c.attempt.result c.places.invariant first c.in-Some.ensures.found c.in-Some.ensures.inside c.attempt.ensures
     (λ e. let same = c.in-NoMatch.is in cc)
 
@@ -151,8 +144,8 @@ pub stay-returns-in_default-attempt : goal.stay-returns-in_default-attempt
 stay-returns-in_default-attempt t c =
     let p = c.args.pattern.now in
     let s = c.token_at-shape in
-    let first = first_token c.args.mode p c.args.from s.result.1 c.literal-wanted.result s.result.0 c.requires.no_star s.ensures c.literal-wanted.ensures in
-    stay_answer c.args.mode p c.args.value.now c.args.from c.args.at c.places.place c.component_end-end.result c.min-until.result c.in-Some.found
+    let first = first_token c.args.mode p c.args.place s.result.1 c.literal-wanted.result s.result.0 c.requires.no_star s.ensures c.literal-wanted.ensures in
+    stay_answer c.args.mode p c.args.value.now c.args.place c.args.at c.places.at c.component_end-end.result c.min-until.result c.in-Some.found
     c.args.depth c.literal-wanted.result c.attempt.result c.requires.no_star c.component_end-end.ensures c.min-until.ensures c.places.invariant first
     c.in-Some.ensures.found c.in-Some.ensures.inside c.attempt.ensures c.in_default-attempt.not-NoMatch
 
@@ -160,8 +153,8 @@ pub stay-returns : goal.stay-returns
 stay-returns t c =
     let p = c.args.pattern.now in
     let s = c.token_at-shape in
-    let first = first_token c.args.mode p c.args.from s.result.1 c.literal-wanted.result s.result.0 c.requires.no_star s.ensures c.literal-wanted.ensures in
-    stay_none c.args.mode p c.args.value.now c.args.from c.args.at c.places.place c.component_end-end.result c.min-until.result
+    let first = first_token c.args.mode p c.args.place s.result.1 c.literal-wanted.result s.result.0 c.requires.no_star s.ensures c.literal-wanted.ensures in
+    stay_none c.args.mode p c.args.value.now c.args.place c.args.at c.places.at c.component_end-end.result c.min-until.result
     c.args.depth c.literal-wanted.result c.component_end-end.ensures c.min-until.ensures c.places.invariant first c.in_default.ensures.none
 
 pub attempt-cross-requires : goal.attempt-cross-requires
@@ -197,7 +190,7 @@ descend-attempt-requires t c =
     let x = c.requires.token in (
       search rules,
       (
-        record { place = inl (boundary_next c.args.mode c.args.pattern.now x.0 Dirs c.args.from x.1 x.2) },
+        record { place = inl (boundary_next c.args.mode c.args.pattern.now x.0 Dirs c.args.place x.1 x.2) },
         (c.requires.inside, omega arith),
       ),
     )

@@ -4,22 +4,22 @@ use Rattle.glob_matcher.proofs.lemmas.reading.Starts.{scan_next, scan_end}
 use Rattle.glob_matcher.specs.Pruning.{IsBoundary}
 use Rattle.glob_matcher.proofs.lemmas.cutting.PlaceLemmas.{is_equal}
 use Rattle.glob_matcher.proofs.wildmatch.pruned.is_start.Goals as goal
-use Rattle.glob_matcher.proofs.wildmatch.pruned.is_start.Goals.{then-tokens-test+else-place-from, else-tokens-test}
+use Rattle.glob_matcher.proofs.wildmatch.pruned.is_start.Goals.{then-tokens-test+else-start-place, else-tokens-test}
 
 pub tokens-preserved : goal.tokens-preserved
 tokens-preserved c =
     let s = c.token_at-shape in
-    scan_next c.args.mode c.args.pattern.now c.args.from c.tokens.place s.ensures.token s.result.1 c.tokens.invariant s.ensures.here
+    scan_next c.args.mode c.args.pattern.now c.args.place c.tokens.start s.ensures.token s.result.1 c.tokens.invariant s.ensures.here
     (omega arith) (λ is next. let yes = c.if-ends_at_slash.ensures.1 (s.ensures.shown ∙ ap shape_of is, next) in cc)
 
 pub returns : goal.returns
 returns c = (
   λ same.
-      let is : c.tokens.place ≡ c.args.from = is_equal c.tokens.place c.args.from same in
+      let is : c.tokens.start ≡ c.args.place = is_equal c.tokens.start c.args.place same in
       record { place = inl (subst (λ (n : ℕ). IsBoundary c.args.pattern.now n c.args.mode) is c.tokens.invariant.boundary) },
   λ start.
-      let stopped : c.tokens.place < c.args.from → length c.args.pattern.now ≤ c.tokens.place =
-      elim c.tokens-test.branch [ then-tokens-test+else-place-from w ↦ λ before. absurd (omega arith) | else-tokens-test w ↦ λ before. omega arith ] in
-      eq-eqb c.tokens.place c.args.from
-      (scan_end c.args.mode c.args.pattern.now c.args.from c.tokens.place c.tokens.invariant stopped start),
+      let stopped : c.tokens.start < c.args.place → length c.args.pattern.now ≤ c.tokens.start =
+      elim c.tokens-test.branch [ then-tokens-test+else-start-place w ↦ λ before. absurd (omega arith) | else-tokens-test w ↦ λ before. omega arith ] in
+      eq-eqb c.tokens.start c.args.place
+      (scan_end c.args.mode c.args.pattern.now c.args.place c.tokens.start c.tokens.invariant stopped start),
 )

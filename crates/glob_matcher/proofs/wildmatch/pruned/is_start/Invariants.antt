@@ -4,7 +4,7 @@ use Rattle.glob_matcher.proofs.lemmas.reading.Starts.{Scan}
 use Rattle.glob_matcher.proofs.wildmatch.pruned.is_start.Given as goal
 
 abbrev pub invariant-tokens : goal.invariant-tokens
-invariant-tokens l = Scan l.mode l.pattern l.from l.place
+invariant-tokens l = Scan l.mode l.pattern l.place l.start
 
 abbrev pub decreases-tokens : goal.decreases-tokens
-decreases-tokens l = length l.pattern - l.place
+decreases-tokens l = length l.pattern - l.start
