@@ -7,7 +7,7 @@ use Rattle.std.proofs.lemmas.List.Splits.{slice_split_first, slice_split_none, l
 use Rattle.std.proofs.lemmas.List.Sums.{prefix_len-le-length, fails_before_first}
 use Rattle.std.proofs.Math.ListN.{drop_of_length-le}
 use Rattle.glob_matcher.specs.Bytes.{slash}
-use Rattle.gix_glob.specs.Paths.{pieces, named, past_first, front_part, parts}
+use Rattle.gix_glob.specs.Paths.{pieces, named_parts, later_pieces, front_part, parts}
 
 -- a text without a slash is its own one piece, and nothing follows it
 whole-piece : (text : List ℕ) → length text ≤ position_or_len (λ b. b == slash) text → pieces text ≡ before_first (λ b. b == slash) text ∷ []
@@ -19,14 +19,14 @@ nothing-after : (text : List ℕ) → length text ≤ position_or_len (λ b. b =
 nothing-after text none = drop_of_length-le text (omega arith)
 
 -- the first piece and the named ones of what follows
-pub named-pieces : (text : List ℕ) → named (pieces text) ≡ named (before_first (λ b. b == slash) text ∷ pieces (after_first (λ b. b == slash) text))
-named-pieces text = elim (cases_lt (position_or_len (λ b. b == slash) text) (length text)) [
-  | inl found ↦ ap named (slice_split_first (λ b. b == slash) text 0 found)
+pub named_parts-pieces : (text : List ℕ) → named_parts (pieces text) ≡ named_parts (before_first (λ b. b == slash) text ∷ pieces (after_first (λ b. b == slash) text))
+named_parts-pieces text = elim (cases_lt (position_or_len (λ b. b == slash) text) (length text)) [
+  | inl found ↦ ap named_parts (slice_split_first (λ b. b == slash) text 0 found)
   | inr none ↦ rw (whole-piece text none, nothing-after text none)
 ]
 
 -- a first piece that is not empty is a part
-front-piece : (piece : List ℕ) (more : List (List ℕ)) → 0 < length piece → front_part (piece ∷ more) ++ named (past_first (piece ∷ more)) ≡ piece ∷ named more
+front-piece : (piece : List ℕ) (more : List (List ℕ)) → 0 < length piece → front_part (piece ∷ more) ++ named_parts (later_pieces (piece ∷ more)) ≡ piece ∷ named_parts more
 front-piece [] more some = absurd (omega arith)
 front-piece (b ∷ bs) more some = refl
 
@@ -35,23 +35,23 @@ starts-later [] some relative = absurd (omega arith)
 starts-later (b ∷ bs) some relative = grind arith
 
 -- a text that does not begin with a slash has its first piece as a part
-pub parts-relative : (text : List ℕ) → 0 < length text → slice_index text 0 ≢ slash → parts text ≡ before_first (λ b. b == slash) text ∷ named (pieces (after_first (λ b. b == slash) text))
+pub parts-relative : (text : List ℕ) → 0 < length text → slice_index text 0 ≢ slash → parts text ≡ before_first (λ b. b == slash) text ∷ named_parts (pieces (after_first (λ b. b == slash) text))
 parts-relative text some relative =
     let later : 0 < length (before_first (λ b. b == slash) text) = rw (length-take (position_or_len (λ b. b == slash) text) text) (omega (arith, starts-later text some relative)) in
     elim (cases_lt (position_or_len (λ b. b == slash) text) (length text)) [
-      | inl found ↦ ap (λ ps. front_part ps ++ named (past_first ps)) (slice_split_first (λ b. b == slash) text 0 found) ∙ front-piece _ _ later
-      | inr none ↦ ap (λ ps. front_part ps ++ named (past_first ps)) (whole-piece text none) ∙ front-piece _ _ later ∙ rw (nothing-after text none)
+      | inl found ↦ ap (λ ps. front_part ps ++ named_parts (later_pieces ps)) (slice_split_first (λ b. b == slash) text 0 found) ∙ front-piece _ _ later
+      | inr none ↦ ap (λ ps. front_part ps ++ named_parts (later_pieces ps)) (whole-piece text none) ∙ front-piece _ _ later ∙ rw (nothing-after text none)
     ]
 
 -- the same, by the text's first byte
-pub parts-by_piece : (text : List ℕ) (first : ℕ) (others : List ℕ) → text ≡ first ∷ others → first ≢ slash → parts text ≡ before_first (λ b. b == slash) text ∷ named (pieces (after_first (λ b. b == slash) text))
+pub parts-by_piece : (text : List ℕ) (first : ℕ) (others : List ℕ) → text ≡ first ∷ others → first ≢ slash → parts text ≡ before_first (λ b. b == slash) text ∷ named_parts (pieces (after_first (λ b. b == slash) text))
 parts-by_piece text first others is relative =
     parts-relative text (omega (arith, ap length is)) (λ slashed. relative (sym (ap (λ t. slice_index t 0) is) ∙ slashed))
 
 -- a slash at the front is a part of its own
-absolute-front : (ps : List (List ℕ)) → 0 < length ps → front_part ([] ∷ ps) ++ named (past_first ([] ∷ ps)) ≡ codes "/" ∷ named ps
+absolute-front : (ps : List (List ℕ)) → 0 < length ps → front_part ([] ∷ ps) ++ named_parts (later_pieces ([] ∷ ps)) ≡ codes "/" ∷ named_parts ps
 absolute-front [] some = absurd (omega arith)
 absolute-front (p ∷ ps) some = refl
 
-pub parts-by_slash : (text others : List ℕ) → text ≡ slash ∷ others → parts text ≡ codes "/" ∷ named (pieces others)
+pub parts-by_slash : (text others : List ℕ) → text ≡ slash ∷ others → parts text ≡ codes "/" ∷ named_parts (pieces others)
 parts-by_slash text others is = ap parts is ∙ absolute-front (pieces others) (omega (arith, length-slice_split (λ b. b == slash) others))

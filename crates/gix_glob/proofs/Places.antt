@@ -9,9 +9,9 @@ use Rattle.glob_patterns.specs.declared.pattern.case.Case.{Case}
 use Rattle.glob_patterns.specs.declared.pattern.case.Case.TheVariants.{Sensitive, Fold}
 use Rattle.glob_matcher.specs.Bytes.{EndsInSlash, HasByte, slash}
 use Rattle.glob_patterns.specs.RepositoryPaths.{IsAfterLastSlash, IsBasenameStart}
-use Rattle.gix_glob.specs.Stripping.{compared, Rest, stripped_place}
+use Rattle.gix_glob.specs.Stripping.{folding_by, Rest, stripped_place}
 use Rattle.gix_glob.specs.Paths.{IsFolder}
-use Rattle.gix_glob.proofs.Rests.{Rest-front, length-compared}
+use Rattle.gix_glob.proofs.Rests.{Rest-front, length-folding_by}
 
 -- a byte of the rest is a byte of the path, so much further on
 later-byte : (front rest : List ℕ) (i b : ℕ) → HasByte rest i b → HasByte (front ++ rest) (length front + i) b
@@ -57,16 +57,16 @@ rest-start case base path rest position r start =
 slash-folded : (b : ℕ) → to_ascii_lowercase b ≡ slash → b ≡ slash
 slash-folded b e = grind arith
 
-compared-slash : (case : Case) (text : List ℕ) (i : ℕ) → HasByte (compared case text) i slash → HasByte text i slash
-compared-slash Sensitive text i has = has
-compared-slash Fold text i has =
-    let inside : i < length text = omega (arith, has.inside, length-compared Fold text) in
+folding_by-slash : (case : Case) (text : List ℕ) (i : ℕ) → HasByte (folding_by case text) i slash → HasByte text i slash
+folding_by-slash Sensitive text i has = has
+folding_by-slash Fold text i has =
+    let inside : i < length text = omega (arith, has.inside, length-folding_by Fold text) in
     record { inside = inside; is = slash-folded _ (sym (get_or-map to_ascii_lowercase text i 0 0 inside) ∙ has.is) }
 
-slash-compared : (case : Case) (text : List ℕ) (i : ℕ) → HasByte text i slash → HasByte (compared case text) i slash
-slash-compared Sensitive text i has = has
-slash-compared Fold text i has = record {
-  inside = omega (arith, has.inside, length-compared Fold text);
+slash-folding_by : (case : Case) (text : List ℕ) (i : ℕ) → HasByte text i slash → HasByte (folding_by case text) i slash
+slash-folding_by Sensitive text i has = has
+slash-folding_by Fold text i has = record {
+  inside = omega (arith, has.inside, length-folding_by Fold text);
   is = get_or-map to_ascii_lowercase text i 0 0 has.inside ∙ ap to_ascii_lowercase has.is;
 }
 
@@ -82,7 +82,7 @@ folder-end base ends =
 folder-slash : (case : Case) (base path rest : List ℕ) → Rest case base path rest → EndsInSlash base → HasByte path (length base - 1) slash
 folder-slash case base path rest r ends =
     let base-slash : HasByte base (length base - 1) slash = folder-end base ends in
-    let front-slash = compared-slash case r.front (length base - 1) (subst (λ text. HasByte text (length base - 1) slash) (sym r.same) (slash-compared case base (length base - 1) base-slash)) in
+    let front-slash = folding_by-slash case r.front (length base - 1) (subst (λ text. HasByte text (length base - 1) slash) (sym r.same) (slash-folding_by case base (length base - 1) base-slash)) in
     subst (λ text. HasByte text (length base - 1) slash) (sym r.joined) (record {
       inside = omega (arith, front-slash.inside, length-append r.front rest);
       is = get_or_append_left r.front rest 0 (length base - 1) front-slash.inside ∙ front-slash.is;

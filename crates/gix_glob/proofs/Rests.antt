@@ -6,31 +6,31 @@ use Rattle.std.proofs.lemmas.Slice.Eq.{bytes_eq-Decides}
 use Rattle.std.proofs.lemmas.List.{take-append-drop, length-map}
 use Rattle.glob_patterns.specs.declared.pattern.case.Case.{Case}
 use Rattle.glob_patterns.specs.declared.pattern.case.Case.TheVariants.{Sensitive, Fold}
-use Rattle.gix_glob.specs.Stripping.{compared, Rest}
+use Rattle.gix_glob.specs.Stripping.{folding_by, Rest}
 
 -- comparing keeps a text's length
-pub length-compared : (case : Case) (text : List ℕ) → length (compared case text) ≡ length text
-length-compared Sensitive text = refl
-length-compared Fold text = length-map text to_ascii_lowercase
+pub length-folding_by : (case : Case) (text : List ℕ) → length (folding_by case text) ≡ length text
+length-folding_by Sensitive text = refl
+length-folding_by Fold text = length-map text to_ascii_lowercase
 
 -- the front is as long as the base
 pub Rest-front : (case : Case) (base path rest : List ℕ) (r : Rest case base path rest) → length r.front ≡ length base
-Rest-front case base path rest r = sym (length-compared case r.front) ∙ ap length r.same ∙ length-compared case base
+Rest-front case base path rest r = sym (length-folding_by case r.front) ∙ ap length r.same ∙ length-folding_by case base
 
 -- the front and the rest are what the base's length cuts off
 pub Rest-cut : (case : Case) (base path rest : List ℕ) (r : Rest case base path rest) → r.front ≡ take (length base) path
 Rest-cut case base path rest r = sym (ap (take (length base)) r.joined ∙ take_at r.front rest (length base) (Rest-front case base path rest r))
 
 -- and they are a front and a rest where the front compares equal
-pub Rest-from_cut : (case : Case) (base path : List ℕ) → compared case (take (length base) path) ≡ compared case base → Rest case base path (drop (length base) path)
+pub Rest-from_cut : (case : Case) (base path : List ℕ) → folding_by case (take (length base) path) ≡ folding_by case base → Rest case base path (drop (length base) path)
 Rest-from_cut case base path same = record {
   front = take (length base) path;
   joined = sym (take-append-drop (length base) path);
   same = same;
 }
 
-pub Rest-compares : (case : Case) (base path rest : List ℕ) → Rest case base path rest → compared case (take (length base) path) ≡ compared case base
-Rest-compares case base path rest r = ap (compared case) (sym (Rest-cut case base path rest r)) ∙ r.same
+pub Rest-compares : (case : Case) (base path rest : List ℕ) → Rest case base path rest → folding_by case (take (length base) path) ≡ folding_by case base
+Rest-compares case base path rest r = ap (folding_by case) (sym (Rest-cut case base path rest r)) ∙ r.same
 
 -- what `strip_prefix` tests and answers
 pub Rest-no_prefix : (base path rest : List ℕ) → bytes_eq (take (length base) path) base ≡ false → ¬ Rest Sensitive base path rest

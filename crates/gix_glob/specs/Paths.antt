@@ -16,17 +16,17 @@ front_part ([] ∷ next ∷ more) = codes "/" ∷ []
 front_part ((b ∷ bs) ∷ more) = (b ∷ bs) ∷ []
 
 -- pieces past the first are parts, but for those that are empty or `.`
-abbrev pub named : List (List ℕ) → List (List ℕ)
-named ps = filter (λ piece. not (bytes_eq piece [] || bytes_eq piece (codes "."))) ps
+abbrev pub named_parts : List (List ℕ) → List (List ℕ)
+named_parts ps = filter (λ piece. not (bytes_eq piece [] || bytes_eq piece (codes "."))) ps
 
 -- the pieces past the first
-abbrev pub past_first : List (List ℕ) → List (List ℕ)
-past_first [] = []
-past_first (first ∷ more) = more
+abbrev pub later_pieces : List (List ℕ) → List (List ℕ)
+later_pieces [] = []
+later_pieces (first ∷ more) = more
 
 -- the parts of a path text
 abbrev pub parts : List ℕ → List (List ℕ)
-parts text = front_part (pieces text) ++ named (past_first (pieces text))
+parts text = front_part (pieces text) ++ named_parts (later_pieces (pieces text))
 
 -- whether a part can name a file: it is not the leading slash
 abbrev pub is_file_part : List ℕ → Bool

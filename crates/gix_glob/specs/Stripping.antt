@@ -1,20 +1,20 @@
 -- Stripping a base from a path: what is left of the path, and where its last part then begins.
-use Rattle.std.specs.Prelude.{◌≡◌, ◌==◌, ◌≤◌, ⊤, ℕ, ◌-◌, if◌then◌else◌, List, length, map, ◌++◌, Option, None, Some}
-use Rattle.std.specs.Char.{to_ascii_lowercase}
+use Rattle.std.specs.Prelude.{◌≡◌, ◌==◌, ◌≤◌, ⊤, ℕ, ◌-◌, if◌then◌else◌, List, length, ◌++◌, Option, None, Some}
 use Rattle.std.specs.Option.{ForSome}
 use Rattle.glob_patterns.specs.declared.pattern.case.Case.{Case}
 use Rattle.glob_patterns.specs.declared.pattern.case.Case.TheVariants.{Sensitive, Fold}
+use Rattle.glob_patterns.specs.Folding.{folding_of}
 
--- the bytes that are compared: those of the text, with the case of letters or without
-abbrev pub compared : Case → List ℕ → List ℕ
-compared Sensitive text = text
-compared Fold text = map to_ascii_lowercase text
+-- the bytes that are compared: those of the text, or where case doesn't count those after folding
+abbrev pub folding_by : Case → List ℕ → List ℕ
+folding_by Sensitive text = text
+folding_by Fold text = folding_of (record { 0 = 2 }) text
 
 -- the path is a front that equals the base, and then the rest
 pub record Rest (case : Case) (base path rest : List ℕ) : Type 0 where
   pub front : List ℕ
   pub joined : path ≡ front ++ rest
-  pub same : compared case front ≡ compared case base
+  pub same : folding_by case front ≡ folding_by case base
 
 -- the same for a base that may be missing: then the whole path is left
 abbrev pub RestOf : Case → Option (List ℕ) → List ℕ → List ℕ → Type 0

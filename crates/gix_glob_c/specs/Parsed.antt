@@ -4,8 +4,8 @@ use Rattle.std.specs.List.{ends_with}
 use Rattle.gix_glob.specs.declared.pattern.Mode.{Mode}
 use Rattle.gix_glob.specs.Patterns.{IsPattern, Reads}
 use Rattle.gix_glob.specs.RepositoryPaths.{Answers, IsBasenameStart}
-use Rattle.glob_lines.specs.Paths.{IsPlainPath}
-use Rattle.gix_glob_c.specs.Parts.{case_of, place_of}
+use Rattle.glob_lines.specs.PathLines.{IsPlainPath}
+use Rattle.gix_glob_c.specs.Parts.{case_of, place_in}
 use Rattle.gix_glob_c.specs.declared.parsed.GlobPattern.{GlobPattern}
 
 -- what is known of the text, as the flags of a pattern
@@ -14,7 +14,7 @@ flags_of pattern = record { 0 = pattern.mode }
 
 -- the place of the text's first special byte
 abbrev pub first_of : GlobPattern → Option ℕ
-first_of pattern = place_of pattern.text.now pattern.first_wildcard_pos
+first_of pattern = place_in pattern.text.now pattern.first_wildcard_pos
 
 -- the parts make a pattern
 abbrev pub IsLawful : GlobPattern → Type 0

@@ -11,8 +11,8 @@ abbrev pub case_of : Bool → Case
 case_of fold = if fold then Fold else Sensitive
 
 -- a place past the text's end stands for none
-abbrev pub place_of : List ℕ → ℕ → Option ℕ
-place_of text place = if nat_lt place (length text) then Some place else None
+abbrev pub place_in : List ℕ → ℕ → Option ℕ
+place_in text place = if nat_lt place (length text) then Some place else None
 
 -- the answer is that of the pattern which the line reads as, for the path, in path mode
 pub record LineAnswers (line path : List ℕ) (is_dir fold answer : Bool) : Type 0 where

@@ -5,7 +5,7 @@ ghost use Rattle.std.specs.Prelude.{◌≡◌, ◌↔◌, true, false, IsTrue};
 ghost use Rattle.gix_glob.specs.Bytes.{HasByte, slash};
 ghost use Rattle.gix_glob.specs.Matching.{Splits};
 ghost use Rattle.gix_glob.specs.Patterns.{HasReading, IsPattern};
-ghost use Rattle.gix_glob_c.specs.Parts.{LineAnswers, case_of, place_of};
+ghost use Rattle.gix_glob_c.specs.Parts.{LineAnswers, case_of, place_in};
 
 pub mod ignore_file;
 pub mod parsed;
@@ -56,7 +56,7 @@ pub extern "C" fn gix_glob_matches(
     value: &[u8],
     mode: u8,
 ) -> bool
-    ensures { IsPattern text.now (record { 0 = pattern_mode }) (place_of text.now first_wildcard_pos) →
+    ensures { IsPattern text.now (record { 0 = pattern_mode }) (place_in text.now first_wildcard_pos) →
         IsTrue result ↔ Splits value.now text.now (record { 0 = mode }) }
 {
     let view = PatternView {
@@ -69,7 +69,7 @@ pub extern "C" fn gix_glob_matches(
 
 /// The place, where it is inside the text.
 fn place_in(text: &[u8], place: usize) -> Option<usize>
-    ensures { result ≡ place_of text.now place }
+    ensures { result ≡ place_in text.now place }
 {
     if place < text.len() {
         Some(place)

@@ -12,17 +12,17 @@ use Rattle.gix_glob.specs.Deciding.{AnswersAt, AnswersUnder, PairAnswers, path_m
 use Rattle.gix_glob.specs.Lists.{Entry}
 use Rattle.gix_glob.specs.Loaded.{Listed}
 use Rattle.gix_glob.specs.RepositoryPaths.{Answers, IsAfterLastSlash, IsBasenameStart}
-use Rattle.gix_glob.specs.Stripping.{NothingLeft, Rest, RestOf, compared}
+use Rattle.gix_glob.specs.Stripping.{NothingLeft, Rest, RestOf, folding_by}
 
 -- ---- one rest, and one place in it
 
-length-compared : (case : Case) (text : List ℕ) → length (compared case text) ≡ length text
-length-compared Sensitive text = refl
-length-compared Fold text = length-map text _
+length-folding_by : (case : Case) (text : List ℕ) → length (folding_by case text) ≡ length text
+length-folding_by Sensitive text = refl
+length-folding_by Fold text = length-map text _
 
 Rest-drop : (case : Case) (base path rest : List ℕ) → Rest case base path rest → rest ≡ drop (length base) path
 Rest-drop case base path rest h =
-    let same : length h.front ≡ length base = sym (length-compared case h.front) ∙ ap length h.same ∙ length-compared case base in
+    let same : length h.front ≡ length base = sym (length-folding_by case h.front) ∙ ap length h.same ∙ length-folding_by case base in
     sym (ap (λ n. drop n path) (sym same) ∙ ap (drop (length h.front)) h.joined ∙ drop-append_seam h.front rest)
 
 RestOf-only : (case : Case) (base : Option (List ℕ)) (path rest other : List ℕ) → RestOf case base path rest → RestOf case base path other → other ≡ rest

@@ -7,7 +7,7 @@ use Rattle.gix_glob.specs.Lists.{Entry}
 use Rattle.gix_glob.specs.Loaded.{Listed}
 use Rattle.gix_glob.specs.Paths.{IsPlainPath}
 use Rattle.glob_lines.specs.Decisions.{WritesDecisions, verdict}
-use Rattle.glob_lines.specs.Paths.{MarksDirectory}
+use Rattle.glob_lines.specs.PathLines.{MarksDirectory}
 use Rattle.glob_lines.specs.Private.Growing.{Adds}
 
 module _ {V : Type 0} (lists : List (Listed V)) (case : Case) (line path : List ℕ) (is_dir : Bool) (old new : List ℕ) where

@@ -7,7 +7,7 @@ use Rattle.gix_glob.specs.Paths.{Base}
 use Rattle.gix_glob.specs.Stripping.{NothingLeft, RestOf}
 use Rattle.glob_lines.specs.Mappings.{MappingsText, MatchesText, WritesMatches, WritesNumbers}
 use Rattle.glob_lines.specs.Numbers.{Picks, spaced}
-use Rattle.glob_lines.specs.Paths.{IsPlainPath, MarksDirectory}
+use Rattle.glob_lines.specs.PathLines.{IsPlainPath, MarksDirectory}
 use Rattle.glob_lines.specs.Plain.{Plain, PlainEntry, plain_of}
 use Rattle.glob_lines.specs.Private.Growing.{Adds}
 use Rattle.glob_lines.proofs.NumbersLemmas.{Picks-more, Picks-skip, separator_after, spaced-more}

@@ -11,7 +11,7 @@ use Rattle.gix_glob.specs.declared.wildmatch.Mode.{Mode}
 use Rattle.gix_glob.specs.Matching.{Splits}
 use Rattle.gix_glob.specs.Paths.{Base, folders, parts}
 use Rattle.gix_glob.specs.RepositoryPaths.{IsAfterLastSlash, IsBasenameStart}
-use Rattle.gix_glob.specs.Stripping.{NothingLeft, RestOf, compared}
+use Rattle.gix_glob.specs.Stripping.{NothingLeft, RestOf, folding_by}
 use Rattle.glob_lines.specs.Lines.{WritesEach, terminated}
 use Rattle.glob_lines.specs.Mappings.{EntryAnswers, WritesMatches, WritesNumbers, WritesPath}
 use Rattle.glob_lines.specs.Numbers.{Picks, spaced}
@@ -72,15 +72,15 @@ numbers_once entries case is_dir rest a b x y =
     (subst (λ position. Picks (EntryAnswers case is_dir rest position) entries y.chosen) start y.picks) in
     x.shown ∙ ap (λ entries. spaced (map (λ entry. entry.number) entries)) chosen ∙ sym y.shown
 
-length-compared : (case : Case) (text : List ℕ) → length (compared case text) ≡ length text
-length-compared Sensitive text = refl
-length-compared Fold text = length-map text to_ascii_lowercase
+length-folding_by : (case : Case) (text : List ℕ) → length (folding_by case text) ≡ length text
+length-folding_by Sensitive text = refl
+length-folding_by Fold text = length-map text to_ascii_lowercase
 
 pub rest_once : (case : Case) (base : Option (List ℕ)) (path r s : List ℕ) → RestOf case base path r → RestOf case base path s → r ≡ s
 rest_once case None path r s x y = x ∙ sym y
 rest_once case (Some base) path r s x y =
-    let long : (front : List ℕ) → compared case front ≡ compared case base → length front ≡ length base =
-    λ front same. sym (length-compared case front) ∙ ap length same ∙ length-compared case base in
+    let long : (front : List ℕ) → folding_by case front ≡ folding_by case base → length front ≡ length base =
+    λ front same. sym (length-folding_by case front) ∙ ap length same ∙ length-folding_by case base in
     sym (ap (drop (length base)) x.joined ∙ drop_at x.front r (length base) (long x.front x.same))
     ∙ (ap (drop (length base)) y.joined ∙ drop_at y.front s (length base) (long y.front y.same))
 

@@ -7,7 +7,7 @@ use Rattle.gix_glob.specs.Loaded.{Listed}
 use Rattle.gix_glob.specs.Paths.{IsPlainPath}
 use Rattle.gix_glob.specs.Patterns.{is_negative}
 use Rattle.glob_lines.specs.Lines.{Lines, WritesEach}
-use Rattle.glob_lines.specs.Paths.{MarksDirectory}
+use Rattle.glob_lines.specs.PathLines.{MarksDirectory}
 
 -- what is said of an entry that decides: whether the path is kept or ignored, by which list, and by which number in it
 abbrev pub verdict : {V : Type 0} → ℕ → Entry V → List ℕ

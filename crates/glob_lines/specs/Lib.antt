@@ -5,7 +5,7 @@ pub mod Lines
 pub mod Mappings
 pub mod Numbered
 pub mod Numbers
-pub mod Paths
+pub mod PathLines
 pub mod Plain
 pub mod Transfers
 pub mod Values

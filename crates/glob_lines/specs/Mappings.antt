@@ -7,7 +7,7 @@ use Rattle.gix_glob.specs.RepositoryPaths.{Answers, IsBasenameStart}
 use Rattle.gix_glob.specs.Stripping.{NothingLeft, RestOf}
 use Rattle.glob_lines.specs.Lines.{Lines, WritesEach}
 use Rattle.glob_lines.specs.Numbers.{Picks, spaced}
-use Rattle.glob_lines.specs.Paths.{IsPlainPath, MarksDirectory}
+use Rattle.glob_lines.specs.PathLines.{IsPlainPath, MarksDirectory}
 use Rattle.glob_lines.specs.Plain.{Plain, PlainEntry}
 use Rattle.glob_lines.specs.Transfers.{ReadsWhole}
 

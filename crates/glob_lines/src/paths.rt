@@ -1,7 +1,7 @@
 //! Path lines: which of them are paths of a repository, and which mark a directory.
 ghost use Rattle.std.specs.Prelude.{◌↔◌, IsTrue};
 ghost use Rattle.gix_glob.specs.Paths.{IsPlainPath};
-ghost use Rattle.glob_lines.specs.Paths.{MarksDirectory};
+ghost use Rattle.glob_lines.specs.PathLines.{MarksDirectory};
 
 /// Whether a line is a path as repositories have them: not empty, with no leading slash and no two slashes in a row.
 ///

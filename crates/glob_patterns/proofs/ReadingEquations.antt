@@ -7,7 +7,7 @@ use Rattle.std.proofs.lemmas.Bool.Decides.{Decides-eqb}
 use Rattle.std.proofs.lemmas.Slice.Eq.{starts_is, ends_is}
 use Rattle.glob_patterns.specs.declared.pattern.mode.Mode.{Mode}
 use Rattle.glob_patterns.specs.Patterns.{HasReading, Reads, bits_of, first_special, is_blank, sign_of}
-use Rattle.glob_patterns.specs.Readings.{Reading, after, before_tail, lead_of, reading_after_lead, reading_after_sign, reading_of, reading_with, tail_of}
+use Rattle.glob_patterns.specs.Readings.{Reading, before_tail, lead_of, reading_after_lead, reading_after_sign, reading_of, reading_with, rest_after, tail_of}
 
 -- ---- a reading is that of the equation
 
@@ -28,17 +28,17 @@ after_sign-is : (sign lead inner : List ℕ) → is_blank (lead ++ inner) ≡ fa
 unfolding reading_after_sign
 after_sign-is sign lead inner some is =
     let rest = lead ++ inner in
-    let behind : after (lead_of rest) rest ≡ inner = ap (λ (l : List ℕ). after l rest) (sym is) ∙ drop_at lead inner (length lead) refl in
-    ap (λ b. cond b None (Some (reading_after_lead sign (lead_of rest) (after (lead_of rest) rest)))) some
-    ∙ ap (λ l. Some (reading_after_lead sign l (after (lead_of rest) rest))) (sym is)
+    let behind : rest_after (lead_of rest) rest ≡ inner = ap (λ (l : List ℕ). rest_after l rest) (sym is) ∙ drop_at lead inner (length lead) refl in
+    ap (λ b. cond b None (Some (reading_after_lead sign (lead_of rest) (rest_after (lead_of rest) rest)))) some
+    ∙ ap (λ l. Some (reading_after_lead sign l (rest_after (lead_of rest) rest))) (sym is)
     ∙ ap (λ l. Some (reading_after_lead sign lead l)) behind
 
 line-is : (may_alter : Bool) (line sign rest : List ℕ) → sign ≡ sign_of may_alter line → line ≡ sign ++ rest → reading_of may_alter line ≡ reading_after_sign sign rest
 unfolding reading_of
 line-is may_alter line sign rest signed joined =
-    let behind : after (sign_of may_alter line) line ≡ rest =
-    ap (λ (l : List ℕ). after l line) (sym signed) ∙ ap (after sign) joined ∙ drop_at sign rest (length sign) refl in
-    ap (λ l. reading_after_sign l (after (sign_of may_alter line) line)) (sym signed) ∙ ap (reading_after_sign sign) behind
+    let behind : rest_after (sign_of may_alter line) line ≡ rest =
+    ap (λ (l : List ℕ). rest_after l line) (sym signed) ∙ ap (rest_after sign) joined ∙ drop_at sign rest (length sign) refl in
+    ap (λ l. reading_after_sign l (rest_after (sign_of may_alter line) line)) (sym signed) ∙ ap (reading_after_sign sign) behind
 
 pub reading_of-Reads : (may_alter : Bool) (line body : List ℕ) (flags : Mode) (place : Option ℕ) → Reads line may_alter body flags place → reading_of may_alter line ≡ Some (record { body = body; flags = flags; place = place })
 reading_of-Reads may_alter line body flags place r =
@@ -52,7 +52,7 @@ reading_of-Reads may_alter line body flags place r =
 -- ---- the equation gives a reading
 
 -- a slash that the text begins with, and what follows it
-lead-rest : (rest : List ℕ) → rest ≡ lead_of rest ++ after (lead_of rest) rest
+lead-rest : (rest : List ℕ) → rest ≡ lead_of rest ++ rest_after (lead_of rest) rest
 lead-rest rest =
     ⊎_elim
     (λ yes. let front = (starts_is Decides-eqb rest (codes "/") (starts_with nat_eq rest (codes "/")) refl).0 yes in
@@ -78,7 +78,7 @@ begins_with front line = starts_with nat_eq line front
 begins : (line front : List ℕ) → begins_with front line ≡ true → line ≡ front ++ drop (length front) line
 begins line front h = (starts_is Decides-eqb line front (begins_with front line) refl).0 h
 
-sign-rest : (may_alter : Bool) (line : List ℕ) → line ≡ sign_of may_alter line ++ after (sign_of may_alter line) line
+sign-rest : (may_alter : Bool) (line : List ℕ) → line ≡ sign_of may_alter line ++ rest_after (sign_of may_alter line) line
 sign-rest false line = refl
 sign-rest true line =
     ⊎_elim
@@ -112,7 +112,7 @@ Reads-parts may_alter line sign lead inner signed joined some leads =
 
 -- the equation, where what follows the sign is blank, and where it isn't
 abbrev rest_of : Bool → List ℕ → List ℕ
-rest_of may_alter line = after (sign_of may_alter line) line
+rest_of may_alter line = rest_after (sign_of may_alter line) line
 
 blank-none : (may_alter : Bool) (line : List ℕ) → is_blank (rest_of may_alter line) ≡ true → reading_of may_alter line ≡ None
 unfolding reading_of reading_after_sign
@@ -127,7 +127,7 @@ some_reading may_alter line some =
     let sign = sign_of may_alter line in
     let rest = rest_of may_alter line in
     let lead = lead_of rest in
-    let inner = after lead rest in
+    let inner = rest_after lead rest in
     let parts : rest ≡ lead ++ inner = lead-rest rest in
     let reading : Reading = reading_with sign lead (before_tail inner) (tail_of inner) in
     let reads : Reads line may_alter reading.body reading.flags reading.place =

@@ -6,8 +6,9 @@ use Rattle.std.proofs.lemmas.Bool.{cases_Bool, or_cases, false≢true}
 use Rattle.std.proofs.lemmas.Bool.Decides.{Decides-eqb}
 use Rattle.std.proofs.lemmas.List.{append_cancel_left}
 use Rattle.std.proofs.lemmas.Slice.Eq.{starts_is}
+use Rattle.glob_matcher.specs.Bytes.{has_slash}
 use Rattle.glob_patterns.specs.declared.pattern.mode.Mode.{Mode}
-use Rattle.glob_patterns.specs.Patterns.{Reads, sum_of_bits, sign_of, slash_if, shown, is_star_and_literal, is_negative, is_absolute, is_for_directories}
+use Rattle.glob_patterns.specs.Patterns.{Reads, sum_of_bits, sign_of, slash_if, shown_line, is_star_and_literal, is_negative, is_absolute, is_for_directories}
 use Rattle.glob_patterns.proofs.FlagBits.{is_negative-sum, is_absolute-sum, is_for_directories-sum}
 
 -- a slash that stands is a slash
@@ -59,7 +60,7 @@ module _ (text body : List ℕ) (flags : Mode) (place : Option ℕ) (r : Reads t
   tail_is : slash_if (is_for_directories flags) ≡ r.tail
   tail_is = ap slash_if (is_for_directories-sum flags _ _ _ _ _ r.flagged) ∙ slash_again r.tail _ r.trails
 
-  shown_is : shown flags body ≡ mark_if (is_negative flags) ++ (r.lead ++ (body ++ r.tail))
+  shown_is : shown_line flags body ≡ mark_if (is_negative flags) ++ (r.lead ++ (body ++ r.tail))
   shown_is =
       ap (λ (l : List ℕ). mark_if (is_negative flags) ++ (l ++ (body ++ slash_if (is_for_directories flags)))) lead_is
       ∙ ap (λ (t : List ℕ). mark_if (is_negative flags) ++ (r.lead ++ (body ++ t))) tail_is
@@ -107,8 +108,8 @@ module _ (text body : List ℕ) (flags : Mode) (place : Option ℕ) (r : Reads t
   marks_agree : bytes_eq r.sign (codes "!") ≡ bytes_eq (mark_if (is_negative flags)) (codes "!")
   marks_agree = sym negative_is ∙ sym (bytes_eq-mark_if (is_negative flags))
 
-  pub Reads-shown : Reads (shown flags body) true body flags place
-  Reads-shown = record {
+  pub Reads-shown_line : Reads (shown_line flags body) true body flags place
+  Reads-shown_line = record {
     sign = mark_if (is_negative flags);
     lead = r.lead;
     tail = r.tail;

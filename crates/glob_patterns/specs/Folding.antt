@@ -4,12 +4,12 @@ use Rattle.glob_matcher.specs.declared.wildmatch.mode.Mode.{Mode}
 use Rattle.glob_matcher.specs.Bytes.{fold}
 
 -- the bytes of a text after folding
-abbrev pub folded : Mode → List ℕ → List ℕ
-folded mode text = map (fold mode) text
+abbrev pub folding_of : Mode → List ℕ → List ℕ
+folding_of mode text = map (fold mode) text
 
 -- the two texts are equal, up to case where the mode folds
 abbrev pub AreAlike : Mode → List ℕ → List ℕ → Type 0
-AreAlike mode a b = folded mode a ≡ folded mode b
+AreAlike mode a b = folding_of mode a ≡ folding_of mode b
 
 -- the value ends in the end, up to case where the mode folds
 pub record EndsAlike (mode : Mode) (value end : List ℕ) : Type 0 where

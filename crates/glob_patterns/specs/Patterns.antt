@@ -100,12 +100,12 @@ pub record HasReading (text : List ℕ) (may_alter : Bool) : Type 0 where
   pub read : Reads text may_alter body flags place
 
 -- a text as it is displayed: what isn't UTF-8 gives way to U+FFFD
-abbrev pub displayed : List ℕ → List ℕ
-displayed text = encode_utf8_all (lossy_chars text)
+abbrev pub display_of : List ℕ → List ℕ
+display_of text = encode_utf8_all (lossy_chars text)
 
 -- the line that is shown for a pattern
-abbrev pub shown : Mode → List ℕ → List ℕ
-shown flags body =
+abbrev pub shown_line : Mode → List ℕ → List ℕ
+shown_line flags body =
     (if is_negative flags then codes "!" else [])
     ++ (slash_if (is_absolute flags) ++ (body ++ slash_if (is_for_directories flags)))
 

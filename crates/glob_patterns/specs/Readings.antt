@@ -11,8 +11,8 @@ pub record Reading : Type 0 where
   pub place : Option ℕ
 
 -- what follows a front
-abbrev pub after : List ℕ → List ℕ → List ℕ
-after front text = drop (length front) text
+abbrev pub rest_after : List ℕ → List ℕ → List ℕ
+rest_after front text = drop (length front) text
 
 -- the slash that a text begins with, or ends in
 abbrev pub lead_of : List ℕ → List ℕ
@@ -40,8 +40,8 @@ reading_after_lead sign lead inner = reading_with sign lead (before_tail inner) 
 -- the reading, where this follows the sign
 unfoldable pub reading_after_sign : List ℕ → List ℕ → Option Reading
 reading_after_sign sign rest =
-    if is_blank rest then None else Some (reading_after_lead sign (lead_of rest) (after (lead_of rest) rest))
+    if is_blank rest then None else Some (reading_after_lead sign (lead_of rest) (rest_after (lead_of rest) rest))
 
 -- the reading of a line, which a blank one hasn't
 unfoldable pub reading_of : Bool → List ℕ → Option Reading
-reading_of may_alter line = reading_after_sign (sign_of may_alter line) (after (sign_of may_alter line) line)
+reading_of may_alter line = reading_after_sign (sign_of may_alter line) (rest_after (sign_of may_alter line) line)

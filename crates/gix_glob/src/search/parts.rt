@@ -12,7 +12,7 @@ pub(crate) struct Parts<'a> {
 impl<'a> Parts<'a> {
     ghost use Rattle.std.specs.List.{before_first, after_first};
     ghost use Rattle.std.specs.Prelude.{MatchOption, [], ◌∷◌};
-    ghost use Rattle.gix_glob.specs.Paths.{parts, named, pieces};
+    ghost use Rattle.gix_glob.specs.Paths.{parts, named_parts, pieces};
     ghost use Rattle.gix_glob.specs.Private.PartsLeft.{parts_left};
 
     pub(crate) fn new(text: &'a [u8]) -> Parts<'a>
@@ -46,8 +46,8 @@ impl<'a> Parts<'a> {
     // The next piece that is neither empty nor `.`.
     fn next_named(&mut self) -> Option<&'a [u8]>
         ensures found { MatchOption result
-            ((named (pieces self.old.rest.now) ≡ []) × (named (pieces self.new.rest.now) ≡ []))
-            (λ part. named (pieces self.old.rest.now) ≡ part.now ∷ named (pieces self.new.rest.now)) }
+            ((named_parts (pieces self.old.rest.now) ≡ []) × (named_parts (pieces self.new.rest.now) ≡ []))
+            (λ part. named_parts (pieces self.old.rest.now) ≡ part.now ∷ named_parts (pieces self.new.rest.now)) }
         ensures same { self.new.is_at_front ≡ self.old.is_at_front }
     {
         'pieces: while !self.rest.is_empty() {

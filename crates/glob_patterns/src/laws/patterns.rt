@@ -12,7 +12,7 @@ ghost use Rattle.glob_matcher.specs.Bytes.{HasByte, is_special};
 ghost use Rattle.glob_matcher.specs.Matching.{Splits};
 ghost use Rattle.glob_patterns.specs.PatternParts.{text_of, SamePattern, pattern_cmp};
 ghost use Rattle.glob_patterns.specs.Readings.{reading_of};
-ghost use Rattle.glob_patterns.specs.Patterns.{HasReading, IsUnescapedUpTo, Reads, SameReading, displayed, is_absolute, is_joining, is_negative, shown};
+ghost use Rattle.glob_patterns.specs.Patterns.{HasReading, IsUnescapedUpTo, Reads, SameReading, display_of, is_absolute, is_joining, is_negative, shown_line};
 
 use crate::pattern::{Case, Pattern};
 use std::hash::Hash;
@@ -63,12 +63,12 @@ pub fn readings_are_these()
 pub fn shown_line_is_read_back()
     ensures { (text body : List ℕ) (flags : pattern.Mode) (place : Option ℕ) → Reads text true body flags place
         → (IsTrue (starts_with nat_eq body (codes "!")) → IsTrue (is_negative flags || is_absolute flags))
-        → Reads (shown flags body) true body flags place }
+        → Reads (shown_line flags body) true body flags place }
 {}
 
 /// A text that is UTF-8 is displayed byte for byte.
 pub fn utf8_is_displayed_as_it_is()
-    ensures { (text : List ℕ) → IsUtf8 text → displayed text ≡ text }
+    ensures { (text : List ℕ) → IsUtf8 text → display_of text ≡ text }
 {}
 
 /// Patterns of equal text match the same values: what the line said of negation, of directories and of a leading slash

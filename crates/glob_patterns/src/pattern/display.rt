@@ -26,10 +26,10 @@ impl Clone for Pattern {
 /// Shows `!` and the slashes again around the text. Where the text isn't UTF-8, U+FFFD stands for what can't be read.
 impl fmt::Display for Pattern {
     ghost use Rattle.std.specs.Prelude.{Some};
-    ghost use Rattle.glob_patterns.specs.Patterns.{shown, displayed};
+    ghost use Rattle.glob_patterns.specs.Patterns.{display_of, shown_line};
     ghost use Rattle.glob_patterns.specs.PatternParts.{text_of, mode_of};
 
-    ghost output = { λ p. Some (shown (mode_of p) (displayed (text_of p))) };
+    ghost output = { λ p. Some (shown_line (mode_of p) (display_of (text_of p))) };
 
     fn fmt<W: fmt::Write>(&self, f: &mut fmt::Formatter<W>) -> fmt::Result {
         let sign = mark_if(self.mode.contains(Mode::NEGATIVE), "!");

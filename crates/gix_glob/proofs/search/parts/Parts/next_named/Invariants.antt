@@ -1,11 +1,11 @@
 use Rattle.std.proofs.Common.{◌≡◌, length}
-use Rattle.gix_glob.specs.Paths.{named, pieces}
+use Rattle.gix_glob.specs.Paths.{named_parts, pieces}
 use Rattle.gix_glob.proofs.search.parts.Parts.next_named.Given as goal
 
 -- no part was passed over
 abbrev pub invariant-pieces : goal.invariant-pieces
 invariant-pieces l = record {
-  kept : named (pieces l.self.rest.now) ≡ named (pieces l.fn.self.rest.now);
+  kept : named_parts (pieces l.self.rest.now) ≡ named_parts (pieces l.fn.self.rest.now);
   same : l.self.is_at_front ≡ l.fn.self.is_at_front;
 }
 
