@@ -21,21 +21,22 @@ use Rattle.glob_matcher.proofs.lemmas.reading.Starts.{dirs_slash}
 -- ---- room
 
 -- after a star token there is room one deeper
-pub room_after : (mode : Mode) (p : List ℕ) (i : ℕ) (t : Token) (j depth : ℕ) → TokenAt mode p i t j → IsStarToken p i t j
-    → HasRoom p i mode depth → HasRoom p j mode (depth + 1)
-room_after mode p i t j depth here is_star room = by room.tokens room.read room.few where
-  by : (ts : List Token) → From mode p i ts → depth + star_count ts ≤ 63 → HasRoom p j mode (depth + 1)
-  by [] read few = let inside = TokenAt-inside mode p i t j here in absurd (omega arith)
-  by (u ∷ us) read few =
-      let same = TokenAt-unique mode p i u t read.0 j read.1 here in
-      let counted : star_count (u ∷ us) ≡ star_count us + 1 =
-      subst (λ (w : Token). star_count (w ∷ us) ≡ star_count us + 1) (sym same.0) (is_star.counts us) in
-      record { tokens = us; read = subst (λ (n : ℕ). From mode p n us) same.1 read.2; few = omega arith }
+module _ {mode : Mode} {p : List ℕ} {i : ℕ} {t : Token} {j depth : ℕ} where
+  pub room_after : TokenAt mode p i t j → IsStarToken p i t j
+      → HasRoom p i mode depth → HasRoom p j mode (depth + 1)
+  room_after here is_star room = by room.tokens room.read room.few where
+    by : (ts : List Token) → From mode p i ts → depth + star_count ts ≤ 63 → HasRoom p j mode (depth + 1)
+    by [] read few = let inside = TokenAt-inside mode p i t j here in absurd (omega arith)
+    by (u ∷ us) read few =
+        let same = TokenAt-unique mode p i u t read.0 j read.1 here in
+        let counted : star_count (u ∷ us) ≡ star_count us + 1 =
+        subst (λ (w : Token). star_count (w ∷ us) ≡ star_count us + 1) (sym same.0) (is_star.counts us) in
+        record { tokens = us; read = subst (λ (n : ℕ). From mode p n us) same.1 read.2; few = omega arith }
 
 -- at the slash of a double star's token there is as much room as after it
-pub room_at_slash : (mode : Mode) (p : List ℕ) (i depth : ℕ) → HasByte p i slash → HasRoom p (i + 1) mode depth
+pub room_at_slash : {mode : Mode} {p : List ℕ} {i depth : ℕ} → HasByte p i slash → HasRoom p (i + 1) mode depth
     → HasRoom p i mode depth
-room_at_slash mode p i depth h room =
+room_at_slash {mode} {p} {i} h room =
     record { tokens = Byte slash ∷ room.tokens; read = (i + 1, slash_token mode p i h, room.read); few = room.few }
 
 -- ---- the first token after a star
@@ -62,32 +63,33 @@ first_token_by mode p i wanted Dirs j bare here is = absurd (bare (run_lead p i 
 first_token_by mode p i wanted Nothing j bare here is =
     record { token = Nothing; after = j; here = here; kind = inr refl; asks = λ c e. let same : None ≡ Some c = sym is ∙ e in cc }
 
-pub first_token : (mode : Mode) (p : List ℕ) (i j : ℕ) (wanted : Option ℕ) (s : Shape) → ¬ HasByte p i star → IsToken mode p i s j
+pub first_token : {mode : Mode} {p : List ℕ} {i j : ℕ} {wanted : Option ℕ} {s : Shape} → ¬ HasByte p i star → IsToken mode p i s j
     → wanted ≡ literal_of s → FirstToken mode p i wanted
-first_token mode p i j wanted s bare x is =
+first_token {mode} {p} {i} {j} {wanted} bare x is =
     first_token_by mode p i wanted x.token j bare x.here (is ∙ ap literal_of x.shown)
 
--- no split begins at a place that a search passes over
-pub passed_over : (mode : Mode) (p v : List ℕ) (i : ℕ) (wanted : Option ℕ) (a b k : ℕ) → FirstToken mode p i wanted
-    → Skips mode v wanted a b → a ≤ k → k < b → ¬ SplitsFrom v k p i mode
-passed_over mode p v i wanted a b k x skips low below s = by wanted (skips.differs k low below) x.asks where
-  by : (w : Option ℕ) → IsSomeAnd w (λ c. fold mode (get_or v k 0) ≢ fold mode c) → ((c : ℕ) → w ≡ Some c → x.token ≡ Byte c) → ⊥
-  by None differs asks = differs
-  by (Some c) differs asks =
-      let here : TokenAt mode p i (Byte c) x.after = subst (λ (t : Token). TokenAt mode p i t x.after) (asks c refl) x.here in
-      differs (one_out mode p v i x.after k (Byte c) tt here s).1
+module _ {mode : Mode} {p v : List ℕ} {i : ℕ} {wanted : Option ℕ} where
+  -- no split begins at a place that a search passes over
+  pub passed_over : {a b : ℕ} (k : ℕ) → FirstToken mode p i wanted
+      → Skips mode v wanted a b → a ≤ k → k < b → ¬ SplitsFrom v k p i mode
+  passed_over k x skips low below s = by wanted (skips.differs k low below) x.asks where
+    by : (w : Option ℕ) → IsSomeAnd w (λ c. fold mode (get_or v k 0) ≢ fold mode c) → ((c : ℕ) → w ≡ Some c → x.token ≡ Byte c) → ⊥
+    by None differs asks = differs
+    by (Some c) differs asks =
+        let here : TokenAt mode p i (Byte c) x.after = subst (λ (t : Token). TokenAt mode p i t x.after) (asks c refl) x.here in
+        differs (one_out mode p v i x.after k (Byte c) tt here s).1
 
--- no split begins at the value's end
-pub not_at_end : (mode : Mode) (p v : List ℕ) (i : ℕ) (wanted : Option ℕ) (k : ℕ) → FirstToken mode p i wanted → k ≡ length v
-    → ¬ SplitsFrom v k p i mode
-not_at_end mode p v i wanted k x all s = by x.kind where
-  by : IsOne x.token ⊎ (x.token ≡ Nothing) → ⊥
-  by (inl one) =
-      let out = one_out mode p v i x.after k x.token one x.here s in
-      let inside : k < length v = out.0 in
-      omega arith
-  by (inr same) =
-      nothing_out mode p v i x.after k (subst (λ (t : Token). TokenAt mode p i t x.after) same x.here) (omega arith) s
+  -- no split begins at the value's end
+  pub not_at_end : (k : ℕ) → FirstToken mode p i wanted → k ≡ length v
+      → ¬ SplitsFrom v k p i mode
+  not_at_end k x all s = by x.kind where
+    by : IsOne x.token ⊎ (x.token ≡ Nothing) → ⊥
+    by (inl one) =
+        let out = one_out mode p v i x.after k x.token one x.here s in
+        let inside : k < length v = out.0 in
+        omega arith
+    by (inr same) =
+        nothing_out mode p v i x.after k (subst (λ (t : Token). TokenAt mode p i t x.after) same x.here) (omega arith) s
 
 -- ---- the searches
 
@@ -97,171 +99,171 @@ pub record Tried (mode : Mode) (p v : List ℕ) (i depth at place until : ℕ) :
   pub high : place ≤ until
   pub none : HasRoom p i mode depth → (k : ℕ) → at ≤ k → k < place → ¬ SplitsFrom v k p i mode
 
--- the places passed over are tried too
-tried_to : (mode : Mode) (p v : List ℕ) (i depth at place until found : ℕ) (wanted : Option ℕ) → Tried mode p v i depth at place until
-    → FirstToken mode p i wanted → Skips mode v wanted place found → HasRoom p i mode depth
-    → (k : ℕ) → at ≤ k → k < found → ¬ SplitsFrom v k p i mode
-tried_to mode p v i depth at place until found wanted x first skips room k low below = by (cases_lt k place) where
-  by : (k < place) ⊎ (place ≤ k) → ¬ SplitsFrom v k p i mode
-  by (inl before) = x.none room k low before
-  by (inr after) = passed_over mode p v i wanted place found k first skips after below
+module _ {mode : Mode} {p v : List ℕ} {i depth at place until found : ℕ} {wanted : Option ℕ} where
+  -- the places passed over are tried too
+  tried_to : Tried mode p v i depth at place until
+      → FirstToken mode p i wanted → Skips mode v wanted place found → HasRoom p i mode depth
+      → (k : ℕ) → at ≤ k → k < found → ¬ SplitsFrom v k p i mode
+  tried_to x first skips room k low below = by (cases_lt k place) where
+    by : (k < place) ⊎ (place ≤ k) → ¬ SplitsFrom v k p i mode
+    by (inl before) = x.none room k low before
+    by (inr after) = passed_over k first skips after below
 
-pub tried_next : (mode : Mode) (p v : List ℕ) (i depth at place until found : ℕ) (wanted : Option ℕ) (answer : Answer)
-    → Tried mode p v i depth at place until → FirstToken mode p i wanted → Skips mode v wanted place found → found < until
-    → IsAttempt answer p i v found mode depth → answer ≢ Match → Tried mode p v i depth at (found + 1) until
-tried_next mode p v i depth at place until found wanted answer x first skips inside attempt lost =
-    let low : at ≤ place = x.low in
-    let past : place ≤ found = skips.low in record {
-      low = omega arith;
-      high = omega arith;
-      none = λ room k above below. by room k above below (cases_lt k found);
-    } where
-      by : HasRoom p i mode depth → (k : ℕ) → at ≤ k → k < found + 1 → (k < found) ⊎ (found ≤ k) → ¬ SplitsFrom v k p i mode
-      by room k above below (inl before) = tried_to mode p v i depth at place until found wanted x first skips room k above before
-      by room k above below (inr after) =
-          let same : found ≡ k = omega arith in
-          subst (λ (n : ℕ). ¬ SplitsFrom v n p i mode) same ((attempt.excludes room).here lost)
+  pub tried_next : {answer : Answer} → Tried mode p v i depth at place until → FirstToken mode p i wanted → Skips mode v wanted place found → found < until
+      → IsAttempt answer p i v found mode depth → answer ≢ Match → Tried mode p v i depth at (found + 1) until
+  tried_next x first skips inside attempt lost =
+      let low : at ≤ place = x.low in
+      let past : place ≤ found = skips.low in record {
+        low = omega arith;
+        high = omega arith;
+        none = λ room k above below. by room k above below (cases_lt k found);
+      } where
+        by : HasRoom p i mode depth → (k : ℕ) → at ≤ k → k < found + 1 → (k < found) ⊎ (found ≤ k) → ¬ SplitsFrom v k p i mode
+        by room k above below (inl before) = tried_to x first skips room k above before
+        by room k above below (inr after) =
+            let same : found ≡ k = omega arith in
+            subst (λ (n : ℕ). ¬ SplitsFrom v n p i mode) same ((attempt.excludes room).here lost)
 
--- all places from the one found on are lost, and so all from the start on
-all_lost : (mode : Mode) (p v : List ℕ) (i depth at place until found : ℕ) (wanted : Option ℕ) → ¬ HasByte p i star
-    → Tried mode p v i depth at place until → FirstToken mode p i wanted → Skips mode v wanted place found
-    → IsAttempt AbortAll p i v found mode depth → HasRoom p i mode depth
-    → (k : ℕ) → at ≤ k → k ≤ length v → ¬ SplitsFrom v k p i mode
-all_lost mode p v i depth at place until found wanted bare x first skips attempt room k low high = by (cases_lt k found) where
-  by : (k < found) ⊎ (found ≤ k) → ¬ SplitsFrom v k p i mode
-  by (inl before) = tried_to mode p v i depth at place until found wanted x first skips room k low before
-  by (inr after) = (attempt.excludes room).everywhere refl bare k after high
+  -- all places from the one found on are lost, and so all from the start on
+  all_lost : ¬ HasByte p i star
+      → Tried mode p v i depth at place until → FirstToken mode p i wanted → Skips mode v wanted place found
+      → IsAttempt AbortAll p i v found mode depth → HasRoom p i mode depth
+      → (k : ℕ) → at ≤ k → k ≤ length v → ¬ SplitsFrom v k p i mode
+  all_lost bare x first skips attempt room k low high = by (cases_lt k found) where
+    by : (k < found) ⊎ (found ≤ k) → ¬ SplitsFrom v k p i mode
+    by (inl before) = tried_to x first skips room k low before
+    by (inr after) = (attempt.excludes room).everywhere refl bare k after high
 
--- no further place
-pub cross_none : (mode : Mode) (p v : List ℕ) (i at place depth : ℕ) (wanted : Option ℕ)
-    → Tried mode p v i (depth + 1) at place (length v) → FirstToken mode p i wanted → Skips mode v wanted place (length v)
-    → IsCrossing AbortAll p i v at mode depth
-cross_none mode p v i at place depth wanted x first skips = record {
-  found = λ e. cc;
-  lost = λ room ne k low high. by room k low high (cases_lt k (length v));
-  limit = λ room e. cc;
-  not_here_alone = λ e. cc;
-  not_component_alone = λ e. cc;
-} where
-  by : HasRoom p i mode (depth + 1) → (k : ℕ) → at ≤ k → k ≤ length v → (k < length v) ⊎ (length v ≤ k) → ¬ SplitsFrom v k p i mode
-  by room k low high (inl below) =
-      tried_to mode p v i (depth + 1) at place (length v) (length v) wanted x first skips room k low below
-  by room k low high (inr all) = not_at_end mode p v i wanted k first (omega arith)
+module _ {mode : Mode} {p v : List ℕ} {i at place depth : ℕ} {wanted : Option ℕ} where
+  -- no further place
+  pub cross_none : Tried mode p v i (depth + 1) at place (length v) → FirstToken mode p i wanted → Skips mode v wanted place (length v)
+      → IsCrossing AbortAll p i v at mode depth
+  cross_none x first skips = record {
+    found = λ e. cc;
+    lost = λ room ne k low high. by room k low high (cases_lt k (length v));
+    limit = λ room e. cc;
+    not_here_alone = λ e. cc;
+    not_component_alone = λ e. cc;
+  } where
+    by : HasRoom p i mode (depth + 1) → (k : ℕ) → at ≤ k → k ≤ length v → (k < length v) ⊎ (length v ≤ k) → ¬ SplitsFrom v k p i mode
+    by room k low high (inl below) =
+        tried_to x first skips room k low below
+    by room k low high (inr all) = not_at_end k first (omega arith)
 
--- an answer that ends the search
-pub cross_answer : (mode : Mode) (p v : List ℕ) (i at place found depth : ℕ) (wanted : Option ℕ) (answer : Answer) → ¬ HasByte p i star
-    → Tried mode p v i (depth + 1) at place (length v) → FirstToken mode p i wanted → Skips mode v wanted place found → found < length v
-    → IsAttempt answer p i v found mode (depth + 1) → answer ≢ NoMatch → answer ≢ AbortToStarStar
-    → IsCrossing answer p i v at mode depth
-cross_answer mode p v i at place found depth wanted Match bare x first skips inside attempt n1 n2 =
-    let low : at ≤ place = x.low in
-    let past : place ≤ found = skips.low in record {
-      found = λ e. (found, omega arith, omega arith, attempt.split refl);
-      lost = λ room ne. absurd (ne refl);
-      limit = λ room e. cc;
-      not_here_alone = n1;
-      not_component_alone = n2;
-    }
-cross_answer mode p v i at place found depth wanted NoMatch bare x first skips inside attempt n1 n2 = absurd (n1 refl)
-cross_answer mode p v i at place found depth wanted AbortAll bare x first skips inside attempt n1 n2 = record {
-  found = λ e. cc;
-  lost = λ room ne. all_lost mode p v i (depth + 1) at place (length v) found wanted bare x first skips attempt room;
-  limit = λ room e. cc;
-  not_here_alone = n1;
-  not_component_alone = n2;
-}
-cross_answer mode p v i at place found depth wanted AbortToStarStar bare x first skips inside attempt n1 n2 = absurd (n2 refl)
-cross_answer mode p v i at place found depth wanted RecursionLimitReached bare x first skips inside attempt n1 n2 = record {
-  found = λ e. cc;
-  lost = λ room ne. absurd ((attempt.excludes room).limit refl);
-  limit = λ room e. (attempt.excludes room).limit refl;
-  not_here_alone = n1;
-  not_component_alone = n2;
-}
+  -- an answer that ends the search
+  pub cross_answer : {found : ℕ} (answer : Answer) → ¬ HasByte p i star
+      → Tried mode p v i (depth + 1) at place (length v) → FirstToken mode p i wanted → Skips mode v wanted place found → found < length v
+      → IsAttempt answer p i v found mode (depth + 1) → answer ≢ NoMatch → answer ≢ AbortToStarStar
+      → IsCrossing answer p i v at mode depth
+  cross_answer {found} Match bare x first skips inside attempt n1 n2 =
+      let low : at ≤ place = x.low in
+      let past : place ≤ found = skips.low in record {
+        found = λ e. (found, omega arith, omega arith, attempt.split refl);
+        lost = λ room ne. absurd (ne refl);
+        limit = λ room e. cc;
+        not_here_alone = n1;
+        not_component_alone = n2;
+      }
+  cross_answer NoMatch bare x first skips inside attempt n1 n2 = absurd (n1 refl)
+  cross_answer AbortAll bare x first skips inside attempt n1 n2 = record {
+    found = λ e. cc;
+    lost = λ room ne. all_lost bare x first skips attempt room;
+    limit = λ room e. cc;
+    not_here_alone = n1;
+    not_component_alone = n2;
+  }
+  cross_answer AbortToStarStar bare x first skips inside attempt n1 n2 = absurd (n2 refl)
+  cross_answer RecursionLimitReached bare x first skips inside attempt n1 n2 = record {
+    found = λ e. cc;
+    lost = λ room ne. absurd ((attempt.excludes room).limit refl);
+    limit = λ room e. (attempt.excludes room).limit refl;
+    not_here_alone = n1;
+    not_component_alone = n2;
+  }
 
 -- ---- within a component
 
 -- what lies within a component ends before its slash
-within_end : (v : List ℕ) (at end k : ℕ) → IsComponentEnd v at end → at ≤ k → k ≤ length v → NoSlash v at k → end < k → ⊥
-within_end v at end k x low high none past =
+within_end : {v : List ℕ} {at end : ℕ} (k : ℕ) → IsComponentEnd v at end → at ≤ k → k ≤ length v → NoSlash v at k → end < k → ⊥
+within_end {v} {at} {end} k x low high none past =
     let first : at ≤ end = x.low in none.at end first past (x.ends (omega arith))
 
-pub stay_more : (mode : Mode) (p v : List ℕ) (i at end depth : ℕ) → i ≡ length p → at ≤ length v → IsComponentEnd v at end
+pub stay_more : {mode : Mode} {p v : List ℕ} {i at end depth : ℕ} → i ≡ length p → at ≤ length v → IsComponentEnd v at end
     → end ≢ length v → IsWithin AbortToStarStar p i v at mode depth
-stay_more mode p v i at end depth at_end inside x more = record {
+stay_more {mode} {p} {v} {i} {at} {end} at_end inside x more = record {
   found = λ e. cc;
   lost = λ room ne k low high none s.
       let all : length v ≤ k = end_out mode p v i k at_end s in
       let before : end ≤ length v = x.inside in
-      let strict : end < length v → ⊥ = λ past. within_end v at end k x low high none (omega arith) in
+      let strict : end < length v → ⊥ = λ past. within_end k x low high none (omega arith) in
       more (omega arith);
   everywhere = λ room e. cc;
   limit = λ room e. cc;
 }
 
-pub stay_none : (mode : Mode) (p v : List ℕ) (i at place end until depth : ℕ) (wanted : Option ℕ) → IsComponentEnd v at end
-    → until ≡ min (length v) (end + 1)
-    → Tried mode p v i (depth + 1) at place until → FirstToken mode p i wanted → Skips mode v wanted place until
-    → IsWithin AbortToStarStar p i v at mode depth
-stay_none mode p v i at place end until depth wanted x reach tried first skips = record {
-  found = λ e. cc;
-  lost = λ room ne k low high none. by room k low high none (cases_lt k until);
-  everywhere = λ room e. cc;
-  limit = λ room e. cc;
-} where
-  last : (k : ℕ) → at ≤ k → k ≤ length v → NoSlash v at k → until ≤ k → k ≡ length v
-  last k low high none past =
-      let before : end < k → ⊥ = within_end v at end k x low high none in
-      let least : until ≡ min (length v) (end + 1) = reach in
-      omega arith
+module _ {mode : Mode} {p v : List ℕ} {i at place end until depth : ℕ} {wanted : Option ℕ} where
+  pub stay_none : IsComponentEnd v at end
+      → until ≡ min (length v) (end + 1)
+      → Tried mode p v i (depth + 1) at place until → FirstToken mode p i wanted → Skips mode v wanted place until
+      → IsWithin AbortToStarStar p i v at mode depth
+  stay_none x reach tried first skips = record {
+    found = λ e. cc;
+    lost = λ room ne k low high none. by room k low high none (cases_lt k until);
+    everywhere = λ room e. cc;
+    limit = λ room e. cc;
+  } where
+    last : (k : ℕ) → at ≤ k → k ≤ length v → NoSlash v at k → until ≤ k → k ≡ length v
+    last k low high none past =
+        let before : end < k → ⊥ = within_end k x low high none in
+        let least : until ≡ min (length v) (end + 1) = reach in
+        omega arith
 
-  by : HasRoom p i mode (depth + 1) → (k : ℕ) → at ≤ k → k ≤ length v → NoSlash v at k → (k < until) ⊎ (until ≤ k)
-      → ¬ SplitsFrom v k p i mode
-  by room k low high none (inl below) =
-      tried_to mode p v i (depth + 1) at place until until wanted tried first skips room k low below
-  by room k low high none (inr past) = not_at_end mode p v i wanted k first (last k low high none past)
+    by : HasRoom p i mode (depth + 1) → (k : ℕ) → at ≤ k → k ≤ length v → NoSlash v at k → (k < until) ⊎ (until ≤ k)
+        → ¬ SplitsFrom v k p i mode
+    by room k low high none (inl below) =
+        tried_to tried first skips room k low below
+    by room k low high none (inr past) = not_at_end k first (last k low high none past)
 
-pub stay_answer : (mode : Mode) (p v : List ℕ) (i at place end until found depth : ℕ) (wanted : Option ℕ) (answer : Answer)
-    → ¬ HasByte p i star → IsComponentEnd v at end → until ≡ min (length v) (end + 1)
-    → Tried mode p v i (depth + 1) at place until → FirstToken mode p i wanted → Skips mode v wanted place found → found < until
-    → IsAttempt answer p i v found mode (depth + 1) → answer ≢ NoMatch → IsWithin answer p i v at mode depth
-stay_answer mode p v i at place end until found depth wanted Match bare x reach tried first skips inside attempt n1 =
-    let low : at ≤ place = tried.low in
-    let past : place ≤ found = skips.low in
-    let least : until ≡ min (length v) (end + 1) = reach in record {
-      found = λ e. (found, omega arith, omega arith, record { at = λ k above below. x.none.at k above (omega arith) }, attempt.split refl);
-      lost = λ room ne. absurd (ne refl);
-      everywhere = λ room e. cc;
-      limit = λ room e. cc;
-    }
-stay_answer mode p v i at place end until found depth wanted NoMatch bare x reach tried first skips inside attempt n1 = absurd (n1 refl)
-stay_answer mode p v i at place end until found depth wanted AbortAll bare x reach tried first skips inside attempt n1 = record {
-  found = λ e. cc;
-  lost = λ room ne k low high none.
-      all_lost mode p v i (depth + 1) at place until found wanted bare tried first skips attempt room k low high;
-  everywhere = λ room e. all_lost mode p v i (depth + 1) at place until found wanted bare tried first skips attempt room;
-  limit = λ room e. cc;
-}
-stay_answer mode p v i at place end until found depth wanted AbortToStarStar bare x reach tried first skips inside attempt n1 = record {
-  found = λ e. cc;
-  lost = λ room ne k low high none. by room k low high none (cases_lt k found);
-  everywhere = λ room e. cc;
-  limit = λ room e. cc;
-} where
-  by : HasRoom p i mode (depth + 1) → (k : ℕ) → at ≤ k → k ≤ length v → NoSlash v at k → (k < found) ⊎ (found ≤ k)
-      → ¬ SplitsFrom v k p i mode
-  by room k low high none (inl before) =
-      tried_to mode p v i (depth + 1) at place until found wanted tried first skips room k low before
-  by room k low high none (inr after) =
-      let from : at ≤ place = tried.low in
+  pub stay_answer : {found : ℕ} (answer : Answer) → ¬ HasByte p i star → IsComponentEnd v at end → until ≡ min (length v) (end + 1)
+      → Tried mode p v i (depth + 1) at place until → FirstToken mode p i wanted → Skips mode v wanted place found → found < until
+      → IsAttempt answer p i v found mode (depth + 1) → answer ≢ NoMatch → IsWithin answer p i v at mode depth
+  stay_answer {found} Match bare x reach tried first skips inside attempt n1 =
+      let low : at ≤ place = tried.low in
       let past : place ≤ found = skips.low in
-      (attempt.excludes room).component refl bare k after high (record { at = λ q above below. none.at q (omega arith) below })
-stay_answer mode p v i at place end until found depth wanted RecursionLimitReached bare x reach tried first skips inside attempt n1 = record {
-  found = λ e. cc;
-  lost = λ room ne. absurd ((attempt.excludes room).limit refl);
-  everywhere = λ room e. cc;
-  limit = λ room e. (attempt.excludes room).limit refl;
-}
+      let least : until ≡ min (length v) (end + 1) = reach in record {
+        found = λ e. (found, omega arith, omega arith, record { at = λ k above below. x.none.at k above (omega arith) }, attempt.split refl);
+        lost = λ room ne. absurd (ne refl);
+        everywhere = λ room e. cc;
+        limit = λ room e. cc;
+      }
+  stay_answer NoMatch bare x reach tried first skips inside attempt n1 = absurd (n1 refl)
+  stay_answer AbortAll bare x reach tried first skips inside attempt n1 = record {
+    found = λ e. cc;
+    lost = λ room ne k low high none.
+        all_lost bare tried first skips attempt room k low high;
+    everywhere = λ room e. all_lost bare tried first skips attempt room;
+    limit = λ room e. cc;
+  }
+  stay_answer {found} AbortToStarStar bare x reach tried first skips inside attempt n1 = record {
+    found = λ e. cc;
+    lost = λ room ne k low high none. by room k low high none (cases_lt k found);
+    everywhere = λ room e. cc;
+    limit = λ room e. cc;
+  } where
+    by : HasRoom p i mode (depth + 1) → (k : ℕ) → at ≤ k → k ≤ length v → NoSlash v at k → (k < found) ⊎ (found ≤ k)
+        → ¬ SplitsFrom v k p i mode
+    by room k low high none (inl before) =
+        tried_to tried first skips room k low before
+    by room k low high none (inr after) =
+        let from : at ≤ place = tried.low in
+        let past : place ≤ found = skips.low in
+        (attempt.excludes room).component refl bare k after high (record { at = λ q above below. none.at q (omega arith) below })
+  stay_answer RecursionLimitReached bare x reach tried first skips inside attempt n1 = record {
+    found = λ e. cc;
+    lost = λ room ne. absurd ((attempt.excludes room).limit refl);
+    everywhere = λ room e. cc;
+    limit = λ room e. (attempt.excludes room).limit refl;
+  }
 
 -- ---- at the star token
 
@@ -287,143 +289,145 @@ abort_no_match answer e f = cc
 component_no_match : (answer : Answer) → answer ≡ AbortToStarStar → answer ≢ Match
 component_no_match answer e f = cc
 
-pub free_star : (mode : Mode) (p v : List ℕ) (i j at depth : ℕ) (answer : Answer) → TokenAt mode p i Free j → at ≤ length v
-    → IsCrossing answer p j v at mode depth → AtStar answer p i v at mode depth
-free_star mode p v i j at depth answer here inside x =
-    let is_star : IsStarToken p i Free j = record { stop = j; run = here.run; after = inl refl; counts = λ ts. refl } in record {
-      token = Free;
-      after = j;
-      here = here;
-      is_star = is_star;
-      found = λ e. let f = x.found e in free_in mode p v i j at f.0 here f.1 f.2 f.3;
-      path = λ e. absurd (x.not_component_alone e);
-      lost = λ room ne s.
-          let out = free_out mode p v i j at here inside s in
-          x.lost (room_after mode p i Free j depth here is_star room) ne out.0 out.1 out.2 out.3;
-      everywhere = λ room e past k low high behind s.
-          let out = free_out mode p v i j k here high s in
-          let later : k ≤ out.0 = out.1 in
-          x.lost (room_after mode p i Free j depth here is_star room) (abort_no_match answer e) out.0 (omega arith) out.2 out.3;
-      component = λ room e. absurd (x.not_component_alone e);
-      limit = λ room. x.limit (room_after mode p i Free j depth here is_star room);
-      crossing = λ b. x.not_here_alone;
-    }
-
-local_not_crossing : (mode : Mode) (p : List ℕ) (i j : ℕ) → TokenAt mode p i Local j → BeginsCrossing p i mode → ⊥
-local_not_crossing mode p i j here b = by b.token where
+local_not_crossing : {mode : Mode} {p : List ℕ} {i j : ℕ} → TokenAt mode p i Local j → BeginsCrossing p i mode → ⊥
+local_not_crossing {mode} {p} {i} {j} here b = by b.token where
   by : TokenAt mode p i Free b.after ⊎ TokenAt mode p i Dirs b.after → ⊥
   by (inl e) = let same : Local ≡ Free = (TokenAt-unique mode p i Local Free j b.after here e).0 in cc
   by (inr e) = let same : Local ≡ Dirs = (TokenAt-unique mode p i Local Dirs j b.after here e).0 in cc
 
-pub local_star : (mode : Mode) (p v : List ℕ) (i j at depth : ℕ) (answer : Answer) → TokenAt mode p i Local j → at ≤ length v
-    → IsWithin answer p j v at mode depth → AtStar answer p i v at mode depth
-local_star mode p v i j at depth answer here inside x =
-    let is_star : IsStarToken p i Local j = record { stop = j; run = here.run; after = inl refl; counts = λ ts. refl } in record {
-      token = Local;
-      after = j;
-      here = here;
-      is_star = is_star;
-      found = λ e. let f = x.found e in local_in mode p v i j at f.0 here f.1 f.2 f.3 f.4;
-      path = λ e. here.path;
-      lost = λ room ne s.
-          let out = local_out mode p v i j at here inside s in
-          x.lost (room_after mode p i Local j depth here is_star room) ne out.0 out.1 out.2 out.3 out.4;
-      everywhere = λ room e past k low high behind s.
-          let out = local_out mode p v i j k here high s in
-          let later : k ≤ out.0 = out.1 in
-          x.everywhere (room_after mode p i Local j depth here is_star room) e out.0 (omega arith) out.2 out.4;
-      component = λ room e k low high none s.
-          let out = local_out mode p v i j k here high s in
-          let later : k ≤ out.0 = out.1 in
-          let all : NoSlash v at out.0 = no_slash_join v at k out.0 none out.3 in
-          x.lost (room_after mode p i Local j depth here is_star room) (component_no_match answer e) out.0 (omega arith) out.2 all out.4;
-      limit = λ room. x.limit (room_after mode p i Local j depth here is_star room);
-      crossing = λ b. absurd (local_not_crossing mode p i j here b);
-    }
+module _ {mode : Mode} {p v : List ℕ} {i j at depth : ℕ} {answer : Answer} where
+  pub free_star : TokenAt mode p i Free j → at ≤ length v
+      → IsCrossing answer p j v at mode depth → AtStar answer p i v at mode depth
+  free_star here inside x =
+      let is_star : IsStarToken p i Free j = record { stop = j; run = here.run; after = inl refl; counts = λ ts. refl } in record {
+        token = Free;
+        after = j;
+        here = here;
+        is_star = is_star;
+        found = λ e. let f = x.found e in free_in mode p v i j at f.0 here f.1 f.2 f.3;
+        path = λ e. absurd (x.not_component_alone e);
+        lost = λ room ne s.
+            let out = free_out mode p v i j at here inside s in
+            x.lost (room_after here is_star room) ne out.0 out.1 out.2 out.3;
+        everywhere = λ room e past k low high behind s.
+            let out = free_out mode p v i j k here high s in
+            let later : k ≤ out.0 = out.1 in
+            x.lost (room_after here is_star room) (abort_no_match answer e) out.0 (omega arith) out.2 out.3;
+        component = λ room e. absurd (x.not_component_alone e);
+        limit = λ room. x.limit (room_after here is_star room);
+        crossing = λ b. x.not_here_alone;
+      }
 
-pub dirs_star : (mode : Mode) (p v : List ℕ) (i j at depth : ℕ) (answer : Answer) → TokenAt mode p i Dirs j → at ≤ length v
-    → IsDescent answer p i j v at mode depth → AtStar answer p i v at mode depth
-dirs_star mode p v i j at depth answer here inside x =
-    let is_star : IsStarToken p i Dirs j =
-    record { stop = here.at; run = here.run; after = inr (here.slash, here.after); counts = λ ts. refl } in record {
-      token = Dirs;
-      after = j;
-      here = here;
-      is_star = is_star;
-      found = x.found;
-      path = λ e. absurd (x.not_component_alone e);
-      lost = λ room ne. x.lost (room_after mode p i Dirs j depth here is_star room) ne at (omega arith) inside (λ no. absurd (no refl));
-      everywhere = λ room e past k low high behind.
-          x.lost (room_after mode p i Dirs j depth here is_star room) (abort_no_match answer e) k low high
-          (λ no. behind (after_slash past here.bounded.before));
-      component = λ room e. absurd (x.not_component_alone e);
-      limit = λ room. x.limit (room_after mode p i Dirs j depth here is_star room);
-      crossing = λ b. x.not_here_alone;
-    } where
-      after_slash : 0 < i → (i ≡ 0) ⊎ HasByte p (i - 1) slash → HasByte p (i - 1) slash
-      after_slash past (inl none) = absurd (omega arith)
-      after_slash past (inr h) = h
+  pub local_star : TokenAt mode p i Local j → at ≤ length v
+      → IsWithin answer p j v at mode depth → AtStar answer p i v at mode depth
+  local_star here inside x =
+      let is_star : IsStarToken p i Local j = record { stop = j; run = here.run; after = inl refl; counts = λ ts. refl } in record {
+        token = Local;
+        after = j;
+        here = here;
+        is_star = is_star;
+        found = λ e. let f = x.found e in local_in mode p v i j at f.0 here f.1 f.2 f.3 f.4;
+        path = λ e. here.path;
+        lost = λ room ne s.
+            let out = local_out mode p v i j at here inside s in
+            x.lost (room_after here is_star room) ne out.0 out.1 out.2 out.3 out.4;
+        everywhere = λ room e past k low high behind s.
+            let out = local_out mode p v i j k here high s in
+            let later : k ≤ out.0 = out.1 in
+            x.everywhere (room_after here is_star room) e out.0 (omega arith) out.2 out.4;
+        component = λ room e k low high none s.
+            let out = local_out mode p v i j k here high s in
+            let later : k ≤ out.0 = out.1 in
+            let all : NoSlash v at out.0 = no_slash_join v at k out.0 none out.3 in
+            x.lost (room_after here is_star room) (component_no_match answer e) out.0 (omega arith) out.2 all out.4;
+        limit = λ room. x.limit (room_after here is_star room);
+        crossing = λ b. absurd (local_not_crossing here b);
+      }
+
+  pub dirs_star : TokenAt mode p i Dirs j → at ≤ length v
+      → IsDescent answer p i j v at mode depth → AtStar answer p i v at mode depth
+  dirs_star here inside x =
+      let is_star : IsStarToken p i Dirs j =
+      record { stop = here.at; run = here.run; after = inr (here.slash, here.after); counts = λ ts. refl } in record {
+        token = Dirs;
+        after = j;
+        here = here;
+        is_star = is_star;
+        found = x.found;
+        path = λ e. absurd (x.not_component_alone e);
+        lost = λ room ne. x.lost (room_after here is_star room) ne at (omega arith) inside (λ no. absurd (no refl));
+        everywhere = λ room e past k low high behind.
+            x.lost (room_after here is_star room) (abort_no_match answer e) k low high
+            (λ no. behind (after_slash past here.bounded.before));
+        component = λ room e. absurd (x.not_component_alone e);
+        limit = λ room. x.limit (room_after here is_star room);
+        crossing = λ b. x.not_here_alone;
+      } where
+        after_slash : 0 < i → (i ≡ 0) ⊎ HasByte p (i - 1) slash → HasByte p (i - 1) slash
+        after_slash past (inl none) = absurd (omega arith)
+        after_slash past (inr h) = h
 
 -- ---- a double star with its slash
 
-pub descent_here : (mode : Mode) (p v : List ℕ) (i j at depth : ℕ) → DirsAt mode p i j → at ≤ length v
-    → SplitsFrom v at p j mode → IsDescent Match p i j v at mode depth
-descent_here mode p v i j at depth here inside s = record {
-  found = λ e. dirs_in_empty mode p v i j at here inside s;
-  lost = λ room ne. absurd (ne refl);
-  limit = λ room e. cc;
-  not_here_alone = λ e. cc;
-  not_component_alone = λ e. cc;
-}
+module _ {mode : Mode} {p v : List ℕ} {i j at depth : ℕ} where
+  pub descent_here : DirsAt mode p i j → at ≤ length v
+      → SplitsFrom v at p j mode → IsDescent Match p i j v at mode depth
+  descent_here here inside s = record {
+    found = λ e. dirs_in_empty mode p v i j at here inside s;
+    lost = λ room ne. absurd (ne refl);
+    limit = λ room e. cc;
+    not_here_alone = λ e. cc;
+    not_component_alone = λ e. cc;
+  }
 
-pub descent_later : (mode : Mode) (p v : List ℕ) (i j s at depth : ℕ) (first answer : Answer) → DirsAt mode p i j → j ≡ s + 1
-    → at ≤ length v → IsAttempt first p j v at mode (depth + 1) → first ≢ Match → IsCrossing answer p s v at mode depth
-    → IsDescent answer p i j v at mode depth
-descent_later mode p v i j s at depth first answer here next inside empty none x = record {
-  found = λ e. let f = x.found e in found f.0 f.1 f.2 f.3;
-  lost = λ room ne k low high behind whole.
-      let out = dirs_out mode p v i j k here high whole in
-      later room ne k low high behind out.0 out.1 out.2;
-  limit = λ room. x.limit (room_here room);
-  not_here_alone = x.not_here_alone;
-  not_component_alone = x.not_component_alone;
-} where
-  at_slash : HasByte p s slash
-  at_slash = dirs_slash mode p i s (subst (λ (n : ℕ). DirsAt mode p i n) next here)
+  pub descent_later : {s : ℕ} {first answer : Answer} → DirsAt mode p i j → j ≡ s + 1
+      → at ≤ length v → IsAttempt first p j v at mode (depth + 1) → first ≢ Match → IsCrossing answer p s v at mode depth
+      → IsDescent answer p i j v at mode depth
+  descent_later {s} {first} {answer} here next inside empty none x = record {
+    found = λ e. let f = x.found e in found f.0 f.1 f.2 f.3;
+    lost = λ room ne k low high behind whole.
+        let out = dirs_out mode p v i j k here high whole in
+        later room ne k low high behind out.0 out.1 out.2;
+    limit = λ room. x.limit (room_here room);
+    not_here_alone = x.not_here_alone;
+    not_component_alone = x.not_component_alone;
+  } where
+    at_slash : HasByte p s slash
+    at_slash = dirs_slash mode p i s (subst (λ (n : ℕ). DirsAt mode p i n) next here)
 
-  room_here : HasRoom p j mode (depth + 1) → HasRoom p s mode (depth + 1)
-  room_here room = room_at_slash mode p s (depth + 1) at_slash (subst (λ (n : ℕ). HasRoom p n mode (depth + 1)) next room)
+    room_here : HasRoom p j mode (depth + 1) → HasRoom p s mode (depth + 1)
+    room_here room = room_at_slash at_slash (subst (λ (n : ℕ). HasRoom p n mode (depth + 1)) next room)
 
-  token : TokenAt mode p s (Byte slash) j
-  token = subst (λ (n : ℕ). TokenAt mode p s (Byte slash) n) (sym next) (slash_token mode p s at_slash)
+    token : TokenAt mode p s (Byte slash) j
+    token = subst (λ (n : ℕ). TokenAt mode p s (Byte slash) n) (sym next) (slash_token mode p s at_slash)
 
-  found : (e : ℕ) → at ≤ e → e ≤ length v → SplitsFrom v e p s mode → SplitsFrom v at p i mode
-  found e low high whole =
-      let out = one_out mode p v s j e (Byte slash) tt token whole in
-      let below : e < length v = out.0 in
-      let back : e + 1 - 1 ≡ e = omega arith in
-      let is : get_or v (e + 1 - 1) 0 ≡ slash =
-      subst (λ (n : ℕ). get_or v n 0 ≡ slash) (sym back) (fold_slash mode (get_or v e 0) out.1) in
-      dirs_in mode p v i j at (e + 1) here (record { past = omega arith; inside = omega arith; slash = is }) out.2
+    found : (e : ℕ) → at ≤ e → e ≤ length v → SplitsFrom v e p s mode → SplitsFrom v at p i mode
+    found e low high whole =
+        let out = one_out mode p v s j e (Byte slash) tt token whole in
+        let below : e < length v = out.0 in
+        let back : e + 1 - 1 ≡ e = omega arith in
+        let is : get_or v (e + 1 - 1) 0 ≡ slash =
+        subst (λ (n : ℕ). get_or v n 0 ≡ slash) (sym back) (fold_slash mode (get_or v e 0) out.1) in
+        dirs_in mode p v i j at (e + 1) here (record { past = omega arith; inside = omega arith; slash = is }) out.2
 
-  -- a slash, and after it what the rest splits
-  slash_then : HasRoom p j mode (depth + 1) → answer ≢ Match → (e : ℕ) → at < e → e ≤ length v → get_or v (e - 1) 0 ≡ slash
-      → ¬ SplitsFrom v e p j mode
-  slash_then room ne e past high is rest =
-      let forth : e - 1 + 1 ≡ e = omega arith in
-      let taken : fold mode (get_or v (e - 1) 0) ≡ fold mode slash = ap (λ (c : ℕ). fold mode c) is in
-      x.lost (room_here room) ne (e - 1) (omega arith) (omega arith)
-      (one_in mode p v s j (e - 1) (Byte slash) token (omega arith) taken
-      (subst (λ (n : ℕ). SplitsFrom v n p j mode) (sym forth) rest))
+    -- a slash, and after it what the rest splits
+    slash_then : HasRoom p j mode (depth + 1) → answer ≢ Match → (e : ℕ) → at < e → e ≤ length v → get_or v (e - 1) 0 ≡ slash
+        → ¬ SplitsFrom v e p j mode
+    slash_then room ne e past high is rest =
+        let forth : e - 1 + 1 ≡ e = omega arith in
+        let taken : fold mode (get_or v (e - 1) 0) ≡ fold mode slash = ap (λ (c : ℕ). fold mode c) is in
+        x.lost (room_here room) ne (e - 1) (omega arith) (omega arith)
+        (one_in mode p v s j (e - 1) (Byte slash) token (omega arith) taken
+        (subst (λ (n : ℕ). SplitsFrom v n p j mode) (sym forth) rest))
 
-  later : HasRoom p j mode (depth + 1) → answer ≢ Match → (k : ℕ) → at ≤ k → k ≤ length v
-      → (k ≢ at → get_or v (k - 1) 0 ≡ slash) → (e : ℕ) → (e ≡ k) ⊎ AfterSlash v k e → SplitsFrom v e p j mode → ⊥
-  later room ne k low high behind e (inl same) rest = by (cases_lt at k) where
-    by : (at < k) ⊎ (k ≤ at) → ⊥
-    by (inl past) =
-        slash_then room ne k past high (behind (λ is. omega arith)) (subst (λ (n : ℕ). SplitsFrom v n p j mode) same rest)
-    by (inr only) =
-        let is : e ≡ at = omega arith in
-        (empty.excludes room).here none (subst (λ (n : ℕ). SplitsFrom v n p j mode) is rest)
-  later room ne k low high behind e (inr after) rest =
-      let past : k < e = after.past in slash_then room ne e (omega arith) after.inside after.slash rest
+    later : HasRoom p j mode (depth + 1) → answer ≢ Match → (k : ℕ) → at ≤ k → k ≤ length v
+        → (k ≢ at → get_or v (k - 1) 0 ≡ slash) → (e : ℕ) → (e ≡ k) ⊎ AfterSlash v k e → SplitsFrom v e p j mode → ⊥
+    later room ne k low high behind e (inl same) rest = by (cases_lt at k) where
+      by : (at < k) ⊎ (k ≤ at) → ⊥
+      by (inl past) =
+          slash_then room ne k past high (behind (λ is. omega arith)) (subst (λ (n : ℕ). SplitsFrom v n p j mode) same rest)
+      by (inr only) =
+          let is : e ≡ at = omega arith in
+          (empty.excludes room).here none (subst (λ (n : ℕ). SplitsFrom v n p j mode) is rest)
+    later room ne k low high behind e (inr after) rest =
+        let past : k < e = after.past in slash_then room ne e (omega arith) after.inside after.slash rest

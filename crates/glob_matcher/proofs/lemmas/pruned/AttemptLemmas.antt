@@ -24,7 +24,7 @@ crossing_star mode p i x = by x.token where
   by (inl e) = run_lead p i x.after e.run
   by (inr e) = run_lead p i e.at e.run
 
-module _ (mode : Mode) (p v : List ℕ) (from at place k : ℕ) (x : Aligned mode p v from at place k) where
+module _ {mode : Mode} {p v : List ℕ} {from at place k : ℕ} (x : Aligned mode p v from at place k) where
   -- the start itself leads here
   moved_here : SplitsFrom v at p from mode → SplitsFrom v k p place mode
   moved_here s =
@@ -55,8 +55,8 @@ module _ (mode : Mode) (p v : List ℕ) (from at place k : ℕ) (x : Aligned mod
     by [] read = let inside = TokenAt-inside mode p place e.next read.0 read.1 in omega arith
     by (t ∷ ts) read = let inside = TokenAt-inside mode p place t read.0 read.1 in omega arith
 
-  end_match : (depth : ℕ) → depth ≢ 64 → place ≡ length p → k ≡ length v → IsAttempt Match p from v at mode depth
-  end_match depth shallow at_end all = record {
+  end_match : {depth : ℕ} → depth ≢ 64 → place ≡ length p → k ≡ length v → IsAttempt Match p from v at mode depth
+  end_match shallow at_end all = record {
     split = λ e. x.back (end_in mode p v place k at_end (omega arith));
     excludes = λ room. record {
       here = λ ne. absurd (ne refl);
@@ -73,8 +73,8 @@ module _ (mode : Mode) (p v : List ℕ) (from at place k : ℕ) (x : Aligned mod
     limit = λ deep. absurd (shallow deep);
   }
 
-  end_more : (depth : ℕ) → depth ≢ 64 → place ≡ length p → k ≢ length v → IsAttempt NoMatch p from v at mode depth
-  end_more depth shallow at_end more = record {
+  end_more : {depth : ℕ} → depth ≢ 64 → place ≡ length p → k ≢ length v → IsAttempt NoMatch p from v at mode depth
+  end_more shallow at_end more = record {
     split = λ e. cc;
     excludes = λ room. record {
       here = λ ne s.
@@ -95,11 +95,11 @@ module _ (mode : Mode) (p v : List ℕ) (from at place k : ℕ) (x : Aligned mod
     limit = λ deep. absurd (shallow deep);
   }
 
-  pub end_here : (depth : ℕ) → depth ≢ 64 → place ≡ length p → (answer : Answer) → (k ≡ length v → answer ≡ Match)
+  pub end_here : {depth : ℕ} {answer : Answer} → depth ≢ 64 → place ≡ length p → (k ≡ length v → answer ≡ Match)
       → (k ≢ length v → answer ≡ NoMatch) → IsAttempt answer p from v at mode depth
-  end_here depth shallow at_end answer ends more = elim (cases_eq k (length v)) [
-    | inl all ↦ subst (λ (a : Answer). IsAttempt a p from v at mode depth) (sym (ends all)) (end_match depth shallow at_end all)
-    | inr left ↦ subst (λ (a : Answer). IsAttempt a p from v at mode depth) (sym (more left)) (end_more depth shallow at_end left)
+  end_here {depth} shallow at_end ends more = elim (cases_eq k (length v)) [
+    | inl all ↦ subst (λ (a : Answer). IsAttempt a p from v at mode depth) (sym (ends all)) (end_match shallow at_end all)
+    | inr left ↦ subst (λ (a : Answer). IsAttempt a p from v at mode depth) (sym (more left)) (end_more shallow at_end left)
   ]
 
   -- at a token that nothing of the value from here on splits
@@ -128,9 +128,9 @@ module _ (mode : Mode) (p v : List ℕ) (from at place k : ℕ) (x : Aligned mod
     by [] read = let inside = TokenAt-inside mode p place t next here in absurd (omega arith)
     by (u ∷ us) read = record { beginning = []; next = u; rest = us; read = read; cut = drop_of_length-le v (omega arith) }
 
-  pub value_ends : (depth : ℕ) → depth ≢ 64 → (t : Token) (next : ℕ) → IsOne t → TokenAt mode p place t next → k ≡ length v
+  pub value_ends : {depth : ℕ} → depth ≢ 64 → (t : Token) (next : ℕ) → IsOne t → TokenAt mode p place t next → k ≡ length v
       → IsAttempt AbortAll p from v at mode depth
-  value_ends depth shallow t next one here all = record {
+  value_ends shallow t next one here all = record {
     split = λ e. cc;
     excludes = λ room. lost (one_lost t next one here all);
     aborts = λ room. record {
@@ -151,8 +151,8 @@ module _ (mode : Mode) (p v : List ℕ) (from at place k : ℕ) (x : Aligned mod
         let same = TokenAt-unique mode p place u t read.0 next read.1 here in
         subst IsOne same.0 (single_one u us single)
 
-  pub nothing_here : (depth : ℕ) → depth ≢ 64 → (next : ℕ) → TokenAt mode p place Nothing next → IsAttempt AbortAll p from v at mode depth
-  nothing_here depth shallow next here = record {
+  pub nothing_here : {depth : ℕ} → depth ≢ 64 → (next : ℕ) → TokenAt mode p place Nothing next → IsAttempt AbortAll p from v at mode depth
+  nothing_here shallow next here = record {
     split = λ e. cc;
     excludes = λ room. lost (λ n low high s. nothing_out mode p v place next n here high s);
     aborts = λ room. record {
@@ -164,9 +164,9 @@ module _ (mode : Mode) (p v : List ℕ) (from at place k : ℕ) (x : Aligned mod
     limit = λ deep. absurd (shallow deep);
   }
 
-  pub misses : (depth : ℕ) → depth ≢ 64 → (t : Token) (next : ℕ) → IsOne t → TokenAt mode p place t next → k < length v
+  pub misses : {depth : ℕ} → depth ≢ 64 → (t : Token) (next : ℕ) → IsOne t → TokenAt mode p place t next → k < length v
       → ¬ Fits mode t (get_or v k 0) → IsAttempt NoMatch p from v at mode depth
-  misses depth shallow t next one here inside unfit = record {
+  misses shallow t next one here inside unfit = record {
     split = λ e. cc;
     excludes = λ room. record {
       here = λ ne s. unfit (one_out mode p v place next k t one here (moved_here s)).1;
@@ -184,8 +184,8 @@ module _ (mode : Mode) (p v : List ℕ) (from at place k : ℕ) (x : Aligned mod
   }
 
   -- at a star token
-  pub star_here : (depth : ℕ) → depth ≢ 64 → (answer : Answer) → AtStar answer p place v k mode depth → IsAttempt answer p from v at mode depth
-  star_here depth shallow answer s = record {
+  pub star_here : {depth : ℕ} {answer : Answer} → depth ≢ 64 → AtStar answer p place v k mode depth → IsAttempt answer p from v at mode depth
+  star_here {depth} shallow s = record {
     split = λ e. x.back (s.found e);
     excludes = λ room. record {
       here = λ ne whole. s.lost (room_here room) ne (moved_here whole);
@@ -232,15 +232,15 @@ module _ (mode : Mode) (p v : List ℕ) (from at place k : ℕ) (x : Aligned mod
 
 -- ---- whole patterns
 
-pub whole_match : (mode : Mode) (p v : List ℕ) → Splits v p mode → Holds true (Splits v p mode) p
-whole_match mode p v s = record {
+pub whole_match : {mode : Mode} {p v : List ℕ} → Splits v p mode → Holds true (Splits v p mode) p
+whole_match s = record {
   yes = λ e. s;
   excludes = λ n stars few all. refl;
 }
 
-pub whole_no_match : (mode : Mode) (p v : List ℕ) (answer : Answer) → IsAttempt answer p 0 v 0 mode 0 → answer ≢ Match
+pub whole_no_match : {mode : Mode} {p v : List ℕ} {answer : Answer} → IsAttempt answer p 0 v 0 mode 0 → answer ≢ Match
     → Holds false (Splits v p mode) p
-whole_no_match mode p v answer x no_match = record {
+whole_no_match {mode} {p} x no_match = record {
   yes = λ e. cc;
   excludes = λ n stars few all.
       let counted : star_count all.tokens ≡ star_count stars.tokens =

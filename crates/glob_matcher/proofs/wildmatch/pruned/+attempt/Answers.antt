@@ -17,51 +17,42 @@ not_match answer (inr is) e = cc
 
 pub attempt-returns-in-Free : goal.attempt-returns-in-Free
 attempt-returns-in-Free t c =
-    let p = c.args.pattern.now in
-    let v = c.args.value.now in
     let here = is_free c.token_at-shape.ensures c.in-Free.is in
-    star_here c.args.mode p v c.args.place c.args.at c.tokens.place c.tokens.at c.tokens.invariant c.args.depth (λ deep. omega arith) c.cross.result
-    (free_star c.args.mode p v c.tokens.place c.token_at-shape.result.1 c.tokens.at c.args.depth c.cross.result here c.tokens.invariant.value_high c.cross.ensures)
+    star_here c.tokens.invariant (λ deep. omega arith)
+    (free_star here c.tokens.invariant.value_high c.cross.ensures)
 
 pub attempt-returns-in-Local : goal.attempt-returns-in-Local
 attempt-returns-in-Local t c =
-    let p = c.args.pattern.now in
-    let v = c.args.value.now in
     let here = is_local c.token_at-shape.ensures c.in-Local.is in
-    star_here c.args.mode p v c.args.place c.args.at c.tokens.place c.tokens.at c.tokens.invariant c.args.depth (λ deep. omega arith) c.stay.result
-    (local_star c.args.mode p v c.tokens.place c.token_at-shape.result.1 c.tokens.at c.args.depth c.stay.result here c.tokens.invariant.value_high c.stay.ensures)
+    star_here c.tokens.invariant (λ deep. omega arith)
+    (local_star here c.tokens.invariant.value_high c.stay.ensures)
 
 pub attempt-returns-in-Dirs : goal.attempt-returns-in-Dirs
 attempt-returns-in-Dirs t c =
-    let p = c.args.pattern.now in
-    let v = c.args.value.now in
     let here = is_dirs c.token_at-shape.ensures c.in-Dirs.is in
-    star_here c.args.mode p v c.args.place c.args.at c.tokens.place c.tokens.at c.tokens.invariant c.args.depth (λ deep. omega arith) c.descend.result
-    (dirs_star c.args.mode p v c.tokens.place c.token_at-shape.result.1 c.tokens.at c.args.depth c.descend.result here c.tokens.invariant.value_high (c.descend.ensures c.tokens.place here))
+    star_here c.tokens.invariant (λ deep. omega arith)
+    (dirs_star here c.tokens.invariant.value_high (c.descend.ensures c.tokens.place here))
 
 pub attempt-returns-in-Nothing : goal.attempt-returns-in-Nothing
 attempt-returns-in-Nothing t c =
-    let p = c.args.pattern.now in
     let here = is_nothing c.token_at-shape.ensures c.in-Nothing.is in
-    nothing_here c.args.mode p c.args.value.now c.args.place c.args.at c.tokens.place c.tokens.at c.tokens.invariant c.args.depth (λ deep. omega arith)
+    nothing_here c.tokens.invariant (λ deep. omega arith)
     c.token_at-shape.result.1 here
 
 pub attempt-returns-then-at-value : goal.attempt-returns-then-at-value
 attempt-returns-then-at-value t c =
-    let p = c.args.pattern.now in
     let s = c.token_at-shape in
     let one = is_one s.ensures c.in-Byte.is in
-    value_ends c.args.mode p c.args.value.now c.args.place c.args.at c.tokens.place c.tokens.at c.tokens.invariant c.args.depth (λ deep. omega arith)
+    value_ends c.tokens.invariant (λ deep. omega arith)
     s.ensures.token s.result.1 one s.ensures.here c.if-at-value.true
 
 pub attempt-returns-then-not-takes : goal.attempt-returns-then-not-takes
 attempt-returns-then-not-takes t c =
-    let p = c.args.pattern.now in
     let s = c.token_at-shape in
     let one = is_one s.ensures c.in-Byte.is in
     let high : c.tokens.at ≤ length c.args.value.now = c.tokens.invariant.value_high in
     let fits = c.if-not-takes.ensures s.ensures.token s.result.1 s.ensures.here s.ensures.shown in
-    misses c.args.mode p c.args.value.now c.args.place c.args.at c.tokens.place c.tokens.at c.tokens.invariant c.args.depth (λ deep. omega arith)
+    misses c.tokens.invariant (λ deep. omega arith)
     s.ensures.token s.result.1 one s.ensures.here (omega arith) (λ f. let never = fits.1 f in cc)
 
 pub attempt-tokens-preserved : goal.attempt-tokens-preserved
@@ -78,8 +69,7 @@ pub attempt-returns : goal.attempt-returns
 attempt-returns t c =
     let p = c.args.pattern.now in
     let inside : c.tokens.place ≤ length p = start_inside c.args.mode p c.tokens.place c.tokens.invariant.start in
-    end_here c.args.mode p c.args.value.now c.args.place c.args.at c.tokens.place c.tokens.at c.tokens.invariant c.args.depth (λ deep. omega arith)
-    (omega arith) c.end_answer.result c.end_answer.ensures.ends c.end_answer.ensures.more
+    end_here c.tokens.invariant (λ deep. omega arith) (omega arith) c.end_answer.ensures.ends c.end_answer.ensures.more
 
 pub cross-token_at-shape-requires : goal.cross-token_at-shape-requires
 cross-token_at-shape-requires t c =
@@ -93,69 +83,55 @@ stay-token_at-shape-requires t c =
 
 pub cross-returns-in_default-attempt : goal.cross-returns-in_default-attempt
 cross-returns-in_default-attempt t c =
-    let p = c.args.pattern.now in
     let s = c.token_at-shape in
-    let first = first_token c.args.mode p c.args.place s.result.1 c.literal-wanted.result s.result.0 c.requires.no_star s.ensures c.literal-wanted.ensures in
-    cross_answer c.args.mode p c.args.value.now c.args.place c.args.at c.places.at c.in-Some.found c.args.depth c.literal-wanted.result
-    c.attempt.result c.requires.no_star c.places.invariant first c.in-Some.ensures.found c.in-Some.ensures.inside c.attempt.ensures
+    let first = first_token c.requires.no_star s.ensures c.literal-wanted.ensures in
+    cross_answer c.attempt.result c.requires.no_star c.places.invariant first c.in-Some.ensures.found c.in-Some.ensures.inside c.attempt.ensures
     c.in_default-attempt.not-NoMatch c.in_default-attempt.not-AbortToStarStar
 
 pub cross-places-preserved : goal.cross-places-preserved
 cross-places-preserved t c =
-    let p = c.args.pattern.now in
     let s = c.token_at-shape in
-    let first = first_token c.args.mode p c.args.place s.result.1 c.literal-wanted.result s.result.0 c.requires.no_star s.ensures c.literal-wanted.ensures in
-    tried_next c.args.mode p c.args.value.now c.args.place (c.args.depth + 1) c.args.at c.places.at (length c.args.value.now) c.in-Some.found
-    c.literal-wanted.result c.attempt.result c.places.invariant first c.in-Some.ensures.found c.in-Some.ensures.inside c.attempt.ensures
+    let first = first_token c.requires.no_star s.ensures c.literal-wanted.ensures in
+    tried_next c.places.invariant first c.in-Some.ensures.found c.in-Some.ensures.inside c.attempt.ensures
     (not_match c.attempt.result c.in-NoMatch.is)
 
 pub cross-returns : goal.cross-returns
 cross-returns t c =
-    let p = c.args.pattern.now in
     let s = c.token_at-shape in
-    let first = first_token c.args.mode p c.args.place s.result.1 c.literal-wanted.result s.result.0 c.requires.no_star s.ensures c.literal-wanted.ensures in
-    cross_none c.args.mode p c.args.value.now c.args.place c.args.at c.places.at c.args.depth c.literal-wanted.result
-    c.places.invariant first c.in_default.ensures.none
+    let first = first_token c.requires.no_star s.ensures c.literal-wanted.ensures in
+    cross_none c.places.invariant first c.in_default.ensures.none
 
 pub descend-returns-in-Match : goal.descend-returns-in-Match
-descend-returns-in-Match t c = λ i here. descent_here c.args.mode c.args.pattern.now c.args.value.now i c.args.place c.args.at c.args.depth here c.requires.inside (c.attempt.ensures.split c.in-Match.is)
+descend-returns-in-Match t c = λ i here. descent_here here c.requires.inside (c.attempt.ensures.split c.in-Match.is)
 
 pub descend-returns-in_default : goal.descend-returns-in_default
 descend-returns-in_default t c = λ i here.
     let after : c.args.place ≡ here.at + 1 = here.after in
-    descent_later c.args.mode c.args.pattern.now c.args.value.now i c.args.place (c.args.place - 1) c.args.at c.args.depth c.attempt.result c.cross.result
-    here (omega arith) c.requires.inside c.attempt.ensures c.in_default.not-Match c.cross.ensures
+    descent_later here (omega arith) c.requires.inside c.attempt.ensures c.in_default.not-Match c.cross.ensures
 
 pub stay-returns-then-end-value : goal.stay-returns-then-end-value
 stay-returns-then-end-value t c =
-    stay_more c.args.mode c.args.pattern.now c.args.value.now c.args.place c.args.at c.component_end-end.result c.args.depth
-    c.if-place-pattern.true c.requires.inside c.component_end-end.ensures (λ e. let before = c.if-end-value.true in omega arith)
+    stay_more c.if-place-pattern.true c.requires.inside c.component_end-end.ensures (λ e. let before = c.if-end-value.true in omega arith)
 
 pub stay-places-preserved : goal.stay-places-preserved
 stay-places-preserved t c =
-    let p = c.args.pattern.now in
     let s = c.token_at-shape in
-    let first = first_token c.args.mode p c.args.place s.result.1 c.literal-wanted.result s.result.0 c.requires.no_star s.ensures c.literal-wanted.ensures in
-    tried_next c.args.mode p c.args.value.now c.args.place (c.args.depth + 1) c.args.at c.places.at c.min-until.result c.in-Some.found
-    c.literal-wanted.result c.attempt.result c.places.invariant first c.in-Some.ensures.found c.in-Some.ensures.inside c.attempt.ensures
+    let first = first_token c.requires.no_star s.ensures c.literal-wanted.ensures in
+    tried_next c.places.invariant first c.in-Some.ensures.found c.in-Some.ensures.inside c.attempt.ensures
     (λ e. let same = c.in-NoMatch.is in cc)
 
 pub stay-returns-in_default-attempt : goal.stay-returns-in_default-attempt
 stay-returns-in_default-attempt t c =
-    let p = c.args.pattern.now in
     let s = c.token_at-shape in
-    let first = first_token c.args.mode p c.args.place s.result.1 c.literal-wanted.result s.result.0 c.requires.no_star s.ensures c.literal-wanted.ensures in
-    stay_answer c.args.mode p c.args.value.now c.args.place c.args.at c.places.at c.component_end-end.result c.min-until.result c.in-Some.found
-    c.args.depth c.literal-wanted.result c.attempt.result c.requires.no_star c.component_end-end.ensures c.min-until.ensures c.places.invariant first
+    let first = first_token c.requires.no_star s.ensures c.literal-wanted.ensures in
+    stay_answer c.attempt.result c.requires.no_star c.component_end-end.ensures c.min-until.ensures c.places.invariant first
     c.in-Some.ensures.found c.in-Some.ensures.inside c.attempt.ensures c.in_default-attempt.not-NoMatch
 
 pub stay-returns : goal.stay-returns
 stay-returns t c =
-    let p = c.args.pattern.now in
     let s = c.token_at-shape in
-    let first = first_token c.args.mode p c.args.place s.result.1 c.literal-wanted.result s.result.0 c.requires.no_star s.ensures c.literal-wanted.ensures in
-    stay_none c.args.mode p c.args.value.now c.args.place c.args.at c.places.at c.component_end-end.result c.min-until.result
-    c.args.depth c.literal-wanted.result c.component_end-end.ensures c.min-until.ensures c.places.invariant first c.in_default.ensures.none
+    let first = first_token c.requires.no_star s.ensures c.literal-wanted.ensures in
+    stay_none c.component_end-end.ensures c.min-until.ensures c.places.invariant first c.in_default.ensures.none
 
 pub attempt-cross-requires : goal.attempt-cross-requires
 attempt-cross-requires t c =

@@ -2,8 +2,8 @@ use Rattle.glob_matcher.proofs.lemmas.pruned.AttemptLemmas.{whole_match, whole_n
 use Rattle.glob_matcher.proofs.wildmatch.pruned.recursive.Goals as goal
 
 pub returns-in-Match : goal.returns-in-Match
-returns-in-Match c = whole_match c.args.mode c.args.pattern.now c.args.value.now (c.attempt.ensures.split c.in-Match.is)
+returns-in-Match c = whole_match (c.attempt.ensures.split c.in-Match.is)
 
 pub returns-in_default : goal.returns-in_default
 returns-in_default c =
-    whole_no_match c.args.mode c.args.pattern.now c.args.value.now c.attempt.result c.attempt.ensures c.in_default.not-Match
+    whole_no_match c.attempt.ensures c.in_default.not-Match
