@@ -78,110 +78,113 @@ single_one Dirs ts x = x
 single_one Nothing ts x = x
 
 -- the list after a token of one byte
-pub list_next : (mode : Mode) (p : List ℕ) (i : ℕ) (t : Token) (j : ℕ) (ts : List Token) → IsOne t → TokenAt mode p i t j
-    → From mode p i ts → ListMoved mode p j ts
-list_next mode p i t j [] one here read = let inside = TokenAt-inside mode p i t j here in absurd (omega arith)
-list_next mode p i t j (u ∷ us) one here read =
-    let same = TokenAt-unique mode p i t u j read.0 here read.1 in
-    let one' : IsOne u = subst IsOne same.0 one in record {
-      tokens = us;
-      read = subst (λ (n : ℕ). From mode p n us) (sym same.1) read.2;
-      counted = sym (one_count u us one');
-      single = one_single u us one';
-    }
+module _ {mode : Mode} {p : List ℕ} (i : ℕ) (t : Token) (j : ℕ) where
+  list_next : (ts : List Token) → IsOne t → TokenAt mode p i t j
+      → From mode p i ts → ListMoved mode p j ts
+  list_next [] one here read = let inside = TokenAt-inside mode p i t j here in absurd (omega arith)
+  list_next (u ∷ us) one here read =
+      let same = TokenAt-unique mode p i t u j read.0 here read.1 in
+      let one' : IsOne u = subst IsOne same.0 one in record {
+        tokens = us;
+        read = subst (λ (n : ℕ). From mode p n us) (sym same.1) read.2;
+        counted = sym (one_count u us one');
+        single = one_single u us one';
+      }
 
-pub list_then : (mode : Mode) (p : List ℕ) (i j : ℕ) (ts : List Token) → ListMoved mode p i ts
+list_then : {mode : Mode} {p : List ℕ} {i j : ℕ} {ts : List Token} → ListMoved mode p i ts
     → ((us : List Token) → From mode p i us → ListMoved mode p j us) → ListMoved mode p j ts
-list_then mode p i j ts x next =
+list_then x next =
     let y = next x.tokens x.read in
     record { tokens = y.tokens; read = y.read; counted = y.counted ∙ x.counted; single = λ s. y.single (x.single s) }
 
--- one more byte taken by the beginning of a list
-short_in : (mode : Mode) (p v : List ℕ) (i j k : ℕ) (t : Token) → TokenAt mode p i t j → k < length v
-    → Fits mode t (get_or v k 0) → EndsShort v (k + 1) p j mode → EndsShort v k p i mode
-short_in mode p v i j k t here inside fits later =
-    let one = one_byte_in (Fits mode t) v k inside fits in record {
-      beginning = t ∷ later.beginning;
-      next = later.next;
-      rest = later.rest;
-      read = (j, here, later.read);
-      cut = (get_or v k 0 ∷ [], drop (k + 1) v, one.1, one_is_lang mode t (get_or v k 0 ∷ []) one.0, later.cut);
-    }
+module _ {mode : Mode} {p v : List ℕ} {i k : ℕ} (t : Token) (j : ℕ) where
+  -- one more byte taken by the beginning of a list
+  short_in : TokenAt mode p i t j → k < length v
+      → Fits mode t (get_or v k 0) → EndsShort v (k + 1) p j mode → EndsShort v k p i mode
+  short_in here inside fits later =
+      let one = one_byte_in (Fits mode t) v k inside fits in record {
+        beginning = t ∷ later.beginning;
+        next = later.next;
+        rest = later.rest;
+        read = (j, here, later.read);
+        cut = (get_or v k 0 ∷ [], drop (k + 1) v, one.1, one_is_lang mode t (get_or v k 0 ∷ []) one.0, later.cut);
+      }
 
-pub short_out : (mode : Mode) (p v : List ℕ) (i j k : ℕ) (t : Token) → IsOne t → TokenAt mode p i t j → k < length v
-    → EndsShort v k p i mode → Fits mode t (get_or v k 0) × EndsShort v (k + 1) p j mode
-short_out mode p v i j k t one here inside all = out all.beginning all.read all.cut where
-  out : (ts : List Token) → From mode p i (ts ++ all.next ∷ all.rest) → IsCut mode ts (drop k v)
-      → Fits mode t (get_or v k 0) × EndsShort v (k + 1) p j mode
-  out [] read cut =
-      let none : length v - k ≡ 0 = sym (length-drop k v) ∙ ap (λ (xs : List ℕ). length xs) cut in absurd (omega arith)
-  out (u ∷ us) read cut =
-      let same = TokenAt-unique mode p i u t read.0 j read.1 here in
-      let piece : OneByte (Fits mode t) cut.0 =
-      lang_is_one mode t cut.0 one (subst (λ (x : Token). Lang mode x cut.0) same.0 cut.3) in
-      let parts = one_byte_out (Fits mode t) v k cut.0 cut.1 cut.2 piece in (
-        parts.1,
-        record {
-          beginning = us;
-          next = all.next;
-          rest = all.rest;
-          read = subst (λ (n : ℕ). From mode p n (us ++ all.next ∷ all.rest)) same.1 read.2;
-          cut = subst (λ (xs : List ℕ). IsCut mode us xs) parts.2 cut.4;
-        },
-      )
+  pub short_out : IsOne t → TokenAt mode p i t j → k < length v
+      → EndsShort v k p i mode → Fits mode t (get_or v k 0) × EndsShort v (k + 1) p j mode
+  short_out one here inside all = out all.beginning all.read all.cut where
+    out : (ts : List Token) → From mode p i (ts ++ all.next ∷ all.rest) → IsCut mode ts (drop k v)
+        → Fits mode t (get_or v k 0) × EndsShort v (k + 1) p j mode
+    out [] read cut =
+        let none : length v - k ≡ 0 = sym (length-drop k v) ∙ ap (λ (xs : List ℕ). length xs) cut in absurd (omega arith)
+    out (u ∷ us) read cut =
+        let same = TokenAt-unique mode p i u t read.0 j read.1 here in
+        let piece : OneByte (Fits mode t) cut.0 =
+        lang_is_one mode t cut.0 one (subst (λ (x : Token). Lang mode x cut.0) same.0 cut.3) in
+        let parts = one_byte_out (Fits mode t) v k cut.0 cut.1 cut.2 piece in (
+          parts.1,
+          record {
+            beginning = us;
+            next = all.next;
+            rest = all.rest;
+            read = subst (λ (n : ℕ). From mode p n (us ++ all.next ∷ all.rest)) same.1 read.2;
+            cut = subst (λ (xs : List ℕ). IsCut mode us xs) parts.2 cut.4;
+          },
+        )
 
--- what a byte taken moves
-moved_next : (mode : Mode) (p v : List ℕ) (from at place k m n next : ℕ) (t : Token) → Moved mode p v from at place k m n → k ≤ n
-    → IsOne t → TokenAt mode p place t next → Fits mode t (get_or v k 0) → Moved mode p v from at next (k + 1) m (n + 1)
-moved_next mode p v from at place k m n next t x low one here fits =
-    let out = one_out mode p v place next n t one here x.here in
-    let inside : n < length v = out.0 in record {
-      inside = omega arith;
-      here = out.2;
-      behind = λ past is.
-          let same : t ≡ Byte slash = ends_in_slash_byte mode p place t next one here is in
-          let back : n + 1 - 1 ≡ n = omega arith in
-          let taken : Fits mode (Byte slash) (get_or v n 0) = subst (λ (u : Token). Fits mode u (get_or v n 0)) same out.1 in
-          subst (λ (q : ℕ). get_or v q 0 ≡ slash) (sym back) (fold_slash mode (get_or v n 0) taken);
-      level = λ path none. record {
-        at = λ q above below is.
-            let before : NoSlash v k n = x.level path none in
-            at_last q path before above is (cases_lt q n) (omega arith) out.1;
-      };
-    } where
-      at_last : (q : ℕ) → IsTrue (is_path mode) → NoSlash v k n → k + 1 ≤ q → get_or v q 0 ≡ slash → (q < n) ⊎ (n ≤ q) → q ≤ n
-          → Fits mode t (get_or v n 0) → ⊥
-      at_last q path before above is (inl less) most taken = before.at q (omega arith) less is
-      at_last q path before above is (inr more) most taken =
-          let same : q ≡ n = omega arith in
-          let byte : get_or v n 0 ≡ slash = subst (λ (r : ℕ). get_or v r 0 ≡ slash) same is in
-          let first : get_or v k 0 ≡ slash =
-          only_slash mode t (get_or v k 0) path (subst (λ (c : ℕ). Fits mode t c) byte taken) fits in
-          before.at k (omega arith) (omega arith) first
+module _ {mode : Mode} {p v : List ℕ} {from at place k : ℕ} (t : Token) (next : ℕ) where
+  -- what a byte taken moves
+  moved_next : {m n : ℕ} → Moved mode p v from at place k m n → k ≤ n
+      → IsOne t → TokenAt mode p place t next → Fits mode t (get_or v k 0) → Moved mode p v from at next (k + 1) m (n + 1)
+  moved_next {m} {n} x low one here fits =
+      let out = one_out mode p v place next n t one here x.here in
+      let inside : n < length v = out.0 in record {
+        inside = omega arith;
+        here = out.2;
+        behind = λ past is.
+            let same : t ≡ Byte slash = ends_in_slash_byte mode p place t next one here is in
+            let back : n + 1 - 1 ≡ n = omega arith in
+            let taken : Fits mode (Byte slash) (get_or v n 0) = subst (λ (u : Token). Fits mode u (get_or v n 0)) same out.1 in
+            subst (λ (q : ℕ). get_or v q 0 ≡ slash) (sym back) (fold_slash mode (get_or v n 0) taken);
+        level = λ path none. record {
+          at = λ q above below is.
+              let before : NoSlash v k n = x.level path none in
+              at_last q path before above is (cases_lt q n) (omega arith) out.1;
+        };
+      } where
+        at_last : (q : ℕ) → IsTrue (is_path mode) → NoSlash v k n → k + 1 ≤ q → get_or v q 0 ≡ slash → (q < n) ⊎ (n ≤ q) → q ≤ n
+            → Fits mode t (get_or v n 0) → ⊥
+        at_last q path before above is (inl less) most taken = before.at q (omega arith) less is
+        at_last q path before above is (inr more) most taken =
+            let same : q ≡ n = omega arith in
+            let byte : get_or v n 0 ≡ slash = subst (λ (r : ℕ). get_or v r 0 ≡ slash) same is in
+            let first : get_or v k 0 ≡ slash =
+            only_slash mode t (get_or v k 0) path (subst (λ (c : ℕ). Fits mode t c) byte taken) fits in
+            before.at k (omega arith) (omega arith) first
 
-pub aligned_next : (mode : Mode) (p v : List ℕ) (from at place k next : ℕ) (t : Token) → Aligned mode p v from at place k
-    → IsOne t → TokenAt mode p place t next → place < next → k < length v → Fits mode t (get_or v k 0)
-    → Aligned mode p v from at next (k + 1)
-aligned_next mode p v from at place k next t x one here past inside fits =
-    let low : from ≤ place = x.low in
-    let value_low : at ≤ k = x.value_low in record {
-      start = record { place = inl (start_next mode p place t next x.start here) };
-      low = omega arith;
-      value_low = omega arith;
-      value_high = omega arith;
-      no_star = λ more h. first h (cases_lt from place);
-      back = λ s. x.back (one_in mode p v place next k t here inside fits s);
-      forth = λ m low high s.
-          let same : m + (k + 1 - at) ≡ m + (k - at) + 1 = omega arith in
-          subst (λ (n : ℕ). Moved mode p v from at next (k + 1) m n) (sym same)
-          (moved_next mode p v from at place k m (m + (k - at)) next t (x.forth m low high s) (omega arith) one here fits);
-      list = λ ts read. list_then mode p place next ts (x.list ts read) (λ us. list_next mode p place t next us one here);
-      short_back = λ s. x.short_back (short_in mode p v place next k t here inside fits s);
-      short_forth = λ s. (short_out mode p v place next k t one here inside (x.short_forth s)).1;
-    } where
-      first : HasByte p from star → (from < place) ⊎ (place ≤ from) → ⊥
-      first h (inl more) = x.no_star more h
-      first h (inr same) =
-          let low : from ≤ place = x.low in
-          let is : from ≡ place = omega arith in
-          one_no_star mode p place t next one here (subst (λ (n : ℕ). HasByte p n star) is h)
+  pub aligned_next : Aligned mode p v from at place k
+      → IsOne t → TokenAt mode p place t next → place < next → k < length v → Fits mode t (get_or v k 0)
+      → Aligned mode p v from at next (k + 1)
+  aligned_next x one here past inside fits =
+      let low : from ≤ place = x.low in
+      let value_low : at ≤ k = x.value_low in record {
+        start = record { place = inl (start_next t next x.start here) };
+        low = omega arith;
+        value_low = omega arith;
+        value_high = omega arith;
+        no_star = λ more h. first h (cases_lt from place);
+        back = λ s. x.back (one_in mode p v place next k t here inside fits s);
+        forth = λ m low high s.
+            let same : m + (k + 1 - at) ≡ m + (k - at) + 1 = omega arith in
+            subst (λ (n : ℕ). Moved mode p v from at next (k + 1) m n) (sym same)
+            (moved_next (x.forth m low high s) (omega arith) one here fits);
+        list = λ ts read. list_then (x.list ts read) (λ us. list_next place t next us one here);
+        short_back = λ s. x.short_back (short_in t next here inside fits s);
+        short_forth = λ s. (short_out t next one here inside (x.short_forth s)).1;
+      } where
+        first : HasByte p from star → (from < place) ⊎ (place ≤ from) → ⊥
+        first h (inl more) = x.no_star more h
+        first h (inr same) =
+            let low : from ≤ place = x.low in
+            let is : from ≡ place = omega arith in
+            one_no_star mode p place t next one here (subst (λ (n : ℕ). HasByte p n star) is h)

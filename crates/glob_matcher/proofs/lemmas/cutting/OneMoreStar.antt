@@ -5,13 +5,13 @@ use Rattle.std.proofs.lemmas.Bool.{cases_lt}
 use Rattle.std.proofs.lemmas.List.Edits.{length-insert, get_or-insert_at, get_or-insert_below, get_or-insert_above}
 use Rattle.glob_matcher.specs.declared.wildmatch.mode.Mode.{Mode}
 use Rattle.glob_matcher.specs.Bytes.{HasByte, is_path, star, slash}
-use Rattle.glob_matcher.specs.Tokens.{Token, Byte, Any, OneOf, Free, Local, Dirs, Nothing, TokenAt, IsRun, Spells, From, Tokens}
+use Rattle.glob_matcher.specs.Tokens.{Token, Byte, Free, TokenAt, IsRun, Spells, From, Tokens}
 use Rattle.glob_matcher.specs.Matching.{Splits}
 use Rattle.glob_matcher.specs.Pruning.{HasStars, IsBoundary, star_count}
 use Rattle.glob_matcher.proofs.lemmas.reading.SetLemmas.{HasByte-unique}
 use Rattle.glob_matcher.proofs.lemmas.reading.TokenLemmas.{TokenAt-unique, TokenAt-inside, run_lead}
 use Rattle.glob_matcher.proofs.lemmas.reading.Existence.{From-short}
-use Rattle.glob_matcher.proofs.lemmas.cutting.SplitLemmas.{slash_token}
+use Rattle.glob_matcher.proofs.lemmas.cutting.SplitLemmas.{IsStarToken, IsOtherToken, kind_of, slash_token}
 use Rattle.glob_matcher.proofs.lemmas.reading.ForwardReading.{Alike, alike_flip, from_alike, spells_alike}
 
 -- ---- the bytes
@@ -180,43 +180,35 @@ record PlainReading (mode : Mode) (p : List ℕ) (i n : ℕ) : Type 0 where
 plain_reading : (m mode : Mode) (p : List ℕ) (i : ℕ) (ts : List Token) → is_path mode ≡ false → From m p i ts
     → PlainReading mode p i (star_count ts)
 plain_reading m mode p i [] plain e = record { tokens = []; read = e; counted = refl }
-plain_reading m mode p i (Byte b ∷ ts) plain e =
-    let r = plain_reading m mode p e.0 ts plain e.2 in
-    record { tokens = Byte b ∷ r.tokens; read = (e.0, e.1, r.read); counted = r.counted }
-plain_reading m mode p i (Any ∷ ts) plain e =
-    let r = plain_reading m mode p e.0 ts plain e.2 in
-    record { tokens = Any ∷ r.tokens; read = (e.0, e.1, r.read); counted = r.counted }
-plain_reading m mode p i (OneOf s ∷ ts) plain e =
-    let r = plain_reading m mode p e.0 ts plain e.2 in
-    record { tokens = OneOf s ∷ r.tokens; read = (e.0, e.1, r.read); counted = r.counted }
-plain_reading m mode p i (Nothing ∷ ts) plain e =
-    let r = plain_reading m mode p e.0 ts plain e.2 in
-    record { tokens = Nothing ∷ r.tokens; read = (e.0, e.1, r.read); counted = r.counted }
-plain_reading m mode p i (Free ∷ ts) plain e =
-    let r = plain_reading m mode p e.0 ts plain e.2 in
-    record {
-      tokens = Free ∷ r.tokens;
-      read = (e.0, record { run = e.1.run; bounded = λ path. cc }, r.read);
-      counted = ap (λ (k : ℕ). k + 1) r.counted;
-    }
-plain_reading m mode p i (Local ∷ ts) plain e =
-    let r = plain_reading m mode p e.0 ts plain e.2 in
-    record {
-      tokens = Free ∷ r.tokens;
-      read = (e.0, record { run = e.1.run; bounded = λ path. cc }, r.read);
-      counted = ap (λ (k : ℕ). k + 1) r.counted;
-    }
-plain_reading m mode p i (Dirs ∷ ts) plain e =
-    let r = plain_reading m mode p e.0 ts plain e.2 in
-    record {
-      tokens = Free ∷ Byte slash ∷ r.tokens;
-      read = (
-        e.1.at,
-        record { run = e.1.run; bounded = λ path. cc },
-        (e.1.at + 1, slash_token mode p e.1.at e.1.slash, subst (λ (k : ℕ). From mode p k r.tokens) e.1.after r.read),
-      );
-      counted = ap (λ (k : ℕ). k + 1) r.counted;
-    }
+plain_reading m mode p i (t ∷ ts) plain e = by (plain_reading m mode p e.0 ts plain e.2) (kind_of m p i t e.0 e.1) where
+  free : (stop : ℕ) → IsRun p i stop → TokenAt mode p i Free stop
+  free stop run = record { run = run; bounded = λ path. cc }
+
+  star : PlainReading mode p e.0 (star_count ts) → (x : IsStarToken p i t e.0)
+      → (e.0 ≡ x.stop) ⊎ (HasByte p x.stop slash × (e.0 ≡ x.stop + 1)) → PlainReading mode p i (star_count (t ∷ ts))
+  star r x (inl here) = record {
+    tokens = Free ∷ r.tokens;
+    read = (x.stop, free x.stop x.run, subst (λ (k : ℕ). From mode p k r.tokens) here r.read);
+    counted = ap (λ (k : ℕ). k + 1) r.counted ∙ sym (x.counts ts);
+  }
+  star r x (inr here) = record {
+    tokens = Free ∷ Byte slash ∷ r.tokens;
+    read = (
+      x.stop,
+      free x.stop x.run,
+      (x.stop + 1, slash_token mode p x.stop here.0, subst (λ (k : ℕ). From mode p k r.tokens) here.1 r.read),
+    );
+    counted = ap (λ (k : ℕ). k + 1) r.counted ∙ sym (x.counts ts);
+  }
+
+  by : PlainReading mode p e.0 (star_count ts) → IsStarToken p i t e.0 ⊎ IsOtherToken p i t e.0
+      → PlainReading mode p i (star_count (t ∷ ts))
+  by r (inl x) = star r x x.after
+  by r (inr x) = record {
+    tokens = t ∷ r.tokens;
+    read = (e.0, x.alike mode, r.read);
+    counted = x.counts r.tokens ∙ (r.counted ∙ sym (x.counts ts));
+  }
 
 -- ---- the law
 

@@ -1,5 +1,5 @@
 -- Places in a part of the value, and in the value: what a search in the part says of the whole.
-use Rattle.std.proofs.Common.{◌≡◌, ◌≢◌, ℕ, ◌+◌, ◌-◌, ◌<◌, ◌≤◌, ◌==◌, true, List, length, get_or, take, drop, Some, refl, sym, ◌∙◌, ap, subst, arith, rules, tests, get_or-drop, get_or-take, length-take, length-drop, eq-eqb}
+use Rattle.std.proofs.Common.{◌≡◌, ◌≢◌, ℕ, ◌+◌, ◌-◌, ◌<◌, ◌≤◌, List, length, get_or, take, drop, Some, refl, sym, ◌∙◌, ap, subst, arith, get_or-drop, get_or-take, length-take, length-drop, eq-eqb, eqb-true}
 use Rattle.memchr.specs.Find.{NoneBefore, Nowhere, Passes, is_byte}
 use Rattle.glob_matcher.specs.declared.wildmatch.mode.Mode.{Mode}
 use Rattle.glob_matcher.specs.Bytes.{fold, slash}
@@ -26,9 +26,6 @@ skips_part mode v from n b m fits part =
           subst (λ (c : ℕ). fold mode c ≢ fold mode b) (same ∙ ap (λ (l : ℕ). get_or v l 0) sum) differs;
     }
 
-pub is_equal : (a b : ℕ) → (a == b) ≡ true → a ≡ b
-is_equal a b same = search (rules, tests)
-
 -- no slash in a part
 no_slash_part : (v : List ℕ) (from n m : ℕ) → m ≤ n → Nowhere (Passes (is_byte slash) (take n (drop from v))) 0 m
     → (k : ℕ) → from ≤ k → k < from + m → get_or v k 0 ≢ slash
@@ -46,7 +43,7 @@ component_found v at n m whole before here =
       low = omega arith;
       inside = omega arith;
       none = record { at = no_slash_part v at n m (omega arith) before.before };
-      ends = λ below. sym (part_byte v at n m inside) ∙ is_equal _ slash here;
+      ends = λ below. sym (part_byte v at n m inside) ∙ eqb-true _ slash here;
     }
 
 pub component_last : (v : List ℕ) (at n : ℕ) → at + n ≡ length v

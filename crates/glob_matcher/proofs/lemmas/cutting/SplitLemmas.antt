@@ -11,13 +11,6 @@ use Rattle.glob_matcher.proofs.lemmas.reading.SetLemmas.{HasByte-unique, two_byt
 use Rattle.glob_matcher.proofs.lemmas.reading.TokenLemmas.{IsRun-unique, not_special, run_lead, TokenAt-unique, TokenAt-inside}
 use Rattle.glob_matcher.proofs.lemmas.cutting.CutLemmas.{free_in, free_out, local_in, local_out, dirs_in, dirs_out}
 
-pub free_before : (mode : Mode) (p v : List ℕ) (i j k e : ℕ) → TokenAt mode p i Free j → k ≤ e → e ≤ length v
-    → SplitsFrom v e p i mode → SplitsFrom v k p i mode
-free_before mode p v i j k e here low inside all =
-    let out = free_out mode p v i j e here inside all in
-    let later : e ≤ out.0 = out.1 in
-    free_in mode p v i j k out.0 here (omega arith) out.2 out.3
-
 -- two stretches without slash, one after the other
 pub no_slash_join : (v : List ℕ) (i j k : ℕ) → NoSlash v i j → NoSlash v j k → NoSlash v i k
 no_slash_join v i j k x y = record { at = λ m low below. at m low below (cases_lt m j) } where
@@ -25,24 +18,32 @@ no_slash_join v i j k x y = record { at = λ m low below. at m low below (cases_
   at m low below (inl before) = x.at m low before
   at m low below (inr after) = y.at m after below
 
-pub local_before : (mode : Mode) (p v : List ℕ) (i j k e : ℕ) → TokenAt mode p i Local j → k ≤ e → e ≤ length v → NoSlash v k e
-    → SplitsFrom v e p i mode → SplitsFrom v k p i mode
-local_before mode p v i j k e here low inside none all =
-    let out = local_out mode p v i j e here inside all in
-    let later : e ≤ out.0 = out.1 in
-    local_in mode p v i j k out.0 here (omega arith) out.2 (no_slash_join v k e out.0 none out.3) out.4
+module _ {mode : Mode} {p v : List ℕ} {i j k e : ℕ} where
+  pub free_before : TokenAt mode p i Free j → k ≤ e → e ≤ length v
+      → SplitsFrom v e p i mode → SplitsFrom v k p i mode
+  free_before here low inside all =
+      let out = free_out mode p v i j e here inside all in
+      let later : e ≤ out.0 = out.1 in
+      free_in mode p v i j k out.0 here (omega arith) out.2 out.3
 
-pub dirs_before : (mode : Mode) (p v : List ℕ) (i j k e : ℕ) → TokenAt mode p i Dirs j → k < e → e ≤ length v
-    → get_or v (e - 1) 0 ≡ slash → SplitsFrom v e p i mode → SplitsFrom v k p i mode
-dirs_before mode p v i j k e here low inside is all =
-    let out = dirs_out mode p v i j e here inside all in by out.0 out.1 out.2 where
-      by : (f : ℕ) → (f ≡ e) ⊎ AfterSlash v e f → SplitsFrom v f p j mode → SplitsFrom v k p i mode
-      by f (inl same) later =
-          dirs_in mode p v i j k e here (record { past = low; inside = inside; slash = is })
-          (subst (λ (n : ℕ). SplitsFrom v n p j mode) same later)
-      by f (inr after) later =
-          let past : e < f = after.past in
-          dirs_in mode p v i j k f here (record { past = omega arith; inside = after.inside; slash = after.slash }) later
+  pub local_before : TokenAt mode p i Local j → k ≤ e → e ≤ length v → NoSlash v k e
+      → SplitsFrom v e p i mode → SplitsFrom v k p i mode
+  local_before here low inside none all =
+      let out = local_out mode p v i j e here inside all in
+      let later : e ≤ out.0 = out.1 in
+      local_in mode p v i j k out.0 here (omega arith) out.2 (no_slash_join v k e out.0 none out.3) out.4
+
+  pub dirs_before : TokenAt mode p i Dirs j → k < e → e ≤ length v
+      → get_or v (e - 1) 0 ≡ slash → SplitsFrom v e p i mode → SplitsFrom v k p i mode
+  dirs_before here low inside is all =
+      let out = dirs_out mode p v i j e here inside all in by out.0 out.1 out.2 where
+        by : (f : ℕ) → (f ≡ e) ⊎ AfterSlash v e f → SplitsFrom v f p j mode → SplitsFrom v k p i mode
+        by f (inl same) later =
+            dirs_in mode p v i j k e here (record { past = low; inside = inside; slash = is })
+            (subst (λ (n : ℕ). SplitsFrom v n p j mode) same later)
+        by f (inr after) later =
+            let past : e < f = after.past in
+            dirs_in mode p v i j k f here (record { past = omega arith; inside = after.inside; slash = after.slash }) later
 
 -- a star token: a run of stars, with a slash after it or without
 pub record IsStarToken (p : List ℕ) (i : ℕ) (t : Token) (j : ℕ) : Type 0 where

@@ -175,7 +175,7 @@ module _ {mode : Mode} {p v : List ℕ} {from at place k : ℕ} (x : Aligned mod
       limit = λ e. cc;
     };
     aborts = λ room. record {
-      short = λ flat. ((λ e. cc), λ e. absurd (unfit (short_out mode p v place next k t one here inside (x.short_forth e)).0));
+      short = λ flat. ((λ e. cc), λ e. absurd (unfit (short_out t next one here inside (x.short_forth e)).0));
       long = λ flat. inr (inr refl);
       crossing = λ b e. absurd (one_no_star mode p place t next one here (crossing_star mode p place (crossing_here b)));
     };

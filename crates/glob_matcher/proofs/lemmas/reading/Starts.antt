@@ -1,10 +1,8 @@
 -- Where an attempt may begin: starts lie inside the pattern, and a token leads from one to the next.
-use Rattle.std.proofs.Common.{◌≡◌, ◌⊎◌, inl, inr, ℕ, ◌+◌, ◌-◌, ◌<◌, ◌≤◌, Bool, List, [], ◌∷◌, ◌++◌, Option, None, length, refl, sym, subst, arith, true, false, if◌then◌else◌}
+use Rattle.std.proofs.Common.{◌≡◌, ◌⊎◌, inl, inr, ℕ, ◌+◌, ◌-◌, ◌<◌, ◌≤◌, List, [], ◌∷◌, ◌++◌, length, refl, sym, subst, arith}
 use Rattle.glob_matcher.specs.declared.wildmatch.mode.Mode.{Mode}
-use Rattle.glob_matcher.specs.declared.wildmatch.sets.Item.{Item}
 use Rattle.glob_matcher.specs.declared.wildmatch.sets.Item.TheVariants as item
 use Rattle.glob_matcher.specs.Bytes.{HasByte, star, close_bracket, slash}
-use Rattle.glob_matcher.specs.Sets.{ItemAt, ItemsAt, IsUpperEnd, member_of}
 use Rattle.glob_matcher.specs.Tokens.{Token, Byte, Any, OneOf, Free, Local, Dirs, Nothing, TokenAt, DirsAt, IsRun, Spells}
 use Rattle.glob_matcher.specs.Pruning.{IsBoundary, IsDirsSlash, IsStart}
 use Rattle.glob_matcher.proofs.lemmas.reading.TokenLemmas.{TokenAt-unique, TokenAt-inside}
@@ -46,12 +44,12 @@ spells_more : (mode : Mode) (p : List ℕ) (i : ℕ) (ts : List Token) (j : ℕ)
 spells_more mode p i [] j t k e here = (k, subst (λ (n : ℕ). TokenAt mode p n t k) (sym e) here, refl)
 spells_more mode p i (u ∷ ts) j t k e here = (e.0, e.1, spells_more mode p e.0 ts j t k e.2 here)
 
-pub boundary_next : (mode : Mode) (p : List ℕ) (i : ℕ) (t : Token) (j : ℕ) → IsBoundary p i mode → TokenAt mode p i t j → IsBoundary p j mode
-boundary_next mode p i t j x here =
+pub boundary_next : {mode : Mode} {p : List ℕ} {i : ℕ} (t : Token) (j : ℕ) → IsBoundary p i mode → TokenAt mode p i t j → IsBoundary p j mode
+boundary_next {mode} {p} {i} t j x here =
     record { tokens = x.tokens ++ t ∷ []; spelled = spells_more mode p 0 x.tokens i t j x.spelled here }
 
-pub boundary_inside : (mode : Mode) (p : List ℕ) (i : ℕ) → IsBoundary p i mode → i ≤ length p
-boundary_inside mode p i x = spells_inside mode p 0 x.tokens i (omega arith) x.spelled
+pub boundary_inside : {mode : Mode} {p : List ℕ} {i : ℕ} → IsBoundary p i mode → i ≤ length p
+boundary_inside {mode} {p} {i} x = spells_inside mode p 0 x.tokens i (omega arith) x.spelled
 
 -- the slash of a double star's token
 pub dirs_slash : (mode : Mode) (p : List ℕ) (i j : ℕ) → DirsAt mode p i (j + 1) → HasByte p j slash
@@ -60,24 +58,24 @@ dirs_slash mode p i j e =
     let same : e.at ≡ j = omega arith in
     subst (λ (n : ℕ). HasByte p n slash) same e.slash
 
-pub start_inside : (mode : Mode) (p : List ℕ) (i : ℕ) → IsStart p i mode → i ≤ length p
-start_inside mode p i x = by x.place where
+pub start_inside : {mode : Mode} {p : List ℕ} {i : ℕ} → IsStart p i mode → i ≤ length p
+start_inside {mode} {p} {i} x = by x.place where
   by : IsBoundary p i mode ⊎ IsDirsSlash p i mode → i ≤ length p
-  by (inl here) = boundary_inside mode p i here
+  by (inl here) = boundary_inside here
   by (inr here) =
       let at_slash : HasByte p i slash = dirs_slash mode p here.begin i here.dirs in
       let inside : i < length p = at_slash.inside in
       omega arith
 
 -- a token leads from a start to a token's start
-pub start_next : (mode : Mode) (p : List ℕ) (i : ℕ) (t : Token) (j : ℕ) → IsStart p i mode → TokenAt mode p i t j → IsBoundary p j mode
-start_next mode p i t j x here = by x.place where
+pub start_next : {mode : Mode} {p : List ℕ} {i : ℕ} (t : Token) (j : ℕ) → IsStart p i mode → TokenAt mode p i t j → IsBoundary p j mode
+start_next {mode} {p} {i} t j x here = by x.place where
   by : IsBoundary p i mode ⊎ IsDirsSlash p i mode → IsBoundary p j mode
-  by (inl at) = boundary_next mode p i t j at here
+  by (inl at) = boundary_next t j at here
   by (inr at) =
       let at_slash : HasByte p i slash = dirs_slash mode p at.begin i at.dirs in
       let same = TokenAt-unique mode p i (Byte slash) t (i + 1) j (slash_token mode p i at_slash) here in
-      subst (λ (n : ℕ). IsBoundary p n mode) same.1 (boundary_next mode p at.begin Dirs (i + 1) at.boundary at.dirs)
+      subst (λ (n : ℕ). IsBoundary p n mode) same.1 (boundary_next Dirs (i + 1) at.boundary at.dirs)
 
 -- A scan over the tokens stands at a place, and what spells the pattern up to the place sought passes here.
 pub record Scan (mode : Mode) (p : List ℕ) (from place : ℕ) : Type 0 where
@@ -93,10 +91,10 @@ spells_rest mode p place t next (u ∷ us) to here differ e =
     let same = TokenAt-unique mode p place u t e.0 next e.1 here in
     (us, subst (λ (n : ℕ). Spells mode p n us to) same.1 e.2)
 
-pub scan_next : (mode : Mode) (p : List ℕ) (from place : ℕ) (t : Token) (next : ℕ) → Scan mode p from place → TokenAt mode p place t next
+pub scan_next : {mode : Mode} {p : List ℕ} {from place : ℕ} (t : Token) (next : ℕ) → Scan mode p from place → TokenAt mode p place t next
     → place < from → (t ≡ Dirs → next ≡ from + 1 → ⊥) → Scan mode p from next
-scan_next mode p from place t next x here before other = record {
-  boundary = boundary_next mode p place t next x.boundary here;
+scan_next {mode} {p} {from} {place} t next x here before other = record {
+  boundary = boundary_next t next x.boundary here;
   ahead = λ y. let on = x.ahead y in spells_rest mode p place t next on.0 from here (λ is. omega arith) on.1;
   slash_ahead = λ y. let on = x.slash_ahead y in spells_rest mode p place t next on.0 y.begin here (differ y) on.1;
 } where
@@ -115,14 +113,14 @@ spells_forward mode p i (t ∷ ts) j e =
     omega arith
 
 -- where the scan ends, the place sought is this one or none
-pub scan_end : (mode : Mode) (p : List ℕ) (from place : ℕ) → Scan mode p from place → (place < from → length p ≤ place)
+pub scan_end : {mode : Mode} {p : List ℕ} {from place : ℕ} → Scan mode p from place → (place < from → length p ≤ place)
     → IsStart p from mode → place ≡ from
-scan_end mode p from place x stopped start = by start.place where
+scan_end {mode} {p} {from} {place} x stopped start = by start.place where
   by : IsBoundary p from mode ⊎ IsDirsSlash p from mode → place ≡ from
   by (inl y) =
       let on = x.ahead y in
       let forward : place ≤ from = spells_forward mode p place on.0 from on.1 in
-      let inside : from ≤ length p = boundary_inside mode p from y in
+      let inside : from ≤ length p = boundary_inside y in
       let less : place < from → ⊥ = λ before. let past : length p ≤ place = stopped before in omega arith in
       omega arith
   by (inr y) =

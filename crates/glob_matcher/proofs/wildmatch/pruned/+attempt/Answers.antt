@@ -62,23 +62,22 @@ attempt-tokens-preserved t c =
     let one = is_one s.ensures c.in-Byte.is in
     let high : c.tokens.at ≤ length c.args.value.now = c.tokens.invariant.value_high in
     let fits = c.if-not-takes.ensures s.ensures.token s.result.1 s.ensures.here s.ensures.shown in
-    aligned_next c.args.mode p c.args.value.now c.args.place c.args.at c.tokens.place c.tokens.at s.result.1 s.ensures.token
-    c.tokens.invariant one s.ensures.here s.ensures.past (omega arith) (fits.0 refl)
+    aligned_next s.ensures.token s.result.1 c.tokens.invariant one s.ensures.here s.ensures.past (omega arith) (fits.0 refl)
 
 pub attempt-returns : goal.attempt-returns
 attempt-returns t c =
     let p = c.args.pattern.now in
-    let inside : c.tokens.place ≤ length p = start_inside c.args.mode p c.tokens.place c.tokens.invariant.start in
+    let inside : c.tokens.place ≤ length p = start_inside c.tokens.invariant.start in
     end_here c.tokens.invariant (λ deep. omega arith) (omega arith) c.end_answer.ensures.ends c.end_answer.ensures.more
 
 pub cross-token_at-shape-requires : goal.cross-token_at-shape-requires
 cross-token_at-shape-requires t c =
-    let inside : c.args.place ≤ length c.args.pattern.now = start_inside c.args.mode c.args.pattern.now c.args.place c.requires.start in
+    let inside : c.args.place ≤ length c.args.pattern.now = start_inside c.requires.start in
     omega arith
 
 pub stay-token_at-shape-requires : goal.stay-token_at-shape-requires
 stay-token_at-shape-requires t c =
-    let inside : c.args.place ≤ length c.args.pattern.now = start_inside c.args.mode c.args.pattern.now c.args.place c.requires.start in
+    let inside : c.args.place ≤ length c.args.pattern.now = start_inside c.requires.start in
     omega arith
 
 pub cross-returns-in_default-attempt : goal.cross-returns-in_default-attempt
@@ -138,7 +137,7 @@ attempt-cross-requires t c =
     let p = c.args.pattern.now in
     let s = c.token_at-shape in
     let here : TokenAt c.args.mode p c.tokens.place Free s.result.1 = is_free s.ensures c.in-Free.is in
-    let start : IsStart p s.result.1 c.args.mode = record { place = inl (start_next c.args.mode p c.tokens.place Free s.result.1 c.tokens.invariant.start here) } in
+    let start : IsStart p s.result.1 c.args.mode = record { place = inl (start_next Free s.result.1 c.tokens.invariant.start here) } in
     (search rules, (start, (here.run.whole, (c.tokens.invariant.value_high, omega arith))))
 
 pub attempt-stay-requires : goal.attempt-stay-requires
@@ -146,7 +145,7 @@ attempt-stay-requires t c =
     let p = c.args.pattern.now in
     let s = c.token_at-shape in
     let here : TokenAt c.args.mode p c.tokens.place Local s.result.1 = is_local s.ensures c.in-Local.is in
-    let start : IsStart p s.result.1 c.args.mode = record { place = inl (start_next c.args.mode p c.tokens.place Local s.result.1 c.tokens.invariant.start here) } in
+    let start : IsStart p s.result.1 c.args.mode = record { place = inl (start_next Local s.result.1 c.tokens.invariant.start here) } in
     (search rules, (start, (here.run.whole, (c.tokens.invariant.value_high, omega arith))))
 
 pub attempt-descend-requires : goal.attempt-descend-requires
@@ -166,7 +165,7 @@ descend-attempt-requires t c =
     let x = c.requires.token in (
       search rules,
       (
-        record { place = inl (boundary_next c.args.mode c.args.pattern.now x.0 Dirs c.args.place x.1 x.2) },
+        record { place = inl (boundary_next Dirs c.args.place x.1 x.2) },
         (c.requires.inside, omega arith),
       ),
     )
