@@ -1,12 +1,12 @@
 -- Sets of bytes that are numbers of 64 bits.
-use Rattle.std.proofs.Common.{◌≡◌, ◌≢◌, ◌⊎◌, ⊎_elim, ℕ, ◌+◌, ◌-◌, ◌*◌, ◌%◌, ◌^◌, ◌<◌, ◌≤◌, ◌==◌, ◌||◌, min, Bool, true, false, List, length, get_or, bit_and, bit_or, cond, nat_lt, w64, refl, sym, ◌∙◌, ap, subst, arith}
+use Rattle.std.proofs.Common.{◌≡◌, ⊎_elim, ℕ, ◌+◌, ◌-◌, ◌*◌, ◌%◌, ◌^◌, ◌<◌, ◌≤◌, ◌==◌, ◌||◌, min, false, List, length, get_or, bit_and, bit_or, cond, nat_lt, w64, refl, sym, ◌∙◌, ap, subst, arith}
 use Rattle.std.specs.Int.{bit_at, bit_not}
-use Rattle.std.proofs.lemmas.Bool.{cond_both, cases_eq, cases_lt, eqb-true, eqb-false, eq-eqb, or_parts, false≢true}
+use Rattle.std.proofs.lemmas.Bool.{cond_both, cases_eq, cases_lt, eqb-false, or_parts}
 use Rattle.std.proofs.lemmas.Nat.Bits.{bit_at-lt, bit_at-zero, bit_at_above, bit_at_and, bit_at_not, bit_at_ones, bit_at_set_other, bit_at_set_same, same_from_bits}
-use Rattle.gix_glob.specs.Bytes.{HasByte, backslash, open_bracket}
+use Rattle.gix_glob.specs.Bytes.{backslash, open_bracket}
 use Rattle.gix_glob.specs.Patterns.{IsUnescapedUpTo, is_joining}
-use Rattle.glob_index.specs.Literals.{HoldsBits, IsNeededAt, NeedsBits, bit_of}
-use Rattle.glob_index.specs.Rows.{HasAll}
+use Rattle.glob_index.specs.Literals.{NeedsBits, bit_of}
+use Rattle.glob_index.specs.Private.Showing.{HasAll, HoldsBits}
 
 -- the two cases of a letter have one bit
 pub same_bit : (b : ℕ) → b % 32 ≡ bit_of b

@@ -1,5 +1,5 @@
 -- Chains through the places of a class: one place more, and one step down.
-use Rattle.std.proofs.Common.{◌≡◌, ◌≢◌, ◌⊎◌, inl, inr, ⊎_elim, ℕ, zero, suc, ◌+◌, ◌-◌, ◌<◌, ◌≤◌, List, [], ◌∷◌, ◌++◌, length, get_or, map, slice_set, replicate, refl, sym, ◌∙◌, ap, subst, arith, length-append}
+use Rattle.std.proofs.Common.{◌≡◌, ◌≢◌, inl, inr, ⊎_elim, ℕ, ◌+◌, ◌-◌, ◌<◌, ◌≤◌, List, [], ◌∷◌, ◌++◌, length, get_or, slice_set, replicate, refl, sym, ◌∙◌, ap, subst, arith, length-append}
 use Rattle.std.specs.Prelude.{Some, slice_get}
 use Rattle.std.proofs.Math.Seq.{get_or-append_seam}
 use Rattle.std.proofs.Math.ListN.{get_or-append}
@@ -9,8 +9,10 @@ use Rattle.std.proofs.lemmas.Option.{get_or_from_slice_get, slice_get_read, slic
 use Rattle.glob_index.specs.declared.probe.Probe.{Probe}
 use Rattle.glob_index.specs.declared.row.Row.{Row}
 use Rattle.glob_index.specs.declared.table.Walk.{Walk}
-use Rattle.glob_index.specs.Chains.{IsAt, IsChained, IsLastBelow, NonePasses, classes_of, links_of}
-use Rattle.glob_index.specs.Rows.{HasBytes, HasEnd, Passes, always}
+use Rattle.glob_index.specs.Chains.{IsChained, IsLastBelow, classes_of, links_of}
+use Rattle.glob_index.specs.Rows.{always}
+use Rattle.glob_index.specs.Private.Showing.{HasBytes, HasEnd, Passes}
+use Rattle.glob_index.specs.Private.Walking.{IsAt, NonePasses}
 
 -- ---- building
 

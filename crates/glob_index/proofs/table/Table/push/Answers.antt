@@ -1,5 +1,5 @@
 -- The row is the last of its class, and is linked to what was the last before.
-use Rattle.std.proofs.Common.{◌≡◌, List, ℕ, ◌∙◌, sym, subst, arith, slice_set}
+use Rattle.std.proofs.Common.{List, ◌∙◌, sym, subst, arith, slice_set}
 use Rattle.glob_index.specs.declared.row.Row.{Row}
 use Rattle.glob_index.specs.Chains.{IsChained, classes_of, links_of}
 use Rattle.glob_index.proofs.ChainLemmas.{pushed}
