@@ -1,12 +1,12 @@
 -- A mapping that was found has its number next in the text.
-use Rattle.std.proofs.Common.{◌≡◌, ◌<◌, ℕ, Some, get_or, length, map, ap, refl, rules, subst, sym, arith}
+use Rattle.std.proofs.Common.{◌<◌, ℕ, get_or, length, map, ap, refl, rules, subst, sym, arith}
 use Rattle.std.proofs.lemmas.Option.{slice_get-get_or}
 use Rattle.gix_glob.specs.Deciding.{BasesAreFolders}
 use Rattle.gix_glob.specs.Lists.{entry_of}
 use Rattle.gix_glob.specs.Loaded.{listed}
 use Rattle.glob_lines.specs.Numbers.{spaced}
 use Rattle.glob_lines.specs.Plain.{PlainEntry}
-use Rattle.glob_lines.proofs.DecidingLemmas.{seen_at, seen_within}
+use Rattle.gix_glob.proofs.Elements.{seen_at, seen_within}
 use Rattle.glob_lines.proofs.FoundLemmas.{folders_of_one, listed_all, listed_more, listed_none, places_in}
 use Rattle.glob_lines.proofs.MappingsLemmas.{numbers_of}
 use Rattle.glob_lines.proofs.list.append_found.Goals as goal
