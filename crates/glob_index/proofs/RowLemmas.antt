@@ -326,13 +326,13 @@ module _ {V : Type 0} (lists : List (Listed V)) (rows : List Row) (path : List �
   pair_is : ◌≡◌ {A = ℕ × ℕ} (next.row.list, next.row.mapping) (i, m)
   pair_is = ap (λ (a : ℕ). (a, next.row.mapping)) (sym next.list) ∙ ap (λ (b : ℕ). (i, b)) (sym next.mapping)
 
-  pub decided : PairAnswers lists path is_dir case i m → NoneAnswers lists rows path is_dir case to → IsLastAnswer lists path is_dir case (i, m)
-  decided answers later =
+  pub last_answer : PairAnswers lists path is_dir case i m → NoneAnswers lists rows path is_dir case to → IsLastAnswer lists path is_dir case (i, m)
+  last_answer answers later =
       subst (IsLastAnswer lists path is_dir case) pair_is
       (decides_here lists rows path is_dir case place next.row are next.there (of_row answers) (none_of_passed lists rows path is_dir case probe (place + 1) to are law next.between later))
 
-  pub not_decided : ¬ PairAnswers lists path is_dir case i m → NoneAnswers lists rows path is_dir case to → NoneAnswers lists rows path is_dir case place
-  not_decided not later =
+  pub none_answers : ¬ PairAnswers lists path is_dir case i m → NoneAnswers lists rows path is_dir case to → NoneAnswers lists rows path is_dir case place
+  none_answers not later =
       none_here lists rows path is_dir case place next.row next.there (λ answers. not (to_row answers))
       (none_of_passed lists rows path is_dir case probe (place + 1) to are law next.between later)
 

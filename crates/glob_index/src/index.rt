@@ -104,14 +104,14 @@ impl<'a, T: search::Pattern> ListIndex<'a, T> {
         let position = basename_start(path);
         let probe = self.table.probe(path, position);
         let mut walk = self.table.walk(probe.class());
-        let mut found = Vec::new(alloc);
+        let mut pairs = Vec::new(alloc);
         'candidates: while let Some((list, mapping)) = self.table.next_pair(&probe, &mut walk) {
             if self.matches_at(list, mapping, path, position, is_dir) {
-                found.push((list, mapping))?;
+                pairs.push((list, mapping))?;
             }
         }
-        found.reverse();
-        Ok(found)
+        pairs.reverse();
+        Ok(pairs)
     }
 
     /// Whether the pattern of one mapping matches what the base of its list leaves of a path.

@@ -61,8 +61,8 @@ impl Table {
             return Err(AllocError);
         };
         let class = usize::from(row.class());
-        let chained = row.after(self.heads[class]);
-        self.rows.push(chained)?;
+        let chained_row = row.after(self.heads[class]);
+        self.rows.push(chained_row)?;
         self.heads[class] = head;
         self.counts[class] = self.counts[class].saturating_add(1);
         Ok(())

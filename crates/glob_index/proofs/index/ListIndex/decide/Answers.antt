@@ -3,7 +3,7 @@ use Rattle.std.proofs.Common.{map}
 use Rattle.std.proofs.lemmas.Bool.{iff_false}
 use Rattle.gix_glob.specs.Loaded.{listed}
 use Rattle.glob_index.specs.Private.Walking.{NonePasses}
-use Rattle.glob_index.proofs.RowLemmas.{decided, decides_none, entry_of_next, law_holds, none_of_passed, not_decided}
+use Rattle.glob_index.proofs.RowLemmas.{last_answer, decides_none, entry_of_next, law_holds, none_of_passed, none_answers}
 use Rattle.glob_index.proofs.index.ListIndex.decide.Goals as goal
 
 pub matches_at-requires-clause-there : goal.matches_at-requires-clause-there
@@ -11,14 +11,14 @@ matches_at-requires-clause-there g c = entry_of_next _ _ _ _ _ _ _ c.requires.ma
 
 pub returns-then-matches_at : goal.returns-then-matches_at
 returns-then-matches_at g c =
-    decided _ _ c.args.path.now c.args.is_dir c.args.self.now.case _ _ _ _ _ c.requires.made.rows
+    last_answer _ _ c.args.path.now c.args.is_dir c.args.self.now.case _ _ _ _ _ c.requires.made.rows
     (law_holds _ c.args.self.now.table.rows.items c.args.path.now c.args.is_dir c.args.self.now.case c.answering_patterns_pass.ensures c.probe-probe.result c.probe-probe.ensures.shows)
     c.in-Some.ensures.next (c.matches_at.ensures.0 c.if-matches_at.true) c.candidates.invariant.none
 
 pub candidates-preserved : goal.candidates-preserved
 candidates-preserved g c = record {
   at = c.in-Some.ensures.at;
-  none = not_decided _ _ c.args.path.now c.args.is_dir c.args.self.now.case _ _ _ _ _ c.requires.made.rows
+  none = none_answers _ _ c.args.path.now c.args.is_dir c.args.self.now.case _ _ _ _ _ c.requires.made.rows
       (law_holds _ c.args.self.now.table.rows.items c.args.path.now c.args.is_dir c.args.self.now.case c.answering_patterns_pass.ensures c.probe-probe.result c.probe-probe.ensures.shows)
       c.in-Some.ensures.next (iff_false c.matches_at.ensures c.if-matches_at.false) c.candidates.invariant.none;
 }

@@ -17,7 +17,7 @@ candidates-preserved-in-Continue-1 g c = record {
       (sym c.in_ok-push.ensures.items)
       (found_more _ _ c.args.path.now c.args.is_dir c.args.self.now.case _ _ _ _ _ c.requires.made.rows
       (law_holds _ c.args.self.now.table.rows.items c.args.path.now c.args.is_dir c.args.self.now.case c.answering_patterns_pass.ensures c.probe-probe.result c.probe-probe.ensures.shows)
-      c.in-Some.ensures.next c.candidates.found.items (c.matches_at.ensures.0 c.if-matches_at.true) c.candidates.invariant.found);
+      c.in-Some.ensures.next c.candidates.pairs.items (c.matches_at.ensures.0 c.if-matches_at.true) c.candidates.invariant.found);
 }
 
 pub candidates-preserved : goal.candidates-preserved
@@ -25,7 +25,7 @@ candidates-preserved g c = record {
   at = c.in-Some.ensures.at;
   found = found_same _ _ c.args.path.now c.args.is_dir c.args.self.now.case _ _ _ _ _ c.requires.made.rows
       (law_holds _ c.args.self.now.table.rows.items c.args.path.now c.args.is_dir c.args.self.now.case c.answering_patterns_pass.ensures c.probe-probe.result c.probe-probe.ensures.shows)
-      c.in-Some.ensures.next c.candidates.found.items (iff_false c.matches_at.ensures c.if-matches_at.false) c.candidates.invariant.found;
+      c.in-Some.ensures.next c.candidates.pairs.items (iff_false c.matches_at.ensures c.if-matches_at.false) c.candidates.invariant.found;
 }
 
 pub returns : goal.returns
@@ -33,7 +33,7 @@ returns g c =
     let lists = map (listed g.T.Pattern.seen) c.args.self.now.lists.now in
     let none : NonePasses c.args.self.now.table.rows.items c.probe-probe.result 0 c.candidates.walk.end = rw c.in_default.is at c.next_pair.ensures.next in
     subst (AreMatches lists c.args.path.now c.args.is_dir c.args.self.now.case) (sym c.reverse.ensures.items)
-    (found_all lists c.args.self.now.table.rows.items c.args.path.now c.args.is_dir c.args.self.now.case c.candidates.found.items c.requires.made.rows
-    (found_skip lists c.args.self.now.table.rows.items c.args.path.now c.args.is_dir c.args.self.now.case c.probe-probe.result 0 c.candidates.walk.end c.candidates.found.items (omega arith) c.requires.made.rows
+    (found_all lists c.args.self.now.table.rows.items c.args.path.now c.args.is_dir c.args.self.now.case c.candidates.pairs.items c.requires.made.rows
+    (found_skip lists c.args.self.now.table.rows.items c.args.path.now c.args.is_dir c.args.self.now.case c.probe-probe.result 0 c.candidates.walk.end c.candidates.pairs.items (omega arith) c.requires.made.rows
     (law_holds lists c.args.self.now.table.rows.items c.args.path.now c.args.is_dir c.args.self.now.case c.answering_patterns_pass.ensures c.probe-probe.result c.probe-probe.ensures.shows)
     none c.candidates.invariant.found))
