@@ -1,5 +1,7 @@
-pub mod PathParts
+pub mod Answering
 pub mod Bases
-pub mod Rests
-pub mod Places
 pub mod Copies
+pub mod Elements
+pub mod PathParts
+pub mod Places
+pub mod Rests

@@ -1,5 +1,5 @@
 -- What is left of a path under a base.
-use Rattle.std.proofs.Common.{◌≡◌, ℕ, ◌+◌, ◌≤◌, List, length, take, drop, refl, sym, ap, ◌∙◌, subst, arith, length-append, take_at, drop_at, true, false, Option, None, Some, MatchOption, Bor}
+use Rattle.std.proofs.Common.{◌≡◌, ℕ, ◌+◌, List, length, take, drop, refl, sym, ap, ◌∙◌, subst, take_at, true, false, Option, None, Some, MatchOption, Bor}
 use Rattle.std.specs.Char.{to_ascii_lowercase}
 use Rattle.std.specs.Str.{bytes_eq}
 use Rattle.std.proofs.lemmas.Slice.Eq.{bytes_eq-Decides}

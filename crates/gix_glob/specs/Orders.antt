@@ -1,5 +1,5 @@
 -- The order of mappings and of lists.
-use Rattle.std.specs.Prelude.{ℕ, string_cmp}
+use Rattle.std.specs.Prelude.{string_cmp}
 use Rattle.std.specs.Cmp.Lexicographic.{slice_cmp}
 use Rattle.std.specs.Option.{option_cmp}
 use Rattle.std.specs.Ordering.{nat_cmp, ordering_then}

@@ -1,25 +1,9 @@
 -- The last of several patterns that answers, from the end of the list on.
-use Rattle.std.proofs.Common.{◌≡◌, ◌⊎◌, ⊎_elim, ℕ, ◌+◌, ◌-◌, ◌<◌, ◌≤◌, Bool, List, length, Option, None, Some, refl, ap, subst, arith}
+use Rattle.std.proofs.Common.{◌≡◌, ⊎_elim, ℕ, ◌+◌, ◌<◌, ◌≤◌, Bool, List, Some, subst, arith}
 use Rattle.std.specs.Prelude.{slice_get}
-use Rattle.std.proofs.lemmas.Option.{slice_get_within}
 use Rattle.std.proofs.lemmas.Bool.{cases_eq, cases_lt}
-use Rattle.gix_glob.specs.RepositoryPaths.{IsAfterLastSlash, IsBasenameStart}
 use Rattle.gix_glob_c.specs.declared.parsed.GlobPattern.{GlobPattern}
 use Rattle.gix_glob_c.specs.Parsed.{AnswersAt, AnswersPath, LastAnswer}
-
--- no place before the one after the last slash is such a place
-IsAfterLastSlash-below : (path : List ℕ) (j k : ℕ) → IsAfterLastSlash path j → IsAfterLastSlash path k → ¬ (j < k)
-IsAfterLastSlash-below path j k h g below = h.last (k - 1) (omega (arith, g.some)) g.after
-
-pub IsBasenameStart-only : (path : List ℕ) (start other : Option ℕ) → IsBasenameStart path start → IsBasenameStart path other → other ≡ start
-IsBasenameStart-only path None None h g = refl
-IsBasenameStart-only path None (Some k) h g = absurd (h (k - 1) g.after)
-IsBasenameStart-only path (Some k) None h g = absurd (g (k - 1) h.after)
-IsBasenameStart-only path (Some j) (Some k) h g =
-    let not_below = IsAfterLastSlash-below path j k h g in
-    let not_above = IsAfterLastSlash-below path k j g h in
-    let same : k ≡ j = omega (arith, not_below, not_above) in
-    ap Some same
 
 module _ (patterns : List GlobPattern) (path : List ℕ) (is_dir fold : Bool) where
   -- no pattern at this index or behind it answers

@@ -1,2 +1,3 @@
 pub mod Bits
+mod DecidingLemmas
 mod LastLemmas

@@ -1,7 +1,9 @@
 -- What the parts of a pattern mean that C keeps, when they answer for a path, and which of several answers last.
-use Rattle.std.specs.Prelude.{◌≡◌, ◌≤◌, ℕ, Bool, true, false, nat_eq, nat_lt, List, length, slice_get, Option, None, Some, MatchOption, codes, if◌then◌else◌}
+use Rattle.std.specs.Prelude.{◌≡◌, ◌≤◌, ℕ, Bool, true, false, nat_eq, nat_lt, List, length, map, slice_get, Option, None, Some, MatchOption, codes, if◌then◌else◌}
 use Rattle.std.specs.List.{ends_with}
 use Rattle.gix_glob.specs.declared.pattern.Mode.{Mode}
+use Rattle.gix_glob.specs.Lists.{Entry}
+use Rattle.gix_glob.specs.Loaded.{Listed}
 use Rattle.gix_glob.specs.Patterns.{IsPattern, Reads}
 use Rattle.gix_glob.specs.RepositoryPaths.{Answers, IsBasenameStart}
 use Rattle.glob_lines.specs.PathLines.{IsPlainPath}
@@ -56,3 +58,19 @@ index_of patterns index = if nat_lt index (length patterns) then Some index else
 abbrev pub LastAnswer : List GlobPattern → List ℕ → Bool → Bool → Option ℕ → Type 0
 LastAnswer patterns path is_dir fold index =
     MatchOption index ((i : ℕ) → ¬ AnswersAt patterns path is_dir fold i) (IsLastAnswer patterns path is_dir fold)
+
+-- ---- the same patterns as a list
+
+-- the pattern as an entry, which has no value and whose line isn't kept
+abbrev pub entry_of_parts : GlobPattern → Entry (Unit {0})
+entry_of_parts pattern = record {
+  text = pattern.text.now;
+  mode = flags_of pattern;
+  place = first_of pattern;
+  value = tt;
+  number = 0;
+}
+
+-- the patterns as a list without a base
+abbrev pub list_of : List GlobPattern → Listed (Unit {0})
+list_of patterns = record { entries = map entry_of_parts patterns; source = None; base = None }

@@ -8,6 +8,7 @@ ghost use Rattle.gix_glob.specs.Patterns.{HasReading, IsPattern};
 ghost use Rattle.gix_glob_c.specs.Parts.{LineAnswers, case_of, place_in};
 
 pub mod ignore_file;
+pub mod laws;
 pub mod parsed;
 
 use bitflags::Flags;

@@ -1,12 +1,12 @@
 -- Sets of bytes that are numbers of 64 bits.
-use Rattle.std.proofs.Common.{◌≡◌, ◌≢◌, ◌⊎◌, ⊎_elim, ℕ, ◌+◌, ◌-◌, ◌*◌, ◌%◌, ◌^◌, ◌<◌, ◌≤◌, ◌==◌, ◌||◌, min, Bool, true, false, List, length, get_or, bit_and, bit_or, cond, nat_lt, w64, refl, sym, ◌∙◌, ap, subst, arith}
+use Rattle.std.proofs.Common.{◌≡◌, ⊎_elim, ℕ, ◌+◌, ◌-◌, ◌*◌, ◌%◌, ◌^◌, ◌<◌, ◌≤◌, ◌==◌, ◌||◌, min, false, List, length, get_or, bit_and, bit_or, cond, nat_lt, w64, refl, sym, ◌∙◌, ap, subst, arith}
 use Rattle.std.specs.Int.{bit_at, bit_not}
-use Rattle.std.proofs.lemmas.Bool.{cond_both, cases_eq, cases_lt, eqb-true, eqb-false, eq-eqb, or_parts, false≢true}
+use Rattle.std.proofs.lemmas.Bool.{cond_both, cases_eq, cases_lt, eqb-false, or_parts}
 use Rattle.std.proofs.lemmas.Nat.Bits.{bit_at-lt, bit_at-zero, bit_at_above, bit_at_and, bit_at_not, bit_at_ones, bit_at_set_other, bit_at_set_same, same_from_bits}
-use Rattle.gix_glob.specs.Bytes.{HasByte, backslash, open_bracket}
+use Rattle.gix_glob.specs.Bytes.{backslash, open_bracket}
 use Rattle.gix_glob.specs.Patterns.{IsUnescapedUpTo, is_joining}
-use Rattle.glob_index.specs.Literals.{HoldsBits, IsNeededAt, NeedsBits, bit_of}
-use Rattle.glob_index.specs.Rows.{HasAll}
+use Rattle.glob_index.specs.Literals.{NeedsBits, bit_of}
+use Rattle.glob_index.specs.Private.Showing.{HasAll, HoldsBits}
 
 -- the two cases of a letter have one bit
 pub same_bit : (b : ℕ) → b % 32 ≡ bit_of b
@@ -65,8 +65,8 @@ clean_more text k set opens h j below = ⊎_elim
 pub read_past : (text : List ℕ) (k set : ℕ) → (get_or text k 0 == open_bracket || get_or text k 0 == backslash) ≡ false → IsReadUpTo text k set → IsReadUpTo text (k + 1) set
 read_past text k set opens h = record { clean = clean_more text k set opens h; needs = h.needs }
 
-unescaped : (text : List ℕ) (k : ℕ) → ((j : ℕ) → j < k + 1 → (get_or text j 0 == open_bracket || get_or text j 0 == backslash) ≡ false) → IsUnescapedUpTo text k
-unescaped text k clean = record {
+unescaped_up_to : (text : List ℕ) (k : ℕ) → ((j : ℕ) → j < k + 1 → (get_or text j 0 == open_bracket || get_or text j 0 == backslash) ≡ false) → IsUnescapedUpTo text k
+unescaped_up_to text k clean = record {
   no_set = λ j below there. eqb-false _ _ (or_parts _ _ (clean j (omega arith))).0 there.is;
   no_escape = λ j below there. eqb-false _ _ (or_parts _ _ (clean j (omega arith))).1 there.is;
 }
@@ -78,7 +78,7 @@ read_more text k set inside opens plain h =
     let clean = clean_more text k set opens h in record {
       clean = clean;
       needs = λ i is. ⊎_elim
-          (λ (same : i ≡ bit_of byte). (k, record { byte = byte; there = record { inside = inside; is = refl }; unescaped = unescaped text k clean; literal = plain; bit = same }))
+          (λ (same : i ≡ bit_of byte). (k, record { byte = byte; there = record { inside = inside; is = refl }; unescaped = unescaped_up_to text k clean; literal = plain; bit = same }))
           (λ (other : i ≡ bit_of byte → ⊥). h.needs i (sym (bit_at_set_other w64 set (bit_of byte) (small byte) i other) ∙ is))
           (cases_eq i (bit_of byte));
     }
@@ -92,24 +92,24 @@ inside_width n i fits is = ⊎_elim
     (cases_lt i 64)
 
 -- what is needed and not held
-abbrev pub missing : ℕ → ℕ → ℕ
-missing held needed = bit_and needed (18446744073709551615 - held)
+abbrev pub missing_bits : ℕ → ℕ → ℕ
+missing_bits held needed = bit_and needed (18446744073709551615 - held)
 
-missing_bit : (held needed i : ℕ) → held < 2 ^ 64 → i < 64 → bit_at (missing held needed) i ≡ min (bit_at needed i) (1 - bit_at held i)
-missing_bit held needed i fits inside = bit_at_and needed (bit_not w64 held) i ∙ ap (λ (b : ℕ). min (bit_at needed i) b) (bit_at_not w64 held i fits inside)
+missing_bits_at : (held needed i : ℕ) → held < 2 ^ 64 → i < 64 → bit_at (missing_bits held needed) i ≡ min (bit_at needed i) (1 - bit_at held i)
+missing_bits_at held needed i fits inside = bit_at_and needed (bit_not w64 held) i ∙ ap (λ (b : ℕ). min (bit_at needed i) b) (bit_at_not w64 held i fits inside)
 
-pub none_missing : (held needed : ℕ) → held < 2 ^ 64 → needed < 2 ^ 64 → missing held needed ≡ 0 → HasAll held needed
+pub none_missing : (held needed : ℕ) → held < 2 ^ 64 → needed < 2 ^ 64 → missing_bits held needed ≡ 0 → HasAll held needed
 none_missing held needed fits fits' none i is =
     let inside = inside_width needed i fits' is in
-    let zero_bit : bit_at (missing held needed) i ≡ 0 = ap (λ (n : ℕ). bit_at n i) none ∙ bit_at-zero i in
-    let bit = missing_bit held needed i fits inside in
+    let zero_bit : bit_at (missing_bits held needed) i ≡ 0 = ap (λ (n : ℕ). bit_at n i) none ∙ bit_at-zero i in
+    let bit = missing_bits_at held needed i fits inside in
     let two = bit_at-lt held i in omega arith
 
-pub all_held : (held needed : ℕ) → held < 2 ^ 64 → needed < 2 ^ 64 → HasAll held needed → missing held needed ≡ 0
-all_held held needed fits fits' all = same_from_bits (missing held needed) 0
+pub all_held : (held needed : ℕ) → held < 2 ^ 64 → needed < 2 ^ 64 → HasAll held needed → missing_bits held needed ≡ 0
+all_held held needed fits fits' all = same_from_bits (missing_bits held needed) 0
     (λ i. ⊎_elim
     (λ (inside : i < 64).
-    let bit = missing_bit held needed i fits inside in
+    let bit = missing_bits_at held needed i fits inside in
     let two = bit_at-lt needed i in
     let zero_bit = bit_at-zero i in ⊎_elim
     (λ (is : bit_at needed i ≡ 1). let there = all i is in omega arith)

@@ -1,5 +1,5 @@
 -- Chains through the places of a class: one place more, and one step down.
-use Rattle.std.proofs.Common.{◌≡◌, ◌≢◌, ◌⊎◌, inl, inr, ⊎_elim, ℕ, zero, suc, ◌+◌, ◌-◌, ◌<◌, ◌≤◌, List, [], ◌∷◌, ◌++◌, length, get_or, map, slice_set, replicate, refl, sym, ◌∙◌, ap, subst, arith, length-append}
+use Rattle.std.proofs.Common.{◌≡◌, ◌≢◌, inl, inr, ⊎_elim, ℕ, ◌+◌, ◌-◌, ◌<◌, ◌≤◌, List, [], ◌∷◌, ◌++◌, length, get_or, slice_set, replicate, refl, sym, ◌∙◌, ap, subst, arith, length-append}
 use Rattle.std.specs.Prelude.{Some, slice_get}
 use Rattle.std.proofs.Math.Seq.{get_or-append_seam}
 use Rattle.std.proofs.Math.ListN.{get_or-append}
@@ -9,8 +9,10 @@ use Rattle.std.proofs.lemmas.Option.{get_or_from_slice_get, slice_get_read, slic
 use Rattle.glob_index.specs.declared.probe.Probe.{Probe}
 use Rattle.glob_index.specs.declared.row.Row.{Row}
 use Rattle.glob_index.specs.declared.table.Walk.{Walk}
-use Rattle.glob_index.specs.Chains.{IsAt, IsChained, IsLastBelow, NonePasses, classes_of, links_of}
-use Rattle.glob_index.specs.Rows.{HasBytes, HasEnd, Passes, always}
+use Rattle.glob_index.specs.Chains.{IsChained, IsLastBelow, classes_of, links_of}
+use Rattle.glob_index.specs.Rows.{always}
+use Rattle.glob_index.specs.Private.Showing.{HasBytes, HasEnd, Passes}
+use Rattle.glob_index.specs.Private.Walking.{IsAt, NonePasses}
 
 -- ---- building
 
@@ -118,8 +120,8 @@ passed_over rows probe end own other near to h h' low low' none m row from below
 ]
 
 -- nor does the place itself, where it was tested
-pub tested : (rows : List Row) (probe : Probe) (place to : ℕ) (row : Row) → slice_get rows place ≡ Some row → ¬ Passes row probe → NonePasses rows probe (place + 1) to → NonePasses rows probe place to
-tested rows probe place to row there fails none m other from below got passes = ⊎_elim
+pub none_with_tested : (rows : List Row) (probe : Probe) (place to : ℕ) (row : Row) → slice_get rows place ≡ Some row → ¬ Passes row probe → NonePasses rows probe (place + 1) to → NonePasses rows probe place to
+none_with_tested rows probe place to row there fails none m other from below got passes = ⊎_elim
     (λ (here : m ≡ place).
     let same : other ≡ row = sym (get_or_from_slice_get rows m other row got) ∙ (ap (λ (k : ℕ). get_or rows k row) here ∙ get_or_from_slice_get rows place row row there) in
     fails (subst (λ (r : Row). Passes r probe) same passes))
@@ -187,7 +189,7 @@ module _ (rows : List Row) (heads : List ℕ) (probe : Probe) (walk : Walk) (pla
       let same : walk.own - 1 ≡ place = omega arith in
       let class_is : row.class ≡ probe.class =
       sym (class_at rows place row (there (omega arith))) ∙ (ap (λ (k : ℕ). get_or (classes_of rows) k 0) (sym same) ∙ at.own.here (omega arith)) in
-      tested rows probe place to row (there (omega arith)) (λ passes. fails (passes.end (λ always_is. at.apart (sym class_is ∙ always_is)))) none
+      none_with_tested rows probe place to row (there (omega arith)) (λ passes. fails (passes.end (λ always_is. at.apart (sym class_is ∙ always_is)))) none
 
   pub without_bytes : (to : ℕ) → place + 1 ≡ walk.other → ¬ HasBytes row probe → NonePasses rows probe (place + 1) to → NonePasses rows probe place to
   without_bytes to is fails none =
@@ -195,13 +197,13 @@ module _ (rows : List Row) (heads : List ℕ) (probe : Probe) (walk : Walk) (pla
       let same : walk.other - 1 ≡ place = omega arith in
       let class_is : row.class ≡ always =
       sym (class_at rows place row (there (omega arith))) ∙ (ap (λ (k : ℕ). get_or (classes_of rows) k 0) (sym same) ∙ at.other.here (omega arith)) in
-      tested rows probe place to row (there (omega arith)) (λ passes. fails (passes.bytes class_is)) none
+      none_with_tested rows probe place to row (there (omega arith)) (λ passes. fails (passes.bytes class_is)) none
 
 -- one row more
-pub pushed : (rows : List Row) (heads : List ℕ) (row added : Row) (class place : ℕ) → row.class ≤ always → class ≡ row.class → length heads ≡ 257 → place ≡ length rows + 1
+pub chained_after_push : (rows : List Row) (heads : List ℕ) (row added : Row) (class place : ℕ) → row.class ≤ always → class ≡ row.class → length heads ≡ 257 → place ≡ length rows + 1
     → added ≡ record row { before = get_or heads class 0 } → IsChained (classes_of rows) (links_of rows) heads
     → IsChained (classes_of (rows ++ added ∷ [])) (links_of (rows ++ added ∷ [])) (slice_set heads class place)
-pushed rows heads row added class place small is wide here same h =
+chained_after_push rows heads row added class place small is wide here same h =
     let long : length (classes_of rows) ≡ length rows = length-map rows (λ (r : Row). r.class) in
     let long' : length (links_of rows) ≡ length rows = length-map rows (λ (r : Row). r.before) in
     let class_is : class ≡ added.class = is ∙ sym (ap (λ (r : Row). r.class) same) in

@@ -1,11 +1,11 @@
 -- What a pattern that answers for a path asks for is shown by the path.
-use Rattle.std.proofs.Common.{◌≡◌, ◌⊎◌, ⊎_elim, ℕ, zero, suc, ◌+◌, ◌-◌, ◌*◌, ◌%◌, ◌^◌, ◌<◌, ◌≤◌, Bool, true, false, not, ◌&&◌, List, ◌++◌, length, get_or, take, drop, map, Option, None, Some, refl, sym, ◌∙◌, ap, subst, arith, length-drop, if◌then◌else◌}
+use Rattle.std.proofs.Common.{◌≡◌, ⊎_elim, ℕ, zero, suc, ◌+◌, ◌-◌, ◌*◌, ◌%◌, ◌^◌, ◌<◌, ◌≤◌, Bool, true, false, not, ◌&&◌, List, ◌++◌, length, get_or, take, drop, Option, None, Some, refl, sym, ◌∙◌, ap, subst, arith, length-drop, if◌then◌else◌}
 use Rattle.std.specs.List.{list_any}
 use Rattle.std.specs.Char.{to_ascii_lowercase}
 use Rattle.std.specs.Int.{bit_at}
 use Rattle.std.proofs.Math.Seq.{drop-append_seam}
 use Rattle.std.proofs.lemmas.Bool.{cases_Bool, cond_both}
-use Rattle.std.proofs.lemmas.List.{drop-drop, get_or-drop, get_or-map, get_or_default, length-map, take-append-drop}
+use Rattle.std.proofs.lemmas.List.{drop-drop, get_or-drop, get_or-map, get_or_default, take-append-drop}
 use Rattle.std.proofs.lemmas.List.Folds.{list_any_none}
 use Rattle.gix_glob.specs.declared.pattern.Case.{Case}
 use Rattle.gix_glob.specs.declared.pattern.Mode as pattern
@@ -18,8 +18,9 @@ use Rattle.gix_glob.specs.RepositoryPaths.{Answers, IsBasenameStart, subject, wi
 use Rattle.gix_glob.specs.Stripping.{RestOf}
 use Rattle.glob_index.specs.declared.probe.Probe.{Probe}
 use Rattle.glob_index.specs.declared.row.Row.{Row}
-use Rattle.glob_index.specs.Literals.{EndsLiterally, IsNeededAt, NeedsBits, bit_of, end_key, from_end}
-use Rattle.glob_index.specs.Rows.{Asks, HasAll, HasBytes, HasEnd, HasLiteralEnd, Passes, Shows, always}
+use Rattle.glob_index.specs.Literals.{EndsLiterally, NeedsBits, bit_of, end_key, from_end}
+use Rattle.glob_index.specs.Rows.{Asks, HasLiteralEnd}
+use Rattle.glob_index.specs.Private.Showing.{HasBytes, HasEnd, Passes, Shows}
 
 -- the two laws that the choice stands on
 abbrev pub EndsAsTheText : Type 0

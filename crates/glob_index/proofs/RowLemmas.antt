@@ -1,6 +1,6 @@
 -- The rows of lists: one more row, one more list, and what the rows say of the pairs that answer.
-use Rattle.std.proofs.Common.{◌≡◌, ◌⊎◌, inl, inr, ⊎_elim, ℕ, zero, suc, ◌+◌, ◌-◌, ◌<◌, ◌≤◌, Bool, List, [], ◌∷◌, ◌++◌, length, get_or, reverse, Option, None, Some, refl, sym, ◌∙◌, ap, subst, arith, length-append}
-use Rattle.std.specs.Prelude.{MatchOption, slice_get}
+use Rattle.std.proofs.Common.{◌≡◌, ◌⊎◌, inl, inr, ⊎_elim, ℕ, ◌+◌, ◌-◌, ◌<◌, ◌≤◌, Bool, List, [], ◌∷◌, ◌++◌, length, get_or, reverse, Some, sym, ◌∙◌, ap, subst, arith, length-append}
+use Rattle.std.specs.Prelude.{slice_get}
 use Rattle.std.proofs.Math.Seq.{get_or-append_seam}
 use Rattle.std.proofs.Math.ListN.{get_or-append}
 use Rattle.std.proofs.lemmas.Bool.{cases_eq, cases_lt, cases_order}
@@ -8,16 +8,16 @@ use Rattle.std.proofs.lemmas.List.{get_or-reverse, length-reverse}
 use Rattle.std.proofs.lemmas.Option.{get_or_from_slice_get, same_Some, slice_get-get_or, slice_get_within}
 use Rattle.gix_glob.specs.declared.pattern.Case.{Case}
 use Rattle.gix_glob.specs.declared.pattern.Mode as flags
-use Rattle.gix_glob.specs.Deciding.{AnswersAt, AnswersUnder, Decides, IsLastAnswer, PairAnswers, path_mode}
+use Rattle.gix_glob.specs.Deciding.{IsLastAnswer, PairAnswers, path_mode}
 use Rattle.gix_glob.specs.Lists.{Entry}
 use Rattle.gix_glob.specs.Loaded.{Listed}
-use Rattle.gix_glob.specs.RepositoryPaths.{Answers, IsBasenameStart}
-use Rattle.gix_glob.specs.Stripping.{RestOf}
 use Rattle.glob_index.specs.declared.probe.Probe.{Probe}
 use Rattle.glob_index.specs.declared.row.Row.{Row}
-use Rattle.glob_index.specs.Chains.{NonePasses}
-use Rattle.glob_index.specs.Index.{AreMatches, AreRows, AreRowsUpTo, ComesBefore, HasEntryAt, IsAtPlace, IsEntryAt, IsRowOf}
-use Rattle.glob_index.specs.Rows.{Asks, Passes, Shows}
+use Rattle.glob_index.specs.Index.{AreMatches, AreRows, ComesBefore, HasEntryAt, IsAtPlace, IsEntryAt, IsRowOf}
+use Rattle.glob_index.specs.Rows.{Asks}
+use Rattle.glob_index.specs.Private.Building.{AreRowsUpTo}
+use Rattle.glob_index.specs.Private.Showing.{Passes, Shows}
+use Rattle.glob_index.specs.Private.Walking.{IsNextPair, NonePasses}
 use Rattle.glob_index.proofs.AnsweringLemmas.{pair_only}
 use Rattle.glob_index.proofs.PrefilterLemmas.{AnsweringPasses}
 
@@ -309,48 +309,41 @@ module _ {V : Type 0} (lists : List (Listed V)) (rows : List Row) (path : List �
 pub asks_chained : (text : List ℕ) (mode : flags.Mode) (row : Row) (before : ℕ) → Asks text mode row → Asks text mode (record row { before = before })
 asks_chained text mode row before a = record { short = a.short; class = a.class; end = a.end; bytes = a.bytes; name = a.name }
 
-pub entry_of_row : {V : Type 0} (lists : List (Listed V)) (row : Row) (i m : ℕ) → IsRowOf lists row → i ≡ row.list → m ≡ row.mapping → HasEntryAt lists i m
-entry_of_row lists row i m of list mapping =
-    (of.entry, subst (λ (a : ℕ). IsEntryAt lists a m of.entry) (sym list) (subst (λ (b : ℕ). IsEntryAt lists row.list b of.entry) (sym mapping) of.there))
+pub entry_of_next : {V : Type 0} (lists : List (Listed V)) (rows : List Row) (probe : Probe) (place to i m : ℕ) → AreRows lists rows → IsNextPair rows probe place to (i, m) → HasEntryAt lists i m
+entry_of_next lists rows probe place to i m are next =
+    let of = are.each place next.row next.there in
+    (of.entry, subst (λ (a : ℕ). IsEntryAt lists a m of.entry) (sym next.list) (subst (λ (b : ℕ). IsEntryAt lists next.row.list b of.entry) (sym next.mapping) of.there))
 
-module _ {V : Type 0} (lists : List (Listed V)) (rows : List Row) (path : List ℕ) (is_dir : Bool) (case : Case) (probe : Probe) (place to i m : ℕ) (row : Row)
-    (are : AreRows lists rows) (law : Law lists rows path is_dir case probe) (there : slice_get rows place ≡ Some row) (list : i ≡ row.list) (mapping : m ≡ row.mapping)
-    (none : NonePasses rows probe (place + 1) to) where
-  of_row : PairAnswers lists path is_dir case i m → PairAnswers lists path is_dir case row.list row.mapping
-  of_row answers = subst (λ (a : ℕ). PairAnswers lists path is_dir case a row.mapping) list (subst (λ (b : ℕ). PairAnswers lists path is_dir case i b) mapping answers)
+module _ {V : Type 0} (lists : List (Listed V)) (rows : List Row) (path : List ℕ) (is_dir : Bool) (case : Case) (probe : Probe) (place to i m : ℕ)
+    (are : AreRows lists rows) (law : Law lists rows path is_dir case probe) (next : IsNextPair rows probe place to (i, m)) where
+  of_row : PairAnswers lists path is_dir case i m → PairAnswers lists path is_dir case next.row.list next.row.mapping
+  of_row answers = subst (λ (a : ℕ). PairAnswers lists path is_dir case a next.row.mapping) next.list (subst (λ (b : ℕ). PairAnswers lists path is_dir case i b) next.mapping answers)
 
-  to_row : PairAnswers lists path is_dir case row.list row.mapping → PairAnswers lists path is_dir case i m
+  to_row : PairAnswers lists path is_dir case next.row.list next.row.mapping → PairAnswers lists path is_dir case i m
   to_row answers =
-      subst (λ (a : ℕ). PairAnswers lists path is_dir case a m) (sym list) (subst (λ (b : ℕ). PairAnswers lists path is_dir case row.list b) (sym mapping) answers)
+      subst (λ (a : ℕ). PairAnswers lists path is_dir case a m) (sym next.list) (subst (λ (b : ℕ). PairAnswers lists path is_dir case next.row.list b) (sym next.mapping) answers)
 
-  pair_is : ◌≡◌ {A = ℕ × ℕ} (row.list, row.mapping) (i, m)
-  pair_is = ap (λ (a : ℕ). (a, row.mapping)) (sym list) ∙ ap (λ (b : ℕ). (i, b)) (sym mapping)
+  pair_is : ◌≡◌ {A = ℕ × ℕ} (next.row.list, next.row.mapping) (i, m)
+  pair_is = ap (λ (a : ℕ). (a, next.row.mapping)) (sym next.list) ∙ ap (λ (b : ℕ). (i, b)) (sym next.mapping)
 
-  pub decided : PairAnswers lists path is_dir case i m → NoneAnswers lists rows path is_dir case to → IsLastAnswer lists path is_dir case (i, m)
-  decided answers later =
+  pub last_answer : PairAnswers lists path is_dir case i m → NoneAnswers lists rows path is_dir case to → IsLastAnswer lists path is_dir case (i, m)
+  last_answer answers later =
       subst (IsLastAnswer lists path is_dir case) pair_is
-      (decides_here lists rows path is_dir case place row are there (of_row answers) (none_of_passed lists rows path is_dir case probe (place + 1) to are law none later))
+      (decides_here lists rows path is_dir case place next.row are next.there (of_row answers) (none_of_passed lists rows path is_dir case probe (place + 1) to are law next.between later))
 
-  pub not_decided : ¬ PairAnswers lists path is_dir case i m → NoneAnswers lists rows path is_dir case to → NoneAnswers lists rows path is_dir case place
-  not_decided not later =
-      none_here lists rows path is_dir case place row there (λ answers. not (to_row answers))
-      (none_of_passed lists rows path is_dir case probe (place + 1) to are law none later)
+  pub none_answers : ¬ PairAnswers lists path is_dir case i m → NoneAnswers lists rows path is_dir case to → NoneAnswers lists rows path is_dir case place
+  none_answers not later =
+      none_here lists rows path is_dir case place next.row next.there (λ answers. not (to_row answers))
+      (none_of_passed lists rows path is_dir case probe (place + 1) to are law next.between later)
 
-  pub found_more : (found : List (ℕ × ℕ)) → place + 1 ≤ to → PairAnswers lists path is_dir case i m → AreFoundFrom lists rows path is_dir case to found
+  pub found_more : (found : List (ℕ × ℕ)) → PairAnswers lists path is_dir case i m → AreFoundFrom lists rows path is_dir case to found
       → AreFoundFrom lists rows path is_dir case place (found ++ (i, m) ∷ [])
-  found_more found low answers h =
+  found_more found answers h =
       subst (λ (pair : ℕ × ℕ). AreFoundFrom lists rows path is_dir case place (found ++ pair ∷ [])) pair_is
-      (found_here lists rows path is_dir case place row found are there (of_row answers) (found_skip lists rows path is_dir case probe (place + 1) to found low are law none h))
+      (found_here lists rows path is_dir case place next.row found are next.there (of_row answers) (found_skip lists rows path is_dir case probe (place + 1) to found (let below = next.below in omega arith) are law next.between h))
 
-  pub found_same : (found : List (ℕ × ℕ)) → place + 1 ≤ to → ¬ PairAnswers lists path is_dir case i m → AreFoundFrom lists rows path is_dir case to found
+  pub found_same : (found : List (ℕ × ℕ)) → ¬ PairAnswers lists path is_dir case i m → AreFoundFrom lists rows path is_dir case to found
       → AreFoundFrom lists rows path is_dir case place found
-  found_same found low not h =
-      found_not lists rows path is_dir case place row found there (λ answers. not (to_row answers))
-      (found_skip lists rows path is_dir case probe (place + 1) to found low are law none h)
-
--- ---- small facts
-
-pub row_at : (rows : List Row) (k : ℕ) → k < length rows → (row : Row) × (slice_get rows k ≡ Some row)
-row_at [] k inside = absurd (omega arith)
-row_at (row ∷ rows) zero inside = (row, refl)
-row_at (row ∷ rows) (suc k) inside = row_at rows k (omega arith)
+  found_same found not h =
+      found_not lists rows path is_dir case place next.row found next.there (λ answers. not (to_row answers))
+      (found_skip lists rows path is_dir case probe (place + 1) to found (let below = next.below in omega arith) are law next.between h)

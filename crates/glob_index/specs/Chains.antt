@@ -1,9 +1,7 @@
 -- Chains: through the rows of each class, from the last one to the first.
-use Rattle.std.specs.Prelude.{◌≡◌, ◌≢◌, ℕ, ◌+◌, ◌-◌, ◌<◌, ◌≤◌, List, Some, length, map, slice_get, slice_index}
-use Rattle.glob_index.specs.declared.probe.Probe.{Probe}
+use Rattle.std.specs.Prelude.{◌≡◌, ◌≢◌, ℕ, ◌-◌, ◌<◌, ◌≤◌, List, length, map, slice_index}
 use Rattle.glob_index.specs.declared.row.Row.{Row}
-use Rattle.glob_index.specs.declared.table.Walk.{Walk}
-use Rattle.glob_index.specs.Rows.{Passes, always}
+use Rattle.glob_index.specs.Rows.{always}
 
 -- the classes of the rows
 abbrev pub classes_of : List Row → List ℕ
@@ -23,14 +21,3 @@ pub record IsLastBelow (classes : List ℕ) (class end r : ℕ) : Type 0 where
 pub record IsChained (classes links heads : List ℕ) : Type 0 where
   pub head : (class : ℕ) → class ≤ always → IsLastBelow classes class (length classes) (slice_index heads class)
   pub link : (i : ℕ) → i < length classes → IsLastBelow classes (slice_index classes i) i (slice_index links i)
-
--- a walk down two chains, that of a class and that of the rows which are always looked at, has come to its end
-pub record IsAt (rows : List Row) (class : ℕ) (walk : Walk) : Type 0 where
-  pub apart : class ≢ always
-  pub inside : walk.end ≤ length rows
-  pub own : IsLastBelow (classes_of rows) class walk.end walk.own
-  pub other : IsLastBelow (classes_of rows) always walk.end walk.other
-
--- no row from one place up to another passes
-abbrev pub NonePasses : List Row → Probe → ℕ → ℕ → Type 0
-NonePasses rows probe from to = (m : ℕ) (row : Row) → from ≤ m → m < to → slice_get rows m ≡ Some row → ¬ Passes row probe

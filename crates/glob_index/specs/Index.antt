@@ -1,5 +1,5 @@
 -- An index of lists: a row for each mapping, in order.
-use Rattle.std.specs.Prelude.{◌≡◌, ◌⊎◌, ℕ, ◌<◌, ◌≤◌, Bool, List, Some, map, slice_get}
+use Rattle.std.specs.Prelude.{◌≡◌, ◌⊎◌, ℕ, ◌<◌, Bool, List, Some, map, slice_get}
 use Rattle.gix_glob.specs.declared.pattern.Case.{Case}
 use Rattle.gix_glob.specs.Deciding.{PairAnswers}
 use Rattle.gix_glob.specs.Lists.{Entry}
@@ -35,13 +35,6 @@ pub record IsAtPlace (rows : List Row) (i m k : ℕ) : Type 0 where
   pub there : slice_get rows k ≡ Some row
   pub list : row.list ≡ i
   pub mapping : row.mapping ≡ m
-
--- The rows are those of the entries before (j, n), one for each, in order.
-pub record AreRowsUpTo {V : Type 0} (lists : List (Listed V)) (j n : ℕ) (rows : List Row) : Type 0 where
-  pub each : (k : ℕ) (row : Row) → slice_get rows k ≡ Some row → IsRowOf lists row
-  pub before : (k : ℕ) (row : Row) → slice_get rows k ≡ Some row → ComesBefore row.list row.mapping j n
-  pub rising : (k l : ℕ) (a b : Row) → k < l → slice_get rows k ≡ Some a → slice_get rows l ≡ Some b → ComesBefore a.list a.mapping b.list b.mapping
-  pub all : (i m : ℕ) → HasEntryAt lists i m → ComesBefore i m j n → (k : ℕ) × IsAtPlace rows i m k
 
 -- The rows are those of the entries, one for each, in order.
 pub record AreRows {V : Type 0} (lists : List (Listed V)) (rows : List Row) : Type 0 where

@@ -23,10 +23,6 @@ pub record EndsLiterally (text : List ℕ) (n : ℕ) : Type 0 where
 abbrev pub bit_of : ℕ → ℕ
 bit_of b = to_ascii_lowercase b % 32
 
--- the set has each byte of the text
-abbrev pub HoldsBits : List ℕ → ℕ → Type 0
-HoldsBits text set = (j : ℕ) → j < length text → bit_at set (bit_of (slice_index text j)) ≡ 1
-
 -- a byte at place j of the text that each value has to hold that the text matches, with its bit
 pub record IsNeededAt (text : List ℕ) (j i : ℕ) : Type 0 where
   pub byte : ℕ

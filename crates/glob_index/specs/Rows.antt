@@ -1,13 +1,10 @@
--- What a pattern asks of a path, and what a path shows.
-use Rattle.std.specs.Prelude.{◌≡◌, ◌≢◌, ◌&&◌, ℕ, ◌<◌, ◌≤◌, not, IsTrue, List, length, slice_index, drop, Option, None, Some, if◌then◌else◌}
+-- What a pattern asks of a path.
+use Rattle.std.specs.Prelude.{◌≡◌, ◌≢◌, ◌&&◌, ℕ, ◌<◌, ◌≤◌, not, List}
 use Rattle.std.specs.Char.{to_ascii_lowercase}
-use Rattle.std.specs.Int.{bit_at}
 use Rattle.gix_glob.specs.declared.pattern.Mode.{Mode}
-use Rattle.gix_glob.specs.Bytes.{HasByte, slash}
 use Rattle.gix_glob.specs.Patterns.{is_absolute, is_without_sub_dir}
-use Rattle.glob_index.specs.declared.probe.Probe.{Probe}
 use Rattle.glob_index.specs.declared.row.Row.{Row}
-use Rattle.glob_index.specs.Literals.{EndsLiterally, HoldsBits, NeedsBits, bit_of, end_key, from_end}
+use Rattle.glob_index.specs.Literals.{EndsLiterally, NeedsBits, end_key, from_end}
 
 -- the class of the patterns whose texts end in no byte that stands for itself
 abbrev pub always : ℕ
@@ -27,42 +24,3 @@ pub record Asks (text : List ℕ) (mode : Mode) (row : Row) : Type 0 where
   pub end : row.class ≢ always → HasLiteralEnd text row.length row.class row.key
   pub bytes : row.class ≡ always → NeedsBits text row.key
   pub name : row.is_name ≡ (is_without_sub_dir mode && not (is_absolute mode))
-
--- the numbers of the ends of a path, up to its own length and eight bytes
-abbrev pub HasEndKeys : List ℕ → List ℕ → Type 0
-HasEndKeys path keys = (n : ℕ) → n ≤ 8 → n ≤ length path → slice_index keys n ≡ end_key path n
-
--- the set has each byte of the last part of the path: those that no slash follows
-abbrev pub HoldsNameBits : List ℕ → ℕ → Type 0
-HoldsNameBits path set =
-    (j : ℕ) → j < length path → ((m : ℕ) → j ≤ m → ¬ HasByte path m slash) → bit_at set (bit_of (slice_index path j)) ≡ 1
-
--- the last part of a path, which begins at a place; the whole path where there is none
-abbrev pub last_part : Option ℕ → List ℕ → List ℕ
-last_part None path = path
-last_part (Some start) path = drop start path
-
--- The path shows these numbers and sets.
-pub record Shows (path : List ℕ) (probe : Probe) : Type 0 where
-  pub last : probe.class ≡ to_ascii_lowercase (from_end path 0)
-  pub ends : HasEndKeys path probe.keys
-  pub bytes : HoldsBits path probe.bytes
-  pub name_bytes : HoldsNameBits path probe.name_bytes
-
--- the set has all that is needed
-abbrev pub HasAll : ℕ → ℕ → Type 0
-HasAll held needed = (i : ℕ) → bit_at needed i ≡ 1 → bit_at held i ≡ 1
-
--- the path ends as the row's text does, as far as the numbers tell
-abbrev pub HasEnd : Row → Probe → Type 0
-HasEnd row probe = row.key ≡ slice_index probe.keys row.length
-
--- the path, or its last part where the row looks at no more, has the bytes that the row needs
-abbrev pub HasBytes : Row → Probe → Type 0
-HasBytes row probe = HasAll (if row.is_name then probe.name_bytes else probe.bytes) row.key
-
--- What the path shows has what the row asks for.
-pub record Passes (row : Row) (probe : Probe) : Type 0 where
-  pub last : row.class ≢ always → row.class ≡ probe.class
-  pub end : row.class ≢ always → HasEnd row probe
-  pub bytes : row.class ≡ always → HasBytes row probe

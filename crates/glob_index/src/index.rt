@@ -5,7 +5,8 @@ ghost use Rattle.gix_glob.specs.Loaded.{listed};
 ghost use Rattle.gix_glob.specs.Paths.{IsPlainPath};
 ghost use Rattle.gix_glob.specs.RepositoryPaths.{IsBasenameStart};
 ghost use Rattle.glob_index.specs.Chains.{IsChained, classes_of, links_of};
-ghost use Rattle.glob_index.specs.Index.{AreMatches, AreRowsUpTo, HasEntryAt, IsIndex};
+ghost use Rattle.glob_index.specs.Index.{AreMatches, HasEntryAt, IsIndex};
+ghost use Rattle.glob_index.specs.Private.Building.{AreRowsUpTo};
 
 use crate::laws;
 use crate::rests::rest_of;
@@ -73,8 +74,7 @@ impl<'a, T: search::Pattern> ListIndex<'a, T> {
         let position = basename_start(path);
         let probe = self.table.probe(path, position);
         let mut walk = self.table.walk(probe.class());
-        'candidates: while let Some(place) = self.table.next(&probe, &mut walk) {
-            let (list, mapping) = self.table.pair_at(place);
+        'candidates: while let Some((list, mapping)) = self.table.next_pair(&probe, &mut walk) {
             if self.matches_at(list, mapping, path, position, is_dir) {
                 return Some((list, mapping));
             }
@@ -104,15 +104,14 @@ impl<'a, T: search::Pattern> ListIndex<'a, T> {
         let position = basename_start(path);
         let probe = self.table.probe(path, position);
         let mut walk = self.table.walk(probe.class());
-        let mut found = Vec::new(alloc);
-        'candidates: while let Some(place) = self.table.next(&probe, &mut walk) {
-            let (list, mapping) = self.table.pair_at(place);
+        let mut pairs = Vec::new(alloc);
+        'candidates: while let Some((list, mapping)) = self.table.next_pair(&probe, &mut walk) {
             if self.matches_at(list, mapping, path, position, is_dir) {
-                found.push((list, mapping))?;
+                pairs.push((list, mapping))?;
             }
         }
-        found.reverse();
-        Ok(found)
+        pairs.reverse();
+        Ok(pairs)
     }
 
     /// Whether the pattern of one mapping matches what the base of its list leaves of a path.

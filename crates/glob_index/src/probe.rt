@@ -1,7 +1,7 @@
 //! What a path shows: the numbers of its ends, and the sets of its bytes.
 ghost use Rattle.std.specs.Prelude.{◌≡◌, ◌<◌, length, slice_index, if◌then◌else◌};
 ghost use Rattle.gix_glob.specs.RepositoryPaths.{IsBasenameStart};
-ghost use Rattle.glob_index.specs.Rows.{HasEndKeys, Shows, last_part};
+ghost use Rattle.glob_index.specs.Private.Showing.{HasEndKeys, Shows, last_part};
 
 use crate::literals::{LONGEST, bytes_or_all, longer_key};
 

@@ -1,9 +1,11 @@
 //! Rows in order, with a chain through those of each class: a path walks down two chains, and meets only rows that can pass.
-ghost use Rattle.std.specs.Prelude.{◌≡◌, ◌+◌, ◌++◌, ◌∷◌, [], ◌<◌, ◌≤◌, IfOk, MatchOption, OnOk, length, slice_get, slice_index};
-ghost use Rattle.glob_index.specs.Chains.{IsAt, IsChained, NonePasses, classes_of, links_of};
+ghost use Rattle.std.specs.Prelude.{◌≡◌, ◌+◌, ◌++◌, ◌∷◌, [], ◌<◌, ◌≤◌, IfOk, MatchOption, OnOk, length, slice_index};
+ghost use Rattle.glob_index.specs.Chains.{IsChained, classes_of, links_of};
 ghost use Rattle.gix_glob.specs.RepositoryPaths.{IsBasenameStart};
 ghost use Rattle.glob_index.specs.declared.row.Row.{Row};
-ghost use Rattle.glob_index.specs.Rows.{Shows, always};
+ghost use Rattle.glob_index.specs.Rows.{always};
+ghost use Rattle.glob_index.specs.Private.Showing.{Shows};
+ghost use Rattle.glob_index.specs.Private.Walking.{IsAt, IsNextPair, NonePasses};
 
 use crate::probe::Probe;
 use crate::row::{ALWAYS, Row};
@@ -59,8 +61,8 @@ impl Table {
             return Err(AllocError);
         };
         let class = usize::from(row.class());
-        let chained = row.after(self.heads[class]);
-        self.rows.push(chained)?;
+        let chained_row = row.after(self.heads[class]);
+        self.rows.push(chained_row)?;
         self.heads[class] = head;
         self.counts[class] = self.counts[class].saturating_add(1);
         Ok(())
@@ -99,17 +101,22 @@ impl Table {
         Probe::new(path, position, has_sets)
     }
 
-    /// The places of the list and of the mapping that the row at a place stands for.
-    pub(crate) fn pair_at(&self, place: usize) -> (usize, usize)
-        requires { place < length self.now.rows.items }
-        ensures { (row : Row) → slice_get self.now.rows.items place ≡ Some row → (result.0 ≡ row.list) × (result.1 ≡ row.mapping) }
+    /// The places of the list and of the mapping of the next row of a walk that passes, from the last one to the first.
+    pub(crate) fn next_pair(&self, probe: &Probe, walk: &mut Walk) -> Option<(usize, usize)>
+        requires chained { IsChained (classes_of self.now.rows.items) (links_of self.now.rows.items) self.now.heads }
+        requires at { IsAt self.now.rows.items probe.now.class walk.old }
+        ensures at { IsAt self.now.rows.items probe.now.class walk.new }
+        ensures next { MatchOption result
+            (NonePasses self.now.rows.items probe.now 0 walk.old.end)
+            (IsNextPair self.now.rows.items probe.now walk.new.end walk.old.end) }
     {
-        self.rows[place].pair()
+        let place = self.next(probe, walk)?;
+        Some(self.rows[place].pair())
     }
 
     /// The next place of a walk whose row passes, from the last one to the first.
     #[inline(always)]
-    pub(crate) fn next(&self, probe: &Probe, walk: &mut Walk) -> Option<usize>
+    fn next(&self, probe: &Probe, walk: &mut Walk) -> Option<usize>
         requires chained { IsChained (classes_of self.now.rows.items) (links_of self.now.rows.items) self.now.heads }
         requires at { IsAt self.now.rows.items probe.now.class walk.old }
         ensures at { IsAt self.now.rows.items probe.now.class walk.new }

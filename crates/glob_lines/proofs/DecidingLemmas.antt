@@ -1,51 +1,11 @@
 -- The last match over a stack of lists, from the last list and its last mapping on.
-use Rattle.std.proofs.Common.{◌≡◌, ◌⊎◌, inl, inr, ⊎_elim, ℕ, ◌+◌, ◌<◌, ◌≤◌, Bool, List, length, get_or, map, option_map, Option, None, Some, refl, sym, ap, subst, ◌∙◌, arith}
-use Rattle.std.specs.Prelude.{All, slice_get, MatchOption}
-use Rattle.std.proofs.lemmas.List.{get_or-map, length-map}
-use Rattle.std.proofs.lemmas.Option.{slice_get-map, slice_get_read, slice_get_within}
+use Rattle.std.proofs.Common.{◌≡◌, inl, inr, ⊎_elim, ℕ, ◌+◌, ◌<◌, ◌≤◌, Bool, List, Option, None, Some, subst, arith}
+use Rattle.std.specs.Prelude.{slice_get, MatchOption}
 use Rattle.std.proofs.lemmas.Bool.{cases_eq, cases_lt}
 use Rattle.gix_glob.specs.declared.pattern.Case.{Case}
-use Rattle.gix_glob.specs.Deciding.{AnswersAt, AnswersUnder, Decides, PairAnswers, path_mode}
+use Rattle.gix_glob.specs.Deciding.{AnswersAt, AnswersUnder, Decides, PairAnswers}
 use Rattle.gix_glob.specs.Lists.{Entry}
 use Rattle.gix_glob.specs.Loaded.{Listed}
-use Rattle.gix_glob.specs.RepositoryPaths.{Answers, IsBasenameStart}
-use Rattle.gix_glob.specs.Stripping.{RestOf}
-use Rattle.glob_lines.proofs.OneText.{basename_once, rest_once}
-
--- ---- elements of lists as plain data
-
-module _ {X Y : Type 0} (f : X → Y) where
-  pub seen_at : (xs : List X) (i : ℕ) (x : X) → i < length xs → x ≡ get_or xs i x → slice_get (map f xs) i ≡ Some (f x)
-  seen_at xs i x within is = slice_get-map f xs i ∙ ap (option_map f) (slice_get_read xs (length xs) i x refl within is)
-
-  pub seen_within : (xs : List X) (i : ℕ) (y : Y) → slice_get (map f xs) i ≡ Some y → i < length xs
-  seen_within xs i y is = subst (λ n. i < n) (length-map xs f) (slice_get_within (map f xs) i y is)
-
-  pub seen_all : (P : Y → Type 0) (xs : List X) (i : ℕ) (x : X) → All P (map f xs) → i < length xs → x ≡ get_or xs i x → P (f x)
-  seen_all P xs i x all within is =
-      subst P (get_or-map f xs i x (f x) within ∙ ap f (sym is)) (all i (f x) (subst (λ n. i < n) (sym (length-map xs f)) within))
-
--- ---- one entry
-
-module _ {V : Type 0} (base : Option (List ℕ)) (path : List ℕ) (is_dir : Bool) (case : Case) where
-  pub AnswersUnder-yes : (entry : Entry V) (rest : List ℕ) (position : Option ℕ) → RestOf case base path rest → IsBasenameStart rest position
-      → Answers entry.text entry.mode rest position (Some is_dir) case path_mode → AnswersUnder base entry path is_dir case
-  AnswersUnder-yes entry rest position left basename answers = record {
-    rest = rest;
-    left = left;
-    position = position;
-    basename = basename;
-    answers = answers;
-  }
-
-  pub AnswersUnder-only : (entry : Entry V) (rest : List ℕ) (position : Option ℕ) → RestOf case base path rest → IsBasenameStart rest position
-      → AnswersUnder base entry path is_dir case → Answers entry.text entry.mode rest position (Some is_dir) case path_mode
-  AnswersUnder-only entry rest position left basename h =
-      let same_rest : h.rest ≡ rest = rest_once case base path h.rest rest h.left left in
-      let same_position : h.position ≡ position =
-      basename_once rest h.position position (subst (λ r. IsBasenameStart r h.position) same_rest h.basename) basename in
-      subst (λ p. Answers entry.text entry.mode rest p (Some is_dir) case path_mode) same_position
-      (subst (λ r. Answers entry.text entry.mode r h.position (Some is_dir) case path_mode) same_rest h.answers)
 
 -- ---- one list, from its end
 

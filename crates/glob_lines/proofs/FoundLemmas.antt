@@ -1,21 +1,21 @@
 -- What an index finds in one list: the places of the entries that answer, in order.
-use Rattle.std.proofs.Common.{◌≡◌, ◌⊎◌, inl, inr, ⊎_elim, ℕ, zero, suc, ◌+◌, ◌-◌, ◌<◌, ◌≤◌, ◌↔◌, Bool, List, [], ◌∷◌, ◌++◌, length, get_or, take, map, Option, Some, refl, sym, ap, subst, ◌∙◌, arith, take_all}
-use Rattle.std.specs.Prelude.{All, decimal, slice_get}
+use Rattle.std.proofs.Common.{◌≡◌, inl, inr, ⊎_elim, ℕ, zero, suc, ◌+◌, ◌-◌, ◌<◌, ◌≤◌, ◌↔◌, Bool, List, [], ◌∷◌, ◌++◌, length, take, Option, Some, refl, sym, ap, subst, ◌∙◌, arith, take_all}
+use Rattle.std.specs.Prelude.{decimal, slice_get}
 use Rattle.std.proofs.lemmas.Bool.{cases_eq, cases_lt}
 use Rattle.std.proofs.lemmas.List.{take_more}
-use Rattle.std.proofs.lemmas.Option.{get_or_from_slice_get, same_Some, slice_get_read, slice_get_within}
+use Rattle.std.proofs.lemmas.Option.{get_or_from_slice_get, same_Some, slice_get_within}
 use Rattle.gix_glob.specs.declared.pattern.Case.{Case}
-use Rattle.gix_glob.specs.Deciding.{AnswersAt, AnswersUnder, BasesAreFolders, HasFolder, PairAnswers}
+use Rattle.gix_glob.specs.Deciding.{AnswersAt, AnswersUnder, BasesAreFolders, HasFolder}
 use Rattle.gix_glob.specs.Loaded.{Listed}
 use Rattle.gix_glob.specs.RepositoryPaths.{IsBasenameStart}
 use Rattle.gix_glob.specs.Stripping.{RestOf}
-use Rattle.glob_index.specs.Index.{AreMatches, ComesBefore}
+use Rattle.glob_index.specs.Index.{AreMatches}
 use Rattle.glob_lines.specs.Mappings.{EntryAnswers, WritesNumbers}
 use Rattle.glob_lines.specs.Numbers.{Picks}
 use Rattle.glob_lines.specs.Plain.{PlainEntry}
 use Rattle.glob_lines.specs.Private.Answering.{WritesAnswering}
 use Rattle.glob_lines.specs.Private.Growing.{Adds}
-use Rattle.glob_lines.proofs.DecidingLemmas.{AnswersUnder-only, AnswersUnder-yes}
+use Rattle.gix_glob.proofs.Answering.{AnswersUnder-only, AnswersUnder-yes}
 use Rattle.glob_lines.proofs.MappingsLemmas.{IsListedUpTo, IsListedUpTo-more, IsListedUpTo-none, IsListedUpTo-skip}
 
 -- ---- the places of the entries of which P holds

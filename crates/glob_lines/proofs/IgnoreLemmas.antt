@@ -135,12 +135,25 @@ not_ended bytes some h =
 
 -- ---- what a line gives
 
-pub begins_with_comment : (bytes line rest : List ℕ) → lines_of (without_returns bytes) ≡ line ∷ lines_of (without_returns rest) → length rest < length bytes → is_comment line ≡ true → BeginsWithLine bytes None rest
-begins_with_comment bytes line rest lines shorter comment = record { line = line; lines = lines; gives = comment; shorter = shorter }
+-- bytes of which a first line was cut off
+pub record IsCutBehind (bytes line rest : List ℕ) : Type 0 where
+  pub lines : lines_of (without_returns bytes) ≡ line ∷ lines_of (without_returns rest)
+  pub behind : (taken : ℕ) × (rest ≡ drop taken bytes)
+  pub shorter : length rest < length bytes
 
-pub begins_with_text : (bytes line rest text : List ℕ) → lines_of (without_returns bytes) ≡ line ∷ lines_of (without_returns rest) → length rest < length bytes → is_comment line ≡ false → Trims line text
-    → BeginsWithLine bytes (Some text) rest
-begins_with_text bytes line rest text lines shorter other trims = record { line = line; lines = lines; gives = record { no_comment = other; trims = trims }; shorter = shorter }
+pub begins_with_comment : (bytes line rest : List ℕ) → IsCutBehind bytes line rest → is_comment line ≡ true → BeginsWithLine bytes None rest
+begins_with_comment bytes line rest cut comment =
+    record { line = line; lines = cut.lines; gives = comment; taken = cut.behind.0; behind = cut.behind.1; shorter = cut.shorter }
+
+pub begins_with_text : (bytes line rest text : List ℕ) → IsCutBehind bytes line rest → is_comment line ≡ false → Trims line text → BeginsWithLine bytes (Some text) rest
+begins_with_text bytes line rest text cut other trims = record {
+  line = line;
+  lines = cut.lines;
+  gives = record { no_comment = other; trims = trims };
+  taken = cut.behind.0;
+  behind = cut.behind.1;
+  shorter = cut.shorter;
+}
 
 gives_trimmed : (line : List ℕ) (it : TextAndValue (Unit {0})) → trimmed_unless_comment line ≡ Some it → GivesTrimmed line it.text it.value
 gives_trimmed line it is =

@@ -1,17 +1,14 @@
 -- Each input has one text: what is written is determined by what was read.
-use Rattle.std.proofs.Common.{◌≡◌, ◌↔◌, ◌⊎◌, inl, inr, ℕ, ◌-◌, ◌≤◌, Bool, true, false, IsTrue, List, [], ◌∷◌, ◌++◌, length, map, drop, Option, None, Some, refl, sym, ap, subst, ◌∙◌, drop_at, arith}
-use Rattle.std.specs.Char.{to_ascii_lowercase}
+use Rattle.std.proofs.Common.{◌≡◌, ◌↔◌, ◌⊎◌, inl, inr, ℕ, Bool, IsTrue, List, [], ◌∷◌, ◌++◌, map, Option, None, Some, refl, sym, ap, subst, ◌∙◌}
 use Rattle.std.specs.List.{AllZip}
 use Rattle.std.specs.Prelude.{codes, if◌then◌else◌}
-use Rattle.std.proofs.lemmas.Bool.{cases_lt}
-use Rattle.std.proofs.lemmas.List.{append_cancel_left, append_cancel_right, length-map}
+use Rattle.std.proofs.lemmas.List.{append_cancel_left, append_cancel_right}
 use Rattle.gix_glob.specs.declared.pattern.Case.{Case}
-use Rattle.gix_glob.specs.declared.pattern.Case.TheVariants.{Sensitive, Fold}
 use Rattle.gix_glob.specs.declared.wildmatch.Mode.{Mode}
 use Rattle.gix_glob.specs.Matching.{Splits}
 use Rattle.gix_glob.specs.Paths.{Base, folders, parts}
-use Rattle.gix_glob.specs.RepositoryPaths.{IsAfterLastSlash, IsBasenameStart}
-use Rattle.gix_glob.specs.Stripping.{NothingLeft, RestOf, folding_by}
+use Rattle.gix_glob.specs.Stripping.{NothingLeft, RestOf}
+use Rattle.gix_glob.proofs.Answering.{basename_once, rest_once}
 use Rattle.glob_lines.specs.Lines.{WritesEach, terminated}
 use Rattle.glob_lines.specs.Mappings.{EntryAnswers, WritesMatches, WritesNumbers, WritesPath}
 use Rattle.glob_lines.specs.Numbers.{Picks, spaced}
@@ -51,18 +48,6 @@ picks_once P (z ∷ zs) us vs (inl x) (inr y) = absurd (y.0 x.0)
 picks_once P (z ∷ zs) us vs (inr x) (inl y) = absurd (x.0 y.0)
 picks_once P (z ∷ zs) us vs (inr x) (inr y) = picks_once P zs us vs x.1 y.1
 
-not_before : (path : List ℕ) (k l : ℕ) → IsAfterLastSlash path k → IsAfterLastSlash path l → l ≤ k
-not_before path k l x y = elim (cases_lt k l) [
-  | inl below ↦ absurd (x.last (l - 1) (omega arith) y.after)
-  | inr low ↦ low
-]
-
-pub basename_once : (path : List ℕ) (i j : Option ℕ) → IsBasenameStart path i → IsBasenameStart path j → i ≡ j
-basename_once path None None x y = refl
-basename_once path None (Some l) x y = absurd (x (l - 1) y.after)
-basename_once path (Some k) None x y = absurd (y (k - 1) x.after)
-basename_once path (Some k) (Some l) x y = ap Some (omega (arith, not_before path k l x y, not_before path l k y x))
-
 numbers_once : (entries : List PlainEntry) (case : Case) (is_dir : Bool) (rest a b : List ℕ)
     → WritesNumbers entries case is_dir rest a → WritesNumbers entries case is_dir rest b → a ≡ b
 numbers_once entries case is_dir rest a b x y =
@@ -71,18 +56,6 @@ numbers_once entries case is_dir rest a b x y =
     picks_once (EntryAnswers case is_dir rest x.position) entries x.chosen y.chosen x.picks
     (subst (λ position. Picks (EntryAnswers case is_dir rest position) entries y.chosen) start y.picks) in
     x.shown ∙ ap (λ entries. spaced (map (λ entry. entry.number) entries)) chosen ∙ sym y.shown
-
-length-folding_by : (case : Case) (text : List ℕ) → length (folding_by case text) ≡ length text
-length-folding_by Sensitive text = refl
-length-folding_by Fold text = length-map text to_ascii_lowercase
-
-pub rest_once : (case : Case) (base : Option (List ℕ)) (path r s : List ℕ) → RestOf case base path r → RestOf case base path s → r ≡ s
-rest_once case None path r s x y = x ∙ sym y
-rest_once case (Some base) path r s x y =
-    let long : (front : List ℕ) → folding_by case front ≡ folding_by case base → length front ≡ length base =
-    λ front same. sym (length-folding_by case front) ∙ ap length same ∙ length-folding_by case base in
-    sym (ap (drop (length base)) x.joined ∙ drop_at x.front r (length base) (long x.front x.same))
-    ∙ (ap (drop (length base)) y.joined ∙ drop_at y.front s (length base) (long y.front y.same))
 
 without_mark : (path other : List ℕ) (d : Bool) → path ++ (if d then codes "/" else []) ≡ other ++ (if d then codes "/" else []) → path ≡ other
 without_mark path other d same = append_cancel_right path other _ same

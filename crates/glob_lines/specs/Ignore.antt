@@ -87,9 +87,11 @@ ignore_of bytes = entries_of trimmed_unless_comment (without_returns (without_ma
 -- ---- one line after the other
 
 -- The bytes, whose byte order mark is taken off, begin with a line that gives this text, or with a comment where there is no
--- text, and the rest follows it.
+-- text, and the rest is what stands behind it: the bytes but for so many at their front, at least one.
 pub record BeginsWithLine (bytes : List ℕ) (text : Option (List ℕ)) (rest : List ℕ) : Type 0 where
   pub line : List ℕ
   pub lines : lines_of (without_returns bytes) ≡ line ∷ lines_of (without_returns rest)
   pub gives : MatchOption text (is_comment line ≡ true) (λ given. GivesTrimmed line given tt)
+  pub taken : ℕ
+  pub behind : rest ≡ drop taken bytes
   pub shorter : length rest < length bytes

@@ -1,5 +1,5 @@
 //! One line of an ignore file after the other, without a copy.
-ghost use Rattle.std.specs.Prelude.{◌≡◌, ◌<◌, [], ◌∷◌, ◌++◌, length, MatchOption};
+ghost use Rattle.std.specs.Prelude.{◌≡◌, ◌<◌, ℕ, [], ◌∷◌, ◌++◌, drop, length, MatchOption};
 ghost use Rattle.std.specs.Option.{option_copied};
 ghost use Rattle.glob_lines.specs.Lines.{lines_of};
 ghost use Rattle.glob_lines.specs.Ignore.{BeginsWithLine, Trims, is_comment, without_mark, without_returns};
@@ -57,6 +57,7 @@ fn is_comment(line: &[u8]) -> bool
 fn split_ended_line(bytes: &[u8]) -> (&[u8], &[u8])
     requires { 0 < length bytes.now }
     ensures lines { lines_of (without_returns bytes.now) ≡ result.0.now ∷ lines_of (without_returns result.1.now) }
+    ensures behind { (taken : ℕ) × (result.1.now ≡ drop taken bytes.now) }
     ensures shorter { length result.1.now < length bytes.now }
 {
     match memchr(b'\n', bytes) {

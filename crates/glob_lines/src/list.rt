@@ -149,9 +149,9 @@ fn append_found(
         (WritesAnswering (map (entry_of (λ _. tt)) list.now.patterns.items) (option_map vec_items list.now.base) path.now is_dir index.now.case)
         text.old.items text.new.items) }
 {
-    let found = index.matches(alloc, path, is_dir)?;
+    let pairs = index.matches(alloc, path, is_dir)?;
     let mut separator: &[u8] = b"";
-    for pair in found.as_slice() {
+    for pair in pairs.as_slice() {
         text.extend_from_slice(separator)?;
         append_decimal(text, list.patterns[pair.1].sequence_number)?;
         separator = b" ";

@@ -1,5 +1,5 @@
 -- The literal end of a pattern: each value that is split ends in it.
-use Rattle.std.proofs.Common.{◌≡◌, ◌⊎◌, inl, inr, ⊎_elim, ℕ, zero, suc, ◌+◌, ◌-◌, ◌<◌, ◌≤◌, ◌||◌, ◌==◌, Bool, true, false, List, [], ◌∷◌, ◌++◌, length, get_or, drop, refl, sym, ◌∙◌, ap, subst, arith, length-append, length-drop}
+use Rattle.std.proofs.Common.{◌≡◌, inl, inr, ⊎_elim, ℕ, zero, suc, ◌+◌, ◌-◌, ◌<◌, ◌≤◌, true, false, List, [], ◌∷◌, ◌++◌, length, get_or, drop, refl, sym, ◌∙◌, ap, subst, arith, length-append, length-drop}
 use Rattle.std.specs.List.{list_any}
 use Rattle.std.proofs.Math.Seq.{drop-append_seam}
 use Rattle.std.proofs.lemmas.Bool.{cases_lt, cases_eq, or_parts, false≢true, false_from_ne_true}
@@ -9,10 +9,10 @@ use Rattle.glob_matcher.specs.declared.wildmatch.mode.Mode.{Mode}
 use Rattle.glob_matcher.specs.Bytes.{HasByte, close_bracket, fold, slash, star}
 use Rattle.glob_patterns.specs.Folding.{EndsAlike}
 use Rattle.glob_patterns.specs.Patterns.{is_joining}
-use Rattle.glob_matcher.specs.Tokens.{Token, Byte, Any, OneOf, Free, Local, Dirs, Nothing, TokenAt, From, IsRun}
+use Rattle.glob_matcher.specs.Tokens.{Token, Byte, Any, OneOf, Free, Local, Dirs, Nothing, TokenAt, From}
 use Rattle.glob_matcher.specs.Matching.{Splits, SplitsFrom}
 use Rattle.glob_matcher.proofs.lemmas.cutting.CutLemmas.{step_out, one_out, end_out, nothing_out}
-use Rattle.glob_matcher.proofs.lemmas.reading.Existence.{items_close, From-short, TokenAt-past}
+use Rattle.glob_matcher.proofs.lemmas.reading.Existence.{items_close, TokenAt-past}
 use Rattle.glob_patterns.proofs.LiteralLemmas.{IsLiteral, IsCopied, literal_out, alike_from}
 
 -- no byte from place n on may belong to a token of more than one byte

@@ -1,14 +1,14 @@
 -- The literal bytes of a pattern: each value that is split has them.
-use Rattle.std.proofs.Common.{◌≡◌, ◌⊎◌, inl, inr, ⊎_elim, ℕ, zero, suc, ◌+◌, ◌-◌, ◌<◌, ◌≤◌, Bool, true, false, List, [], ◌∷◌, length, get_or, refl, sym, ◌∙◌, ap, subst, arith}
-use Rattle.std.proofs.lemmas.Bool.{cases_lt, cases_eq, false≢true}
+use Rattle.std.proofs.Common.{◌≡◌, inl, inr, ⊎_elim, ℕ, zero, suc, ◌+◌, ◌<◌, ◌≤◌, true, false, List, [], ◌∷◌, length, refl, sym, ◌∙◌, ap, subst, arith}
+use Rattle.std.proofs.lemmas.Bool.{cases_lt, false≢true}
 use Rattle.glob_matcher.specs.declared.wildmatch.mode.Mode.{Mode}
-use Rattle.glob_matcher.specs.Bytes.{HasByte, backslash, fold, open_bracket, question_mark, slash, star}
+use Rattle.glob_matcher.specs.Bytes.{HasByte, fold, question_mark, slash, star}
 use Rattle.glob_patterns.specs.Folding.{HasAlike}
 use Rattle.glob_patterns.specs.Patterns.{IsUnescapedUpTo, is_joining}
 use Rattle.glob_matcher.specs.Tokens.{Token, Byte, Any, OneOf, Free, Local, Dirs, Nothing, TokenAt, From}
 use Rattle.glob_matcher.specs.Matching.{Splits, SplitsFrom}
 use Rattle.glob_matcher.proofs.lemmas.cutting.CutLemmas.{step_out, one_out}
-use Rattle.glob_matcher.proofs.lemmas.reading.Existence.{From-short, TokenAt-past}
+use Rattle.glob_matcher.proofs.lemmas.reading.Existence.{TokenAt-past}
 use Rattle.glob_matcher.proofs.lemmas.reading.SetLemmas.{HasByte-unique}
 
 module _ (mode : Mode) (p v : List ℕ) (i b : ℕ) (clean : IsUnescapedUpTo p i) (h : HasByte p i b) (plain : is_joining b ≡ false) where

@@ -1,14 +1,14 @@
 //! Reading a pattern line: the sign and the slashes around its text, and what is known of the text.
 ghost use Rattle.std.specs.Prelude.{◌≡◌, ◌↔◌, ◌++◌, IsTrue, IsNone, IfOk, IsOkAnd, MatchOption, true, if◌then◌else◌, codes, nat_eq};
-ghost use Rattle.std.specs.List.{starts_with, ends_with, list_any};
+ghost use Rattle.std.specs.List.{starts_with, ends_with};
 ghost use Rattle.std.specs.Str.{bytes_eq};
-ghost use Rattle.glob_patterns.specs.Patterns.{Reads, HasReading, is_blank, without_negation, sign_of, slash_if, sum_of_bits, is_star_and_literal, first_special};
+ghost use Rattle.glob_patterns.specs.Patterns.{Reads, HasReading, is_blank, without_negation, sign_of, slash_if, sum_of_bits, is_star_and_literal};
 ghost use Rattle.glob_patterns.specs.PatternParts.{IsReadFrom};
-ghost use Rattle.glob_matcher.specs.Bytes.{has_slash, is_special, is_wildcard};
+ghost use Rattle.glob_matcher.specs.Bytes.{has_slash};
 
+use crate::byte_tests::{first_wildcard_pos, has_slash, is_ends_with};
 use crate::pattern::{Mode, Pattern};
 use bitflags::Flags;
-use memchr::{memchr, memchr3};
 use std::alloc::{AllocError, Global};
 
 /// Reads a pattern line without a copy: its text, borrowed from the line, what is known of it, and the place of its
@@ -61,50 +61,6 @@ fn is_whitespace(bytes: &[u8]) -> bool
     ensures { result ≡ is_blank bytes.now }
 {
     bytes.iter().all(|b| b.is_ascii_whitespace())
-}
-
-/// The place of the first byte that may mean more than itself.
-pub(crate) fn first_wildcard_pos(text: &[u8]) -> Option<usize>
-    ensures { result ≡ first_special text.now }
-{
-    text.iter().position(|b| is_special(*b))
-}
-
-/// Whether a byte may mean more than itself.
-fn is_special(b: u8) -> bool
-    ensures { result ≡ is_special b }
-{
-    matches!(b, b'*' | b'?' | b'[' | b'\\')
-}
-
-/// Whether some byte may mean more than itself.
-fn has_special(bytes: &[u8]) -> bool
-    ensures { result ≡ list_any is_special bytes.now }
-{
-    bytes.iter().any(|b| is_special(*b))
-}
-
-/// Whether the text is a star with no such byte after it.
-pub(crate) fn is_ends_with(text: &[u8]) -> bool
-    ensures { result ≡ is_star_and_literal text.now }
-{
-    text.starts_with(b"*") && !has_special(&text[1..])
-}
-
-/// Whether the text has a slash.
-#[tactic(auto, using(crate::proofs::ByteSearches::is_some_first_byte))]
-pub(crate) fn has_slash(text: &[u8]) -> bool
-    ensures { result ≡ has_slash text.now }
-{
-    memchr(b'/', text).is_some()
-}
-
-/// Whether the text has a wildcard, escaped or not.
-#[tactic(auto, using(crate::proofs::ByteSearches::is_some_first_byte))]
-pub(crate) fn has_wildcard(text: &[u8]) -> bool
-    ensures { result ≡ list_any is_wildcard text.now }
-{
-    memchr3(b'*', b'?', b'[', text).is_some()
 }
 
 /// What follows a leading slash, and whether there was one.

@@ -3,7 +3,7 @@ ghost use Rattle.std.specs.Prelude.{◌≡◌, ◌↔◌, IsTrue};
 ghost use Rattle.std.proofs.Props.{props};
 ghost use Rattle.glob_patterns.specs.Patterns.{first_special, is_by_its_end, is_star_and_literal, IsPattern};
 
-use crate::parse;
+use crate::{byte_tests, parse};
 use bitflags::Flags;
 use std::alloc::{AllocError, Global};
 
@@ -165,7 +165,7 @@ impl Pattern {
     pub fn has_wildcard(&self) -> bool
         ensures { result ≡ list_any is_wildcard (text_of self.now) }
     {
-        parse::has_wildcard(&self.text)
+        byte_tests::has_wildcard(&self.text)
     }
 }
 
@@ -173,10 +173,10 @@ impl Pattern {
 fn are_parts(text: &[u8], mode: Mode, first_wildcard_pos: Option<usize>) -> bool
     ensures { IsTrue result ↔ IsPattern text.now mode first_wildcard_pos }
 {
-    if first_wildcard_pos != parse::first_wildcard_pos(text) {
+    if first_wildcard_pos != byte_tests::first_wildcard_pos(text) {
         return false;
     }
-    !mode.contains(Mode::ENDS_WITH) || parse::is_ends_with(text)
+    !mode.contains(Mode::ENDS_WITH) || byte_tests::is_ends_with(text)
 }
 
 #[cfg(test)]

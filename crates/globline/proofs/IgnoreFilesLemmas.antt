@@ -1,18 +1,16 @@
 -- Ignore files, one after the other.
-use Rattle.std.proofs.Common.{◌≡◌, ◌↔◌, ◌⊎◌, inl, inr, ⊎_elim, ℕ, ◌<◌, ◌+◌, Bool, true, false, eqb, List, [], ◌∷◌, ◌++◌, length, get_or, map, take, Option, Some, None, refl, sym, ap, subst, ◌∙◌}
-use Rattle.std.specs.Prelude.{All, MatchBool}
-use Rattle.std.specs.List.{AllPass, list_all}
-use Rattle.std.specs.Option.{ForSome}
+use Rattle.std.proofs.Common.{◌≡◌, ◌↔◌, inl, inr, ⊎_elim, ℕ, ◌<◌, Bool, true, false, eqb, List, [], ◌∷◌, ◌++◌, length, get_or, map, Option, Some, refl, sym, ap, subst, ◌∙◌}
+use Rattle.std.specs.Prelude.{MatchBool}
+use Rattle.std.specs.List.{list_all}
 use Rattle.std.proofs.lemmas.List.{get_or-map, length-map, map_push}
 use Rattle.std.proofs.lemmas.List.Elements.{All-cons, All-nil}
 use Rattle.std.proofs.lemmas.List.Folds.{list_all-map}
 use Rattle.std.proofs.lemmas.List.Sums.{AllPass-from_list_all}
 use Rattle.gix_glob.specs.Bytes.{EndsInSlash}
 use Rattle.gix_glob.specs.Deciding.{BasesAreFolders, HasFolder}
-use Rattle.gix_glob.specs.Lists.{Entry}
 use Rattle.gix_glob.specs.declared.search.pattern.list.List as patterns
 use Rattle.gix_glob.specs.Loaded.{AddsLoaded, IsLoaded, Listed, listed}
-use Rattle.gix_glob.specs.Paths.{Base, IsFolder, has_file_part}
+use Rattle.gix_glob.specs.Paths.{Base, has_file_part}
 use Rattle.glob_lines.specs.Ignore.{Ignore, ignore_of}
 use Rattle.glob_lines.specs.Plain.{PlainEntry}
 use Rattle.globline.specs.Words.{AreIgnoreLists, IsIgnoreList, are_files}

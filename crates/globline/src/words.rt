@@ -60,11 +60,11 @@ pub fn run_words<F: Files, I: Read, O: Write, E: Write>(
     ensures unwritten { result ≡ 2 → output.new ≡ output.old }
 {
     let Some(command) = command_of(words) else {
-        return wrong_words(errors);
+        return tell_usage(errors);
     };
     match run(rt, alloc, command, input, output) {
         Ok(()) => Status::Answered as u8,
-        Err(fault) => failed(fault, errors),
+        Err(fault) => tell_fault(fault, errors),
     }
 }
 
@@ -74,8 +74,8 @@ pub(crate) fn without_words<E: Write>(refused: ErrorKind, errors: &mut E) -> u8
     ensures other { refused ≢ ErrorKind.OutOfMemory → result ≡ 2 }
 {
     match refused {
-        ErrorKind::OutOfMemory => failed(EngineFault::Memory, errors),
-        _ => wrong_words(errors),
+        ErrorKind::OutOfMemory => tell_fault(EngineFault::Memory, errors),
+        _ => tell_usage(errors),
     }
 }
 
@@ -110,14 +110,14 @@ fn run<F: Files, I: Read, O: Write>(
 
 /// Opens the file of pattern lines.
 fn open<F: Files>(rt: &F, file: &str) -> Result<F::File, EngineFault> {
-    fs::open(rt, file).map_err(|refused| match refused.kind() {
+    fs::open(rt, file).map_err(|error| match error.kind() {
         ErrorKind::OutOfMemory => EngineFault::Memory,
         _ => EngineFault::Read,
     })
 }
 
 /// Tells a fault.
-fn failed<E: Write>(fault: EngineFault, errors: &mut E) -> u8
+fn tell_fault<E: Write>(fault: EngineFault, errors: &mut E) -> u8
     ensures { result ≡ 1 }
 {
     let _ = writeln!(errors, "globline: {fault}");
@@ -125,7 +125,7 @@ fn failed<E: Write>(fault: EngineFault, errors: &mut E) -> u8
 }
 
 /// Tells how the program is used.
-fn wrong_words<E: Write>(errors: &mut E) -> u8
+fn tell_usage<E: Write>(errors: &mut E) -> u8
     ensures { result ≡ 2 }
 {
     let _ = errors.write_all(USAGE.as_bytes());

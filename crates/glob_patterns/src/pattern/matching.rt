@@ -5,7 +5,7 @@ ghost use Rattle.glob_patterns.specs.Folding.{AreAlike, EndsAlike};
 ghost use Rattle.glob_patterns.specs.Private.Fronts.{BeginsAlike};
 
 use super::Pattern;
-use crate::parse;
+use crate::byte_tests::has_slash;
 use bitflags::Flags;
 use glob_matcher::wildmatch;
 
@@ -27,7 +27,7 @@ impl Pattern {
 pub(super) fn is_one_component(value: &[u8], mode: wildmatch::Mode) -> bool
     ensures { result ≡ (not (is_path mode) || not (has_slash value.now)) }
 {
-    !mode.contains(wildmatch::Mode::NO_MATCH_SLASH_LITERAL) || !parse::has_slash(value)
+    !mode.contains(wildmatch::Mode::NO_MATCH_SLASH_LITERAL) || !has_slash(value)
 }
 
 /// Whether the two texts are equal, up to case where the mode folds.

@@ -4,8 +4,8 @@ use Rattle.gix_glob.specs.declared.pattern.Case.{Case}
 use Rattle.gix_glob.specs.declared.pattern.Mode as pattern
 use Rattle.gix_glob.specs.Patterns.{IsPattern}
 use Rattle.gix_glob.specs.RepositoryPaths.{Answers}
+use Rattle.gix_glob.proofs.Answering.{basename_once}
 use Rattle.gix_glob_c.proofs.Bits.{pattern_mode_of}
-use Rattle.gix_glob_c.proofs.LastLemmas.{IsBasenameStart-only}
 use Rattle.gix_glob_c.specs.Parts.{case_of}
 use Rattle.gix_glob_c.specs.Parsed.{AnswersPath, flags_of}
 use Rattle.gix_glob_c.proofs.parsed.is_matched.Goals as goal
@@ -25,5 +25,5 @@ returns c = λ lawful.
       λ yes. record { is = c.requires.path; position = c.args.position; start = c.requires.start; answers = told.0 yes },
       λ (h : AnswersPath parts c.args.path.now c.args.is_dir c.args.fold).
           told.1 (subst (λ (p : Option ℕ). Answers text (flags_of parts) c.args.path.now p (Some c.args.is_dir) (case_of c.args.fold) (record { 0 = 1 }))
-          (IsBasenameStart-only c.args.path.now c.args.position h.position c.requires.start h.start) h.answers),
+          (basename_once c.args.path.now h.position c.args.position h.start c.requires.start) h.answers),
     )

@@ -1,5 +1,5 @@
 -- The patterns are gone through from the last one on.
-use Rattle.std.proofs.Common.{◌≡◌, ◌+◌, ◌-◌, ◌<◌, ℕ, [], true, length, slice_index_or, arith}
+use Rattle.std.proofs.Common.{◌≡◌, ◌+◌, ◌-◌, ◌<◌, [], true, length, slice_index_or, arith}
 use Rattle.std.proofs.lemmas.List.Elements.{All-get_or}
 use Rattle.std.proofs.lemmas.Option.{slice_get-get_or}
 use Rattle.gix_glob_c.specs.declared.parsed.GlobPattern.{GlobPattern}

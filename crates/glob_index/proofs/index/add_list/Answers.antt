@@ -1,13 +1,12 @@
 -- The mapping's row comes after those of the mappings before it.
-use Rattle.std.proofs.Common.{◌≡◌, ◌+◌, ◌<◌, ◌≤◌, ℕ, List, length, get_or, map, Some, ap, sym, subst, arith}
-use Rattle.std.specs.Prelude.{slice_get}
+use Rattle.std.proofs.Common.{◌+◌, ◌<◌, ◌≤◌, ℕ, length, get_or, map, ap, sym, subst, arith}
 use Rattle.std.proofs.lemmas.List.{get_or_default, length-map}
 use Rattle.gix_glob.specs.Lists.{entry_of}
 use Rattle.gix_glob.specs.Loaded.{listed}
 use Rattle.gix_glob.specs.PatternParts.{mode_of, text_of}
 use Rattle.glob_index.specs.declared.row.Row.{Row}
-use Rattle.glob_index.specs.Index.{AreRowsUpTo}
-use Rattle.glob_index.proofs.AnsweringLemmas.{seen_at}
+use Rattle.glob_index.specs.Private.Building.{AreRowsUpTo}
+use Rattle.gix_glob.proofs.Elements.{seen_at}
 use Rattle.glob_index.proofs.RowLemmas.{asks_chained, rows_more, rows_of_list}
 use Rattle.glob_index.proofs.index.add_list.Goals as goal
 

@@ -1,5 +1,5 @@
 -- Each byte that stands for itself adds its bit; no set and no escape began before.
-use Rattle.std.proofs.Common.{◌≡◌, ◌+◌, ◌∙◌, List, ℕ, get_or, sym}
+use Rattle.std.proofs.Common.{◌+◌, ◌∙◌, List, ℕ, get_or, sym}
 use Rattle.glob_index.specs.Literals.{bit_of}
 use Rattle.glob_index.proofs.BitLemmas.{IsReadUpTo, read_more, read_none, read_past, with_bit}
 use Rattle.glob_index.proofs.literals.needed_bytes.Goals as goal

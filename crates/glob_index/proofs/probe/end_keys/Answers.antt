@@ -1,5 +1,5 @@
 -- One byte more is one number more.
-use Rattle.std.proofs.Common.{◌≡◌, ◌∙◌, ℕ, ◌+◌, ◌<◌, get_or, length, refl, replicate, sym, subst, arith}
+use Rattle.std.proofs.Common.{◌≡◌, ◌∙◌, ℕ, ◌+◌, ◌<◌, get_or, length, refl, replicate, subst, arith}
 use Rattle.std.proofs.lemmas.List.{length-replicate, length-set}
 use Rattle.glob_index.specs.Literals.{end_key}
 use Rattle.glob_index.proofs.KeyLemmas.{end_keys_more}

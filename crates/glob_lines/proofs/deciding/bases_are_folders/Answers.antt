@@ -4,7 +4,7 @@ use Rattle.std.specs.Vec.{vec_items}
 use Rattle.gix_glob.specs.Deciding.{BasesAreFolders, HasFolder}
 use Rattle.gix_glob.specs.Loaded.{listed}
 use Rattle.gix_glob.specs.Paths.{IsFolder}
-use Rattle.glob_lines.proofs.DecidingLemmas.{seen_all}
+use Rattle.gix_glob.proofs.Elements.{seen_all}
 use Rattle.glob_lines.proofs.deciding.bases_are_folders.Goals as goal
 
 pub returns-in-loop-list : goal.returns-in-loop-list

@@ -1,9 +1,9 @@
 -- The lists are gone through from the last one on.
-use Rattle.std.proofs.Common.{◌≡◌, ◌+◌, ◌-◌, ◌<◌, length, map, Some, arith}
-use Rattle.std.specs.Prelude.{slice_get}
+use Rattle.std.proofs.Common.{◌≡◌, ◌+◌, ◌-◌, ◌<◌, length, arith}
 use Rattle.gix_glob.specs.Deciding.{HasFolder}
 use Rattle.gix_glob.specs.Loaded.{listed}
-use Rattle.glob_lines.proofs.DecidingLemmas.{Decides-found, Decides-none, NoListFrom-less, seen_all, seen_at}
+use Rattle.gix_glob.proofs.Elements.{seen_all, seen_at}
+use Rattle.glob_lines.proofs.DecidingLemmas.{Decides-found, Decides-none, NoListFrom-less}
 use Rattle.glob_lines.proofs.deciding.decide.Goals as goal
 
 pub last_match-requires-clause-folder : goal.last_match-requires-clause-folder

@@ -1,11 +1,12 @@
 -- The mappings are gone through from the last one on.
-use Rattle.std.proofs.Common.{◌≡◌, ◌+◌, ◌-◌, ◌<◌, true, length, get_or, Some, option_map, ap, arith}
-use Rattle.std.specs.Prelude.{slice_get}
+use Rattle.std.proofs.Common.{◌≡◌, ◌+◌, ◌-◌, ◌<◌, true, length, option_map, ap, arith}
 use Rattle.std.specs.Vec.{vec_items}
 use Rattle.gix_glob.specs.Deciding.{AnswersUnder}
 use Rattle.gix_glob.specs.Lists.{entry_of}
 use Rattle.gix_glob.specs.Loaded.{listed}
-use Rattle.glob_lines.proofs.DecidingLemmas.{AnswersAt-no, AnswersAt-yes, AnswersUnder-only, AnswersUnder-yes, LastOf-found, NoneFrom-all, NoneFrom-less, seen_at}
+use Rattle.gix_glob.proofs.Answering.{AnswersUnder-only, AnswersUnder-yes}
+use Rattle.gix_glob.proofs.Elements.{seen_at}
+use Rattle.glob_lines.proofs.DecidingLemmas.{AnswersAt-no, AnswersAt-yes, LastOf-found, NoneFrom-all, NoneFrom-less}
 use Rattle.glob_lines.proofs.deciding.last_match.Goals as goal
 
 pub returns-then-matches_repo_relative_path : goal.returns-then-matches_repo_relative_path

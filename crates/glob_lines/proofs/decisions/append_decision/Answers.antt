@@ -1,9 +1,10 @@
 -- What decides is a mapping of one of the lists.
-use Rattle.std.proofs.Common.{◌≡◌, ◌<◌, length, map, rules, subst, sym}
+use Rattle.std.proofs.Common.{◌<◌, length, rules, subst, sym}
 use Rattle.std.proofs.lemmas.Result.{on_ok_weaker}
 use Rattle.gix_glob.specs.Lists.{entry_of}
 use Rattle.gix_glob.specs.Loaded.{listed}
-use Rattle.glob_lines.proofs.DecidingLemmas.{of_list, seen_at, seen_within}
+use Rattle.gix_glob.proofs.Elements.{seen_at, seen_within}
+use Rattle.glob_lines.proofs.DecidingLemmas.{of_list}
 use Rattle.glob_lines.proofs.DecisionsLemmas.{grown_on_ok, writes_none, writes_verdict}
 use Rattle.glob_lines.proofs.PathsLemmas.{IsPlainPath-marked}
 use Rattle.glob_lines.proofs.decisions.append_decision.Goals as goal

@@ -1,12 +1,12 @@
 -- A mapping that was found has its number next in the text.
-use Rattle.std.proofs.Common.{◌≡◌, ◌<◌, ℕ, Some, get_or, length, map, ap, refl, rules, subst, sym, arith}
+use Rattle.std.proofs.Common.{◌<◌, ℕ, get_or, length, map, ap, refl, rules, subst, sym, arith}
 use Rattle.std.proofs.lemmas.Option.{slice_get-get_or}
 use Rattle.gix_glob.specs.Deciding.{BasesAreFolders}
 use Rattle.gix_glob.specs.Lists.{entry_of}
 use Rattle.gix_glob.specs.Loaded.{listed}
 use Rattle.glob_lines.specs.Numbers.{spaced}
 use Rattle.glob_lines.specs.Plain.{PlainEntry}
-use Rattle.glob_lines.proofs.DecidingLemmas.{seen_at, seen_within}
+use Rattle.gix_glob.proofs.Elements.{seen_at, seen_within}
 use Rattle.glob_lines.proofs.FoundLemmas.{folders_of_one, listed_all, listed_more, listed_none, places_in}
 use Rattle.glob_lines.proofs.MappingsLemmas.{numbers_of}
 use Rattle.glob_lines.proofs.list.append_found.Goals as goal
@@ -19,13 +19,13 @@ matches-requires-clause-folders c =
 pub loop-pair-init : goal.loop-pair-init
 loop-pair-init c =
     let places = places_in (listed {V = Unit {0}} (λ _. tt) c.args.list.now) c.args.path.now c.args.is_dir c.args.index.now.case (map (listed {V = Unit {0}} (λ _. tt)) c.args.index.now.lists.now)
-    c.as_slice-pair-items.result.now c.in_ok-found.found.items (ap (map (listed {V = Unit {0}} (λ _. tt))) c.requires.one) c.as_slice-pair-items.ensures.value c.in_ok-found.ensures in
+    c.as_slice-pair-items.result.now c.in_ok-pairs.pairs.items (ap (map (listed {V = Unit {0}} (λ _. tt))) c.requires.one) c.as_slice-pair-items.ensures.value c.in_ok-pairs.ensures in
     listed_none _ _ _ places _ _ _ refl refl
 
 pub index-requires : goal.index-requires
 index-requires c =
     let places = places_in (listed {V = Unit {0}} (λ _. tt) c.args.list.now) c.args.path.now c.args.is_dir c.args.index.now.case (map (listed {V = Unit {0}} (λ _. tt)) c.args.index.now.lists.now)
-    c.as_slice-pair-items.result.now c.in_ok-found.found.items (ap (map (listed {V = Unit {0}} (λ _. tt))) c.requires.one) c.as_slice-pair-items.ensures.value c.in_ok-found.ensures in
+    c.as_slice-pair-items.result.now c.in_ok-pairs.pairs.items (ap (map (listed {V = Unit {0}} (λ _. tt))) c.requires.one) c.as_slice-pair-items.ensures.value c.in_ok-pairs.ensures in
     let pair : ℕ × ℕ = get_or c.as_slice-pair-items.result.now c.loop-pair.pair-index (0, 0) in
     let got = slice_get-get_or c.as_slice-pair-items.result.now c.loop-pair.pair-index (0, 0) c.loop-pair-test.true in
     let answer = places.each c.loop-pair.pair-index pair got in
@@ -36,7 +36,7 @@ index-requires c =
 pub loop-pair-preserved : goal.loop-pair-preserved
 loop-pair-preserved c =
     let places = places_in (listed {V = Unit {0}} (λ _. tt) c.args.list.now) c.args.path.now c.args.is_dir c.args.index.now.case (map (listed {V = Unit {0}} (λ _. tt)) c.args.index.now.lists.now)
-    c.as_slice-pair-items.result.now c.in_ok-found.found.items (ap (map (listed {V = Unit {0}} (λ _. tt))) c.requires.one) c.as_slice-pair-items.ensures.value c.in_ok-found.ensures in
+    c.as_slice-pair-items.result.now c.in_ok-pairs.pairs.items (ap (map (listed {V = Unit {0}} (λ _. tt))) c.requires.one) c.as_slice-pair-items.ensures.value c.in_ok-pairs.ensures in
     let pair : ℕ × ℕ = get_or c.as_slice-pair-items.result.now c.loop-pair.pair-index (0, 0) in
     let got = slice_get-get_or c.as_slice-pair-items.result.now c.loop-pair.pair-index (0, 0) c.loop-pair-test.true in
     let answer = places.each c.loop-pair.pair-index pair got in
@@ -49,7 +49,7 @@ loop-pair-preserved c =
 pub returns : goal.returns
 returns c =
     let places = places_in (listed {V = Unit {0}} (λ _. tt) c.args.list.now) c.args.path.now c.args.is_dir c.args.index.now.case (map (listed {V = Unit {0}} (λ _. tt)) c.args.index.now.lists.now)
-    c.as_slice-pair-items.result.now c.in_ok-found.found.items (ap (map (listed {V = Unit {0}} (λ _. tt))) c.requires.one) c.as_slice-pair-items.ensures.value c.in_ok-found.ensures in
+    c.as_slice-pair-items.result.now c.in_ok-pairs.pairs.items (ap (map (listed {V = Unit {0}} (λ _. tt))) c.requires.one) c.as_slice-pair-items.ensures.value c.in_ok-pairs.ensures in
     let done = listed_all _ _ _ places _ _ _ c.loop-pair.pair-index c.loop-pair-test.false c.loop-pair.invariant in record {
       added = spaced (numbers_of done.chosen);
       allowed = record { chosen = done.chosen; picks = done.picks; shown = refl };

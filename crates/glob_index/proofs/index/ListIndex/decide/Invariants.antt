@@ -1,6 +1,6 @@
 use Rattle.std.proofs.Common.{map}
 use Rattle.gix_glob.specs.Loaded.{listed}
-use Rattle.glob_index.specs.Chains.{IsAt}
+use Rattle.glob_index.specs.Private.Walking.{IsAt}
 use Rattle.glob_index.proofs.RowLemmas.{NoneAnswers}
 use Rattle.glob_index.proofs.index.ListIndex.decide.Given as goal
 

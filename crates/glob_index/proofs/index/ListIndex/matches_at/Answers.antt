@@ -1,5 +1,5 @@
 -- What the base leaves of the path is what the pattern is asked about.
-use Rattle.std.proofs.Common.{◌≡◌, ◌<◌, false, get_or, length, map, option_map, Some, sym, subst, ◌∙◌, arith}
+use Rattle.std.proofs.Common.{◌≡◌, ◌<◌, get_or, length, map, option_map, Some, sym, subst, ◌∙◌, arith}
 use Rattle.std.specs.Prelude.{slice_get}
 use Rattle.std.specs.Vec.{vec_items}
 use Rattle.std.proofs.lemmas.Bool.{false≢true}
@@ -9,7 +9,9 @@ use Rattle.gix_glob.specs.Deciding.{HasFolder}
 use Rattle.gix_glob.specs.Lists.{entry_of}
 use Rattle.gix_glob.specs.Loaded.{Listed, listed}
 use Rattle.gix_glob.specs.Stripping.{NothingLeft}
-use Rattle.glob_index.proofs.AnsweringLemmas.{AnswersUnder-only, AnswersUnder-yes, pair_answers, pair_nothing, pair_only, seen_all, seen_at, seen_within}
+use Rattle.gix_glob.proofs.Answering.{AnswersUnder-only, AnswersUnder-yes}
+use Rattle.gix_glob.proofs.Elements.{seen_all, seen_at, seen_within}
+use Rattle.glob_index.proofs.AnsweringLemmas.{pair_answers, pair_nothing, pair_only}
 use Rattle.glob_index.proofs.index.ListIndex.matches_at.Goals as goal
 
 pub rest_of-requires-clause-folder : goal.rest_of-requires-clause-folder

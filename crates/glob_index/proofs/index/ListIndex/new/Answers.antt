@@ -1,5 +1,5 @@
 -- The lists' rows are added one list after the other.
-use Rattle.std.proofs.Common.{length, map, refl, arith}
+use Rattle.std.proofs.Common.{map, refl, arith}
 use Rattle.std.proofs.lemmas.List.{length-map}
 use Rattle.gix_glob.specs.Loaded.{listed}
 use Rattle.glob_index.proofs.RowLemmas.{rows_all, rows_none}

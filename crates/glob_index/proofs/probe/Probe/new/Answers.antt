@@ -1,6 +1,6 @@
 -- The last part's bytes are those that no slash follows.
-use Rattle.std.proofs.Common.{◌≡◌, ◌∙◌, List, ℕ, subst}
-use Rattle.glob_index.specs.Literals.{HoldsBits}
+use Rattle.std.proofs.Common.{◌∙◌, List, ℕ, subst}
+use Rattle.glob_index.specs.Private.Showing.{HoldsBits}
 use Rattle.glob_index.proofs.KeyLemmas.{name_bits}
 use Rattle.glob_index.proofs.probe.Probe.new.Goals as goal
 

@@ -1,9 +1,9 @@
 -- The nearer of the two next places is met, and its link followed.
-use Rattle.std.proofs.Common.{◌≡◌, ◌+◌, ◌-◌, ◌<◌, ◌≤◌, ℕ, List, length, refl, sym, subst, arith}
+use Rattle.std.proofs.Common.{◌-◌, ℕ, List, refl, sym, subst, arith}
 use Rattle.std.proofs.lemmas.Bool.{iff_false}
 use Rattle.glob_index.specs.declared.row.Row.{Row}
 use Rattle.glob_index.specs.declared.table.Walk.{Walk}
-use Rattle.glob_index.specs.Chains.{IsAt}
+use Rattle.glob_index.specs.Private.Walking.{IsAt}
 use Rattle.glob_index.proofs.ChainLemmas.{none_between, other_step, own_step, passed_over, without_bytes, without_end}
 use Rattle.glob_index.proofs.table.Table.next.Goals as goal
 

@@ -1,5 +1,5 @@
 use Rattle.std.proofs.Common.{◌≤◌}
-use Rattle.glob_index.specs.Chains.{IsAt, NonePasses}
+use Rattle.glob_index.specs.Private.Walking.{IsAt, NonePasses}
 use Rattle.glob_index.proofs.table.Table.next.Given as goal
 
 -- what lies between the walk's place and its start doesn't pass
