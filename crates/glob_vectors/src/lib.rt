@@ -16,6 +16,8 @@ mod file_rows;
 #[cfg(test)]
 mod folding;
 #[cfg(test)]
+mod hostile_lines;
+#[cfg(test)]
 mod hostile_rows;
 #[cfg(test)]
 mod ignore_rows;
