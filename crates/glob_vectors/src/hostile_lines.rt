@@ -1,4 +1,4 @@
-//! Pattern lines of 100 kilobytes that are sets, or look like ones: each path is decided in a moment.
+//! Long pattern lines that try an engine: sets of 100 kilobytes, and many stars. Each path is decided in a moment.
 use crate::texts::{Repeated, repeated};
 use gix_glob::pattern::Case;
 use gix_glob::search::pattern::List;
@@ -69,5 +69,16 @@ fn sets_of_100_kilobytes_are_read_in_a_moment(rt: HostRuntime) -> Result<(), Fai
             assert_eq!(rt; ignore.as_slice(), wanted, "ignore: {row:?}");
         }
     }
+    Ok(())
+}
+
+#[test]
+fn sixty_four_stars_match_in_a_line(rt: HostRuntime) -> Result<(), Fail> {
+    let lines = repeated(rt.alloc(), ("*a", 64, "\nb\n"))?;
+    let paths = repeated(rt.alloc(), ("a", 64, "\nb\n"))?;
+    let list = listed(rt.alloc(), &lines, &paths)?;
+    assert_eq!(rt; list.as_slice(), b"1\n2\n".as_slice());
+    let ignore = decided(&rt, &lines, &paths)?;
+    assert_eq!(rt; ignore.as_slice(), b"ignored 1:1\nignored 1:2\n".as_slice());
     Ok(())
 }
