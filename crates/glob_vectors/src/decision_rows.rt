@@ -1,5 +1,4 @@
 //! Path lines against a stack of ignore files: which line of which file decides.
-use crate::fakes::{Sink, Source};
 use gix_glob::pattern::Case;
 use gix_glob::search::pattern::List;
 use gix_glob::search::{Pattern, Watched};
@@ -7,8 +6,6 @@ use glob_lines::{EngineFault, IgnoreLines, bases_are_folders, decide, plain_path
 use std::alloc::AllocError;
 use std::process::Abort;
 use std::test::Fail;
-
-const WHOLE: usize = usize::MAX;
 
 /// The bytes of an ignore file, and the base of its list.
 #[derive(Clone, Copy)]
@@ -44,22 +41,20 @@ fn lists_of(
     Ok(lists)
 }
 
-/// What a run over a reader and a writer in memory answered, and what it wrote.
-fn run(
+/// What a run over a reader and a writer in memory wrote.
+fn decided(
     rt: &(impl Abort + AllocGlobal),
     lists: &[List<IgnoreLines>],
     case: Case,
-    paths: Source<'_>,
-    output: Sink,
-) -> (Result<(), EngineFault>, Sink) {
-    let mut paths = Watched::new(paths);
-    let mut writer = Watched::new(output);
+    paths: &[u8],
+) -> Result<Vec<u8>, EngineFault> {
+    let (mut paths, mut writer) = (Watched::new(paths), Watched::new(Vec::new(rt.alloc())));
     assert!(rt;
         bases_are_folders(lists),
         "the bases are not those of folders"
     );
-    let answer = run_ignore(rt.alloc(), lists, case, &mut paths, &mut writer);
-    (answer, writer.into_inner())
+    run_ignore(rt.alloc(), lists, case, &mut paths, &mut writer)?;
+    Ok(writer.into_inner())
 }
 
 #[test]
@@ -104,17 +99,8 @@ fn the_last_match_is_told(rt: HostRuntime) -> Result<(), Fail> {
     ];
     for (files, paths, text) in rows {
         let lists = lists_of(&rt, files)?;
-        for piece in [1, WHOLE] {
-            let (answer, output) = run(
-                &rt,
-                &lists,
-                Case::Sensitive,
-                Source::new(paths, piece, WHOLE),
-                Sink::new(Vec::new(rt.alloc()), piece, WHOLE),
-            );
-            assert_eq!(rt; answer, Ok(()), "{paths:?}, {piece} bytes a call");
-            assert_eq!(rt; output.taken(), text, "{paths:?}, {piece} bytes a call");
-        }
+        let output = decided(&rt, &lists, Case::Sensitive, paths)?;
+        assert_eq!(rt; output.as_slice(), text, "{paths:?}");
     }
     Ok(())
 }
@@ -127,15 +113,8 @@ fn case_counts_unless_it_is_folded(rt: HostRuntime) -> Result<(), Fail> {
         (Case::Fold, b"ignored 1:1\nignored 1:1\n"),
     ];
     for (case, text) in rows {
-        let (answer, output) = run(
-            &rt,
-            &lists,
-            case,
-            Source::new(b"d/a.o\nD/a.O\n", WHOLE, WHOLE),
-            Sink::new(Vec::new(rt.alloc()), WHOLE, WHOLE),
-        );
-        assert_eq!(rt; answer, Ok(()), "{case:?}");
-        assert_eq!(rt; output.taken(), text, "{case:?}");
+        let output = decided(&rt, &lists, case, b"d/a.o\nD/a.O\n")?;
+        assert_eq!(rt; output.as_slice(), text, "{case:?}");
     }
     Ok(())
 }
@@ -198,51 +177,5 @@ fn a_loaded_list_has_the_base_of_its_source(rt: HostRuntime) -> Result<(), Fail>
         Some((0, 0))
     );
     assert_eq!(rt; decide(&lists, b"x", false, Case::Sensitive), None);
-    Ok(())
-}
-
-#[test]
-fn a_failed_read_of_paths_writes_nothing(rt: HostRuntime) -> Result<(), Fail> {
-    let lists = lists_of(&rt, &[at_top(b"a\n")])?;
-    let paths = b"a\nb";
-    for successes in 0..6 {
-        let (answer, output) = run(
-            &rt,
-            &lists,
-            Case::Sensitive,
-            Source::new(paths, 1, successes),
-            Sink::new(Vec::new(rt.alloc()), WHOLE, WHOLE),
-        );
-        if successes <= paths.len() {
-            assert_eq!(rt; answer, Err(EngineFault::Read), "{successes} reads");
-            assert_eq!(rt; output.taken(), b"".as_slice(), "{successes} reads");
-        } else {
-            assert_eq!(rt; answer, Ok(()), "{successes} reads");
-            assert_eq!(rt; output.taken(), b"ignored 1:1\nnone\n".as_slice());
-        }
-    }
-    Ok(())
-}
-
-#[test]
-fn a_failed_write_leaves_a_beginning(rt: HostRuntime) -> Result<(), Fail> {
-    let lists = lists_of(&rt, &[at_top(b"!a\n")])?;
-    let text = b"kept 1:1\n!\n";
-    for successes in 0..13 {
-        let (answer, output) = run(
-            &rt,
-            &lists,
-            Case::Sensitive,
-            Source::new(b"a\n/a\n", WHOLE, WHOLE),
-            Sink::new(Vec::new(rt.alloc()), 1, successes),
-        );
-        if successes < text.len() {
-            assert_eq!(rt; answer, Err(EngineFault::Write), "{successes} writes");
-            assert_eq!(rt; output.taken(), &text[..successes], "{successes} writes");
-        } else {
-            assert_eq!(rt; answer, Ok(()), "{successes} writes");
-            assert_eq!(rt; output.taken(), text.as_slice(), "{successes} writes");
-        }
-    }
     Ok(())
 }

@@ -150,18 +150,3 @@ fn labels_order_equal_patterns(rt: HostRuntime) -> Result<(), Fail> {
     assert!(rt; first == labelled(rt.alloc(), b"a")?);
     Ok(())
 }
-
-/// A copy of a list of labels.
-pub(crate) fn copy_of(list: &List<LabelLines>) -> Result<List<LabelLines>, AllocError> {
-    list.clone()
-}
-
-#[test]
-fn lists_of_labels_are_copied(rt: HostRuntime) -> Result<(), AllocError> {
-    let source = String::from_str(rt.alloc(), "d/labels")?;
-    let list = List::from_bytes(rt.alloc(), LABELS, source, Some(""), LabelLines)?;
-    let copy = copy_of(&list)?;
-    assert!(rt; copy == list);
-    assert_eq!(rt; copy.patterns.len(), 3);
-    Ok(())
-}

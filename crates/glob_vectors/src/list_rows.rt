@@ -1,13 +1,9 @@
 //! Path lines against the lines of a pattern file.
-use crate::fakes::{Sink, Source};
-use crate::texts::repeated;
 use gix_glob::pattern::Case;
 use gix_glob::search::{Watched, has_file_part};
 use glob_lines::{EngineFault, run_list};
 use std::process::Abort;
 use std::test::Fail;
-
-const WHOLE: usize = usize::MAX;
 
 /// What a run with the pattern lines of a file was asked.
 #[derive(Clone, Copy)]
@@ -52,20 +48,18 @@ const WITHOUT_ROOT: Question<'static> = Question {
     case: Case::Sensitive,
 };
 
-/// What a run over readers and a writer in memory answered, and what it wrote.
-fn run(
+/// What a run over readers and a writer in memory wrote.
+fn listed(
     rt: &(impl Abort + AllocGlobal),
     question: Question<'_>,
-    patterns: Source<'_>,
-    paths: Source<'_>,
-    output: Sink,
-) -> (Result<(), EngineFault>, Sink) {
-    let mut patterns = Watched::new(patterns);
-    let mut paths = Watched::new(paths);
-    let mut writer = Watched::new(output);
+    patterns: &[u8],
+    paths: &[u8],
+) -> Result<Vec<u8>, EngineFault> {
+    let (mut patterns, mut paths) = (Watched::new(patterns), Watched::new(paths));
+    let mut writer = Watched::new(Vec::new(rt.alloc()));
     let Question { source, root, case } = question;
     assert!(rt; has_file_part(source), "{source}");
-    let answer = run_list(
+    run_list(
         rt.alloc(),
         &mut patterns,
         source,
@@ -73,19 +67,17 @@ fn run(
         case,
         &mut paths,
         &mut writer,
-    );
-    (answer, writer.into_inner())
+    )?;
+    Ok(writer.into_inner())
 }
 
 #[test]
 fn the_numbers_of_matching_lines_are_listed(rt: HostRuntime) -> Result<(), Fail> {
     let ten: &[u8] = b"a\na\na\na\na\na\na\na\na\na\n";
     let paths_of_a: &[u8] = b"a/b\nb\na/x/b\na/x/y.c\nA/b\n";
-    let many_stars = repeated(rt.alloc(), ("*a", 64, "\nb\n"))?;
-    let many_paths = repeated(rt.alloc(), ("a", 64, "\nb\n"))?;
     // so many that the index is asked, and three that match one path
     let mixed: &[u8] = b"a\n*.c\nb/\n!a\nc\nd\ne\nf\n*x*\na\n";
-    let rows: [(Question<'_>, &[u8], &[u8], &[u8]); 13] = [
+    let rows: [(Question<'_>, &[u8], &[u8], &[u8]); 12] = [
         (
             TOP,
             b"*.rs\n\nsrc/\n",
@@ -102,7 +94,6 @@ fn the_numbers_of_matching_lines_are_listed(rt: HostRuntime) -> Result<(), Fail>
         (TOP, b"a\n", b"a\r\n", b"\n"),
         (TOP, b"*", b"\xff\n\x00", b"1\n1\n"),
         (TOP, b"a", b"", b""),
-        (TOP, &many_stars, &many_paths, b"1\n2\n"),
         (
             TOP,
             mixed,
@@ -111,25 +102,8 @@ fn the_numbers_of_matching_lines_are_listed(rt: HostRuntime) -> Result<(), Fail>
         ),
     ];
     for (question, patterns, paths, text) in rows {
-        for piece in [1, WHOLE] {
-            let (answer, output) = run(
-                &rt,
-                question,
-                Source::new(patterns, piece, WHOLE),
-                Source::new(paths, piece, WHOLE),
-                Sink::new(Vec::new(rt.alloc()), piece, WHOLE),
-            );
-            assert_eq!(rt;
-                answer,
-                Ok(()),
-                "{patterns:?} on {paths:?}, {piece} bytes a call"
-            );
-            assert_eq!(rt;
-                output.taken(),
-                text,
-                "{patterns:?} on {paths:?}, {piece} bytes a call"
-            );
-        }
+        let output = listed(&rt, question, patterns, paths)?;
+        assert_eq!(rt; output.as_slice(), text, "{patterns:?} on {paths:?}");
     }
     Ok(())
 }

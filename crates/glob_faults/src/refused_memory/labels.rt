@@ -1,8 +1,8 @@
 //! Lists of labels and of ignore lines, whose parsers and copies want memory.
-use crate::label_rows::copy_of;
 use gix_glob::search::Pattern as _;
 use gix_glob::search::pattern::{List, Mapping};
 use glob_lines::{IgnoreLines, LabelLines};
+use std::alloc::AllocError;
 use std::test::Fail;
 
 const LABELS: &[u8] = b"*.rs\trust\n\n!src/\ta\tb\n";
@@ -25,6 +25,11 @@ fn labels_are_read(rt: HostRuntime) -> Result<(), Fail> {
     let mappings = LabelLines.bytes_to_patterns(rt.alloc(), LABELS, "labels")?;
     assert!(rt; are_read(&mappings));
     Ok(())
+}
+
+/// A copy of a list of labels.
+fn copy_of(list: &List<LabelLines>) -> Result<List<LabelLines>, AllocError> {
+    list.clone()
 }
 
 #[test]

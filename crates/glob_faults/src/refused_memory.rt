@@ -122,7 +122,7 @@ fn file_of_lines(rt: &HostRuntime) -> Result<String, Fail> {
     let number = process::id(rt.process());
     let folder = env::temp_dir(rt)?;
     let folder = folder.as_str();
-    let path = format!(in rt.alloc(); "{folder}/glob_vectors-lines-{number}")?;
+    let path = format!(in rt.alloc(); "{folder}/glob_faults-lines-{number}")?;
     fs::write(rt, path.as_str(), LINES)?;
     Ok(path)
 }

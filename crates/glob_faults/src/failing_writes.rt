@@ -1,9 +1,9 @@
 //! Writers that fail at one write, each write in turn: the fault is told, and a beginning of the text was written.
 use crate::fakes::Sink;
-use crate::modes::path;
 use gix_glob::pattern::Case;
 use gix_glob::search::Watched;
 use gix_glob::search::pattern::List;
+use gix_glob::wildmatch::Mode;
 use glob_lines::{EngineFault, IgnoreLines, bases_are_folders, run_ignore, run_list, run_wild};
 use std::io::ErrorKind;
 use std::process::Abort;
@@ -24,7 +24,13 @@ const NUMBERS: &[u8] = b"1 2\n2\n!\n";
 fn check_wild(rt: &(impl Abort + AllocGlobal), sink: Sink, fails: bool, written: &[u8]) {
     let mut reader = Watched::new(b"ab\nb\n".as_slice());
     let mut writer = Watched::new(sink);
-    let answer = run_wild(rt.alloc(), b"a*", path(), &mut reader, &mut writer);
+    let answer = run_wild(
+        rt.alloc(),
+        b"a*",
+        Mode::NO_MATCH_SLASH_LITERAL,
+        &mut reader,
+        &mut writer,
+    );
     let told = if fails {
         Err(EngineFault::Write)
     } else {

@@ -15,7 +15,7 @@ fn path_of(rt: &HostRuntime, name: &str) -> Result<String, Fail> {
     let number = process::id(rt.process());
     let folder = env::temp_dir(rt)?;
     let folder = folder.as_str();
-    Ok(format!(in rt.alloc(); "{folder}/glob_vectors-{name}-{number}")?)
+    Ok(format!(in rt.alloc(); "{folder}/glob_faults-{name}-{number}")?)
 }
 
 /// What the list of a file came to, in words: the fault's text, `none`, or the number of patterns.

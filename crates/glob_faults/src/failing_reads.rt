@@ -1,9 +1,9 @@
 //! Readers that fail at one read, each read in turn: the fault is told, nothing is written, and what was read is kept.
 use crate::fakes::{Sink, Source};
-use crate::modes::path;
 use gix_glob::pattern::Case;
 use gix_glob::search::pattern::List;
 use gix_glob::search::{LoadFault, Watched, add_patterns_file};
+use gix_glob::wildmatch::Mode;
 use glob_lines::{
     EngineFault, IgnoreLines, PlainLines, bases_are_folders, run_ignore, run_list, run_wild,
 };
@@ -96,7 +96,13 @@ fn run_wild_tells_each_failed_read(rt: HostRuntime) {
             let fails = successes <= VALUES.len();
             let mut reader = Watched::new(Source::new(VALUES, 1, successes).failing_with(kind));
             let mut writer = Watched::new(Sink::new(Vec::new(rt.alloc()), WHOLE, WHOLE));
-            let answer = run_wild(rt.alloc(), b"a*", path(), &mut reader, &mut writer);
+            let answer = run_wild(
+                rt.alloc(),
+                b"a*",
+                Mode::NO_MATCH_SLASH_LITERAL,
+                &mut reader,
+                &mut writer,
+            );
             let told = if fails {
                 Err(EngineFault::Read)
             } else {
