@@ -12,8 +12,8 @@ fn has_no_slash(value: &[u8], at: usize, end: usize) -> bool
     requires { end ≤ length value.now }
     ensures { IsTrue result ↔ NoSlash value.now at end }
 {
-    for place in at..end {
-        if value[place] == b'/' {
+    for reached in at..end {
+        if value[reached] == b'/' {
             return false;
         }
     }
@@ -35,15 +35,15 @@ fn spans(shape: Shape, value: &[u8], at: usize, end: usize) -> bool
 }
 
 /// Whether the tokens from a place of the pattern on split the value's bytes from a place on.
-pub fn splits_from(pattern: &[u8], from: usize, value: &[u8], at: usize, mode: Mode) -> bool
-    requires from { from ≤ length pattern.now }
+pub fn splits_from(pattern: &[u8], place: usize, value: &[u8], at: usize, mode: Mode) -> bool
+    requires place { place ≤ length pattern.now }
     requires at { at ≤ length value.now }
-    ensures { IsTrue result ↔ SplitsFrom value.now at pattern.now from mode }
+    ensures { IsTrue result ↔ SplitsFrom value.now at pattern.now place mode }
 {
-    if from == pattern.len() {
+    if place == pattern.len() {
         return at == value.len();
     }
-    let (shape, next) = token_at(pattern, from, mode);
+    let (shape, next) = token_at(pattern, place, mode);
     if shape.is_star() {
         'ends: for end in at..value.len() + 1 {
             if spans(shape, value, at, end) && splits_from(pattern, next, value, end, mode) {
@@ -55,7 +55,7 @@ pub fn splits_from(pattern: &[u8], from: usize, value: &[u8], at: usize, mode: M
     if at == value.len() {
         return false;
     }
-    if !shape.takes(pattern, from, value[at], mode) {
+    if !shape.takes(pattern, place, value[at], mode) {
         return false;
     }
     splits_from(pattern, next, value, at + 1, mode)

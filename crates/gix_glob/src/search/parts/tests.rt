@@ -3,7 +3,7 @@ use super::Parts;
 use std::alloc::{AllocError, Global};
 
 // The parts of the text, each with a bar after it.
-fn barred(alloc: Global, text: &str) -> Result<Vec<u8>, AllocError> {
+fn parts_with_bars(alloc: Global, text: &str) -> Result<Vec<u8>, AllocError> {
     let mut shown = Vec::new(alloc);
     let mut parts = Parts::new(text.as_bytes());
     'parts: while let Some(part) = parts.next() {
@@ -26,7 +26,7 @@ fn parts_of_texts(rt: HostRuntime) -> Result<(), AllocError> {
         ("a/../b", "a|..|b|"),
     ];
     for (text, expected) in rows {
-        let shown = barred(rt.alloc(), text)?;
+        let shown = parts_with_bars(rt.alloc(), text)?;
         assert_eq!(rt; shown.as_slice(), expected.as_bytes(), "parts of {text:?}");
     }
     Ok(())

@@ -102,7 +102,7 @@ impl<T: Pattern> List<T> {
         buf.clear();
         let file = match fs::open(rt, source.as_str()) {
             Ok(file) => file,
-            Err(error) => return unopened(error),
+            Err(error) => return open_failure(error),
         };
         let mut reader = Watched::new(file);
         List::from_reader(alloc, &mut reader, source, root, buf, parse)
@@ -110,7 +110,7 @@ impl<T: Pattern> List<T> {
 }
 
 // Why there is no list of a file that could not be opened.
-fn unopened<L>(error: io::Error) -> Result<Option<L>, LoadFault>
+fn open_failure<L>(error: io::Error) -> Result<Option<L>, LoadFault>
     ensures { IfOk result IsNone }
 {
     match error.kind() {

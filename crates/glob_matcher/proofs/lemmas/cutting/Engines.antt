@@ -20,9 +20,9 @@ token_star_in mode p v i j k e Dirs here low high (inl same) later =
 token_star_in mode p v i j k e Dirs here low high (inr after) later = dirs_in mode p v i j k e here after later
 token_star_in mode p v i j k e Nothing here low high takes later = absurd takes
 
-pub star_in : (mode : Mode) (p v : List ℕ) (i : ℕ) (s : Shape) (j k e : ℕ) → IsToken mode p i s j → k ≤ e → e ≤ length v
+pub star_in : {mode : Mode} {p v : List ℕ} {i : ℕ} {s : Shape} {j k e : ℕ} → IsToken mode p i s j → k ≤ e → e ≤ length v
     → Spans s v k e → SplitsFrom v e p j mode → SplitsFrom v k p i mode
-star_in mode p v i s j k e x low high takes later =
+star_in {mode} {p} {v} {i} {s} {j} {k} {e} x low high takes later =
     token_star_in mode p v i j k e x.token x.here low high (subst (λ (t : Shape). Spans t v k e) x.shown takes) later
 
 dirs_low : (v : List ℕ) (k e : ℕ) → (e ≡ k) ⊎ AfterSlash v k e → k ≤ e
@@ -48,10 +48,10 @@ token_star_out mode p v i j k Dirs here star inside all =
     let out = dirs_out mode p v i j k here inside all in (out.0, dirs_low v k out.0 out.1, dirs_high v k out.0 inside out.1, out.1, out.2)
 token_star_out mode p v i j k Nothing here star inside all = let wrong : false ≡ true = star in cc
 
-pub star_out : (mode : Mode) (p v : List ℕ) (i : ℕ) (s : Shape) (j k : ℕ) → IsToken mode p i s j → is_star s ≡ true
+pub star_out : {mode : Mode} {p v : List ℕ} {i : ℕ} {s : Shape} {j k : ℕ} → IsToken mode p i s j → is_star s ≡ true
     → k ≤ length v → SplitsFrom v k p i mode
     → (e : ℕ) × (k ≤ e) × (e ≤ length v) × Spans s v k e × SplitsFrom v e p j mode
-star_out mode p v i s j k x star inside all =
+star_out {mode} {p} {v} {i} {s} {j} {k} x star inside all =
     let out = token_star_out mode p v i j k x.token x.here (subst (λ (t : Shape). is_star t ≡ true) x.shown star) inside all in
     (out.0, out.1, out.2, subst (λ (t : Shape). Spans t v k out.0) (sym x.shown) out.3, out.4)
 

@@ -4,7 +4,7 @@ use Rattle.std.proofs.lemmas.Bool.{cases_lt}
 use Rattle.glob_matcher.specs.declared.wildmatch.mode.Mode.{Mode}
 use Rattle.glob_matcher.specs.Bytes.{HasByte, close_bracket, question_mark, slash, star}
 use Rattle.glob_matcher.specs.Tokens.{Token, Byte, Any, OneOf, Free, Local, Dirs, Nothing, TokenAt, From, IsRun}
-use Rattle.glob_matcher.specs.Matching.{SplitsFrom}
+use Rattle.glob_matcher.specs.Matching.{Splits, SplitsFrom}
 use Rattle.glob_matcher.specs.Private.Reader.{Fits}
 use Rattle.glob_matcher.proofs.lemmas.cutting.CutLemmas.{step_out, one_out, end_out, nothing_out}
 use Rattle.glob_matcher.proofs.lemmas.reading.Existence.{items_close, From-short, TokenAt-past}
@@ -40,38 +40,38 @@ last_token mode p i Nothing j e end alone = inr refl
 abbrev pub EndsInLast : Mode → List ℕ → List ℕ → Type 0
 EndsInLast mode p v = (0 < length v) × Fits mode (Byte (last p)) (get_or v (length v - 1) 0)
 
-ends_here : (mode : Mode) (p v : List ℕ) (i j : ℕ) (t : Token) (k : ℕ) → TokenAt mode p i t k → k ≡ length p → j ≤ length v
-    → IsAlone (last p) → SplitsFrom v j p i mode → EndsInLast mode p v
-ends_here mode p v i j t k here end inside alone all = elim (last_token mode p i t k here end alone) [
-  | inl is ↦
-      let byte : TokenAt mode p i (Byte (last p)) k = subst (λ (x : Token). TokenAt mode p i x k) is here in
-      let one = one_out mode p v i k j (Byte (last p)) tt byte all in
-      let past : length v ≤ j + 1 = end_out mode p v k (j + 1) end one.2 in
-      let place : j ≡ length v - 1 = omega (arith, one.0) in
-      (omega (arith, one.0), subst (λ (n : ℕ). Fits mode (Byte (last p)) (get_or v n 0)) place one.1)
-  | inr is ↦ absurd (nothing_out mode p v i k j (subst (λ (x : Token). TokenAt mode p i x k) is here) inside all)
-]
+module _ (mode : Mode) (p v : List ℕ) (alone : IsAlone (last p)) where
+  ends_here : (i j : ℕ) (t : Token) (k : ℕ) → TokenAt mode p i t k → k ≡ length p → j ≤ length v
+      → SplitsFrom v j p i mode → EndsInLast mode p v
+  ends_here i j t k here end inside all = elim (last_token mode p i t k here end alone) [
+    | inl is ↦
+        let byte : TokenAt mode p i (Byte (last p)) k = subst (λ (x : Token). TokenAt mode p i x k) is here in
+        let one = one_out mode p v i k j (Byte (last p)) tt byte all in
+        let past : length v ≤ j + 1 = end_out mode p v k (j + 1) end one.2 in
+        let place : j ≡ length v - 1 = omega (arith, one.0) in
+        (omega (arith, one.0), subst (λ (n : ℕ). Fits mode (Byte (last p)) (get_or v n 0)) place one.1)
+    | inr is ↦ absurd (nothing_out mode p v i k j (subst (λ (x : Token). TokenAt mode p i x k) is here) inside all)
+  ]
 
-ends_later : (mode : Mode) (p v : List ℕ) (i j : ℕ) (ts : List Token) → From mode p i ts → i < length p → j ≤ length v → IsAlone (last p)
-    → ((k e : ℕ) → i < k → k < length p → e ≤ length v → SplitsFrom v e p k mode → EndsInLast mode p v)
-    → SplitsFrom v j p i mode → EndsInLast mode p v
-ends_later mode p v i j [] read low inside alone later all = absurd (omega (arith, read))
-ends_later mode p v i j (t ∷ ts) read low inside alone later all =
-    let out = step_out mode p v i read.0 j t read.1 inside all in
-    let past : i < read.0 = TokenAt-past mode p i t read.0 read.1 in
-    let short : read.0 + length ts ≤ length p = From-short mode p read.0 ts read.2 in
-    elim (cases_lt read.0 (length p)) [
-      | inl more ↦ later read.0 out.0 past more out.2.high out.4
-      | inr end ↦ ends_here mode p v i j t read.0 read.1 (omega arith) inside alone all
-    ]
+  ends_later : (i j : ℕ) (ts : List Token) → From mode p i ts → i < length p → j ≤ length v
+      → ((k e : ℕ) → i < k → k < length p → e ≤ length v → SplitsFrom v e p k mode → EndsInLast mode p v)
+      → SplitsFrom v j p i mode → EndsInLast mode p v
+  ends_later i j [] read low inside later all = absurd (omega (arith, read))
+  ends_later i j (t ∷ ts) read low inside later all =
+      let out = step_out mode p v i read.0 j t read.1 inside all in
+      let past : i < read.0 = TokenAt-past mode p i t read.0 read.1 in
+      let short : read.0 + length ts ≤ length p = From-short mode p read.0 ts read.2 in
+      elim (cases_lt read.0 (length p)) [
+        | inl more ↦ later read.0 out.0 past more out.2.high out.4
+        | inr end ↦ ends_here i j t read.0 read.1 (omega arith) inside all
+      ]
 
-ends_from : (d : ℕ) (mode : Mode) (p v : List ℕ) (i j : ℕ) → length p ≤ i + d → i < length p → j ≤ length v → IsAlone (last p)
-    → SplitsFrom v j p i mode → EndsInLast mode p v
-ends_from zero mode p v i j enough low inside alone all = absurd (omega arith)
-ends_from (suc d) mode p v i j enough low inside alone all =
-    ends_later mode p v i j all.tokens all.read low inside alone
-    (λ k e past more in_value rest. ends_from d mode p v k e (omega arith) more in_value alone rest) all
+  ends_from : (d i j : ℕ) → length p ≤ i + d → i < length p → j ≤ length v → SplitsFrom v j p i mode → EndsInLast mode p v
+  ends_from zero i j enough low inside all = absurd (omega arith)
+  ends_from (suc d) i j enough low inside all =
+      ends_later i j all.tokens all.read low inside
+      (λ k e past more in_value rest. ends_from d k e (omega arith) more in_value rest) all
 
 -- A value that is split ends in the pattern's last byte.
-pub ends_in_last : (mode : Mode) (p v : List ℕ) → 0 < length p → IsAlone (last p) → SplitsFrom v 0 p 0 mode → EndsInLast mode p v
-ends_in_last mode p v some alone all = ends_from (length p) mode p v 0 0 (omega arith) some (omega arith) alone all
+pub ends_in_last : (mode : Mode) (p v : List ℕ) → 0 < length p → IsAlone (last p) → Splits v p mode → EndsInLast mode p v
+ends_in_last mode p v some alone all = ends_from mode p v alone (length p) 0 0 (omega arith) some (omega arith) all

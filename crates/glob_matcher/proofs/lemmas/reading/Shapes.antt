@@ -54,8 +54,8 @@ module _ {mode : Mode} {p : List ℕ} {i : ℕ} {s : Shape} {j : ℕ} (x : IsTok
   is_one (inr (inr e)) = let found = token_is x.token (sym x.shown ∙ e) in subst IsOne (sym found.1) tt
 
 -- a double star begins at a token's start
-pub dirs_boundary : (mode : Mode) (p : List ℕ) (i j : ℕ) → IsStart p i mode → DirsAt mode p i j → IsBoundary p i mode
-dirs_boundary mode p i j x here = by x.place where
+pub dirs_boundary : {mode : Mode} {p : List ℕ} {i j : ℕ} → IsStart p i mode → DirsAt mode p i j → IsBoundary p i mode
+dirs_boundary {mode} {p} {i} {j} x here = by x.place where
   by : IsBoundary p i mode ⊎ IsDirsSlash p i mode → IsBoundary p i mode
   by (inl at) = at
   by (inr at) =

@@ -3,21 +3,20 @@ use Rattle.glob_matcher.proofs.lemmas.cutting.CutLemmas.{end_in, end_out}
 use Rattle.glob_matcher.proofs.lemmas.cutting.Engines.{star_in, star_out, byte_in, byte_out}
 use Rattle.glob_matcher.proofs.wildmatch.plain.+splits_from.Goals as goal
 
-pub returns-then-from-pattern : goal.returns-then-from-pattern
-returns-then-from-pattern t c = (
+pub returns-then-place-pattern : goal.returns-then-place-pattern
+returns-then-place-pattern t c = (
   λ yes.
       let same : c.args.at ≡ length c.args.value.now = eqb-true c.args.at (length c.args.value.now) yes in
-      end_in c.args.mode c.args.pattern.now c.args.value.now c.args.from c.args.at c.if-from-pattern.true (omega arith),
+      end_in c.args.mode c.args.pattern.now c.args.value.now c.args.place c.args.at c.if-place-pattern.true (omega arith),
   λ all.
-      let past = end_out c.args.mode c.args.pattern.now c.args.value.now c.args.from c.args.at c.if-from-pattern.true all in
+      let past = end_out c.args.mode c.args.pattern.now c.args.value.now c.args.place c.args.at c.if-place-pattern.true all in
       eq-eqb c.args.at (length c.args.value.now) (omega arith),
 )
 
 pub returns-then-splits_from : goal.returns-then-splits_from
 returns-then-splits_from t c = (
   λ yes.
-      star_in c.args.mode c.args.pattern.now c.args.value.now c.args.from c.token_at-shape.result.0 c.token_at-shape.result.1
-      c.args.at c.ends.end c.token_at-shape.ensures c.ends.auto.end (omega arith) (c.if-spans.ensures.0 refl)
+      star_in c.token_at-shape.ensures c.ends.auto.end (omega arith) (c.if-spans.ensures.0 refl)
       (c.if-splits_from.ensures.0 refl),
   λ all. refl,
 )
@@ -26,8 +25,7 @@ pub returns-then-is_star : goal.returns-then-is_star
 returns-then-is_star t c = (
   λ yes. cc,
   λ all.
-      let out = star_out c.args.mode c.args.pattern.now c.args.value.now c.args.from c.token_at-shape.result.0
-      c.token_at-shape.result.1 c.args.at c.token_at-shape.ensures (sym c.if-is_star.ensures) c.requires.at all in
+      let out = star_out c.token_at-shape.ensures (sym c.if-is_star.ensures) c.requires.at all in
       absurd (c.ends.invariant out.0 out.1 (omega (arith, out.2)) out.3 out.4),
 )
 
@@ -35,7 +33,7 @@ pub returns-then-at-value : goal.returns-then-at-value
 returns-then-at-value t c = (
   λ yes. cc,
   λ all.
-      let out = byte_out c.args.mode c.args.pattern.now c.args.value.now c.args.from c.token_at-shape.result.0
+      let out = byte_out c.args.mode c.args.pattern.now c.args.value.now c.args.place c.token_at-shape.result.0
       c.token_at-shape.result.1 c.args.at c.token_at-shape.ensures (sym c.if-is_star.ensures) c.requires.at all in
       absurd (omega (arith, out.0)),
 )
@@ -45,7 +43,7 @@ returns-then-not-takes t c = (
   λ yes. cc,
   λ all.
       let x = c.token_at-shape.ensures in
-      let out = byte_out c.args.mode c.args.pattern.now c.args.value.now c.args.from c.token_at-shape.result.0
+      let out = byte_out c.args.mode c.args.pattern.now c.args.value.now c.args.place c.token_at-shape.result.0
       c.token_at-shape.result.1 c.args.at x (sym c.if-is_star.ensures) c.requires.at all in
       (c.if-not-takes.ensures x.token c.token_at-shape.result.1 x.here x.shown).1 out.1,
 )
@@ -56,10 +54,10 @@ returns t c =
     let inside : c.args.at < length c.args.value.now = omega arith in
     let fits = (c.if-not-takes.ensures x.token c.token_at-shape.result.1 x.here x.shown).0 refl in (
       λ yes.
-          byte_in c.args.mode c.args.pattern.now c.args.value.now c.args.from c.token_at-shape.result.0
+          byte_in c.args.mode c.args.pattern.now c.args.value.now c.args.place c.token_at-shape.result.0
           c.token_at-shape.result.1 c.args.at x inside fits (c.splits_from-2.ensures.0 yes),
       λ all.
-          let out = byte_out c.args.mode c.args.pattern.now c.args.value.now c.args.from c.token_at-shape.result.0
+          let out = byte_out c.args.mode c.args.pattern.now c.args.value.now c.args.place c.token_at-shape.result.0
           c.token_at-shape.result.1 c.args.at x (sym c.if-is_star.ensures) c.requires.at all in
           c.splits_from-2.ensures.1 out.2,
     )

@@ -9,4 +9,4 @@ invariant-ends l =
     (e : ℕ) → l.at ≤ e → e < l.end → Spans l.shape l.value l.at e → SplitsFrom l.value e l.pattern l.next l.mode → ⊥
 
 abbrev pub decreases-splits_from : goal.decreases-splits_from
-decreases-splits_from l = length l.pattern.now - l.from
+decreases-splits_from l = length l.pattern.now - l.place

@@ -2,5 +2,5 @@
 use Rattle.std.proofs.Common.{◌≡◌, ℕ, ◌<◌, ◌≤◌, get_or}
 use Rattle.glob_matcher.proofs.wildmatch.plain.has_no_slash.Given as goal
 
-abbrev pub invariant-loop-place : goal.invariant-loop-place
-invariant-loop-place l = (k : ℕ) → l.at ≤ k → k < l.place → get_or l.value k 0 ≡ 47 → ⊥
+abbrev pub invariant-loop-reached : goal.invariant-loop-reached
+invariant-loop-reached l = (k : ℕ) → l.at ≤ k → k < l.reached → get_or l.value k 0 ≡ 47 → ⊥

@@ -155,7 +155,7 @@ attempt-descend-requires t c =
     let here : TokenAt c.args.mode p c.tokens.place Dirs s.result.1 = is_dirs s.ensures c.in-Dirs.is in (
       search rules,
       (
-        (c.tokens.place, dirs_boundary c.args.mode p c.tokens.place s.result.1 c.tokens.invariant.start here, here),
+        (c.tokens.place, dirs_boundary c.tokens.invariant.start here, here),
         (c.tokens.invariant.value_high, omega arith),
       ),
     )
