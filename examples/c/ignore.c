@@ -5,93 +5,64 @@
  * A FILE that can't be read is passed over. ROOT and FILE are compared as they are written.
  *
  * Build it by `examples/c/install PREFIX` and `cc ignore.c $(pkg-config --cflags --libs gix_glob)`. */
+#include <gix_glob.h>
 #include <stdio.h>
 #include <stdlib.h>
 #include <string.h>
 #include <strings.h>
 
-#include "gix_glob.h"
+static struct rule {
+    struct gix_glob_pattern pattern;
+    const char *base; /* the folder of its file below ROOT, with its slash */
+    size_t base_len, file, line;
+} *rules;
+static size_t count, files;
 
-static struct list {
-    const char *base;                  /* the folder of the file below the root, with its slash; none has base_len 0 */
-    size_t base_len, *numbers, count;  /* the line of each pattern; how many patterns */
-    struct gix_glob_pattern *patterns; /* their texts lie in the bytes of the file */
-    uint8_t *bytes;
-} *lists;
-
-static void *allocated(size_t size)
+static void find_base(struct rule *rule, const char *file, const char *root)
 {
-    void *memory = malloc(size ? size : 1);
-    if (!memory)
-        exit((perror("ignore"), 1));
-    return memory;
+    const char *slash = strrchr(file, '/');
+    const size_t len = strlen(root), skipped = len + (len > 0 && root[len - 1] != '/'), end = slash ? (size_t)(slash - file) + 1 : 0;
+    const bool is_below = strcmp(root, "-") && skipped < end && !strncmp(file, root, len) && (skipped == len || file[len] == '/');
+    rule->base = file + (is_below ? skipped : 0);
+    rule->base_len = is_below ? end - skipped : 0;
 }
 
-/* All bytes of a file; NULL where a read fails. */
-static uint8_t *bytes_of(FILE *from, size_t *len)
+static bool load(FILE *from, const char *file, const char *root)
 {
-    size_t room = 1 << 16, got;
-    uint8_t *bytes = (uint8_t *)allocated(room);
-    for (*len = 0; (got = fread(bytes + *len, 1, room - *len, from)) > 0;)
-        if ((*len += got) == room) {
-            uint8_t *more = (uint8_t *)memcpy(allocated(room * 2), bytes, room);
-            free(bytes), bytes = more, room *= 2;
-        }
-    return ferror(from) ? free(bytes), (uint8_t *)NULL : bytes;
-}
-
-static void find_base(struct list *list, const char *file, const char *root)
-{
-    const char *last = strrchr(file, '/');
-    const size_t len = strlen(root), skipped = len + (len > 0 && root[len - 1] != '/');
-    const size_t end = last ? (size_t)(last - file) + 1 : 0;
-    const bool is_under = strcmp(root, "-") && skipped < end && !strncmp(file, root, len) && (skipped == len || file[len] == '/');
-    list->base = file + (is_under ? skipped : 0);
-    list->base_len = is_under ? end - skipped : 0;
-}
-
-static bool load(struct list *list, const char *file, const char *root)
-{
-    struct gix_glob_pattern pattern = GIX_GLOB_PATTERN_INIT;
-    size_t len = 0, most = 1;
+    struct rule rule = { GIX_GLOB_PATTERN_INIT, NULL, 0, files + 1, 0 };
+    char *bytes = NULL; /* they stay: the texts of the patterns lie in them */
+    size_t len = 0;
     bool has_pattern = false;
-    FILE *from = fopen(file, "rb");
-    uint8_t *bytes = list->bytes = from ? bytes_of(from, &len) : NULL;
+    FILE *to = open_memstream(&bytes, &len);
 
-    if (from)
-        fclose(from);
-    if (!bytes)
-        return false;
-    for (size_t i = 0; i < len; i++)
-        most += bytes[i] == '\n';
-    find_base(list, file, root);
-    list->patterns = (struct gix_glob_pattern *)allocated(most * sizeof *list->patterns);
-    list->numbers = (size_t *)allocated(most * sizeof *list->numbers);
-    list->count = 0;
-    for (struct gix_glob_lines lines = gix_glob_lines_of(bytes, len); gix_glob_parse_ignore_line(&lines, &pattern, &has_pattern);)
+    for (int byte; to && (byte = getc(from)) != EOF;)
+        putc(byte, to);
+    if (!to || fclose(to) || ferror(from))
+        return free(bytes), false;
+    find_base(&rule, file, root);
+    struct gix_glob_lines lines = gix_glob_lines_of(bytes, len);
+    while (gix_glob_parse_ignore_line(&lines, &rule.pattern, &has_pattern))
         if (has_pattern) {
-            list->patterns[list->count] = pattern;
-            list->numbers[list->count++] = lines.number;
+            rule.line = lines.number;
+            if (!(rules = (struct rule *)realloc(rules, (count + 1) * sizeof *rules)))
+                exit((perror("ignore"), 1));
+            rules[count++] = rule;
         }
     return true;
 }
 
-static void decide(size_t count, const uint8_t *path, size_t len, bool is_dir, bool fold)
+static const struct rule *last_match(const char *path, size_t len, bool is_dir, bool fold)
 {
-    while (count-- > 0) {
-        const struct list *list = &lists[count];
-        if (len < list->base_len || (fold ? strncasecmp : strncmp)((const char *)path, list->base, list->base_len))
-            continue;
-        const size_t at = gix_glob_last_match(list->patterns, list->count, path + list->base_len, len - list->base_len, is_dir, fold);
-        if (at == GIX_GLOB_NONE)
-            continue;
-        printf("%s %zu:%zu\n", list->patterns[at].mode & GIX_GLOB_NEGATIVE ? "kept" : "ignored", count + 1, list->numbers[at]);
-        return;
+    for (size_t i = count; i-- > 0;) {
+        const struct rule *rule = &rules[i];
+        if (len >= rule->base_len && !(fold ? strncasecmp : strncmp)(path, rule->base, rule->base_len)
+            && gix_glob_pattern_matches_path(&rule->pattern, gix_glob_bytes(path + rule->base_len), len - rule->base_len, is_dir, fold))
+            return rule;
     }
-    puts("none");
+    return NULL;
 }
 
-static bool is_plain(const uint8_t *path, size_t len)
+static bool is_plain(const char *path, size_t len)
 {
     for (size_t i = 0; i < len; i++)
         if (path[i] == '/' && (i == 0 || path[i - 1] == '/'))
@@ -101,28 +72,29 @@ static bool is_plain(const uint8_t *path, size_t len)
 
 int main(int argc, char **argv)
 {
-    const bool fold = argc > 2 && !strcmp(argv[1], "fold");
-    size_t count = 0, len = 0;
-
+    const bool fold = argc > 3 && !strcmp(argv[1], "fold");
     if (argc < 4 || (!fold && strcmp(argv[1], "sensitive")))
         return fprintf(stderr, "usage: %s sensitive|fold ROOT FILE.. < PATHS\n", argv[0]), 2;
-    lists = (struct list *)allocated((size_t)argc * sizeof *lists);
-    for (int i = 3; i < argc; i++)
-        count += load(&lists[count], argv[i], argv[2]);
-    uint8_t *const paths = bytes_of(stdin, &len);
-    if (!paths)
-        return perror("ignore"), 1;
-    const uint8_t *end;
-    for (const uint8_t *line = paths; len > 0; len -= (size_t)(end - line), line = end) {
-        const uint8_t *feed = (const uint8_t *)memchr(line, '\n', len);
-        const size_t line_len = feed ? (size_t)(feed - line) : len;
-        const bool is_dir = line_len > 0 && line[line_len - 1] == '/';
-        end = line + line_len + (feed != NULL);
-        if (is_plain(line, line_len))
-            decide(count, line, line_len - is_dir, is_dir, fold);
-        else
-            puts("!");
+    for (int i = 3; i < argc; i++) {
+        FILE *from = fopen(argv[i], "rb");
+        if (!from)
+            continue;
+        files += load(from, argv[i], argv[2]);
+        fclose(from);
     }
-    free(paths);
-    return 0;
+    char *path = NULL;
+    size_t room = 0;
+    for (ssize_t len; (len = getline(&path, &room, stdin)) > 0;) {
+        len -= path[len - 1] == '\n';
+        const bool is_dir = len > 0 && path[len - 1] == '/';
+        const struct rule *rule = last_match(path, (size_t)len - is_dir, is_dir, fold);
+        if (!is_plain(path, (size_t)len))
+            puts("!");
+        else if (!rule)
+            puts("none");
+        else
+            printf("%s %zu:%zu\n", rule->pattern.mode & GIX_GLOB_NEGATIVE ? "kept" : "ignored", rule->file, rule->line);
+    }
+    free(path);
+    return ferror(stdin) ? perror("ignore"), 1 : 0;
 }

@@ -1,7 +1,7 @@
 //! Short callers of `gix_glob` and `glob_lines`, as a stranger would write them: their contracts follow from the public ones alone.
 #![tactic(auto)]
 
-ghost use Rattle.std.specs.Prelude.{◌≡◌, true, false, map, string_bytes, IfOk};
+ghost use Rattle.std.specs.Prelude.{◌≡◌, true, false, map, IfOk};
 ghost use Rattle.gix_glob.specs.declared.pattern.Case.{Case};
 ghost use Rattle.gix_glob.specs.Bytes.{HasByte, slash};
 ghost use Rattle.gix_glob.specs.Deciding.{BasesAreFolders, Decides};

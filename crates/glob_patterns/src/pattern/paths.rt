@@ -1,5 +1,5 @@
 //! Whether a path of a repository matches: what a pattern looks at, directories and case.
-ghost use Rattle.std.specs.Prelude.{◌≡◌, ◌↔◌, IsTrue, Some};
+ghost use Rattle.std.specs.Prelude.{◌≡◌, ◌↔◌, IsTrue};
 ghost use Rattle.glob_patterns.specs.RepositoryPaths.{IsBasenameStart, with_case};
 
 use super::{Case, Pattern};
