@@ -2,10 +2,11 @@
 use Rattle.std.proofs.Common.{◌≡◌, ◌≢◌, ◌⊎◌, inl, inr, ℕ, ◌+◌, ◌-◌, ◌*◌, ◌<◌, ◌≤◌, Bool, true, false, List, [], ◌∷◌, length, get_or, refl, sym, ◌∙◌, ap, subst, arith, if◌then◌else◌}
 use Rattle.std.proofs.Math.Nat.{mul-le-mul_left, mul-le-mul_right, mul-le-mul}
 use Rattle.glob_matcher.specs.declared.wildmatch.mode.Mode.{Mode}
+use Rattle.glob_matcher.specs.declared.wildmatch.tokens.Shape.{Shape}
 use Rattle.glob_matcher.specs.Steps.{Counts, step_limit, look_limit}
 use Rattle.glob_matcher.specs.Tokens.{Token, TokenAt, From}
 use Rattle.glob_matcher.specs.Private.Took.{Took}
-use Rattle.glob_matcher.specs.Private.Reader.{shape_of, is_star}
+use Rattle.glob_matcher.specs.Private.Reader.{IsToken, shape_of, is_star}
 use Rattle.glob_matcher.specs.Private.Components.{ends, separates, next_component}
 use Rattle.glob_matcher.specs.Private.Pieces.{Piece, piece, PiecesFrom}
 use Rattle.glob_matcher.specs.Private.Prices.{Counted, Steps, Looks, amount, counted, for_star, move, test, each, trial, onward, left, cost, hop, stretch}
@@ -41,16 +42,28 @@ unfolding amount
 amount_plus Steps a b c d = refl
 amount_plus Looks a b c d = refl
 
+pub amount_over : (kind : Counted) (n a b : ℕ) → amount kind (n + a) (n + b) ≡ n + amount kind a b
+unfolding amount
+amount_over Steps n a b = refl
+amount_over Looks n a b = refl
+
 -- what was taken is within a price
 pub took : (kind : Counted) {x y : Counts} {a b : ℕ} → Took x y a b → counted kind y ≤ counted kind x + amount kind a b
 unfolding counted amount
 took Steps t = omega (arith, t.steps)
 took Looks t = t.looks
 
-pub price_low : (kind : Counted) → 1 ≤ move kind
+-- what was taken, one after the other
+pub took_on : {x y z : Counts} {a b c d e f : ℕ} → Took x y a b → Took y z c d → a + c ≡ e → b + d ≤ f → Took x z e f
+took_on t u steps looks = record { steps = omega (arith, t.steps, u.steps); looks = omega (arith, t.looks, u.looks) }
+
+pub took_none : {x : Counts} → Took x x 0 0
+took_none = record { steps = omega arith; looks = omega arith }
+
+pub move_some : (kind : Counted) → 1 ≤ move kind
 unfolding move amount
-price_low Steps = omega arith
-price_low Looks = omega arith
+move_some Steps = omega arith
+move_some Looks = omega arith
 
 pub move_is : (kind : Counted) → move kind ≡ amount kind 1 4
 unfolding move
@@ -100,6 +113,15 @@ each_high Looks x some = omega (arith, star_low x.token 4)
 pub trial_is : (kind : Counted) (x : Piece) (xs : List Piece) → trial kind (x ∷ xs) ≡ test kind x
 unfolding trial
 trial_is kind x xs = refl
+
+-- a token of one byte or of a set, and a token that is spelled by one byte
+pub price_of_one : (kind : Counted) {mode : Mode} {p : List ℕ} {i : ℕ} {s : Shape} {k : ℕ} (x : IsToken mode p i s k) → is_star s ≡ false
+    → test kind (piece i x.token k) ≡ amount kind 1 (8 * (k - i))
+price_of_one kind {i = i} {k = k} x one = test_of_one kind (piece i x.token k) (ap is_star (sym x.shown) ∙ one)
+
+pub price_of_byte : (kind : Counted) {mode : Mode} {p : List ℕ} {i : ℕ} {s : Shape} (x : IsToken mode p i s (i + 1)) → is_star s ≡ false
+    → test kind (piece i x.token (i + 1)) ≡ amount kind 1 8
+price_of_byte kind {i = i} x one = price_of_one kind x one ∙ ap (amount kind 1) (omega arith)
 
 -- the reading in pieces
 
