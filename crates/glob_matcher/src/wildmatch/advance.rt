@@ -14,7 +14,7 @@ use super::state::{Crossing, State, Turn};
 use super::tokens::Shape;
 use std::sync::ledger::Ledger;
 
-impl<'s, 'a, L: Ledger, M: Match> Engine<'s, 'a, L, M> {
+impl<'c, 'a, S: Ledger, L: Ledger, M: Match> Engine<'c, 'a, S, L, M> {
     /// A turn at a question mark, a set or an escaped byte.
     #[inline(always)]
     fn single_turn(&mut self, state: State, shape: Shape, after: usize) -> Turn
@@ -22,7 +22,7 @@ impl<'s, 'a, L: Ledger, M: Match> Engine<'s, 'a, L, M> {
         requires token { IsToken M.mode M.pattern state.place shape after }
         requires single { is_star shape ≡ false }
         requires place { state.place < length M.pattern }
-        ensures { IsTurn M.mode M.pattern M.value state result self.old self.new }
+        ensures { IsTurn M.mode M.pattern M.value state result self.old.steps self.new.steps }
     {
         if !self.takes(shape, state.place, state.at) {
             return Turn::Miss(state);
@@ -48,7 +48,7 @@ impl<'s, 'a, L: Ledger, M: Match> Engine<'s, 'a, L, M> {
         requires stands { StandsAt M.mode M.pattern M.value state }
         requires token { FreeAt M.mode M.pattern state.place after }
         requires inside { after ≤ length M.pattern }
-        ensures { IsTurn M.mode M.pattern M.value state result self.old self.new }
+        ensures { IsTurn M.mode M.pattern M.value state result self.old.steps self.new.steps }
     {
         if after == self.pattern_len() {
             return Turn::Match;
@@ -68,7 +68,7 @@ impl<'s, 'a, L: Ledger, M: Match> Engine<'s, 'a, L, M> {
         requires stands { StandsAt M.mode M.pattern M.value state }
         requires token { DirsAt M.mode M.pattern state.place after }
         requires inside { after ≤ length M.pattern }
-        ensures { IsTurn M.mode M.pattern M.value state result self.old self.new }
+        ensures { IsTurn M.mode M.pattern M.value state result self.old.steps self.new.steps }
     {
         let mark = self.set_mark(after, state.at);
         Turn::On(State {
@@ -85,7 +85,7 @@ impl<'s, 'a, L: Ledger, M: Match> Engine<'s, 'a, L, M> {
         requires stands { StandsAt M.mode M.pattern M.value state }
         requires token { LocalAt M.mode M.pattern state.place after }
         requires inside { after ≤ length M.pattern }
-        ensures { IsTurn M.mode M.pattern M.value state result self.old self.new }
+        ensures { IsTurn M.mode M.pattern M.value state result self.old.steps self.new.steps }
     {
         let mark = self.set_mark(after, state.at);
         Turn::On(State {
@@ -100,7 +100,7 @@ impl<'s, 'a, L: Ledger, M: Match> Engine<'s, 'a, L, M> {
     fn special_turn(&mut self, state: State) -> Turn
         requires stands { StandsAt M.mode M.pattern M.value state }
         requires place { state.place < length M.pattern }
-        ensures { IsTurn M.mode M.pattern M.value state result self.old self.new }
+        ensures { IsTurn M.mode M.pattern M.value state result self.old.steps self.new.steps }
     {
         let (shape, after) = self.token_at(state.place);
         match shape {
@@ -118,7 +118,7 @@ impl<'s, 'a, L: Ledger, M: Match> Engine<'s, 'a, L, M> {
         requires stands { StandsAt M.mode M.pattern M.value state }
         requires place { state.place < length M.pattern }
         requires is { slice_index M.pattern state.place ≡ slash }
-        ensures { IsTurn M.mode M.pattern M.value state result self.old self.new }
+        ensures { IsTurn M.mode M.pattern M.value state result self.old.steps self.new.steps }
     {
         if !self.has(state.at, b'/') {
             return Turn::Miss(state);
@@ -138,7 +138,7 @@ impl<'s, 'a, L: Ledger, M: Match> Engine<'s, 'a, L, M> {
         requires place { state.place < length M.pattern }
         requires literal { StandsForItself (slice_index M.pattern state.place) }
         requires other { slice_index M.pattern state.place ≢ slash }
-        ensures { IsTurn M.mode M.pattern M.value state result self.old self.new }
+        ensures { IsTurn M.mode M.pattern M.value state result self.old.steps self.new.steps }
     {
         let mut place = state.place;
         let mut at = state.at;
@@ -161,7 +161,7 @@ impl<'s, 'a, L: Ledger, M: Match> Engine<'s, 'a, L, M> {
     #[inline(always)]
     pub fn take_turn(&mut self, state: State) -> Turn
         requires { StandsAt M.mode M.pattern M.value state }
-        ensures { IsTurn M.mode M.pattern M.value state result self.old self.new }
+        ensures { IsTurn M.mode M.pattern M.value state result self.old.steps self.new.steps }
     {
         if state.place >= self.pattern_len() {
             if self.ends_at(state.at) {

@@ -12,14 +12,14 @@ use super::scan::Scan;
 use super::state::{Crossing, State};
 use std::sync::ledger::Ledger;
 
-impl<'s, 'a, L: Ledger, M: Match> Engine<'s, 'a, L, M> {
+impl<'c, 'a, S: Ledger, L: Ledger, M: Match> Engine<'c, 'a, S, L, M> {
     /// Moves a mark to the next place after a slash.
     #[inline(always)]
     fn next_directory(&mut self, mark: Mark) -> Option<Mark>
         ensures moved { IfSome result (λ m. IsNextDirectory M.value mark m) }
-        ensures moves { IfSome result (λ m. self.new + mark.at ≡ self.old + m.at) }
+        ensures moves { IfSome result (λ m. self.new.steps + mark.at ≡ self.old.steps + m.at) }
         ensures unable { IfNone result (NoSlash M.value mark.at (length M.value)) }
-        ensures count { IfNone result (mark.at ≤ length M.value → self.new + mark.at ≡ self.old + length M.value + 1) }
+        ensures count { IfNone result (mark.at ≤ length M.value → self.new.steps + mark.at ≡ self.old.steps + length M.value + 1) }
     {
         let mut reached = mark;
         'bytes: while let Some((moved, byte)) = self.pass(reached) {
@@ -36,7 +36,7 @@ impl<'s, 'a, L: Ledger, M: Match> Engine<'s, 'a, L, M> {
     fn scan_from(&mut self, mark: Mark) -> Scan
         requires place { mark.place ≤ length M.pattern }
         requires at { mark.at ≤ length M.value }
-        ensures meaning { IsScanFor M.mode M.pattern M.value mark result self.old self.new }
+        ensures meaning { IsScanFor M.mode M.pattern M.value mark result self.old.steps self.new.steps }
         ensures free { IsUnblocked result }
     {
         match self.follow_at(mark.place()) {
@@ -52,7 +52,7 @@ impl<'s, 'a, L: Ledger, M: Match> Engine<'s, 'a, L, M> {
     fn scan_from_within(&mut self, mark: Mark) -> Scan
         requires place { mark.place ≤ length M.pattern }
         requires at { mark.at ≤ length M.value }
-        ensures meaning { IsScanFor M.mode M.pattern M.value mark result self.old self.new }
+        ensures meaning { IsScanFor M.mode M.pattern M.value mark result self.old.steps self.new.steps }
         ensures bare { NoSlash M.value mark.at (reached_by result).at }
     {
         match self.follow_at(mark.place()) {
@@ -67,7 +67,7 @@ impl<'s, 'a, L: Ledger, M: Match> Engine<'s, 'a, L, M> {
     #[inline(always)]
     fn back_to_free(&mut self, mark: Mark) -> Option<State>
         requires { IsLeft M.mode M.pattern M.value (Crossing.Free mark) }
-        ensures { IsBacktrack M.mode M.pattern M.value (AllowsLeft M.mode M.pattern M.value (Crossing.Free mark) self.old) result self.old self.new }
+        ensures { IsBacktrack M.mode M.pattern M.value (AllowsLeft M.mode M.pattern M.value (Crossing.Free mark) self.old.steps) result self.old.steps self.new.steps }
     {
         let Some((moved, _)) = self.pass(mark) else {
             return None;
@@ -93,7 +93,7 @@ impl<'s, 'a, L: Ledger, M: Match> Engine<'s, 'a, L, M> {
     #[inline(always)]
     fn back_to_crossing(&mut self, crossing: Crossing) -> Option<State>
         requires { IsLeft M.mode M.pattern M.value crossing }
-        ensures { IsBacktrack M.mode M.pattern M.value (AllowsLeft M.mode M.pattern M.value crossing self.old) result self.old self.new }
+        ensures { IsBacktrack M.mode M.pattern M.value (AllowsLeft M.mode M.pattern M.value crossing self.old.steps) result self.old.steps self.new.steps }
     {
         match crossing {
             Crossing::Unmet => None,
@@ -128,7 +128,7 @@ impl<'s, 'a, L: Ledger, M: Match> Engine<'s, 'a, L, M> {
     #[inline(always)]
     fn back_to_local(&mut self, state: State) -> Option<State>
         requires { IsMissed M.mode M.pattern M.value state }
-        ensures { IsBacktrackWithin M.mode M.pattern M.value state result self.old self.new }
+        ensures { IsBacktrackWithin M.mode M.pattern M.value state result self.old.steps self.new.steps }
     {
         let Some(mark) = state.local else {
             return None;
@@ -157,7 +157,7 @@ impl<'s, 'a, L: Ledger, M: Match> Engine<'s, 'a, L, M> {
     #[inline(always)]
     pub fn backtrack(&mut self, state: State) -> Option<State>
         requires { IsMissed M.mode M.pattern M.value state }
-        ensures { IsBacktrack M.mode M.pattern M.value (AllowsMissed M.mode M.pattern M.value state self.old) result self.old self.new }
+        ensures { IsBacktrack M.mode M.pattern M.value (AllowsMissed M.mode M.pattern M.value state self.old.steps) result self.old.steps self.new.steps }
     {
         match self.back_to_local(state) {
             Some(next) => Some(next),

@@ -1,5 +1,4 @@
-use Rattle.std.proofs.Common.{◌≡◌, ◌+◌, ◌-◌, ◌*◌, ◌∙◌, ℕ, None, Some, inr, ap, arith}
-use Rattle.glob_matcher.specs.declared.wildmatch.scan.Scan.TheVariants as scan
+use Rattle.std.proofs.Common.{◌≡◌, ◌+◌, ◌-◌, ◌*◌, ◌∙◌, ℕ, inr, ap, arith}
 use Rattle.glob_matcher.proofs.lemmas.two_marks.States.{known_local, known_places, left_stuck, left_without}
 use Rattle.glob_matcher.proofs.lemmas.two_marks.Budget as budget
 use Rattle.glob_matcher.proofs.lemmas.two_marks.Budget.{left_miss, left_stuck_steps, counted_on, counted_left}
@@ -24,10 +23,10 @@ returns-in_default-pass_within_or_end g c =
     record {
       meaning = left_stuck here c.requires.missed stuck;
       allows = λ n a.
-          counted_left (c.pass_within_or_end.ensures.count ∙ ap (λ (x : ℕ). x + 1) a.one) (left_stuck_steps stuck (budget.known_local
+          counted_left (c.pass_within_or_end.ensures.count.steps ∙ ap (λ (x : ℕ). x + 1) a.one) (left_stuck_steps stuck (budget.known_local
           c.in-Some.is a.allows));
       progress = tt;
-      counts = omega (arith, c.pass_within_or_end.ensures.count);
+      counts = omega (arith, c.pass_within_or_end.ensures.count.steps);
     }
 
 pub returns-in-Blocked : goal.returns-in-Blocked
@@ -40,12 +39,12 @@ returns-in-Blocked g c =
       meaning = left_stuck reached so.met.2 (inr so.met.1);
       allows = λ n a.
           let before = a.before + 1 + 1 + 2 * (c.in-Blocked.field-0.at - c.in-Some-pass_within_or_end.moved.at) in
-          counted_left (omega (arith, so.count, so.low, c.pass_within_or_end.ensures.count, a.one)) (left_stuck_steps (inr so.met.1)
+          counted_left (omega (arith, so.count, so.low, c.pass_within_or_end.ensures.count.steps, a.one)) (left_stuck_steps (inr so.met.1)
           (local_scanned_steps before here moved.2 moved.3
-          moved.0 moved.1 so c.in-Blocked.ensures.bare (c.pass_within_or_end.ensures.count ∙ ap (λ (x : ℕ). x + 1) a.one) (omega (arith, so.count, so.low, c.pass_within_or_end.ensures.count, a.one))
+          moved.0 moved.1 so c.in-Blocked.ensures.bare (c.pass_within_or_end.ensures.count.steps ∙ ap (λ (x : ℕ). x + 1) a.one) (omega (arith, so.count, so.low, c.pass_within_or_end.ensures.count.steps, a.one))
           (budget.known_local c.in-Some.is a.allows)));
       progress = tt;
-      counts = omega (arith, so.count, so.low, c.pass_within_or_end.ensures.count);
+      counts = omega (arith, so.count, so.low, c.pass_within_or_end.ensures.count.steps);
     }
 
 pub returns-in-Undecided : goal.returns-in-Undecided
@@ -57,11 +56,11 @@ returns-in-Undecided g c =
     record {
       meaning = known_places c.place.ensures c.at.ensures reached;
       allows = λ n a.
-          budget.known_places c.place.ensures c.at.ensures (local_scanned_steps c.scan_from_within.new.self here moved.2 moved.3
-          moved.0 moved.1 so c.in-Undecided.ensures.bare (c.pass_within_or_end.ensures.count ∙ ap (λ (x : ℕ). x + 1) a.one) (omega arith)
+          budget.known_places c.place.ensures c.at.ensures (local_scanned_steps c.scan_from_within.new.self.steps here moved.2 moved.3
+          moved.0 moved.1 so c.in-Undecided.ensures.bare (c.pass_within_or_end.ensures.count.steps ∙ ap (λ (x : ℕ). x + 1) a.one) (omega arith)
           (budget.known_local c.in-Some.is a.allows));
-      progress = omega (arith, so.count, so.low, c.pass_within_or_end.ensures.count);
-      counts = omega (arith, so.count, so.low, c.pass_within_or_end.ensures.count);
+      progress = omega (arith, so.count, so.low, c.pass_within_or_end.ensures.count.steps);
+      counts = omega (arith, so.count, so.low, c.pass_within_or_end.ensures.count.steps);
     }
 
 pub returns-in-Found : goal.returns-in-Found
@@ -76,12 +75,12 @@ returns-in-Found g c =
           so.met (record { forgotten = c.local_past.ensures.forgotten; kept = c.local_past.ensures.kept }));
       allows = λ n a.
           let before = a.before + 1 + 1 + 2 * (c.in-Found.found.at - c.in-Some-pass_within_or_end.moved.at) in
-          let one : c.scan_from_within.new.self ≡ before + 1 = omega (arith, so.count, so.low, c.pass_within_or_end.ensures.count, a.one) in
+          let one : c.scan_from_within.new.self.steps ≡ before + 1 = omega (arith, so.count, so.low, c.pass_within_or_end.ensures.count.steps, a.one) in
           budget.known_places (ap (λ (x : ℕ). x + 1) c.place-in-Found.ensures) (ap (λ (x : ℕ). x + 1) c.at-in-Found.ensures) (counted_on one
           (local_found_steps reached (local_scanned_steps before here moved.2 moved.3
-          moved.0 moved.1 so c.in-Found.ensures.bare (c.pass_within_or_end.ensures.count ∙ ap (λ (x : ℕ). x + 1) a.one) one
+          moved.0 moved.1 so c.in-Found.ensures.bare (c.pass_within_or_end.ensures.count.steps ∙ ap (λ (x : ℕ). x + 1) a.one) one
           (budget.known_local c.in-Some.is a.allows))
           so.met (record { forgotten = c.local_past.ensures.forgotten; kept = c.local_past.ensures.kept })));
-      progress = omega (arith, so.count, so.low, c.pass_within_or_end.ensures.count);
-      counts = omega (arith, so.count, so.low, c.pass_within_or_end.ensures.count);
+      progress = omega (arith, so.count, so.low, c.pass_within_or_end.ensures.count.steps);
+      counts = omega (arith, so.count, so.low, c.pass_within_or_end.ensures.count.steps);
     }

@@ -1,4 +1,3 @@
-use Rattle.std.proofs.Common.{arith}
 use Rattle.glob_matcher.proofs.lemmas.two_marks.Scans.{progress_on}
 use Rattle.glob_matcher.proofs.wildmatch.engine.Engine.backtrack.Goals as goal
 
@@ -14,6 +13,6 @@ returns-in-None g c = record {
   meaning = c.back_to_crossing.ensures.meaning;
   allows = λ n a. c.back_to_crossing.ensures.allows n (c.in-None.ensures.allows n a);
   progress =
-      progress_on c.back_to_crossing.result c.args.self.now c.back_to_local.new.self c.back_to_crossing.new.self
+      progress_on c.back_to_crossing.result c.args.self.now.steps c.back_to_local.new.self.steps c.back_to_crossing.new.self.steps
       c.in-None.ensures.counts c.back_to_crossing.ensures.progress;
 }

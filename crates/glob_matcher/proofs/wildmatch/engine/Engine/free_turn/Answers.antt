@@ -1,4 +1,4 @@
-use Rattle.std.proofs.Common.{◌≡◌, ◌≢◌, ◌∙◌, arith, length}
+use Rattle.std.proofs.Common.{◌≡◌, ◌≢◌, arith, length}
 use Rattle.glob_matcher.proofs.lemmas.two_marks.States.{free_last, free_known, free_met}
 use Rattle.glob_matcher.proofs.lemmas.two_marks.Budget.{allows_one, allows_free, counted_on}
 use Rattle.glob_matcher.proofs.wildmatch.engine.Engine.free_turn.Goals as goal
@@ -24,8 +24,8 @@ returns g c =
           free_met c.set_mark-mark.result c.requires.stands c.requires.token c.requires.inside more
           c.set_mark-mark.ensures.place c.set_mark-mark.ensures.at;
       allows = λ n a.
-          counted_on c.set_mark-mark.ensures.count (allows_free c.set_mark-mark.result c.requires.token more
+          counted_on c.set_mark-mark.ensures.count.steps (allows_free c.set_mark-mark.result c.requires.token more
           (free_known m.value c.requires.token c.requires.inside more)
           c.requires.stands.inside c.set_mark-mark.ensures.place c.set_mark-mark.ensures.at a);
-      counts = omega (arith, c.set_mark-mark.ensures.count);
+      counts = omega (arith, c.set_mark-mark.ensures.count.steps);
     }

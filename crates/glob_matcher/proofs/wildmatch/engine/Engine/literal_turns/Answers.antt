@@ -23,8 +23,8 @@ returns-then-not-has g c =
             (subst (λ (b : ℕ). (c.bytes.at < length m.value) × Fits m.mode (Byte b) (get_or m.value c.bytes.at 0)) (sym same) fits) in
             cc);
       };
-      allows = λ n a. record { before = c.bytes.self; one = c.has.ensures.count; allows = c.bytes.invariant.allows n a };
-      counts = omega (arith, c.has.ensures.count, c.bytes.invariant.count, c.bytes.invariant.low);
+      allows = λ n a. record { before = c.bytes.self.steps; one = c.has.ensures.count.steps; allows = c.bytes.invariant.allows n a };
+      counts = omega (arith, c.has.ensures.count.steps, c.bytes.invariant.count, c.bytes.invariant.low);
     }
 
 pub bytes-preserved : goal.bytes-preserved
@@ -39,10 +39,10 @@ bytes-preserved g c =
     record {
       stands = stands_on c.bytes.invariant.stands token refl fits.0 fits.1 (λ is. c.if-byte-eq47.false (same ∙ byte_of is));
       allows = λ n a.
-          counted_on c.has.ensures.count (allows_on token.token (c.bytes.place + 1) token.here fits.0 fits.1
+          counted_on c.has.ensures.count.steps (allows_on token.token (c.bytes.place + 1) token.here fits.0 fits.1
           (inner_of m.mode m.pattern m.value c.bytes.place c.bytes.at c.args.state.crossing c.args.state.local
           token.token c.bytes.invariant.stands.local fits.1 (λ is. c.if-byte-eq47.false (same ∙ byte_of is)))
           (c.bytes.invariant.allows n a));
       low = omega (arith, c.bytes.invariant.low);
-      count = omega (arith, c.has.ensures.count, c.bytes.invariant.count);
+      count = omega (arith, c.has.ensures.count.steps, c.bytes.invariant.count);
     }

@@ -16,4 +16,4 @@ stride-preserved g c =
 
 pub returns-in_default-clause-scan : goal.returns-in_default-clause-scan
 returns-in_default-clause-scan g c =
-    scan_on c.args.self.now c.stride.invariant.passed c.stride.invariant.count c.look.ensures.scan
+    scan_on c.args.self.now.steps c.stride.invariant.passed c.stride.invariant.count c.look.ensures.scan

@@ -9,5 +9,5 @@ invariant-stride g l = record {
   passed : Passed g.M.Match.value (g.N.Needle.suits l.needle) l.fn.mark l.reached;
   bare : NoSlash g.M.Match.value l.fn.mark.at l.reached.at;
   on : l.reached.at ≡ l.fn.mark.at + l.counter;
-  count : l.self + 2 * l.fn.mark.at ≡ l.fn.self + 2 * l.reached.at;
+  count : l.self.steps + 2 * l.fn.mark.at ≡ l.fn.self.steps + 2 * l.reached.at;
 }

@@ -9,7 +9,7 @@ invariant-bytes g l = record {
   low : l.fn.mark.at ≤ l.reached.at;
   inside : l.fn.mark.at ≤ length g.M.Match.value → l.reached.at ≤ length g.M.Match.value;
   bare : NoSlash g.M.Match.value l.fn.mark.at l.reached.at;
-  count : l.self + l.fn.mark.at ≡ l.fn.self + l.reached.at;
+  count : l.self.steps + l.fn.mark.at ≡ l.fn.self.steps + l.reached.at;
 }
 
 abbrev pub decreases-bytes : goal.decreases-bytes

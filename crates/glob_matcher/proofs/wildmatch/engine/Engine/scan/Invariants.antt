@@ -6,7 +6,7 @@ use Rattle.glob_matcher.proofs.wildmatch.engine.Engine.scan.Given as goal
 abbrev pub invariant-bytes : goal.invariant-bytes
 invariant-bytes g l = record {
   passed : Passed g.M.Match.value (g.N.Needle.suits l.needle) l.fn.mark l.reached;
-  count : l.self + 2 * l.fn.mark.at ≡ l.fn.self + 2 * l.reached.at;
+  count : l.self.steps + 2 * l.fn.mark.at ≡ l.fn.self.steps + 2 * l.reached.at;
 }
 
 abbrev pub decreases-bytes : goal.decreases-bytes

@@ -8,7 +8,7 @@ abbrev pub invariant-component : goal.invariant-component
 invariant-component g l = record {
   passed : Passed g.M.Match.value (g.N.Needle.suits l.needle) l.fn.mark l.reached;
   bare : NoSlash g.M.Match.value l.fn.mark.at l.reached.at;
-  count : l.self + 2 * l.fn.mark.at ≡ l.fn.self + 2 * l.reached.at;
+  count : l.self.steps + 2 * l.fn.mark.at ≡ l.fn.self.steps + 2 * l.reached.at;
 }
 
 abbrev pub decreases-component : goal.decreases-component

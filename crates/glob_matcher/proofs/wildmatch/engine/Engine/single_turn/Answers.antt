@@ -16,8 +16,8 @@ returns-then-not-takes g c =
             misses_byte m.value c.args.state.at x c.requires.single c.requires.stands.inside
             (λ fits. let wrong : false ≡ true = (c.if-not-takes.ensures.answer x.token c.args.after x.here x.shown).1 fits in cc);
       };
-      allows = λ n a. record { before = c.args.self.now; one = c.takes.ensures.count; allows = a };
-      counts = omega (arith, c.takes.ensures.count);
+      allows = λ n a. record { before = c.args.self.now.steps; one = c.takes.ensures.count.steps; allows = a };
+      counts = omega (arith, c.takes.ensures.count.steps);
     }
 
 pub returns-then-is_slash : goal.returns-then-is_slash
@@ -28,8 +28,8 @@ returns-then-is_slash g c =
       meaning =
           stands_past_slash c.requires.stands x c.requires.single fits.0 fits.1
           (token_is x.token (sym x.shown ∙ c.if-is_slash.ensures.0 refl));
-      allows = λ n a. counted_on c.takes.ensures.count (allows_past_slash x.token c.args.after x.here fits.0 fits.1 a);
-      counts = omega (arith, c.takes.ensures.count);
+      allows = λ n a. counted_on c.takes.ensures.count.steps (allows_past_slash x.token c.args.after x.here fits.0 fits.1 a);
+      counts = omega (arith, c.takes.ensures.count.steps);
     }
 
 pub returns : goal.returns
@@ -42,9 +42,9 @@ returns g c =
           stands_on c.requires.stands x c.requires.single fits.0 fits.1
           (λ is. let wrong : false ≡ true = c.if-is_slash.ensures.1 (x.shown ∙ ap shape_of is) in cc);
       allows = λ n a.
-          counted_on c.takes.ensures.count (allows_on x.token c.args.after x.here fits.0 fits.1
+          counted_on c.takes.ensures.count.steps (allows_on x.token c.args.after x.here fits.0 fits.1
           (inner_of m.mode m.pattern m.value c.args.state.place c.args.state.at c.args.state.crossing
           c.args.state.local x.token c.requires.stands.local fits.1
           (λ is. let wrong : false ≡ true = c.if-is_slash.ensures.1 (x.shown ∙ ap shape_of is) in cc)) a);
-      counts = omega (arith, c.takes.ensures.count);
+      counts = omega (arith, c.takes.ensures.count.steps);
     }

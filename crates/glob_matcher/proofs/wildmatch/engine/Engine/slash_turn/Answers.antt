@@ -1,5 +1,4 @@
 use Rattle.std.proofs.Common.{◌≡◌, ◌+◌, ◌<◌, ℕ, length, get_or, false, true, ap, refl, sym, subst, arith}
-use Rattle.glob_matcher.specs.Bytes.{slash}
 use Rattle.glob_matcher.specs.Tokens.{Byte}
 use Rattle.glob_matcher.specs.Private.Reader.{Fits}
 use Rattle.glob_matcher.proofs.lemmas.two_marks.States.{literal_token, misses_byte, stands_past_slash}
@@ -21,8 +20,8 @@ returns-then-not-has g c =
             (subst (λ (b : ℕ). (c.args.state.at < length m.value) × Fits m.mode (Byte b) (get_or m.value c.args.state.at 0)) c.requires.is fits) in
             cc);
       };
-      allows = λ n a. record { before = c.args.self.now; one = c.has.ensures.count; allows = a };
-      counts = omega (arith, c.has.ensures.count);
+      allows = λ n a. record { before = c.args.self.now.steps; one = c.has.ensures.count.steps; allows = a };
+      counts = omega (arith, c.has.ensures.count.steps);
     }
 
 pub returns : goal.returns
@@ -34,6 +33,6 @@ returns g c =
     (c.if-not-has.ensures.answer.0 refl) in
     record {
       meaning = stands_past_slash c.requires.stands token refl fits.0 fits.1 (ap Byte c.requires.is);
-      allows = λ n a. counted_on c.has.ensures.count (allows_past_slash token.token (c.args.state.place + 1) token.here fits.0 fits.1 a);
-      counts = omega (arith, c.has.ensures.count);
+      allows = λ n a. counted_on c.has.ensures.count.steps (allows_past_slash token.token (c.args.state.place + 1) token.here fits.0 fits.1 a);
+      counts = omega (arith, c.has.ensures.count.steps);
     }

@@ -12,7 +12,7 @@ returns-then-ends_at g c =
       meaning = end_met c.requires (omega arith) (c.if-ends_at.ensures.answer.0 refl);
       allows = λ n a.
           let one = allows_one c.requires.inside a in
-          omega (arith, one, c.ends_at.ensures.count);
+          omega (arith, one, c.ends_at.ensures.count.steps);
       counts = tt;
     }
 
@@ -28,6 +28,6 @@ returns-then-state-pattern_len g c =
             end_missed m.mode m.pattern m.value c.args.state.place c.args.state.at (omega arith)
             (λ end. let wrong : false ≡ true = c.if-ends_at.ensures.answer.1 end in cc);
       };
-      allows = λ n a. record { before = c.args.self.now; one = c.ends_at.ensures.count; allows = a };
-      counts = omega (arith, c.ends_at.ensures.count);
+      allows = λ n a. record { before = c.args.self.now.steps; one = c.ends_at.ensures.count.steps; allows = a };
+      counts = omega (arith, c.ends_at.ensures.count.steps);
     }
