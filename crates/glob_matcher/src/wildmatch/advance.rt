@@ -1,6 +1,6 @@
 //! The turns of the engine with two marks: the token at a place of the pattern is tested at a place of the value, and after a
 //! literal byte the ones that follow it, up to a slash.
-ghost use Rattle.std.specs.Prelude.{◌≡◌, ◌≢◌, ◌<◌, ◌≤◌, false, length, slice_index};
+ghost use Rattle.std.specs.Prelude.{◌≡◌, ◌≢◌, ◌-◌, ◌*◌, ◌<◌, ◌≤◌, false, length, slice_index};
 ghost use Rattle.glob_matcher.specs.Bytes.{slash};
 ghost use Rattle.glob_matcher.specs.Tokens.{FreeAt, LocalAt, DirsAt};
 ghost use Rattle.glob_matcher.specs.Private.Reader.{IsToken, is_star};
@@ -22,7 +22,7 @@ impl<'c, 'a, S: Ledger, L: Ledger, M: Match> Engine<'c, 'a, S, L, M> {
         requires token { IsToken M.mode M.pattern state.place shape after }
         requires single { is_star shape ≡ false }
         requires place { state.place < length M.pattern }
-        ensures { IsTurn M.mode M.pattern M.value state result self.old.steps self.new.steps }
+        ensures { IsTurn M.mode M.pattern M.value state (8 * (after - state.place) - 1) result self.old self.new }
     {
         if !self.takes(shape, state.place, state.at) {
             return Turn::Miss(state);
@@ -48,7 +48,7 @@ impl<'c, 'a, S: Ledger, L: Ledger, M: Match> Engine<'c, 'a, S, L, M> {
         requires stands { StandsAt M.mode M.pattern M.value state }
         requires token { FreeAt M.mode M.pattern state.place after }
         requires inside { after ≤ length M.pattern }
-        ensures { IsTurn M.mode M.pattern M.value state result self.old.steps self.new.steps }
+        ensures { IsTurn M.mode M.pattern M.value state (8 * (after - state.place) - 4) result self.old self.new }
     {
         if after == self.pattern_len() {
             return Turn::Match;
@@ -68,7 +68,7 @@ impl<'c, 'a, S: Ledger, L: Ledger, M: Match> Engine<'c, 'a, S, L, M> {
         requires stands { StandsAt M.mode M.pattern M.value state }
         requires token { DirsAt M.mode M.pattern state.place after }
         requires inside { after ≤ length M.pattern }
-        ensures { IsTurn M.mode M.pattern M.value state result self.old.steps self.new.steps }
+        ensures { IsTurn M.mode M.pattern M.value state (8 * (after - state.place) - 4) result self.old self.new }
     {
         let mark = self.set_mark(after, state.at);
         Turn::On(State {
@@ -85,7 +85,7 @@ impl<'c, 'a, S: Ledger, L: Ledger, M: Match> Engine<'c, 'a, S, L, M> {
         requires stands { StandsAt M.mode M.pattern M.value state }
         requires token { LocalAt M.mode M.pattern state.place after }
         requires inside { after ≤ length M.pattern }
-        ensures { IsTurn M.mode M.pattern M.value state result self.old.steps self.new.steps }
+        ensures { IsTurn M.mode M.pattern M.value state (8 * (after - state.place) - 4) result self.old self.new }
     {
         let mark = self.set_mark(after, state.at);
         Turn::On(State {
@@ -100,7 +100,7 @@ impl<'c, 'a, S: Ledger, L: Ledger, M: Match> Engine<'c, 'a, S, L, M> {
     fn special_turn(&mut self, state: State) -> Turn
         requires stands { StandsAt M.mode M.pattern M.value state }
         requires place { state.place < length M.pattern }
-        ensures { IsTurn M.mode M.pattern M.value state result self.old.steps self.new.steps }
+        ensures { IsTurn M.mode M.pattern M.value state 1 result self.old self.new }
     {
         let (shape, after) = self.token_at(state.place);
         match shape {
@@ -118,7 +118,7 @@ impl<'c, 'a, S: Ledger, L: Ledger, M: Match> Engine<'c, 'a, S, L, M> {
         requires stands { StandsAt M.mode M.pattern M.value state }
         requires place { state.place < length M.pattern }
         requires is { slice_index M.pattern state.place ≡ slash }
-        ensures { IsTurn M.mode M.pattern M.value state result self.old.steps self.new.steps }
+        ensures { IsTurn M.mode M.pattern M.value state 1 result self.old self.new }
     {
         if !self.has(state.at, b'/') {
             return Turn::Miss(state);
@@ -138,7 +138,7 @@ impl<'c, 'a, S: Ledger, L: Ledger, M: Match> Engine<'c, 'a, S, L, M> {
         requires place { state.place < length M.pattern }
         requires literal { StandsForItself (slice_index M.pattern state.place) }
         requires other { slice_index M.pattern state.place ≢ slash }
-        ensures { IsTurn M.mode M.pattern M.value state result self.old.steps self.new.steps }
+        ensures { IsTurn M.mode M.pattern M.value state 1 result self.old self.new }
     {
         let mut place = state.place;
         let mut at = state.at;
@@ -161,7 +161,7 @@ impl<'c, 'a, S: Ledger, L: Ledger, M: Match> Engine<'c, 'a, S, L, M> {
     #[inline(always)]
     pub fn take_turn(&mut self, state: State) -> Turn
         requires { StandsAt M.mode M.pattern M.value state }
-        ensures { IsTurn M.mode M.pattern M.value state result self.old.steps self.new.steps }
+        ensures { IsTurn M.mode M.pattern M.value state 0 result self.old self.new }
     {
         if state.place >= self.pattern_len() {
             if self.ends_at(state.at) {

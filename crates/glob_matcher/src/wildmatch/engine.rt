@@ -11,7 +11,7 @@ ghost use Rattle.glob_matcher.specs.Private.Reader.{IsToken, shape_of, Fits};
 ghost use Rattle.glob_matcher.specs.Private.Scans.{Follows, StandsForItself};
 ghost use Rattle.glob_matcher.specs.Private.States.{Whole};
 ghost use Rattle.glob_matcher.specs.Private.Took.{Took};
-ghost use Rattle.glob_matcher.specs.Steps.{step_limit};
+ghost use Rattle.glob_matcher.specs.Steps.{look_limit, step_limit};
 
 use super::counts::Counts;
 use super::mode::Mode;
@@ -113,10 +113,12 @@ impl<'c, 'a, S: Ledger, L: Ledger, M: Match> Engine<'c, 'a, S, L, M> {
 
     /// The byte at a place of the pattern.
     #[inline(always)]
-    pub fn pattern_byte(&self, place: usize) -> u8
+    pub fn pattern_byte(&mut self, place: usize) -> u8
         requires { place < length M.pattern }
-        ensures { result ≡ slice_index M.pattern place }
+        ensures byte { result ≡ slice_index M.pattern place }
+        ensures count { Took self.old self.new 0 1 }
     {
+        self.counts.look();
         self.pattern[place]
     }
 
@@ -131,11 +133,13 @@ impl<'c, 'a, S: Ledger, L: Ledger, M: Match> Engine<'c, 'a, S, L, M> {
 
     /// What follows at a place of the pattern; `None` where it is a token of another kind.
     #[inline(always)]
-    pub fn follow_at(&self, place: usize) -> Option<Follow>
+    pub fn follow_at(&mut self, place: usize) -> Option<Follow>
         requires { place ≤ length M.pattern }
         ensures follows { IfSome result (λ follow. Follows M.mode M.pattern place follow) }
         ensures other { IfNone result ((place < length M.pattern) × ¬ StandsForItself (slice_index M.pattern place)) }
+        ensures count { Took self.old self.new 0 1 }
     {
+        self.counts.look();
         follow_at(self.pattern, place, self.mode)
     }
 
@@ -278,7 +282,8 @@ pub fn run<'c, 'a, S: Ledger, L: Ledger, M: Match>(
     requires counts { counts.ghost_name ≡ M.counts }
     ensures exact { IsTrue result.0 ↔ Whole mode pattern.now value.now }
     ensures same { result.1.ghost_name ≡ counts.entry.ghost_name }
-    ensures count { result.1.now.steps ≤ counts.old.steps + step_limit (length pattern.now) (length value.now) }
+    ensures steps { result.1.now.steps ≤ counts.old.steps + step_limit (length pattern.now) (length value.now) }
+    ensures looks { result.1.now.looks ≤ counts.old.looks + look_limit (length pattern.now) (length value.now) }
 {
     let mut engine = Engine::<'c, 'a, S, L, M> {
         pattern,

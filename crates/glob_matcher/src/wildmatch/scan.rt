@@ -30,7 +30,7 @@ impl<'c, 'a, S: Ledger, L: Ledger, M: Match> Engine<'c, 'a, S, L, M> {
     #[inline(always)]
     pub fn scan<N: Needle>(&mut self, mark: Mark, needle: N) -> Scan
         requires { mark.at ≤ length M.value }
-        ensures scan { IsScan M.value (N.suits needle) mark result self.old.steps self.new.steps }
+        ensures scan { IsScan M.value (N.suits needle) mark result self.old self.new }
         ensures free { IsUnblocked result }
     {
         let mut reached = mark;
@@ -50,7 +50,7 @@ impl<'c, 'a, S: Ledger, L: Ledger, M: Match> Engine<'c, 'a, S, L, M> {
     #[inline(always)]
     fn look<N: Needle>(&mut self, mark: Mark, needle: N) -> Scan
         requires { mark.at < length M.value }
-        ensures scan { IsScan M.value (N.suits needle) mark result self.old.steps self.new.steps }
+        ensures scan { IsScan M.value (N.suits needle) mark result self.old self.new }
         ensures bare { NoSlash M.value mark.at (reached_by result).at }
         ensures onward { MovesBy 1 mark.at result }
     {
@@ -67,7 +67,7 @@ impl<'c, 'a, S: Ledger, L: Ledger, M: Match> Engine<'c, 'a, S, L, M> {
     #[inline(always)]
     fn look_on<N: Needle>(&mut self, mark: Mark, needle: N) -> Scan
         requires { mark.at + STRIDE ≤ length M.value }
-        ensures scan { IsScan M.value (N.suits needle) mark result self.old.steps self.new.steps }
+        ensures scan { IsScan M.value (N.suits needle) mark result self.old self.new }
         ensures bare { NoSlash M.value mark.at (reached_by result).at }
         ensures onward { MovesBy STRIDE mark.at result }
     {
@@ -86,7 +86,7 @@ impl<'c, 'a, S: Ledger, L: Ledger, M: Match> Engine<'c, 'a, S, L, M> {
     #[inline(always)]
     pub fn scan_within<N: Needle>(&mut self, mark: Mark, needle: N) -> Scan
         requires { mark.at ≤ length M.value }
-        ensures scan { IsScan M.value (N.suits needle) mark result self.old.steps self.new.steps }
+        ensures scan { IsScan M.value (N.suits needle) mark result self.old self.new }
         ensures bare { NoSlash M.value mark.at (reached_by result).at }
     {
         let mut reached = mark;

@@ -1,4 +1,4 @@
-//! The engine with two marks: no recursion, no memory, and a bound on its steps.
+//! The engine with two marks: no recursion, no memory, and a bound on its steps and its looks.
 //!
 //! One mark belongs to the last token met that crosses slashes, the other to the last run of stars within a component met
 //! after it. Where a token does not fit, the local mark moves by one byte, or, where that would pass a slash, the crossing
@@ -10,7 +10,7 @@ ghost use Rattle.std.specs.Prelude.{◌≢◌, ◌↔◌, ◌+◌, ◌<◌, ◌�
 ghost use Rattle.glob_matcher.specs.Bytes.{close_bracket, question_mark, slash, star};
 ghost use Rattle.glob_matcher.specs.Matching.{Splits};
 ghost use Rattle.glob_matcher.specs.Private.States.{Whole};
-ghost use Rattle.glob_matcher.specs.Steps.{step_bound, step_limit};
+ghost use Rattle.glob_matcher.specs.Steps.{look_limit, step_bound, step_limit};
 
 use super::counts::Counts;
 use super::engine::{Engine, Match, is_short, run};
@@ -32,7 +32,8 @@ impl<'c, 'a, S: Ledger, L: Ledger, M: Match> Engine<'c, 'a, S, L, M> {
     #[inline(always)]
     fn ends_otherwise(&mut self) -> bool
         ensures meaning { IsTrue result → ¬ Whole M.mode M.pattern M.value }
-        ensures count { self.new.steps ≤ self.old.steps + 1 }
+        ensures steps { self.new.steps ≤ self.old.steps + 1 }
+        ensures looks { self.new.looks ≤ self.old.looks + 2 }
     {
         let len = self.pattern_len();
         if len == 0 {
@@ -46,7 +47,8 @@ impl<'c, 'a, S: Ledger, L: Ledger, M: Match> Engine<'c, 'a, S, L, M> {
     #[inline(always)]
     pub fn search(&mut self) -> bool
         ensures exact { IsTrue result ↔ Whole M.mode M.pattern M.value }
-        ensures count { self.new.steps ≤ self.old.steps + step_limit (length M.pattern) (length M.value) }
+        ensures steps { self.new.steps ≤ self.old.steps + step_limit (length M.pattern) (length M.value) }
+        ensures looks { self.new.looks ≤ self.old.looks + look_limit (length M.pattern) (length M.value) }
     {
         if self.ends_otherwise() {
             return false;
@@ -73,9 +75,10 @@ impl<'c, 'a, S: Ledger, L: Ledger, M: Match> Engine<'c, 'a, S, L, M> {
 
 /// Whether `pattern` matches the whole of `value`, as `wildmatch` answers it, with its steps and looks counted.
 ///
-/// The count of steps rises by at most `2 * (p + 1) * (v + 1)` in plain mode, and by at most `2 * (p + 1) * (v + 1) * (v + 1)` in path
-/// mode, `p` and `v` being the lengths in bytes of pattern and value; and in fact by at most the first in both. It takes no
-/// memory, and no recursion. The rules are in `docs/MATCHING.md`.
+/// The count of steps rises by at most `2 * (p + 1) * (v + 1)` in plain mode, and by at most `2 * (p + 1) * (v + 1) * (v + 1)`
+/// in path mode, `p` and `v` being the lengths in bytes of pattern and value; and in fact by at most the first in both. The
+/// count of looks rises by at most `8 * (p + 1) * (v + 1)`. It takes no memory, and no recursion. The rules are in
+/// `docs/MATCHING.md`.
 pub fn marked<S: Ledger, L: Ledger>(
     pattern: &[u8],
     value: &[u8],
@@ -85,6 +88,7 @@ pub fn marked<S: Ledger, L: Ledger>(
     ensures exact { IsTrue result ↔ Splits value.now pattern.now mode }
     ensures bound { counts.new.steps ≤ counts.old.steps + step_bound mode (length pattern.now) (length value.now) }
     ensures limit { counts.new.steps ≤ counts.old.steps + step_limit (length pattern.now) (length value.now) }
+    ensures looks { counts.new.looks ≤ counts.old.looks + look_limit (length pattern.now) (length value.now) }
 {
     is_short(pattern);
     is_short(value);

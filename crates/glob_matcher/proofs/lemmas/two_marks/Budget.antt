@@ -8,9 +8,10 @@ use Rattle.glob_matcher.specs.declared.wildmatch.mode.Mode.{Mode}
 use Rattle.glob_matcher.specs.declared.wildmatch.engine.Mark.{Mark}
 use Rattle.glob_matcher.specs.declared.wildmatch.state.Crossing.{Crossing}
 use Rattle.glob_matcher.specs.declared.wildmatch.state.Crossing.TheVariants as crossing
+use Rattle.glob_matcher.specs.declared.wildmatch.tokens.Shape.{Shape}
 use Rattle.glob_matcher.specs.Bytes.{slash}
 use Rattle.glob_matcher.specs.Tokens.{Token, Free, Local, Dirs, TokenAt}
-use Rattle.glob_matcher.specs.Private.Reader.{Fits, shape_of, is_star}
+use Rattle.glob_matcher.specs.Private.Reader.{IsToken, Fits, shape_of, is_star}
 use Rattle.glob_matcher.specs.Steps.{step_limit, look_limit}
 use Rattle.glob_matcher.specs.Private.Components.{ends, separates, next_component}
 use Rattle.glob_matcher.specs.Private.States.{FreeKnown, IsNextDirectory}
@@ -18,7 +19,7 @@ use Rattle.glob_matcher.specs.Private.Pieces.{Piece, piece, PiecesFrom}
 use Rattle.glob_matcher.specs.Private.Prices.{Counted, amount, move, test, each, trial, left, cost, hop, stretch}
 use Rattle.glob_matcher.specs.Private.Budget.{FreeRest, DirsRest, LocalRest, WithinRest, Owes, Allows, OwesLeft, AllowsLeft, Tested, Missed}
 use Rattle.glob_matcher.proofs.lemmas.two_marks.Components.{IsInner, separates-fits, slash_ends, ends_or_not, next-end, next-past, next-inner, next_past, next_high, next_before_end}
-use Rattle.glob_matcher.proofs.lemmas.two_marks.Prices.{apart_or_joined, cost-apart, cost-joined, cost_hop, cost_limit, cost_mono, each_of_star, hop-apart, hop-joined, left_is, pieces_head, settle_pieces, stretch-joined, stretch_left, stretch_step, test_each, times_less, times_mono, trial_is, trial_left, trial_some, trial_stretch}
+use Rattle.glob_matcher.proofs.lemmas.two_marks.Prices.{apart_or_joined, cost-apart, cost-joined, cost_hop, cost_limit, cost_mono, each_of_star, hop-apart, hop-joined, left_is, pieces_head, settle_pieces, stretch-joined, stretch_left, stretch_step, test_each, test_one, test_star, times_less, times_mono, trial_is, trial_left, trial_some, trial_stretch}
 
 -- the engine at its start, after the look at the last byte
 pub allows_start : (kind : Counted) (mode : Mode) (p v : List ℕ) (s n : ℕ)
@@ -91,13 +92,13 @@ allows_left {mode} {p} {s} {n} a = settle_pieces mode p s n (λ xs read. let o =
 pub tested_one : {kind : Counted} {mode : Mode} {p : List ℕ} {i s : ℕ} → Tested kind mode p i s (s + 1)
 tested_one {kind} {mode} {p} {i} = record { high = λ xs read. omega (arith, trial_some kind mode p i xs read) }
 
-pub tested : {kind : Counted} {mode : Mode} {p : List ℕ} {i s : ℕ} (t : Token) (k : ℕ) {r : ℕ} → TokenAt mode p i t k
-    → r ≤ s + test kind (piece i t k) → Tested kind mode p i s r
-tested {kind} {mode} {p} {i} t k here low = record {
+pub tested : {kind : Counted} {mode : Mode} {p : List ℕ} {i k : ℕ} {shape : Shape} (x : IsToken mode p i shape k) → is_star shape ≡ false
+    → {r s : ℕ} → r ≤ s + amount kind 1 (8 * (k - i)) → Tested kind mode p i s r
+tested {kind} {mode} {p} {i} {k} x one low = record {
   high = λ xs read.
-      let head = pieces_head i t k xs read here in
-      let same : trial kind xs ≡ test kind (piece i t k) = ap (trial kind) head.1 ∙ trial_is kind (piece i t k) head.0 in
-      omega arith;
+      let head = pieces_head i x.token k xs read x.here in
+      let same : trial kind xs ≡ test kind (piece i x.token k) = ap (trial kind) head.1 ∙ trial_is kind (piece i x.token k) head.0 in
+      omega (arith, test_one kind x one);
 }
 
 pub allows_missed : {kind : Counted} {mode : Mode} {p v : List ℕ} {i j : ℕ} {c : Crossing} {l : Option Mark} {s n : ℕ}
@@ -203,19 +204,19 @@ owes_without o = record {
 }
 
 -- The token takes the byte here, and is no slash.
-pub allows_on : {kind : Counted} {mode : Mode} {p v : List ℕ} {i : ℕ} (t : Token) (k : ℕ) {j : ℕ} {c : Crossing} {l : Option Mark} {s n : ℕ}
-    → TokenAt mode p i t k → j < length v → Fits mode t (get_or v j 0) → IsInner mode v j l → Allows kind mode p v i j c l s n
-    → Allows kind mode p v k (j + 1) c l (s + test kind (piece i t k)) n
-allows_on t k here inside fits inner a =
-    record { all = λ xs read. owes_on t k here inside fits inner (a.all xs read) }
+pub allows_on : {kind : Counted} {mode : Mode} {p v : List ℕ} {i k j : ℕ} {shape : Shape} {c : Crossing} {l : Option Mark} {r s n : ℕ}
+    (x : IsToken mode p i shape k) → is_star shape ≡ false → r ≤ s + amount kind 1 (8 * (k - i)) → j < length v
+    → Fits mode x.token (get_or v j 0) → IsInner mode v j l → Allows kind mode p v i j c l s n → Allows kind mode p v k (j + 1) c l r n
+allows_on {kind} {k = k} x one low inside fits inner a =
+    allows_less (omega (arith, test_one kind x one))
+    (record { all = λ xs read. owes_on x.token k x.here inside fits inner (a.all xs read) })
 
 -- The token takes the byte here, and the local mark is forgotten.
-pub allows_past_slash : {kind : Counted} {mode : Mode} {p v : List ℕ} {i : ℕ} (t : Token) (k : ℕ) {j : ℕ} {c : Crossing} {l : Option Mark} {s n : ℕ}
-    → TokenAt mode p i t k → j < length v → Fits mode t (get_or v j 0) → Allows kind mode p v i j c l s n
-    → Allows kind mode p v k (j + 1) c None (s + test kind (piece i t k)) n
-allows_past_slash t k here inside fits a = record {
-  all = λ xs read. owes_on t k here inside fits tt (owes_without (a.all xs read));
-}
+pub allows_past_slash : {kind : Counted} {mode : Mode} {p v : List ℕ} {i k j : ℕ} {shape : Shape} {c : Crossing} {l : Option Mark} {r s n : ℕ}
+    (x : IsToken mode p i shape k) → is_star shape ≡ false → r ≤ s + amount kind 1 (8 * (k - i)) → j < length v
+    → Fits mode x.token (get_or v j 0) → Allows kind mode p v i j c l s n → Allows kind mode p v k (j + 1) c None r n
+allows_past_slash x one low inside fits a =
+    allows_on x one low inside fits tt (record { all = λ xs read. owes_without (a.all xs read) })
 
 -- A star token is met: what is left for the pieces after it, and for the moves of its mark.
 record Met (kind : Counted) (mode : Mode) (p v : List ℕ) (k j s n rest : ℕ) : Type 0 where
@@ -261,10 +262,11 @@ free_skips {mode} {v = v} {k} kind (x ∷ xs) read more known j = elim (apart_or
 ]
 
 -- A run of stars that crosses slashes is met: its mark is set.
-pub allows_free : {kind : Counted} {mode : Mode} {p v : List ℕ} {i k j : ℕ} {c : Crossing} {l : Option Mark} (m : Mark) {s n : ℕ}
+pub allows_free : {kind : Counted} {mode : Mode} {p v : List ℕ} {i k j : ℕ} {c : Crossing} {l : Option Mark} (m : Mark) {r s n : ℕ}
     → TokenAt mode p i Free k → k ≢ length p → FreeKnown mode p v k → j ≤ length v → m.place ≡ k → m.at ≡ j
-    → Allows kind mode p v i j c l s n → Allows kind mode p v k j (crossing.Free m) None (s + test kind (piece i Free k)) n
-allows_free {kind} {mode} {p} {v} {i} {k} {j} {c} {l} m {s} {n} here more known inside e f a = record { all = λ xs read. owes (a.all xs read) } where
+    → r ≤ s + amount kind 1 (8 * (k - i) - 4) → Allows kind mode p v i j c l s n → Allows kind mode p v k j (crossing.Free m) None r n
+allows_free {kind} {mode} {p} {v} {i} {k} {j} {c} {l} m {r} {s} {n} here more known inside e f low a =
+    allows_less (omega (arith, test_star kind i Free k refl)) (record { all = λ xs read. owes (a.all xs read) }) where
   owes : Owes kind mode p v i j c l s n → Owes kind mode p v k j (crossing.Free m) None (s + test kind (piece i Free k)) n
   owes o =
       let star = star_met Free k here refl refl inside o in
@@ -293,11 +295,22 @@ allows_free {kind} {mode} {p} {v} {i} {k} {j} {c} {l} m {s} {n} here more known 
         local = tt;
       }
 
+-- A run of stars that crosses slashes ends the pattern.
+pub free_last_counts : {kind : Counted} {mode : Mode} {p v : List ℕ} {i k j : ℕ} {c : Crossing} {l : Option Mark} {r s n : ℕ}
+    → TokenAt mode p i Free k → j ≤ length v → r ≤ s + amount kind 1 (8 * (k - i) - 4) → Allows kind mode p v i j c l s n → r ≤ n
+free_last_counts {kind} {mode} {p} {v} {i} {k} {j} {r = r} {s} {n} here inside low a =
+    settle_pieces mode p r n (λ xs read.
+    let o = a.all xs read in
+    let star = star_met Free k here refl refl inside o in
+    let past = next_past mode v j in
+    omega (arith, star.here, star.later, test_star kind i Free k refl))
+
 -- A double star with its slash is met: its mark is set.
-pub allows_dirs : {kind : Counted} {mode : Mode} {p v : List ℕ} {i k j : ℕ} {c : Crossing} {l : Option Mark} (m : Mark) {s n : ℕ}
+pub allows_dirs : {kind : Counted} {mode : Mode} {p v : List ℕ} {i k j : ℕ} {c : Crossing} {l : Option Mark} (m : Mark) {r s n : ℕ}
     → TokenAt mode p i Dirs k → j ≤ length v → m.place ≡ k → m.at ≡ j
-    → Allows kind mode p v i j c l s n → Allows kind mode p v k j (crossing.Dirs m) None (s + test kind (piece i Dirs k)) n
-allows_dirs {kind} {mode} {p} {v} {i} {k} {j} {c} {l} m {s} {n} here inside e f a = record { all = λ xs read. owes (a.all xs read) } where
+    → r ≤ s + amount kind 1 (8 * (k - i) - 4) → Allows kind mode p v i j c l s n → Allows kind mode p v k j (crossing.Dirs m) None r n
+allows_dirs {kind} {mode} {p} {v} {i} {k} {j} {c} {l} m {r} {s} {n} here inside e f low a =
+    allows_less (omega (arith, test_star kind i Dirs k refl)) (record { all = λ xs read. owes (a.all xs read) }) where
   owes : Owes kind mode p v i j c l s n → Owes kind mode p v k j (crossing.Dirs m) None (s + test kind (piece i Dirs k)) n
   owes o =
       let star = star_met Dirs k here refl refl inside o in
@@ -330,10 +343,11 @@ moves_between kind v j k low high =
     omega arith
 
 -- A run of stars within a component is met: its mark is set.
-pub allows_local : {kind : Counted} {mode : Mode} {p v : List ℕ} {i k j : ℕ} {c : Crossing} {l : Option Mark} (m : Mark) {s n : ℕ}
+pub allows_local : {kind : Counted} {mode : Mode} {p v : List ℕ} {i k j : ℕ} {c : Crossing} {l : Option Mark} (m : Mark) {r s n : ℕ}
     → TokenAt mode p i Local k → j ≤ length v → m.place ≡ k → m.at ≡ j
-    → Allows kind mode p v i j c l s n → Allows kind mode p v k j c (Some m) (s + test kind (piece i Local k)) n
-allows_local {kind} {mode} {p} {v} {i} {k} {j} {c} {l} m {s} {n} here inside e f a = record { all = λ xs read. owes (a.all xs read) } where
+    → r ≤ s + amount kind 1 (8 * (k - i) - 4) → Allows kind mode p v i j c l s n → Allows kind mode p v k j c (Some m) r n
+allows_local {kind} {mode} {p} {v} {i} {k} {j} {c} {l} m {r} {s} {n} here inside e f low a =
+    allows_less (omega (arith, test_star kind i Local k refl)) (record { all = λ xs read. owes (a.all xs read) }) where
   owes : Owes kind mode p v i j c l s n → Owes kind mode p v k j c (Some m) (s + test kind (piece i Local k)) n
   owes o =
       let star = star_met Local k here refl refl inside o in

@@ -53,6 +53,12 @@ unfolding counted amount
 took Steps t = omega (arith, t.steps)
 took Looks t = t.looks
 
+pub took_within : (kind : Counted) {x y : Counts} (s a b : ℕ) {c d e f : ℕ} → counted kind x ≤ s + amount kind a b → Took x y c d
+    → a + c ≤ e → b + d ≤ f → counted kind y ≤ s + amount kind e f
+unfolding counted amount
+took_within Steps s a b low t steps looks = omega (arith, t.steps)
+took_within Looks s a b low t steps looks = omega (arith, t.looks)
+
 -- what was taken, one after the other
 pub took_on : {x y z : Counts} {a b c d e f : ℕ} → Took x y a b → Took y z c d → a + c ≡ e → b + d ≤ f → Took x z e f
 took_on t u steps looks = record { steps = omega (arith, t.steps, u.steps); looks = omega (arith, t.looks, u.looks) }
@@ -84,11 +90,11 @@ for_a_star : (t : Token) (n : ℕ) → is_star (shape_of t) ≡ true → for_sta
 unfolding for_star
 for_a_star t n star = ap (λ (b : Bool). if b then n else 0) star
 
-pub test_of_one : (kind : Counted) (x : Piece) → is_star (shape_of x.token) ≡ false → test kind x ≡ amount kind 1 (8 * x.width)
+test_of_one : (kind : Counted) (x : Piece) → is_star (shape_of x.token) ≡ false → test kind x ≡ amount kind 1 (8 * x.width)
 unfolding test
 test_of_one kind x no_star = ap (amount kind 1) (omega (arith, for_no_star x.token 4 no_star))
 
-pub test_of_star : (kind : Counted) (x : Piece) → is_star (shape_of x.token) ≡ true → test kind x ≡ amount kind 1 (8 * x.width - 4)
+test_of_star : (kind : Counted) (x : Piece) → is_star (shape_of x.token) ≡ true → test kind x ≡ amount kind 1 (8 * x.width - 4)
 unfolding test
 test_of_star kind x star = ap (amount kind 1) (omega (arith, for_a_star x.token 4 star))
 
@@ -114,14 +120,14 @@ pub trial_is : (kind : Counted) (x : Piece) (xs : List Piece) → trial kind (x 
 unfolding trial
 trial_is kind x xs = refl
 
--- a token of one byte or of a set, and a token that is spelled by one byte
-pub price_of_one : (kind : Counted) {mode : Mode} {p : List ℕ} {i : ℕ} {s : Shape} {k : ℕ} (x : IsToken mode p i s k) → is_star s ≡ false
+-- the test of a token that is no star, and of one that is
+pub test_one : (kind : Counted) {mode : Mode} {p : List ℕ} {i : ℕ} {shape : Shape} {k : ℕ} (x : IsToken mode p i shape k) → is_star shape ≡ false
     → test kind (piece i x.token k) ≡ amount kind 1 (8 * (k - i))
-price_of_one kind {i = i} {k = k} x one = test_of_one kind (piece i x.token k) (ap is_star (sym x.shown) ∙ one)
+test_one kind {i = i} {k = k} x one = test_of_one kind (piece i x.token k) (ap is_star (sym x.shown) ∙ one)
 
-pub price_of_byte : (kind : Counted) {mode : Mode} {p : List ℕ} {i : ℕ} {s : Shape} (x : IsToken mode p i s (i + 1)) → is_star s ≡ false
-    → test kind (piece i x.token (i + 1)) ≡ amount kind 1 8
-price_of_byte kind {i = i} x one = price_of_one kind x one ∙ ap (amount kind 1) (omega arith)
+pub test_star : (kind : Counted) (i : ℕ) (t : Token) (k : ℕ) → is_star (shape_of t) ≡ true
+    → test kind (piece i t k) ≡ amount kind 1 (8 * (k - i) - 4)
+test_star kind i t k star = test_of_star kind (piece i t k) star
 
 -- the reading in pieces
 

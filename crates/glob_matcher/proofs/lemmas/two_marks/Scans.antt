@@ -26,7 +26,7 @@ use Rattle.glob_matcher.specs.Private.Budget.{Allows, Missed}
 use Rattle.glob_matcher.proofs.lemmas.two_marks.Components.{inner}
 use Rattle.glob_matcher.proofs.lemmas.two_marks.States.{end_missed, free_moved, inner_of, left_without, literal_token, local_moved, mark_of, mark_eq, misses_byte, stands_on, stands_past_slash}
 use Rattle.glob_matcher.proofs.lemmas.two_marks.Budget.{allows_free_moved, allows_less, allows_local_moved, allows_missed, allows_on, allows_past_slash, left_missed}
-use Rattle.glob_matcher.proofs.lemmas.two_marks.Prices.{amount_over, amount_mono, move_is, move_some, price_of_byte, took, took_none, took_on}
+use Rattle.glob_matcher.proofs.lemmas.two_marks.Prices.{amount_over, amount_mono, move_is, move_some, took, took_none, took_on}
 
 same_or_not : (a b : ℕ) → (a ≡ b) ⊎ (a ≢ b)
 same_or_not a b = elim (cases_lt a b) [
@@ -223,13 +223,15 @@ free_found {mode} {p} {m} st met =
           stands_on st token refl met.2 met.3 (λ is. other (byte_of is))
     ]
 
+byte_price : (kind : Counted) (i s : ℕ) → s + amount kind 1 8 ≤ s + amount kind 1 (8 * (i + 1 - i))
+byte_price kind i s = let more : amount kind 1 8 ≤ amount kind 1 (8 * (i + 1 - i)) = amount_mono kind (omega arith) (omega arith) in omega arith
+
 pub free_found_counts : {kind : Counted} {mode : Mode} {p v : List ℕ} {m : Mark} {s n : ℕ}
     → Allows kind mode p v m.place m.at (crossing.Free m) None s n → IsMet mode p v (scan.Found m)
     → Allows kind mode p v (m.place + 1) (m.at + 1) (crossing.Free m) None (s + amount kind 1 8) n
-free_found_counts {kind} {mode} {p} {m = m} a met =
+free_found_counts {kind} {mode} {p} {m = m} {s} a met =
     let token = literal_token mode p m.place met.0 met.1 in
-    allows_less (omega (arith, price_of_byte kind token refl))
-    (allows_past_slash token.token (m.place + 1) token.here met.2 met.3 a)
+    allows_past_slash token refl (byte_price kind m.place s) met.2 met.3 a
 
 -- what the local mark is past the byte after it
 pub record IsKept (p : List ℕ) (m : Mark) (l : Option Mark) : Type 0 where
@@ -255,17 +257,15 @@ pub local_found_counts : {kind : Counted} {mode : Mode} {p v : List ℕ} {c : Cr
     → IsKept p m l → Allows kind mode p v (m.place + 1) (m.at + 1) c l (s + amount kind 1 8) n
 local_found_counts {kind} {mode} {p} {v} {c} {m} {l} {s} {n} st a met k =
     let token = literal_token mode p m.place met.0 met.1 in
-    let r = s + test kind (piece m.place token.token (m.place + 1)) in
-    allows_less (omega (arith, price_of_byte kind token refl))
-    (elim (same_or_not (get_or p m.place 0) slash) [
+    elim (same_or_not (get_or p m.place 0) slash) [
       | inl is ↦
-          subst (λ (x : Option Mark). Allows kind mode p v (m.place + 1) (m.at + 1) c x r n) (sym (k.forgotten is))
-          (allows_past_slash token.token (m.place + 1) token.here met.2 met.3 a)
+          subst (λ (x : Option Mark). Allows kind mode p v (m.place + 1) (m.at + 1) c x (s + amount kind 1 8) n) (sym (k.forgotten is))
+          (allows_past_slash token refl (byte_price kind m.place s) met.2 met.3 a)
       | inr other ↦
-          subst (λ (x : Option Mark). Allows kind mode p v (m.place + 1) (m.at + 1) c x r n) (sym (k.kept other))
-          (allows_on token.token (m.place + 1) token.here met.2 met.3
+          subst (λ (x : Option Mark). Allows kind mode p v (m.place + 1) (m.at + 1) c x (s + amount kind 1 8) n) (sym (k.kept other))
+          (allows_on token refl (byte_price kind m.place s) met.2 met.3
           (inner_of mode p v m.place m.at c (Some m) token.token st.local met.3 (λ is. other (byte_of is))) a)
-    ])
+    ]
 
 -- scans, one after the other
 pub passed_on : {v : List ℕ} {P : ℕ → Type 0} {a b c : Mark} → Passed v P a b → Passed v P b c → Passed v P a c

@@ -1,7 +1,8 @@
 use Rattle.std.proofs.Common.{arith}
 use Rattle.glob_matcher.proofs.lemmas.reading.Shapes.{is_free, is_local, is_dirs, is_nothing}
 use Rattle.glob_matcher.proofs.lemmas.two_marks.States.{nothing_met}
-use Rattle.glob_matcher.proofs.lemmas.two_marks.Budget.{allows_one}
+use Rattle.glob_matcher.proofs.lemmas.two_marks.Prices.{took_none, took_within}
+use Rattle.glob_matcher.proofs.lemmas.two_marks.Budget.{allows_test, tested}
 use Rattle.glob_matcher.proofs.wildmatch.engine.Engine.special_turn.Goals as goal
 
 pub free_turn-requires-clause-token : goal.free_turn-requires-clause-token
@@ -13,9 +14,3 @@ dirs_turn-requires-clause-token g c = is_dirs c.token_at-shape.ensures c.in-Dirs
 pub local_turn-requires-clause-token : goal.local_turn-requires-clause-token
 local_turn-requires-clause-token g c = is_local c.token_at-shape.ensures c.in-Local.is
 
-pub returns-in-Nothing : goal.returns-in-Nothing
-returns-in-Nothing g c = record {
-  meaning = nothing_met _ c.requires.stands (is_nothing c.token_at-shape.ensures c.in-Nothing.is);
-  allows = λ n a. let one = allows_one c.requires.stands.inside a in omega (arith, one);
-  counts = tt;
-}
