@@ -3,4 +3,5 @@ pub mod States
 pub mod Prices
 pub mod Budget
 pub mod Scans
+pub mod Turns
 pub mod Texts

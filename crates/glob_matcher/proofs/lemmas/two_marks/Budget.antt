@@ -89,8 +89,8 @@ pub allows_left : {kind : Counted} {mode : Mode} {p v : List ℕ} {c : Crossing}
 allows_left {mode} {p} {s} {n} a = settle_pieces mode p s n (λ xs read. let o = a.all xs read in omega (arith, o.enough))
 
 -- a test of the pattern's end, or of one token
-pub tested_one : {kind : Counted} {mode : Mode} {p : List ℕ} {i s : ℕ} → Tested kind mode p i s (s + 1)
-tested_one {kind} {mode} {p} {i} = record { high = λ xs read. omega (arith, trial_some kind mode p i xs read) }
+pub tested_one : {kind : Counted} {mode : Mode} {p : List ℕ} {i s r : ℕ} → r ≤ s + 1 → Tested kind mode p i s r
+tested_one {kind} {mode} {p} {i} low = record { high = λ xs read. omega (arith, trial_some kind mode p i xs read) }
 
 pub tested : {kind : Counted} {mode : Mode} {p : List ℕ} {i k : ℕ} {shape : Shape} (x : IsToken mode p i shape k) → is_star shape ≡ false
     → {r s : ℕ} → r ≤ s + amount kind 1 (8 * (k - i)) → Tested kind mode p i s r
@@ -101,9 +101,13 @@ tested {kind} {mode} {p} {i} {k} x one low = record {
       omega (arith, test_one kind x one);
 }
 
+pub allows_one : {kind : Counted} {mode : Mode} {p v : List ℕ} {i j : ℕ} {c : Crossing} {l : Option Mark} {s n : ℕ} → j ≤ length v
+    → Allows kind mode p v i j c l s n → s + 1 ≤ n
+allows_one inside a = allows_test inside (tested_one (omega arith)) a
+
 pub allows_missed : {kind : Counted} {mode : Mode} {p v : List ℕ} {i j : ℕ} {c : Crossing} {l : Option Mark} {s n : ℕ}
     → Allows kind mode p v i j c l s n → Missed kind mode p v i j c l (s + 1) n
-allows_missed {s = s} a = record { before = s; tested = tested_one; allows = a }
+allows_missed {s = s} a = record { before = s; tested = tested_one (omega arith); allows = a }
 
 -- a token takes a byte: what is left of the budget
 near_on : (kind : Counted) (mode : Mode) (v : List ℕ) (x : Piece) (xs : List Piece) (j s n rest : ℕ) → j < length v

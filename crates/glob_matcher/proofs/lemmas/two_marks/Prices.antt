@@ -16,36 +16,20 @@ use Rattle.glob_matcher.proofs.lemmas.two_marks.Components.{next-end, next-inner
 
 -- so many steps, or so many looks
 
-pub amount_steps : (m n : ℕ) → amount Steps m n ≡ m
-unfolding amount
-amount_steps m n = refl
-
-pub amount_looks : (m n : ℕ) → amount Looks m n ≡ n
-unfolding amount
-amount_looks m n = refl
-
-pub counted_steps : (counts : Counts) → counted Steps counts ≡ counts.steps
-unfolding counted amount
-counted_steps counts = refl
-
-pub counted_looks : (counts : Counts) → counted Looks counts ≡ counts.looks
-unfolding counted amount
-counted_looks counts = refl
-
 pub amount_mono : (kind : Counted) {a b c d : ℕ} → a ≤ c → b ≤ d → amount kind a b ≤ amount kind c d
 unfolding amount
 amount_mono Steps low high = low
 amount_mono Looks low high = high
 
-pub amount_plus : (kind : Counted) (a b c d : ℕ) → amount kind (a + c) (b + d) ≡ amount kind a b + amount kind c d
+pub amount_sum : (kind : Counted) (a b c d : ℕ) {e f : ℕ} → e ≤ a + c → f ≤ b + d → amount kind e f ≤ amount kind a b + amount kind c d
 unfolding amount
-amount_plus Steps a b c d = refl
-amount_plus Looks a b c d = refl
+amount_sum Steps a b c d steps looks = steps
+amount_sum Looks a b c d steps looks = looks
 
-pub amount_over : (kind : Counted) (n a b : ℕ) → amount kind (n + a) (n + b) ≡ n + amount kind a b
+pub amount_same : (kind : Counted) (n : ℕ) → amount kind n n ≡ n
 unfolding amount
-amount_over Steps n a b = refl
-amount_over Looks n a b = refl
+amount_same Steps n = refl
+amount_same Looks n = refl
 
 -- what was taken is within a price
 pub took : (kind : Counted) {x y : Counts} {a b : ℕ} → Took x y a b → counted kind y ≤ counted kind x + amount kind a b
@@ -59,21 +43,48 @@ unfolding counted amount
 took_within Steps s a b low t steps looks = omega (arith, t.steps)
 took_within Looks s a b low t steps looks = omega (arith, t.looks)
 
+pub rose : (kind : Counted) (x y : Counts) (a b : ℕ) → y.steps ≤ x.steps + a → y.looks ≤ x.looks + b
+    → counted kind y ≤ counted kind x + amount kind a b
+unfolding counted amount
+rose Steps x y a b steps looks = steps
+rose Looks x y a b steps looks = looks
+
 -- what was taken, one after the other
+pub took_both : {x y z : Counts} {a b c d : ℕ} → Took x y a b → Took y z c d → Took x z (a + c) (b + d)
+took_both t u = record { steps = omega (arith, t.steps, u.steps); looks = omega (arith, t.looks, u.looks) }
+
 pub took_on : {x y z : Counts} {a b c d e f : ℕ} → Took x y a b → Took y z c d → a + c ≡ e → b + d ≤ f → Took x z e f
 took_on t u steps looks = record { steps = omega (arith, t.steps, u.steps); looks = omega (arith, t.looks, u.looks) }
 
 pub took_none : {x : Counts} → Took x x 0 0
 took_none = record { steps = omega arith; looks = omega arith }
 
+-- the price of a move, and of a scan after it
 pub move_some : (kind : Counted) → 1 ≤ move kind
 unfolding move amount
 move_some Steps = omega arith
 move_some Looks = omega arith
 
-pub move_is : (kind : Counted) → move kind ≡ amount kind 1 4
-unfolding move
-move_is kind = refl
+pub move_price : (kind : Counted) {x y : Counts} {a b : ℕ} → Took x y a b → a ≤ 1 → b ≤ 4 → counted kind y ≤ counted kind x + move kind
+unfolding counted move amount
+move_price Steps t steps looks = omega (arith, t.steps)
+move_price Looks t steps looks = omega (arith, t.looks)
+
+pub moves_price : (kind : Counted) {x y : Counts} {n : ℕ} → Took x y n n → counted kind y ≤ counted kind x + move kind * n
+unfolding counted move amount
+moves_price Steps t = omega (arith, t.steps)
+moves_price Looks t = omega (arith, t.looks)
+
+pub scan_price : (kind : Counted) {x y : Counts} {a b : ℕ} (n c d : ℕ) → Took x y a b → a ≤ 1 + n + c → b ≤ 4 + n + d
+    → counted kind y ≤ counted kind x + move kind + n + amount kind c d
+unfolding counted move amount
+scan_price Steps n c d t steps looks = omega (arith, t.steps)
+scan_price Looks n c d t steps looks = omega (arith, t.looks)
+
+pub move_over : (kind : Counted) → amount kind 2 5 ≡ 1 + move kind
+unfolding move amount
+move_over Steps = refl
+move_over Looks = refl
 
 star_low : (t : Token) (n : ℕ) → for_star t n ≤ n
 unfolding for_star

@@ -26,7 +26,7 @@ use Rattle.glob_matcher.specs.Private.Budget.{Allows, Missed}
 use Rattle.glob_matcher.proofs.lemmas.two_marks.Components.{inner}
 use Rattle.glob_matcher.proofs.lemmas.two_marks.States.{end_missed, free_moved, inner_of, left_without, literal_token, local_moved, mark_of, mark_eq, misses_byte, stands_on, stands_past_slash}
 use Rattle.glob_matcher.proofs.lemmas.two_marks.Budget.{allows_free_moved, allows_less, allows_local_moved, allows_missed, allows_on, allows_past_slash, left_missed}
-use Rattle.glob_matcher.proofs.lemmas.two_marks.Prices.{amount_over, amount_mono, move_is, move_some, took, took_none, took_on}
+use Rattle.glob_matcher.proofs.lemmas.two_marks.Prices.{amount_mono, move_some, took_none, took_on}
 
 same_or_not : (a b : ℕ) → (a ≡ b) ⊎ (a ≢ b)
 same_or_not a b = elim (cases_lt a b) [

@@ -1,6 +1,8 @@
-use Rattle.std.proofs.Common.{◌≡◌, ◌≤◌, length, false, true, refl, arith}
+use Rattle.std.proofs.Common.{◌≡◌, ◌+◌, ◌≤◌, length, false, true, refl, arith}
+use Rattle.glob_matcher.specs.Private.Prices.{amount, counted}
 use Rattle.glob_matcher.proofs.lemmas.two_marks.States.{end_met, end_missed}
-use Rattle.glob_matcher.proofs.lemmas.two_marks.Budget.{allows_one}
+use Rattle.glob_matcher.proofs.lemmas.two_marks.Prices.{amount_same, took_within}
+use Rattle.glob_matcher.proofs.lemmas.two_marks.Budget.{allows_test, tested_one}
 use Rattle.glob_matcher.proofs.wildmatch.engine.Engine.take_turn.Goals as goal
 
 pub returns-then-ends_at : goal.returns-then-ends_at
@@ -10,10 +12,11 @@ returns-then-ends_at g c =
     let low : c.args.state.place ≤ length m.pattern = c.requires.low in
     record {
       meaning = end_met c.requires (omega arith) (c.if-ends_at.ensures.answer.0 refl);
-      allows = λ n a.
-          let one = allows_one c.requires.inside a in
-          omega (arith, one, c.ends_at.ensures.count.steps);
-      counts = tt;
+      allows = λ kind s n low a.
+          let one : counted kind c.ends_at.new.self ≤ s + amount kind 1 1 =
+          took_within kind s 0 0 low c.ends_at.ensures.count (omega arith) (omega arith) in
+          allows_test c.requires.inside (tested_one (omega (arith, one, amount_same kind 1))) a;
+      progress = tt;
     }
 
 pub returns-then-state-pattern_len : goal.returns-then-state-pattern_len
@@ -28,6 +31,9 @@ returns-then-state-pattern_len g c =
             end_missed m.mode m.pattern m.value c.args.state.place c.args.state.at (omega arith)
             (λ end. let wrong : false ≡ true = c.if-ends_at.ensures.answer.1 end in cc);
       };
-      allows = λ n a. record { before = c.args.self.now.steps; one = c.ends_at.ensures.count.steps; allows = a };
-      counts = omega (arith, c.ends_at.ensures.count.steps);
+      allows = λ kind s n low a.
+          let one : counted kind c.ends_at.new.self ≤ s + amount kind 1 1 =
+          took_within kind s 0 0 low c.ends_at.ensures.count (omega arith) (omega arith) in
+          record { before = s; tested = tested_one (omega (arith, one, amount_same kind 1)); allows = a };
+      progress = omega (arith, c.ends_at.ensures.count.steps);
     }
