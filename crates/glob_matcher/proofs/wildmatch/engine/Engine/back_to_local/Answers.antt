@@ -4,7 +4,7 @@ use Rattle.glob_matcher.proofs.lemmas.two_marks.States.{known_local, known_place
 use Rattle.glob_matcher.proofs.lemmas.two_marks.Prices.{amount_same, move_over, move_price, scan_price, took_both}
 use Rattle.glob_matcher.proofs.lemmas.two_marks.Budget as budget
 use Rattle.glob_matcher.proofs.lemmas.two_marks.Budget.{allows_less, allows_missed, left_less, left_missed, left_stuck_counts}
-use Rattle.glob_matcher.proofs.lemmas.two_marks.Scans.{local_found, local_found_counts, local_scanned, local_scanned_counts, none_of}
+use Rattle.glob_matcher.proofs.lemmas.two_marks.Scans.{IsKept, local_found, local_found_counts, local_scanned, local_scanned_counts, none_of}
 use Rattle.glob_matcher.proofs.wildmatch.engine.Engine.back_to_local.Goals as goal
 
 pub returns-in_default : goal.returns-in_default
@@ -75,7 +75,7 @@ returns-in-Found g c =
     let bare = c.in-Found.ensures.bare in
     let passed = 2 * (c.in-Found.found.at - c.in-Some-pass_within_or_end.moved.at) in
     let pass = c.pass_within_or_end.ensures.count in
-    let kept = record { forgotten = c.local_past.ensures.forgotten; kept = c.local_past.ensures.kept } in
+    let kept : IsKept g.M.Match.pattern c.in-Found.found c.local_past.result = record { forgotten = c.local_past.ensures.forgotten; kept = c.local_past.ensures.kept } in
     let all = took_both (took_both pass so.took) c.local_past.ensures.count in
     let reached = local_scanned here c.requires.missed moved.2 moved.3 moved.0 moved.1 so bare in
     record {

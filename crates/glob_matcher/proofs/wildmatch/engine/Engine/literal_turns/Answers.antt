@@ -1,4 +1,5 @@
-use Rattle.std.proofs.Common.{◌≡◌, ℕ, ◌+◌, ◌-◌, ◌*◌, ◌<◌, ◌≤◌, length, get_or, false, true, refl, sym, ◌∙◌, subst, arith}
+use Rattle.std.proofs.Common.{◌≡◌, ℕ, ◌+◌, ◌-◌, ◌*◌, ◌<◌, ◌≤◌, length, get_or, false, true, inl, inr, refl, sym, ◌∙◌, ap, subst, arith}
+use Rattle.std.proofs.lemmas.Bool.{cases_lt}
 use Rattle.glob_matcher.specs.Tokens.{Byte}
 use Rattle.glob_matcher.specs.Private.Reader.{Fits}
 use Rattle.glob_matcher.specs.Private.Prices.{amount, counted}
@@ -8,6 +9,7 @@ use Rattle.glob_matcher.proofs.lemmas.two_marks.Prices.{amount_mono, amount_same
 use Rattle.glob_matcher.proofs.lemmas.two_marks.Budget.{allows_less, allows_on, tested}
 use Rattle.glob_matcher.proofs.lemmas.two_marks.Scans.{byte_of}
 use Rattle.glob_matcher.proofs.wildmatch.engine.Engine.literal_turns.Goals as goal
+use Rattle.glob_matcher.proofs.wildmatch.engine.Engine.literal_turns.Goals.{then-byte-eq47-via-then-byte-eq47, then-byte-eq47-via-else-byte-eq47+then-not-stands_for_itself}
 
 pub returns-then-not-has : goal.returns-then-not-has
 returns-then-not-has g c =
@@ -76,4 +78,38 @@ bytes-init g c =
           allows_less (omega (arith, none, amount_same kind 0)) a;
       low = omega arith;
       count = record { steps = omega arith; looks = omega arith };
+    }
+
+pub returns-after-bytes : goal.returns-after-bytes
+returns-after-bytes g c =
+    let moved : c.args.state.place < c.bytes.place = omega (arith, c.bytes-test.false, c.pattern_len.ensures, c.requires.place) in
+    record {
+      meaning = c.bytes.invariant.stands;
+      allows = λ kind s n low a.
+          allows_less (took_within kind s 0 1 low c.bytes.invariant.count (omega arith) (omega arith)) (c.bytes.invariant.allows kind s n a);
+      progress = omega (arith, c.bytes.invariant.count.steps);
+    }
+
+pub returns-then-byte-eq47 : goal.returns-then-byte-eq47
+returns-then-byte-eq47 g c =
+    let m = g.M.Match in
+    let moved : c.args.state.place < c.bytes.place = elim (cases_lt c.args.state.place c.bytes.place) [
+      | inl below ↦ below
+      | inr high ↦
+          let at : c.bytes.place ≡ c.args.state.place = omega (arith, c.bytes.invariant.low) in
+          let same : c.pattern_byte-byte.result ≡ get_or m.pattern c.args.state.place 0 =
+          c.pattern_byte-byte.ensures.byte ∙ ap (λ (i : ℕ). get_or m.pattern i 0) at in
+          absurd (elim c.then-byte-eq47.branch [
+            | then-byte-eq47-via-then-byte-eq47 w ↦ c.requires.other (sym same ∙ w.if-byte-eq47.true)
+            | then-byte-eq47-via-else-byte-eq47+then-not-stands_for_itself w ↦
+                let wrong : false ≡ true = w.if-not-stands_for_itself.ensures.1 (subst StandsForItself (sym same) c.requires.literal) in cc
+          ])
+    ] in
+    record {
+      meaning = c.bytes.invariant.stands;
+      allows = λ kind s n low a.
+          allows_less
+          (took_within kind s 0 1 low (took_both c.bytes.invariant.count c.pattern_byte-byte.ensures.count) (omega arith) (omega arith))
+          (c.bytes.invariant.allows kind s n a);
+      progress = omega (arith, c.bytes.invariant.count.steps, c.pattern_byte-byte.ensures.count.steps);
     }

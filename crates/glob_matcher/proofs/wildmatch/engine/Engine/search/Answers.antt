@@ -1,6 +1,6 @@
 use Rattle.std.proofs.Common.{◌+◌, length, arith}
 use Rattle.glob_matcher.specs.Steps.{step_limit, look_limit}
-use Rattle.glob_matcher.specs.Private.Prices.{Counted, Steps, amount, counted}
+use Rattle.glob_matcher.specs.Private.Prices.{Counted, Steps, Looks, amount, counted}
 use Rattle.glob_matcher.proofs.lemmas.two_marks.States.{stands_start}
 use Rattle.glob_matcher.proofs.lemmas.two_marks.Prices.{rose}
 use Rattle.glob_matcher.proofs.lemmas.two_marks.Budget.{allows_one, allows_start}
@@ -30,3 +30,29 @@ turns-smaller g c =
     let missed = c.in-Miss.ensures.allows Steps _ _ (omega arith) (c.turns.invariant.allows Steps) in
     let one = allows_one c.in-Some.ensures.meaning.inside (c.in-Some.ensures.allows Steps _ missed) in
     omega (arith, one, c.in-Some.ensures.progress, c.in-Miss.ensures.progress)
+
+pub returns-in-Match-clause-steps : goal.returns-in-Match-clause-steps
+unfolding counted amount
+returns-in-Match-clause-steps g c = c.in-Match.ensures.allows Steps _ _ (omega arith) (c.turns.invariant.allows Steps)
+
+pub returns-in-NoMatch-clause-steps : goal.returns-in-NoMatch-clause-steps
+unfolding counted amount
+returns-in-NoMatch-clause-steps g c = c.in-NoMatch.ensures.allows Steps _ _ (omega arith) (c.turns.invariant.allows Steps)
+
+pub returns-in-None-clause-steps : goal.returns-in-None-clause-steps
+unfolding counted amount
+returns-in-None-clause-steps g c =
+    c.in-None.ensures.allows Steps _ (c.in-Miss.ensures.allows Steps _ _ (omega arith) (c.turns.invariant.allows Steps))
+
+pub returns-in-Match-clause-looks : goal.returns-in-Match-clause-looks
+unfolding counted amount
+returns-in-Match-clause-looks g c = c.in-Match.ensures.allows Looks _ _ (omega arith) (c.turns.invariant.allows Looks)
+
+pub returns-in-NoMatch-clause-looks : goal.returns-in-NoMatch-clause-looks
+unfolding counted amount
+returns-in-NoMatch-clause-looks g c = c.in-NoMatch.ensures.allows Looks _ _ (omega arith) (c.turns.invariant.allows Looks)
+
+pub returns-in-None-clause-looks : goal.returns-in-None-clause-looks
+unfolding counted amount
+returns-in-None-clause-looks g c =
+    c.in-None.ensures.allows Looks _ (c.in-Miss.ensures.allows Looks _ _ (omega arith) (c.turns.invariant.allows Looks))

@@ -2,6 +2,7 @@ use Rattle.std.proofs.Common.{◌≡◌, ◌+◌, ◌≤◌, length, false, true
 use Rattle.glob_matcher.specs.Private.Prices.{amount, counted}
 use Rattle.glob_matcher.proofs.lemmas.two_marks.States.{end_met, end_missed}
 use Rattle.glob_matcher.proofs.lemmas.two_marks.Prices.{amount_same, took_within}
+use Rattle.glob_matcher.proofs.lemmas.two_marks.Turns.{turn_on}
 use Rattle.glob_matcher.proofs.lemmas.two_marks.Budget.{allows_test, tested_one}
 use Rattle.glob_matcher.proofs.wildmatch.engine.Engine.take_turn.Goals as goal
 
@@ -37,3 +38,12 @@ returns-then-state-pattern_len g c =
           record { before = s; tested = tested_one (omega (arith, one, amount_same kind 1)); allows = a };
       progress = omega (arith, c.ends_at.ensures.count.steps);
     }
+
+pub returns-then-byte-eq47 : goal.returns-then-byte-eq47
+returns-then-byte-eq47 g c = turn_on c.pattern_byte-byte.ensures.count (omega arith) c.slash_turn.ensures
+
+pub returns-then-not-stands_for_itself : goal.returns-then-not-stands_for_itself
+returns-then-not-stands_for_itself g c = turn_on c.pattern_byte-byte.ensures.count (omega arith) c.special_turn.ensures
+
+pub returns : goal.returns
+returns g c = turn_on c.pattern_byte-byte.ensures.count (omega arith) c.literal_turns.ensures
