@@ -115,7 +115,7 @@ impl<'c, 'a, S: Ledger, L: Ledger, M: Match> Engine<'c, 'a, S, L, M> {
     #[inline(always)]
     pub fn pattern_byte(&mut self, place: usize) -> u8
         requires { place < length M.pattern }
-        ensures byte { result ≡ slice_index M.pattern place }
+        ensures here { result ≡ slice_index M.pattern place }
         ensures count { Took self.old self.new 0 1 }
     {
         self.counts.look();

@@ -271,33 +271,33 @@ pub allows_free : {kind : Counted} {mode : Mode} {p v : List ℕ} {i k j : ℕ} 
     → r ≤ s + amount kind 1 (8 * (k - i) - 4) → Allows kind mode p v i j c l s n → Allows kind mode p v k j (crossing.Free m) None r n
 allows_free {kind} {mode} {p} {v} {i} {k} {j} {c} {l} m {r} {s} {n} here more known inside e f low a =
     allows_less (omega (arith, test_star kind i Free k refl)) (record { all = λ xs read. owes (a.all xs read) }) where
-  owes : Owes kind mode p v i j c l s n → Owes kind mode p v k j (crossing.Free m) None (s + test kind (piece i Free k)) n
-  owes o =
-      let star = star_met Free k here refl refl inside o in
-      let skips = free_skips kind star.pieces star.read more known in
-      let hopped : cost kind mode v star.pieces (hop mode v star.pieces j) ≡ cost kind mode v star.pieces (j + 1) =
-      ap (cost kind mode v star.pieces) (skips j) in
-      let past : j < next_component mode v j = next_past mode v j in
-      let next : cost kind mode v star.pieces (next_component mode v j) ≤ cost kind mode v star.pieces (j + 1) =
-      cost_mono kind mode v star.pieces (j + 1) (next_component mode v j) (omega arith) in
-      let costs : cost kind mode v star.pieces (m.at + 1) ≡ cost kind mode v star.pieces (j + 1) =
-      ap (λ (y : ℕ). cost kind mode v star.pieces (y + 1)) f in
-      let lefts : move kind * left v m.at ≡ move kind * left v j = ap (λ (y : ℕ). move kind * left v y) f in
-      record {
-        pieces = star.pieces;
-        read = star.read;
-        rest = cost kind mode v star.pieces (j + 1) + move kind * left v j;
-        crossing = record {
-          pieces = star.pieces;
-          read = subst (λ (y : ℕ). PiecesFrom mode p y star.pieces) (sym e) star.read;
-          inside = omega arith;
-          skips = skips;
-          enough = omega arith;
-        };
-        later = omega arith;
-        here = omega (arith, star.here, star.later);
-        local = tt;
-      }
+      owes : Owes kind mode p v i j c l s n → Owes kind mode p v k j (crossing.Free m) None (s + test kind (piece i Free k)) n
+      owes o =
+          let star = star_met Free k here refl refl inside o in
+          let skips = free_skips kind star.pieces star.read more known in
+          let hopped : cost kind mode v star.pieces (hop mode v star.pieces j) ≡ cost kind mode v star.pieces (j + 1) =
+          ap (cost kind mode v star.pieces) (skips j) in
+          let past : j < next_component mode v j = next_past mode v j in
+          let next : cost kind mode v star.pieces (next_component mode v j) ≤ cost kind mode v star.pieces (j + 1) =
+          cost_mono kind mode v star.pieces (j + 1) (next_component mode v j) (omega arith) in
+          let costs : cost kind mode v star.pieces (m.at + 1) ≡ cost kind mode v star.pieces (j + 1) =
+          ap (λ (y : ℕ). cost kind mode v star.pieces (y + 1)) f in
+          let lefts : move kind * left v m.at ≡ move kind * left v j = ap (λ (y : ℕ). move kind * left v y) f in
+          record {
+            pieces = star.pieces;
+            read = star.read;
+            rest = cost kind mode v star.pieces (j + 1) + move kind * left v j;
+            crossing = record {
+              pieces = star.pieces;
+              read = subst (λ (y : ℕ). PiecesFrom mode p y star.pieces) (sym e) star.read;
+              inside = omega arith;
+              skips = skips;
+              enough = omega arith;
+            };
+            later = omega arith;
+            here = omega (arith, star.here, star.later);
+            local = tt;
+          }
 
 -- A run of stars that crosses slashes ends the pattern.
 pub free_last_counts : {kind : Counted} {mode : Mode} {p v : List ℕ} {i k j : ℕ} {c : Crossing} {l : Option Mark} {r s n : ℕ}
@@ -315,28 +315,28 @@ pub allows_dirs : {kind : Counted} {mode : Mode} {p v : List ℕ} {i k j : ℕ} 
     → r ≤ s + amount kind 1 (8 * (k - i) - 4) → Allows kind mode p v i j c l s n → Allows kind mode p v k j (crossing.Dirs m) None r n
 allows_dirs {kind} {mode} {p} {v} {i} {k} {j} {c} {l} m {r} {s} {n} here inside e f low a =
     allows_less (omega (arith, test_star kind i Dirs k refl)) (record { all = λ xs read. owes (a.all xs read) }) where
-  owes : Owes kind mode p v i j c l s n → Owes kind mode p v k j (crossing.Dirs m) None (s + test kind (piece i Dirs k)) n
-  owes o =
-      let star = star_met Dirs k here refl refl inside o in
-      let hopped : cost kind mode v star.pieces (next_component mode v j) ≤ cost kind mode v star.pieces (hop mode v star.pieces j) =
-      cost_hop kind mode v star.pieces j in
-      let costs : cost kind mode v star.pieces (next_component mode v m.at) ≡ cost kind mode v star.pieces (next_component mode v j) =
-      ap (λ (y : ℕ). cost kind mode v star.pieces (next_component mode v y)) f in
-      let lefts : move kind * left v m.at ≡ move kind * left v j = ap (λ (y : ℕ). move kind * left v y) f in
-      record {
-        pieces = star.pieces;
-        read = star.read;
-        rest = cost kind mode v star.pieces (next_component mode v j) + move kind * left v j;
-        crossing = record {
-          pieces = star.pieces;
-          read = subst (λ (y : ℕ). PiecesFrom mode p y star.pieces) (sym e) star.read;
-          inside = omega arith;
-          enough = omega arith;
-        };
-        later = omega arith;
-        here = omega (arith, star.here, star.later);
-        local = tt;
-      }
+      owes : Owes kind mode p v i j c l s n → Owes kind mode p v k j (crossing.Dirs m) None (s + test kind (piece i Dirs k)) n
+      owes o =
+          let star = star_met Dirs k here refl refl inside o in
+          let hopped : cost kind mode v star.pieces (next_component mode v j) ≤ cost kind mode v star.pieces (hop mode v star.pieces j) =
+          cost_hop kind mode v star.pieces j in
+          let costs : cost kind mode v star.pieces (next_component mode v m.at) ≡ cost kind mode v star.pieces (next_component mode v j) =
+          ap (λ (y : ℕ). cost kind mode v star.pieces (next_component mode v y)) f in
+          let lefts : move kind * left v m.at ≡ move kind * left v j = ap (λ (y : ℕ). move kind * left v y) f in
+          record {
+            pieces = star.pieces;
+            read = star.read;
+            rest = cost kind mode v star.pieces (next_component mode v j) + move kind * left v j;
+            crossing = record {
+              pieces = star.pieces;
+              read = subst (λ (y : ℕ). PiecesFrom mode p y star.pieces) (sym e) star.read;
+              inside = omega arith;
+              enough = omega arith;
+            };
+            later = omega arith;
+            here = omega (arith, star.here, star.later);
+            local = tt;
+          }
 
 -- the moves over the places from one to another
 moves_between : (kind : Counted) (v : List ℕ) (j k : ℕ) → j ≤ length v + 1 → k ≤ length v + 1
@@ -352,36 +352,36 @@ pub allows_local : {kind : Counted} {mode : Mode} {p v : List ℕ} {i k j : ℕ}
     → r ≤ s + amount kind 1 (8 * (k - i) - 4) → Allows kind mode p v i j c l s n → Allows kind mode p v k j c (Some m) r n
 allows_local {kind} {mode} {p} {v} {i} {k} {j} {c} {l} m {r} {s} {n} here inside e f low a =
     allows_less (omega (arith, test_star kind i Local k refl)) (record { all = λ xs read. owes (a.all xs read) }) where
-  owes : Owes kind mode p v i j c l s n → Owes kind mode p v k j c (Some m) (s + test kind (piece i Local k)) n
-  owes o =
-      let star = star_met Local k here refl refl inside o in
-      let next = next_component mode v j in
-      let past : j < next = next_past mode v j in
-      let moves = moves_between kind v j next (omega arith) (next_high mode v j inside) in
-      let fewer : move kind * left v next ≤ move kind * left v j = times_mono (move kind) v j next (omega arith) in
-      let hopped : cost kind mode v star.pieces next ≤ cost kind mode v star.pieces (hop mode v star.pieces j) =
-      cost_hop kind mode v star.pieces j in
-      let ats : cost kind mode v star.pieces m.at ≡ cost kind mode v star.pieces j = ap (cost kind mode v star.pieces) f in
-      let laters : cost kind mode v star.pieces (next_component mode v m.at) ≡ cost kind mode v star.pieces next =
-      ap (λ (y : ℕ). cost kind mode v star.pieces (next_component mode v y)) f in
-      let moved : move kind * next_component mode v m.at ≡ move kind * next = ap (λ (y : ℕ). move kind * next_component mode v y) f in
-      let marked : move kind * m.at ≡ move kind * j = ap (λ (y : ℕ). move kind * y) f in
-      record {
-        pieces = star.pieces;
-        read = star.read;
-        rest = o.rest;
-        crossing = o.crossing;
-        later = omega (arith, star.later);
-        here = omega (arith, star.here);
-        local = record {
-          pieces = star.pieces;
-          read = subst (λ (y : ℕ). PiecesFrom mode p y star.pieces) (sym e) star.read;
-          inside = omega arith;
-          later = omega (arith, star.later);
-          here = omega (arith, star.here);
-          back = omega (arith, star.here, moves);
-        };
-      }
+      owes : Owes kind mode p v i j c l s n → Owes kind mode p v k j c (Some m) (s + test kind (piece i Local k)) n
+      owes o =
+          let star = star_met Local k here refl refl inside o in
+          let next = next_component mode v j in
+          let past : j < next = next_past mode v j in
+          let moves = moves_between kind v j next (omega arith) (next_high mode v j inside) in
+          let fewer : move kind * left v next ≤ move kind * left v j = times_mono (move kind) v j next (omega arith) in
+          let hopped : cost kind mode v star.pieces next ≤ cost kind mode v star.pieces (hop mode v star.pieces j) =
+          cost_hop kind mode v star.pieces j in
+          let ats : cost kind mode v star.pieces m.at ≡ cost kind mode v star.pieces j = ap (cost kind mode v star.pieces) f in
+          let laters : cost kind mode v star.pieces (next_component mode v m.at) ≡ cost kind mode v star.pieces next =
+          ap (λ (y : ℕ). cost kind mode v star.pieces (next_component mode v y)) f in
+          let moved : move kind * next_component mode v m.at ≡ move kind * next = ap (λ (y : ℕ). move kind * next_component mode v y) f in
+          let marked : move kind * m.at ≡ move kind * j = ap (λ (y : ℕ). move kind * y) f in
+          record {
+            pieces = star.pieces;
+            read = star.read;
+            rest = o.rest;
+            crossing = o.crossing;
+            later = omega (arith, star.later);
+            here = omega (arith, star.here);
+            local = record {
+              pieces = star.pieces;
+              read = subst (λ (y : ℕ). PiecesFrom mode p y star.pieces) (sym e) star.read;
+              inside = omega arith;
+              later = omega (arith, star.later);
+              here = omega (arith, star.here);
+              back = omega (arith, star.here, moves);
+            };
+          }
 
 -- The token does not fit here, and there is no local mark.
 pub left_missed : {kind : Counted} {mode : Mode} {p v : List ℕ} {i j : ℕ} {c : Crossing} {s n : ℕ} → j ≤ length v

@@ -14,7 +14,7 @@ use Rattle.glob_matcher.proofs.wildmatch.engine.Engine.literal_turns.Goals.{then
 pub returns-then-not-has : goal.returns-then-not-has
 returns-then-not-has g c =
     let m = g.M.Match in
-    let same : c.pattern_byte-byte.result ≡ get_or m.pattern c.bytes.place 0 = c.pattern_byte-byte.ensures.byte in
+    let same : c.pattern_byte-byte.result ≡ get_or m.pattern c.bytes.place 0 = c.pattern_byte-byte.ensures.here in
     let inside : c.bytes.place < length m.pattern = omega (arith, c.bytes-test.true, c.pattern_len.ensures) in
     let own = subst StandsForItself same (c.if-not-stands_for_itself.ensures.0 refl) in
     record {
@@ -45,7 +45,7 @@ returns-then-not-has g c =
 pub bytes-preserved : goal.bytes-preserved
 bytes-preserved g c =
     let m = g.M.Match in
-    let same : c.pattern_byte-byte.result ≡ get_or m.pattern c.bytes.place 0 = c.pattern_byte-byte.ensures.byte in
+    let same : c.pattern_byte-byte.result ≡ get_or m.pattern c.bytes.place 0 = c.pattern_byte-byte.ensures.here in
     let inside : c.bytes.place < length m.pattern = omega (arith, c.bytes-test.true, c.pattern_len.ensures) in
     let own = subst StandsForItself same (c.if-not-stands_for_itself.ensures.0 refl) in
     let token = literal_token m.mode m.pattern c.bytes.place inside own in
@@ -58,7 +58,7 @@ bytes-preserved g c =
           let now = c.bytes.place + 1 - c.args.state.place in
           let price : amount kind now (8 * now) ≤ amount kind passed (8 * passed) + amount kind 1 (8 * (c.bytes.place + 1 - c.bytes.place)) =
           amount_sum kind passed (8 * passed) 1 (8 * (c.bytes.place + 1 - c.bytes.place)) (omega (arith, c.bytes.invariant.low)) (omega (arith, c.bytes.invariant.low)) in
-          allows_on token refl (omega arith) fits.0 fits.1
+          allows_on {r = s + amount kind now (8 * now)} token refl (omega arith) fits.0 fits.1
           (inner_of m.mode m.pattern m.value c.bytes.place c.bytes.at c.args.state.crossing c.args.state.local
           token.token c.bytes.invariant.stands.local fits.1 (λ is. c.if-byte-eq47.false (same ∙ byte_of is)))
           (c.bytes.invariant.allows kind s n a);
@@ -98,7 +98,7 @@ returns-then-byte-eq47 g c =
       | inr high ↦
           let at : c.bytes.place ≡ c.args.state.place = omega (arith, c.bytes.invariant.low) in
           let same : c.pattern_byte-byte.result ≡ get_or m.pattern c.args.state.place 0 =
-          c.pattern_byte-byte.ensures.byte ∙ ap (λ (i : ℕ). get_or m.pattern i 0) at in
+          c.pattern_byte-byte.ensures.here ∙ ap (λ (i : ℕ). get_or m.pattern i 0) at in
           absurd (elim c.then-byte-eq47.branch [
             | then-byte-eq47-via-then-byte-eq47 w ↦ c.requires.other (sym same ∙ w.if-byte-eq47.true)
             | then-byte-eq47-via-else-byte-eq47+then-not-stands_for_itself w ↦
