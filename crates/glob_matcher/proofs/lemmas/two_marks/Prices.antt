@@ -32,11 +32,6 @@ amount_same Steps n = refl
 amount_same Looks n = refl
 
 -- what was taken is within a price
-pub took : (kind : Counted) {x y : Counts} {a b : ℕ} → Took x y a b → counted kind y ≤ counted kind x + amount kind a b
-unfolding counted amount
-took Steps t = omega (arith, t.steps)
-took Looks t = t.looks
-
 pub took_within : (kind : Counted) {x y : Counts} (s a b : ℕ) {c d e f : ℕ} → counted kind x ≤ s + amount kind a b → Took x y c d
     → a + c ≤ e → b + d ≤ f → counted kind y ≤ s + amount kind e f
 unfolding counted amount
@@ -81,6 +76,7 @@ unfolding counted move amount
 scan_price Steps n c d t steps looks = omega (arith, t.steps)
 scan_price Looks n c d t steps looks = omega (arith, t.looks)
 
+-- a test and a move, where a scan ended in both
 pub move_over : (kind : Counted) → amount kind 2 5 ≡ 1 + move kind
 unfolding move amount
 move_over Steps = refl
@@ -100,14 +96,6 @@ for_no_star t n no_star = ap (λ (b : Bool). if b then n else 0) no_star
 for_a_star : (t : Token) (n : ℕ) → is_star (shape_of t) ≡ true → for_star t n ≡ n
 unfolding for_star
 for_a_star t n star = ap (λ (b : Bool). if b then n else 0) star
-
-test_of_one : (kind : Counted) (x : Piece) → is_star (shape_of x.token) ≡ false → test kind x ≡ amount kind 1 (8 * x.width)
-unfolding test
-test_of_one kind x no_star = ap (amount kind 1) (omega (arith, for_no_star x.token 4 no_star))
-
-test_of_star : (kind : Counted) (x : Piece) → is_star (shape_of x.token) ≡ true → test kind x ≡ amount kind 1 (8 * x.width - 4)
-unfolding test
-test_of_star kind x star = ap (amount kind 1) (omega (arith, for_a_star x.token 4 star))
 
 pub each_of_star : (kind : Counted) (x : Piece) → is_star (shape_of x.token) ≡ true → each kind x ≡ test kind x + move kind
 unfolding each
@@ -134,11 +122,13 @@ trial_is kind x xs = refl
 -- the test of a token that is no star, and of one that is
 pub test_one : (kind : Counted) {mode : Mode} {p : List ℕ} {i : ℕ} {shape : Shape} {k : ℕ} (x : IsToken mode p i shape k) → is_star shape ≡ false
     → test kind (piece i x.token k) ≡ amount kind 1 (8 * (k - i))
-test_one kind {i = i} {k = k} x one = test_of_one kind (piece i x.token k) (ap is_star (sym x.shown) ∙ one)
+unfolding test
+test_one kind x one = ap (amount kind 1) (omega (arith, for_no_star x.token 4 (ap is_star (sym x.shown) ∙ one)))
 
 pub test_star : (kind : Counted) (i : ℕ) (t : Token) (k : ℕ) → is_star (shape_of t) ≡ true
     → test kind (piece i t k) ≡ amount kind 1 (8 * (k - i) - 4)
-test_star kind i t k star = test_of_star kind (piece i t k) star
+unfolding test
+test_star kind i t k star = ap (amount kind 1) (omega (arith, for_a_star t 4 star))
 
 -- the reading in pieces
 

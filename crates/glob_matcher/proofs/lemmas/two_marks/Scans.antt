@@ -116,18 +116,6 @@ scan_for mode p {v} f {from} {s = scan.Undecided m} is looked found =
       took = took_on looked found.took (omega arith) (omega arith);
     }
 
--- no scan, but the look at what follows
-pub scan_of_none : (mode : Mode) (p : List ℕ) {v : List ℕ} {from : Mark} {before after : Counts} → from.at ≤ length v
-    → Took before after 0 1 → IsScanFor mode p v from (scan.Undecided from) before after
-scan_of_none mode p {v} {from} inside looked = record {
-  same = refl;
-  low = omega arith;
-  inside = inside;
-  missed = λ k low below. absurd (omega arith);
-  met = tt;
-  took = took_on looked took_none (omega arith) (omega arith);
-}
-
 -- The crossing mark of a run of stars moves on over places from which the rest of the pattern splits nothing.
 free_skips : (d : ℕ) {mode : Mode} {p v : List ℕ} {m : Mark} (x : Mark) → Stands mode p v m.place m.at (crossing.Free m) None
     → x.place ≡ m.place → x.at ≡ m.at + d → x.at ≤ length v
