@@ -15,7 +15,7 @@ returns-then-not-takes g c =
         stands = c.requires.stands;
         missed =
             misses_byte m.value c.args.state.at x c.requires.single c.requires.stands.inside
-            (λ fits. let wrong : false ≡ true = (c.if-not-takes.ensures.answer x.token c.args.after x.here x.shown).1 fits in cc);
+            (λ fits. let wrong : false ≡ true = (c.if-not-takes.ensures.answer x.token x.shown).1 fits in cc);
       };
       allows = λ kind s n low a. record {
         before = s;
@@ -30,7 +30,7 @@ returns-then-not-takes g c =
 pub returns-then-is_slash : goal.returns-then-is_slash
 returns-then-is_slash g c =
     let x = c.requires.token in
-    let fits = (c.if-not-takes.ensures.answer x.token c.args.after x.here x.shown).0 refl in
+    let fits = (c.if-not-takes.ensures.answer x.token x.shown).0 refl in
     record {
       meaning =
           stands_past_slash c.requires.stands x c.requires.single fits.0 fits.1
@@ -45,7 +45,7 @@ pub returns : goal.returns
 returns g c =
     let m = g.M.Match in
     let x = c.requires.token in
-    let fits = (c.if-not-takes.ensures.answer x.token c.args.after x.here x.shown).0 refl in
+    let fits = (c.if-not-takes.ensures.answer x.token x.shown).0 refl in
     record {
       meaning =
           stands_on c.requires.stands x c.requires.single fits.0 fits.1

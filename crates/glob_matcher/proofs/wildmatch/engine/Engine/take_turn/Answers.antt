@@ -42,8 +42,11 @@ returns-then-state-pattern_len g c =
 pub returns-then-byte-eq47 : goal.returns-then-byte-eq47
 returns-then-byte-eq47 g c = turn_on c.pattern_byte-byte.ensures.count (omega arith) c.slash_turn.ensures
 
-pub returns-then-not-stands_for_itself : goal.returns-then-not-stands_for_itself
-returns-then-not-stands_for_itself g c = turn_on c.pattern_byte-byte.ensures.count (omega arith) c.special_turn.ensures
+pub returns-then-stands_for_itself : goal.returns-then-stands_for_itself
+returns-then-stands_for_itself g c = turn_on c.pattern_byte-byte.ensures.count (omega arith) c.literal_turns.ensures
+
+pub returns-then-byte-eq91 : goal.returns-then-byte-eq91
+returns-then-byte-eq91 g c = turn_on c.pattern_byte-byte.ensures.count (omega arith) c.set_turn.ensures
 
 pub returns : goal.returns
-returns g c = turn_on c.pattern_byte-byte.ensures.count (omega arith) c.literal_turns.ensures
+returns g c = turn_on c.pattern_byte-byte.ensures.count (omega arith) c.special_turn.ensures
