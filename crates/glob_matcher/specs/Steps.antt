@@ -4,6 +4,11 @@ use Rattle.std.specs.Prelude.{ℕ, ◌+◌, ◌*◌, if◌then◌else◌}
 use Rattle.glob_matcher.specs.declared.wildmatch.mode.Mode.{Mode}
 use Rattle.glob_matcher.specs.Bytes.{is_path}
 
+-- what a match has taken so far: its steps, and its looks, each of one byte of the pattern or of the value
+pub record Counts : Type 0 where
+  pub steps : ℕ
+  pub looks : ℕ
+
 -- by the mode: in path mode each mark may go over the value for each place of the other
 abbrev pub step_bound : Mode → ℕ → ℕ → ℕ
 step_bound mode p v = if is_path mode then 2 * (p + 1) * (v + 1) * (v + 1) else 2 * (p + 1) * (v + 1)
@@ -11,3 +16,7 @@ step_bound mode p v = if is_path mode then 2 * (p + 1) * (v + 1) * (v + 1) else 
 -- in each mode: a star between two slashes of the pattern looks at one component of the value
 abbrev pub step_limit : ℕ → ℕ → ℕ
 step_limit p v = 2 * (p + 1) * (v + 1)
+
+-- how many bytes of the pattern and of the value a match reads at most, each time that it reads one counted
+abbrev pub look_limit : ℕ → ℕ → ℕ
+look_limit p v = 8 * (p + 1) * (v + 1)

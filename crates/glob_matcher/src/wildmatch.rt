@@ -4,6 +4,7 @@ ghost use Rattle.glob_matcher.specs.Matching.{Splits};
 
 mod advance;
 mod backtrack;
+mod counts;
 mod engine;
 mod mode;
 mod needle;
@@ -12,18 +13,18 @@ mod plain;
 mod pruned;
 mod scan;
 mod sets;
+pub(crate) mod slices;
 mod state;
-mod steps;
 #[cfg(test)]
 mod tests;
-pub(crate) mod tokens;
+mod tokens;
 mod two_marks;
 
+pub use counts::Counts;
 pub use mode::Mode;
 pub use pruned::{Answer, attempt, is_start, recursive};
 use std::marker::Brand;
 use std::sync::ledger::{Blank, Ledger};
-pub use steps::Steps;
 pub use two_marks::marked;
 
 /// Whether `pattern` matches the whole of `value`, both as bytes of any kind, in `mode`.
@@ -33,16 +34,25 @@ pub use two_marks::marked;
 pub fn wildmatch(pattern: &[u8], value: &[u8], mode: Mode) -> bool
     ensures { IsTrue result ↔ Splits value.now pattern.now mode }
 {
-    with_new_steps::<Brand>(pattern, value, mode, Blank::new(1))
+    with_new_counts::<Brand, Brand>(pattern, value, mode, Blank::new(1), Blank::new(1))
 }
 
-/// The two marks, with a new count of steps that no one asks for.
+/// The two marks, with new counts that no one asks for.
 #[inline(always)]
-fn with_new_steps<L: Ledger>(pattern: &[u8], value: &[u8], mode: Mode, blank: Blank) -> bool
-    requires name { blank.name ≡ L.name }
-    requires parts { blank.parts ≡ L.parts }
-    requires some { 0 < blank.parts }
+fn with_new_counts<S: Ledger, L: Ledger>(
+    pattern: &[u8],
+    value: &[u8],
+    mode: Mode,
+    steps: Blank,
+    looks: Blank,
+) -> bool
+    requires steps_name { steps.name ≡ S.name }
+    requires steps_parts { steps.parts ≡ S.parts }
+    requires steps_some { 0 < steps.parts }
+    requires looks_name { looks.name ≡ L.name }
+    requires looks_parts { looks.parts ≡ L.parts }
+    requires looks_some { 0 < looks.parts }
     ensures { IsTrue result ↔ Splits value.now pattern.now mode }
 {
-    marked(pattern, value, mode, &mut Steps::<L>::new(blank))
+    marked(pattern, value, mode, &mut Counts::<S, L>::new(steps, looks))
 }

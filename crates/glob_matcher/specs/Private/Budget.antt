@@ -1,7 +1,7 @@
--- What the functions of the engine with two marks say of its steps to one another: how many are left at a state. After the
--- look at the last byte, which is one step, each pair of a token and a place of the value is tested at most once, since a star
--- between two slashes of the pattern looks at one component of the value. Nothing public cites it.
-use Rattle.std.specs.Prelude.{◌≡◌, ℕ, ◌+◌, ◌-◌, ◌<◌, ◌≤◌, Bool, List, [], ◌∷◌, length, Option, Some, None, if◌then◌else◌}
+-- What the functions of the engine with two marks say of its budget to one another: how much is left at a state, of its steps
+-- as of its looks. After the look at the last byte, which is one step, each pair of a token and a place of the value is tested
+-- at most once, since a star between two slashes of the pattern looks at one component of the value. Nothing public cites it.
+use Rattle.std.specs.Prelude.{◌≡◌, ℕ, ◌+◌, ◌*◌, ◌<◌, ◌≤◌, List, length, Option, Some, None}
 use Rattle.glob_matcher.specs.declared.wildmatch.mode.Mode.{Mode}
 use Rattle.glob_matcher.specs.declared.wildmatch.engine.Mark.{Mark}
 use Rattle.glob_matcher.specs.declared.wildmatch.state.Crossing.{Crossing}
@@ -9,109 +9,87 @@ use Rattle.glob_matcher.specs.declared.wildmatch.state.Crossing.TheVariants as c
 use Rattle.glob_matcher.specs.declared.wildmatch.state.State.{State}
 use Rattle.glob_matcher.specs.declared.wildmatch.state.Turn.{Turn}
 use Rattle.glob_matcher.specs.declared.wildmatch.state.Turn.TheVariants as turn
-use Rattle.glob_matcher.specs.Tokens.{Token, Free, Local, Dirs, From, Tokens}
-use Rattle.glob_matcher.specs.Private.Components.{separates, next_component}
-
--- what a star token costs besides: its mark's moves
-unfoldable pub extra : Token → ℕ → ℕ
-extra Free y = y
-extra Local y = y
-extra Dirs y = y
-extra _ y = 0
-
--- where the token after one begins its look
-unfoldable pub onward : Mode → List ℕ → Bool → ℕ → ℕ
-onward mode v apart x = if apart then next_component mode v x else x
-
--- the places from x on, the value's end included
-unfoldable pub left : List ℕ → ℕ → ℕ
-left v x = length v + 1 - x
-
--- the steps that the tokens may take from place x of the value on, over all the later places of the mark before them
-unfoldable pub cost : Mode → List ℕ → List Token → ℕ → ℕ
-cost mode v [] x = left v x
-cost mode v (t ∷ ts) x = left v x + extra t (left v x) + cost mode v ts (onward mode v (separates mode t) x)
-
--- the place where the next look at these tokens may begin
-unfoldable pub hop : Mode → List ℕ → List Token → ℕ → ℕ
-hop mode v [] x = next_component mode v x
-hop mode v (t ∷ ts) x = if separates mode t then x + 1 else next_component mode v x
-
--- the tokens up to the first that ends a component, or the pattern's end
-unfoldable pub stretch : Mode → List Token → ℕ
-stretch mode [] = 1
-stretch mode (t ∷ ts) = 1 + extra t 1 + (if separates mode t then 0 else stretch mode ts)
+use Rattle.glob_matcher.specs.Private.Components.{next_component}
+use Rattle.glob_matcher.specs.Private.Pieces.{Piece, PiecesFrom}
+use Rattle.glob_matcher.specs.Private.Prices.{Counted, move, trial, left, cost, hop, stretch}
 
 -- What the crossing mark may still cost is at most `rest`.
-pub record FreeRest (mode : Mode) (p v : List ℕ) (place at rest : ℕ) : Type 0 where
-  pub tokens : List Token
-  pub read : From mode p place tokens
+pub record FreeRest (kind : Counted) (mode : Mode) (p v : List ℕ) (place at rest : ℕ) : Type 0 where
+  pub pieces : List Piece
+  pub read : PiecesFrom mode p place pieces
   pub inside : at ≤ length v
-  pub skips : (x : ℕ) → hop mode v tokens x ≡ x + 1
-  pub enough : cost mode v tokens (at + 1) + left v at ≤ rest
+  pub skips : (x : ℕ) → hop mode v pieces x ≡ x + 1
+  pub enough : cost kind mode v pieces (at + 1) + move kind * left v at ≤ rest
 
-pub record DirsRest (mode : Mode) (p v : List ℕ) (place at rest : ℕ) : Type 0 where
-  pub tokens : List Token
-  pub read : From mode p place tokens
+pub record DirsRest (kind : Counted) (mode : Mode) (p v : List ℕ) (place at rest : ℕ) : Type 0 where
+  pub pieces : List Piece
+  pub read : PiecesFrom mode p place pieces
   pub inside : at ≤ length v
-  pub enough : cost mode v tokens (next_component mode v at) + left v at ≤ rest
+  pub enough : cost kind mode v pieces (next_component mode v at) + move kind * left v at ≤ rest
 
-abbrev pub CrossingRest : Mode → List ℕ → List ℕ → Crossing → ℕ → Type 0
-CrossingRest mode p v crossing.Unmet rest = Unit {0}
-CrossingRest mode p v (crossing.Free m) rest = FreeRest mode p v m.place m.at rest
-CrossingRest mode p v (crossing.Dirs m) rest = DirsRest mode p v m.place m.at rest
+abbrev pub CrossingRest : Counted → Mode → List ℕ → List ℕ → Crossing → ℕ → Type 0
+CrossingRest kind mode p v crossing.Unmet rest = Unit {0}
+CrossingRest kind mode p v (crossing.Free m) rest = FreeRest kind mode p v m.place m.at rest
+CrossingRest kind mode p v (crossing.Dirs m) rest = DirsRest kind mode p v m.place m.at rest
 
--- What the local mark may still cost: the step count may go on from here, and from the mark.
-pub record LocalRest (mode : Mode) (p v : List ℕ) (ts : List Token) (j rest s n place at : ℕ) : Type 0 where
-  pub tokens : List Token
-  pub read : From mode p place tokens
+-- What the local mark may still cost: the count may go on from here, and from the mark.
+pub record LocalRest (kind : Counted) (mode : Mode) (p v : List ℕ) (xs : List Piece) (j rest s n place at : ℕ) : Type 0 where
+  pub pieces : List Piece
+  pub read : PiecesFrom mode p place pieces
   pub inside : at ≤ length v
-  pub later : cost mode v tokens (next_component mode v at) ≤ rest
-  pub here : s + cost mode v ts j + rest ≤ n + cost mode v ts (next_component mode v j)
-  pub back : s + cost mode v tokens at + stretch mode ts + next_component mode v at + rest
-      ≤ n + stretch mode tokens + cost mode v tokens (next_component mode v at) + at
+  pub later : cost kind mode v pieces (next_component mode v at) ≤ rest
+  pub here : s + cost kind mode v xs j + rest ≤ n + cost kind mode v xs (next_component mode v j)
+  pub back : s + cost kind mode v pieces at + stretch kind mode xs + move kind * next_component mode v at + rest
+      ≤ n + stretch kind mode pieces + cost kind mode v pieces (next_component mode v at) + move kind * at
 
-abbrev pub WithinRest : Mode → List ℕ → List ℕ → List Token → ℕ → ℕ → ℕ → ℕ → Option Mark → Type 0
-WithinRest mode p v ts j rest s n None = Unit {0}
-WithinRest mode p v ts j rest s n (Some m) = LocalRest mode p v ts j rest s n m.place m.at
+abbrev pub WithinRest : Counted → Mode → List ℕ → List ℕ → List Piece → ℕ → ℕ → ℕ → ℕ → Option Mark → Type 0
+WithinRest kind mode p v xs j rest s n None = Unit {0}
+WithinRest kind mode p v xs j rest s n (Some m) = LocalRest kind mode p v xs j rest s n m.place m.at
 
--- After s steps the engine stands here, and it will take no more than n in all.
-pub record Owes (mode : Mode) (p v : List ℕ) (i j : ℕ) (c : Crossing) (l : Option Mark) (s n : ℕ) : Type 0 where
-  pub tokens : List Token
-  pub read : From mode p i tokens
+-- After a count of s the engine stands here, and it will count no more than n in all.
+pub record Owes (kind : Counted) (mode : Mode) (p v : List ℕ) (i j : ℕ) (c : Crossing) (l : Option Mark) (s n : ℕ) : Type 0 where
+  pub pieces : List Piece
+  pub read : PiecesFrom mode p i pieces
   pub rest : ℕ
-  pub crossing : CrossingRest mode p v c rest
-  pub later : cost mode v tokens (next_component mode v j) ≤ rest
-  pub here : s + cost mode v tokens j + rest ≤ n + cost mode v tokens (hop mode v tokens j)
-  pub local : WithinRest mode p v tokens j rest s n l
+  pub crossing : CrossingRest kind mode p v c rest
+  pub later : cost kind mode v pieces (next_component mode v j) ≤ rest
+  pub here : s + cost kind mode v pieces j + rest ≤ n + cost kind mode v pieces (hop mode v pieces j)
+  pub local : WithinRest kind mode p v pieces j rest s n l
 
-pub record Allows (mode : Mode) (p v : List ℕ) (i j : ℕ) (c : Crossing) (l : Option Mark) (s n : ℕ) : Type 0 where
-  pub all : (ts : List Token) → Tokens mode p ts → Owes mode p v i j c l s n
+pub record Allows (kind : Counted) (mode : Mode) (p v : List ℕ) (i j : ℕ) (c : Crossing) (l : Option Mark) (s n : ℕ) : Type 0 where
+  pub all : (xs : List Piece) → PiecesFrom mode p 0 xs → Owes kind mode p v i j c l s n
 
-abbrev pub AllowsAt : Mode → List ℕ → List ℕ → State → ℕ → ℕ → Type 0
-AllowsAt mode p v state s n = Allows mode p v state.place state.at state.crossing state.local s n
+abbrev pub AllowsAt : Counted → Mode → List ℕ → List ℕ → State → ℕ → ℕ → Type 0
+AllowsAt kind mode p v state s n = Allows kind mode p v state.place state.at state.crossing state.local s n
 
--- After s steps the crossing mark alone is left, and n are enough.
-pub record OwesLeft (mode : Mode) (p v : List ℕ) (c : Crossing) (s n : ℕ) : Type 0 where
+-- After a count of s the crossing mark alone is left, and n are enough.
+pub record OwesLeft (kind : Counted) (mode : Mode) (p v : List ℕ) (c : Crossing) (s n : ℕ) : Type 0 where
   pub rest : ℕ
-  pub crossing : CrossingRest mode p v c rest
+  pub crossing : CrossingRest kind mode p v c rest
   pub enough : s + rest ≤ n
 
-pub record AllowsLeft (mode : Mode) (p v : List ℕ) (c : Crossing) (s n : ℕ) : Type 0 where
-  pub all : (ts : List Token) → Tokens mode p ts → OwesLeft mode p v c s n
+pub record AllowsLeft (kind : Counted) (mode : Mode) (p v : List ℕ) (c : Crossing) (s n : ℕ) : Type 0 where
+  pub all : (xs : List Piece) → PiecesFrom mode p 0 xs → OwesLeft kind mode p v c s n
 
--- One step ago the engine stood here, and n are enough.
-pub record AllowsMissed (mode : Mode) (p v : List ℕ) (state : State) (s n : ℕ) : Type 0 where
+-- A test at place i of the pattern, or at its end, took the count from s to r at most.
+pub record Tested (kind : Counted) (mode : Mode) (p : List ℕ) (i s r : ℕ) : Type 0 where
+  pub high : (xs : List Piece) → PiecesFrom mode p i xs → r ≤ s + trial kind xs
+
+-- One test ago the engine stood here, and n are enough.
+pub record Missed (kind : Counted) (mode : Mode) (p v : List ℕ) (i j : ℕ) (c : Crossing) (l : Option Mark) (s n : ℕ) : Type 0 where
   pub before : ℕ
-  pub one : s ≡ before + 1
-  pub allows : AllowsAt mode p v state before n
+  pub tested : Tested kind mode p i before s
+  pub allows : Allows kind mode p v i j c l before n
 
--- What a turn, and going back to a mark, leave of the steps.
-abbrev pub AllowsOutcome : Mode → List ℕ → List ℕ → Turn → ℕ → ℕ → Type 0
-AllowsOutcome mode p v turn.Match s n = s ≤ n
-AllowsOutcome mode p v turn.NoMatch s n = s ≤ n
-AllowsOutcome mode p v (turn.Miss state) s n = AllowsMissed mode p v state s n
-AllowsOutcome mode p v (turn.On next) s n = AllowsAt mode p v next s n
+abbrev pub AllowsMissed : Counted → Mode → List ℕ → List ℕ → State → ℕ → ℕ → Type 0
+AllowsMissed kind mode p v state s n = Missed kind mode p v state.place state.at state.crossing state.local s n
+
+-- What a turn, and going back to a mark, leave of the budget.
+abbrev pub AllowsOutcome : Counted → Mode → List ℕ → List ℕ → Turn → ℕ → ℕ → Type 0
+AllowsOutcome kind mode p v turn.Match s n = s ≤ n
+AllowsOutcome kind mode p v turn.NoMatch s n = s ≤ n
+AllowsOutcome kind mode p v (turn.Miss state) s n = AllowsMissed kind mode p v state s n
+AllowsOutcome kind mode p v (turn.On next) s n = AllowsAt kind mode p v next s n
 
 abbrev pub CountsOutcome : Turn → ℕ → ℕ → Type 0
 CountsOutcome turn.Match before after = Unit {0}
@@ -119,10 +97,10 @@ CountsOutcome turn.NoMatch before after = Unit {0}
 CountsOutcome (turn.Miss state) before after = before < after
 CountsOutcome (turn.On next) before after = before < after
 
-abbrev pub AllowsResumed : Mode → List ℕ → List ℕ → Option State → ℕ → ℕ → Type 0
-AllowsResumed mode p v None s n = s ≤ n
-AllowsResumed mode p v (Some next) s n = AllowsAt mode p v next s n
+abbrev pub AllowsResumed : Counted → Mode → List ℕ → List ℕ → Option State → ℕ → ℕ → Type 0
+AllowsResumed kind mode p v None s n = s ≤ n
+AllowsResumed kind mode p v (Some next) s n = AllowsAt kind mode p v next s n
 
-abbrev pub AllowsWithin : Mode → List ℕ → List ℕ → Crossing → Option State → ℕ → ℕ → Type 0
-AllowsWithin mode p v c None s n = AllowsLeft mode p v c s n
-AllowsWithin mode p v c (Some next) s n = AllowsAt mode p v next s n
+abbrev pub AllowsWithin : Counted → Mode → List ℕ → List ℕ → Crossing → Option State → ℕ → ℕ → Type 0
+AllowsWithin kind mode p v c None s n = AllowsLeft kind mode p v c s n
+AllowsWithin kind mode p v c (Some next) s n = AllowsAt kind mode p v next s n

@@ -1,12 +1,14 @@
 -- What the engine with two marks looks for from a mark: the byte that follows a star in the pattern, or the pattern's end.
 -- Nothing public cites it.
-use Rattle.std.specs.Prelude.{◌≡◌, ◌≢◌, ℕ, ◌+◌, ◌*◌, ◌<◌, ◌≤◌, true, false, List, length, slice_index}
+use Rattle.std.specs.Prelude.{◌≡◌, ◌≢◌, ℕ, ◌+◌, ◌-◌, ◌*◌, ◌<◌, ◌≤◌, true, false, List, length, slice_index}
 use Rattle.glob_matcher.specs.declared.wildmatch.mode.Mode.{Mode}
 use Rattle.glob_matcher.specs.declared.wildmatch.engine.Mark.{Mark}
 use Rattle.glob_matcher.specs.declared.wildmatch.needle.Follow.{Follow}
 use Rattle.glob_matcher.specs.declared.wildmatch.needle.Follow.TheVariants as follow
 use Rattle.glob_matcher.specs.declared.wildmatch.scan.Scan.{Scan}
 use Rattle.glob_matcher.specs.declared.wildmatch.scan.Scan.TheVariants as scan
+use Rattle.glob_matcher.specs.Steps.{Counts}
+use Rattle.glob_matcher.specs.Private.Took.{Took}
 use Rattle.glob_matcher.specs.Bytes.{HasByte, StandsForItself, folds, slash}
 
 -- this follows at place i of the pattern
@@ -46,10 +48,14 @@ MovesBy count at (scan.Found m) = Unit {0}
 MovesBy count at (scan.Blocked m) = Unit {0}
 MovesBy count at (scan.Undecided m) = m.at ≡ at + count
 
--- a scan from a mark, and the count of its steps: two for each byte that was passed
-pub record IsScan (v : List ℕ) (P : ℕ → Type 0) (from : Mark) (s : Scan) (before after : ℕ) : Type 0 where
+-- how many steps a scan takes: two for each byte that was passed
+abbrev pub scan_steps : Mark → Scan → ℕ
+scan_steps from s = 2 * ((reached_by s).at - from.at) + last_steps s
+
+-- a scan from a mark, and what it takes: each step looks at one byte
+pub record IsScan (v : List ℕ) (P : ℕ → Type 0) (from : Mark) (s : Scan) (before after : Counts) : Type 0 where
   pub meaning : HasScanned v P from s
-  pub count : after + 2 * from.at ≡ before + 2 * (reached_by s).at + last_steps s
+  pub took : Took before after (scan_steps from s) (scan_steps from s)
 
 -- the scan was not stopped by a slash
 abbrev pub IsUnblocked : Scan → Type 0

@@ -1,6 +1,6 @@
 -- What the functions of the engine with two marks say of its state to one another: a match is found here, or at a later place
 -- of a mark. Nothing public cites it.
-use Rattle.std.specs.Prelude.{◌≡◌, ◌⊎◌, ℕ, ◌+◌, ◌-◌, ◌*◌, ◌<◌, ◌≤◌, false, IsTrue, List, length, slice_index, Option, Some, None}
+use Rattle.std.specs.Prelude.{◌≡◌, ◌⊎◌, ℕ, ◌+◌, ◌-◌, ◌<◌, ◌≤◌, false, IsTrue, List, length, slice_index, Option, Some, None}
 use Rattle.glob_matcher.specs.declared.wildmatch.mode.Mode.{Mode}
 use Rattle.glob_matcher.specs.declared.wildmatch.engine.Mark.{Mark}
 use Rattle.glob_matcher.specs.declared.wildmatch.state.Crossing.{Crossing}
@@ -14,8 +14,10 @@ use Rattle.glob_matcher.specs.declared.wildmatch.scan.Scan.TheVariants as scan
 use Rattle.glob_matcher.specs.Tokens.{Token, Byte, TokenAt, IsAfterSlash}
 use Rattle.glob_matcher.specs.Matching.{Splits, SplitsFrom}
 use Rattle.glob_matcher.specs.Private.Reader.{Fits, AfterSlash}
-use Rattle.glob_matcher.specs.Private.Scans.{last_steps, reached_by}
+use Rattle.glob_matcher.specs.Private.Scans.{reached_by, scan_steps}
 use Rattle.glob_matcher.specs.Private.Components.{separates, next_component}
+use Rattle.glob_matcher.specs.Private.Took.{Took}
+use Rattle.glob_matcher.specs.Steps.{Counts}
 
 -- A later success of a mark: from a place past it, the rest of the pattern splits the rest of the value.
 pub record LaterFree (mode : Mode) (p v : List ℕ) (place at : ℕ) : Type 0 where
@@ -144,14 +146,15 @@ IsMet mode p v (scan.Found m) =
 IsMet mode p v (scan.Blocked m) = (m.at < length v) × (slice_index v m.at ≡ slash) × ¬ SplitsFrom v m.at p m.place mode
 IsMet mode p v (scan.Undecided m) = Unit {0}
 
--- A scan from a mark: at no place before the one it has come to does the rest of the pattern split the rest of the value.
-pub record IsScanFor (mode : Mode) (p v : List ℕ) (from : Mark) (s : Scan) (before after : ℕ) : Type 0 where
+-- A scan from a mark: at no place before the one it has come to does the rest of the pattern split the rest of the value. Beside
+-- its steps it looks at the byte after the star.
+pub record IsScanFor (mode : Mode) (p v : List ℕ) (from : Mark) (s : Scan) (before after : Counts) : Type 0 where
   pub same : (reached_by s).place ≡ from.place
   pub low : from.at ≤ (reached_by s).at
   pub inside : (reached_by s).at ≤ length v
   pub missed : (k : ℕ) → from.at ≤ k → k < (reached_by s).at → ¬ SplitsFrom v k p from.place mode
   pub met : IsMet mode p v s
-  pub count : after + 2 * from.at ≡ before + 2 * (reached_by s).at + last_steps s
+  pub took : Took before after (scan_steps from s) (scan_steps from s + 1)
 
 -- a mark is moved to the next place after a slash
 pub record IsNextDirectory (v : List ℕ) (from to : Mark) : Type 0 where

@@ -1,7 +1,7 @@
 //! The turns of the engine with two marks: the token at a place of the pattern is tested at a place of the value, and after a
 //! literal byte the ones that follow it, up to a slash.
-ghost use Rattle.std.specs.Prelude.{◌≡◌, ◌≢◌, ◌<◌, ◌≤◌, false, length, slice_index};
-ghost use Rattle.glob_matcher.specs.Bytes.{StandsForItself, slash};
+ghost use Rattle.std.specs.Prelude.{◌≡◌, ◌≢◌, ◌-◌, ◌*◌, ◌<◌, ◌≤◌, false, length, slice_index};
+ghost use Rattle.glob_matcher.specs.Bytes.{HasByte, StandsForItself, open_bracket, slash};
 ghost use Rattle.glob_matcher.specs.Tokens.{FreeAt, LocalAt, DirsAt};
 ghost use Rattle.glob_matcher.specs.Private.Reader.{IsToken, is_star};
 ghost use Rattle.glob_matcher.specs.Private.States.{StandsAt};
@@ -13,17 +13,18 @@ use super::state::{Crossing, State, Turn};
 use super::tokens::Shape;
 use std::sync::ledger::Ledger;
 
-impl<'s, 'a, L: Ledger, M: Match> Engine<'s, 'a, L, M> {
-    /// A turn at a question mark, a set or an escaped byte.
+impl<'c, 'a, S: Ledger, L: Ledger, M: Match> Engine<'c, 'a, S, L, M> {
+    /// A turn at a question mark or an escaped byte.
     #[inline(always)]
     fn single_turn(&mut self, state: State, shape: Shape, after: usize) -> Turn
         requires stands { StandsAt M.mode M.pattern M.value state }
         requires token { IsToken M.mode M.pattern state.place shape after }
         requires single { is_star shape ≡ false }
+        requires other { shape ≢ Shape.Set }
         requires place { state.place < length M.pattern }
-        ensures { IsTurn M.mode M.pattern M.value state result self.old self.new }
+        ensures { IsTurn M.mode M.pattern M.value state (8 * (after - state.place) - 1) result self.old self.new }
     {
-        if !self.takes(shape, state.place, state.at) {
+        if !self.takes(shape, state.at) {
             return Turn::Miss(state);
         }
         let next = State {
@@ -40,6 +41,26 @@ impl<'s, 'a, L: Ledger, M: Match> Engine<'s, 'a, L, M> {
         Turn::On(next)
     }
 
+    /// A turn at a set, or at a bracket that begins none.
+    #[inline(always)]
+    fn set_turn(&mut self, state: State) -> Turn
+        requires stands { StandsAt M.mode M.pattern M.value state }
+        requires bracket { HasByte M.pattern state.place open_bracket }
+        ensures { IsTurn M.mode M.pattern M.value state 1 result self.old self.new }
+    {
+        let Some((after, takes)) = self.takes_set(state.place, state.at) else {
+            return Turn::NoMatch;
+        };
+        if !takes {
+            return Turn::Miss(state);
+        }
+        Turn::On(State {
+            place: after,
+            at: state.at + 1,
+            ..state
+        })
+    }
+
     /// A turn at a run of stars that crosses slashes: both marks are forgotten, and one is set. At the pattern's end it takes
     /// the rest of the value.
     #[inline(always)]
@@ -47,7 +68,7 @@ impl<'s, 'a, L: Ledger, M: Match> Engine<'s, 'a, L, M> {
         requires stands { StandsAt M.mode M.pattern M.value state }
         requires token { FreeAt M.mode M.pattern state.place after }
         requires inside { after ≤ length M.pattern }
-        ensures { IsTurn M.mode M.pattern M.value state result self.old self.new }
+        ensures { IsTurn M.mode M.pattern M.value state (8 * (after - state.place) - 4) result self.old self.new }
     {
         if after == self.pattern_len() {
             return Turn::Match;
@@ -67,7 +88,7 @@ impl<'s, 'a, L: Ledger, M: Match> Engine<'s, 'a, L, M> {
         requires stands { StandsAt M.mode M.pattern M.value state }
         requires token { DirsAt M.mode M.pattern state.place after }
         requires inside { after ≤ length M.pattern }
-        ensures { IsTurn M.mode M.pattern M.value state result self.old self.new }
+        ensures { IsTurn M.mode M.pattern M.value state (8 * (after - state.place) - 4) result self.old self.new }
     {
         let mark = self.set_mark(after, state.at);
         Turn::On(State {
@@ -84,7 +105,7 @@ impl<'s, 'a, L: Ledger, M: Match> Engine<'s, 'a, L, M> {
         requires stands { StandsAt M.mode M.pattern M.value state }
         requires token { LocalAt M.mode M.pattern state.place after }
         requires inside { after ≤ length M.pattern }
-        ensures { IsTurn M.mode M.pattern M.value state result self.old self.new }
+        ensures { IsTurn M.mode M.pattern M.value state (8 * (after - state.place) - 4) result self.old self.new }
     {
         let mark = self.set_mark(after, state.at);
         Turn::On(State {
@@ -94,12 +115,13 @@ impl<'s, 'a, L: Ledger, M: Match> Engine<'s, 'a, L, M> {
         })
     }
 
-    /// A turn at a star, a question mark, a set or an escape.
+    /// A turn at a star, a question mark or an escape.
     #[inline(always)]
     fn special_turn(&mut self, state: State) -> Turn
         requires stands { StandsAt M.mode M.pattern M.value state }
         requires place { state.place < length M.pattern }
-        ensures { IsTurn M.mode M.pattern M.value state result self.old self.new }
+        requires other { slice_index M.pattern state.place ≢ open_bracket }
+        ensures { IsTurn M.mode M.pattern M.value state 1 result self.old self.new }
     {
         let (shape, after) = self.token_at(state.place);
         match shape {
@@ -117,7 +139,7 @@ impl<'s, 'a, L: Ledger, M: Match> Engine<'s, 'a, L, M> {
         requires stands { StandsAt M.mode M.pattern M.value state }
         requires place { state.place < length M.pattern }
         requires is { slice_index M.pattern state.place ≡ slash }
-        ensures { IsTurn M.mode M.pattern M.value state result self.old self.new }
+        ensures { IsTurn M.mode M.pattern M.value state 1 result self.old self.new }
     {
         if !self.has(state.at, b'/') {
             return Turn::Miss(state);
@@ -137,7 +159,7 @@ impl<'s, 'a, L: Ledger, M: Match> Engine<'s, 'a, L, M> {
         requires place { state.place < length M.pattern }
         requires literal { StandsForItself (slice_index M.pattern state.place) }
         requires other { slice_index M.pattern state.place ≢ slash }
-        ensures { IsTurn M.mode M.pattern M.value state result self.old self.new }
+        ensures { IsTurn M.mode M.pattern M.value state 1 result self.old self.new }
     {
         let mut place = state.place;
         let mut at = state.at;
@@ -160,7 +182,7 @@ impl<'s, 'a, L: Ledger, M: Match> Engine<'s, 'a, L, M> {
     #[inline(always)]
     pub fn take_turn(&mut self, state: State) -> Turn
         requires { StandsAt M.mode M.pattern M.value state }
-        ensures { IsTurn M.mode M.pattern M.value state result self.old self.new }
+        ensures { IsTurn M.mode M.pattern M.value state 0 result self.old self.new }
     {
         if state.place >= self.pattern_len() {
             if self.ends_at(state.at) {
@@ -172,9 +194,12 @@ impl<'s, 'a, L: Ledger, M: Match> Engine<'s, 'a, L, M> {
         if byte == b'/' {
             return self.slash_turn(state);
         }
-        if !stands_for_itself(byte) {
-            return self.special_turn(state);
+        if stands_for_itself(byte) {
+            return self.literal_turns(state);
         }
-        self.literal_turns(state)
+        if byte == b'[' {
+            return self.set_turn(state);
+        }
+        self.special_turn(state)
     }
 }

@@ -1,8 +1,10 @@
 //! The ways back to a mark, where a token does not fit: to the local mark if it can move, else to the crossing one.
-ghost use Rattle.std.specs.Prelude.{◌≡◌, ◌≢◌, ◌+◌, ◌<◌, ◌≤◌, IfSome, IfNone, None, Some, length, slice_index};
+ghost use Rattle.std.specs.Prelude.{◌≡◌, ◌≢◌, ◌+◌, ◌-◌, ◌<◌, ◌≤◌, IfSome, IfNone, None, Some, length, slice_index};
 ghost use Rattle.glob_matcher.specs.Bytes.{NoSlash, slash};
 ghost use Rattle.glob_matcher.specs.Private.Scans.{IsUnblocked, reached_by};
 ghost use Rattle.glob_matcher.specs.Private.States.{IsLeft, IsMissed, IsNextDirectory, IsScanFor};
+ghost use Rattle.glob_matcher.specs.Private.Took.{Took};
+ghost use Rattle.glob_matcher.specs.Private.Prices.{counted};
 ghost use Rattle.glob_matcher.specs.Private.Budget.{AllowsLeft, AllowsMissed};
 ghost use Rattle.glob_matcher.specs.Private.Turns.{IsBacktrack, IsBacktrackWithin};
 
@@ -12,14 +14,14 @@ use super::scan::Scan;
 use super::state::{Crossing, State};
 use std::sync::ledger::Ledger;
 
-impl<'s, 'a, L: Ledger, M: Match> Engine<'s, 'a, L, M> {
+impl<'c, 'a, S: Ledger, L: Ledger, M: Match> Engine<'c, 'a, S, L, M> {
     /// Moves a mark to the next place after a slash.
     #[inline(always)]
     fn next_directory(&mut self, mark: Mark) -> Option<Mark>
         ensures moved { IfSome result (λ m. IsNextDirectory M.value mark m) }
-        ensures moves { IfSome result (λ m. self.new + mark.at ≡ self.old + m.at) }
+        ensures moves { IfSome result (λ m. Took self.old self.new (m.at - mark.at) (m.at - mark.at)) }
         ensures unable { IfNone result (NoSlash M.value mark.at (length M.value)) }
-        ensures count { IfNone result (mark.at ≤ length M.value → self.new + mark.at ≡ self.old + length M.value + 1) }
+        ensures count { IfNone result (mark.at ≤ length M.value → Took self.old self.new (length M.value + 1 - mark.at) (length M.value + 1 - mark.at)) }
     {
         let mut reached = mark;
         'bytes: while let Some((moved, byte)) = self.pass(reached) {
@@ -67,7 +69,7 @@ impl<'s, 'a, L: Ledger, M: Match> Engine<'s, 'a, L, M> {
     #[inline(always)]
     fn back_to_free(&mut self, mark: Mark) -> Option<State>
         requires { IsLeft M.mode M.pattern M.value (Crossing.Free mark) }
-        ensures { IsBacktrack M.mode M.pattern M.value (AllowsLeft M.mode M.pattern M.value (Crossing.Free mark) self.old) result self.old self.new }
+        ensures { IsBacktrack M.mode M.pattern M.value (λ kind. AllowsLeft kind M.mode M.pattern M.value (Crossing.Free mark) (counted kind self.old)) result self.old self.new }
     {
         let Some((moved, _)) = self.pass(mark) else {
             return None;
@@ -93,7 +95,7 @@ impl<'s, 'a, L: Ledger, M: Match> Engine<'s, 'a, L, M> {
     #[inline(always)]
     fn back_to_crossing(&mut self, crossing: Crossing) -> Option<State>
         requires { IsLeft M.mode M.pattern M.value crossing }
-        ensures { IsBacktrack M.mode M.pattern M.value (AllowsLeft M.mode M.pattern M.value crossing self.old) result self.old self.new }
+        ensures { IsBacktrack M.mode M.pattern M.value (λ kind. AllowsLeft kind M.mode M.pattern M.value crossing (counted kind self.old)) result self.old self.new }
     {
         match crossing {
             Crossing::Unmet => None,
@@ -112,10 +114,11 @@ impl<'s, 'a, L: Ledger, M: Match> Engine<'s, 'a, L, M> {
 
     /// The local mark once the byte after its star is matched: where that is a slash, the mark is forgotten.
     #[inline(always)]
-    fn local_past(&self, mark: Mark) -> Option<Mark>
+    fn local_past(&mut self, mark: Mark) -> Option<Mark>
         requires { mark.place < length M.pattern }
         ensures forgotten { slice_index M.pattern mark.place ≡ slash → result ≡ None }
         ensures kept { slice_index M.pattern mark.place ≢ slash → result ≡ Some mark }
+        ensures count { Took self.old self.new 0 1 }
     {
         if self.pattern_byte(mark.place()) == b'/' {
             None
@@ -157,7 +160,7 @@ impl<'s, 'a, L: Ledger, M: Match> Engine<'s, 'a, L, M> {
     #[inline(always)]
     pub fn backtrack(&mut self, state: State) -> Option<State>
         requires { IsMissed M.mode M.pattern M.value state }
-        ensures { IsBacktrack M.mode M.pattern M.value (AllowsMissed M.mode M.pattern M.value state self.old) result self.old self.new }
+        ensures { IsBacktrack M.mode M.pattern M.value (λ kind. AllowsMissed kind M.mode M.pattern M.value state (counted kind self.old)) result self.old self.new }
     {
         match self.back_to_local(state) {
             Some(next) => Some(next),

@@ -1,23 +1,29 @@
-//! One match as the engine with two marks sees it: its pattern, its value, its mode and the count of its steps, as one value.
+//! One match as the engine with two marks sees it: its pattern, its value, its mode and the counts of what it takes, as one
+//! value.
 //!
-//! The bytes of the value are read by the methods of this module alone, and each that reads one counts one step. So no other
-//! module can read the value without a step, or count in another place. `holds` looks at the length alone, and counts none.
-ghost use Rattle.std.specs.Prelude.{◌≡◌, ◌≢◌, ◌↔◌, ◌⊎◌, ℕ, ◌+◌, ◌-◌, ◌^◌, ◌<◌, ◌≤◌, IsTrue, IfSome, IfNone, length, slice_index};
-ghost use Rattle.glob_matcher.specs.Bytes.{StandsForItself, slash};
-ghost use Rattle.glob_matcher.specs.Tokens.{Token, Byte, TokenAt};
-ghost use Rattle.glob_matcher.specs.Private.Reader.{IsToken, shape_of, Fits};
-ghost use Rattle.glob_matcher.specs.Private.Scans.{Follows};
+//! The bytes of the value are read by the methods of this module alone, and each that reads one counts one step and one look.
+//! So no other module can read the value without a step, or count in another place. `holds` looks at the length alone, and
+//! counts none.
+ghost use Rattle.std.specs.Prelude.{◌≡◌, ◌≢◌, ◌↔◌, ◌⊎◌, ℕ, ◌+◌, ◌-◌, ◌^◌, ◌<◌, ◌≤◌, IsTrue, IfSome, IfNone, [], length, slice_index, slice_range, take};
+ghost use Rattle.glob_matcher.specs.declared.wildmatch.sets.Class.{Class};
+ghost use Rattle.glob_matcher.specs.Bytes.{HasByte, open_bracket, slash};
+ghost use Rattle.glob_matcher.specs.Sets.{Set, SetAt, name_of};
+ghost use Rattle.glob_matcher.specs.Tokens.{Token, Byte};
+ghost use Rattle.glob_matcher.specs.Private.Reader.{shape_of, Fits, IsSetTested};
 ghost use Rattle.glob_matcher.specs.Matching.{Splits};
-ghost use Rattle.glob_matcher.specs.Steps.{step_limit};
+ghost use Rattle.glob_matcher.specs.Private.Looks.{LookedOver, IsSetPaid};
+ghost use Rattle.glob_matcher.specs.Private.Took.{Took};
+ghost use Rattle.glob_matcher.specs.Steps.{look_limit, step_limit};
 
+use super::counts::Counts;
 use super::mode::Mode;
-use super::needle::{Follow, Needle, follow_at};
-use super::steps::Steps;
-use super::tokens::{Shape, token_at};
+use super::needle::Needle;
+use super::sets::Class;
+use super::tokens::Shape;
 use std::marker::{Brand, Model, PhantomData};
 use std::sync::ledger::Ledger;
 
-/// One match, which contracts alone name: its texts, its mode, and the reference to the count of its steps.
+/// One match, which contracts alone name: its texts, its mode, and the reference to its counts.
 pub trait Match {
     ghost use Rattle.std.specs.Prelude.{ℕ, ◌<◌, ◌^◌, List, length};
     ghost use Rattle.glob_matcher.specs.declared.wildmatch.mode.Mode.{Mode};
@@ -28,7 +34,7 @@ pub trait Match {
 
     ghost mode: { Mode };
 
-    ghost count: { ℕ };
+    ghost counts: { ℕ };
 
     ghost short_pattern: { length pattern < 2 ^ 64 };
 
@@ -45,31 +51,32 @@ impl Match for Brand {
 
     ghost mode = { record { 0 = 0 } };
 
-    ghost count = { 0 };
+    ghost counts = { 0 };
 
     ghost short_pattern = { Prim.omega arith };
 
     ghost short_value = { Prim.omega arith };
 }
 
-/// A match and the count of its steps. Contracts see the count alone, and the match by its type.
+/// A match and its counts. Contracts see the counts alone, and the match by its type.
 #[derive(Drop)]
-pub struct Engine<'s, 'a, L: Ledger, M: Match> {
+pub struct Engine<'c, 'a, S: Ledger, L: Ledger, M: Match> {
     pattern: &'a [u8],
     value: &'a [u8],
     mode: Mode,
-    steps: &'s mut Steps<L>,
+    counts: &'c mut Counts<S, L>,
     of: PhantomData<M>,
 }
 
-impl<'s, 'a, L: Ledger, M: Match> Model for Engine<'s, 'a, L, M> {
-    ghost use Rattle.std.specs.Prelude.{◌≡◌, ℕ};
+impl<'c, 'a, S: Ledger, L: Ledger, M: Match> Model for Engine<'c, 'a, S, L, M> {
+    ghost use Rattle.std.specs.Prelude.{◌≡◌};
+    ghost use Rattle.glob_matcher.specs.Steps.{Counts};
 
-    ghost Value = { ℕ };
+    ghost Value = { Counts };
 
-    ghost view = { λ e. e.steps.now };
+    ghost view = { λ e. e.counts.now };
 
-    ghost invariant = { λ e. (e.pattern.now ≡ M.pattern) × (e.value.now ≡ M.value) × (e.mode ≡ M.mode) × (e.steps.ghost_name ≡ M.count) };
+    ghost invariant = { λ e. (e.pattern.now ≡ M.pattern) × (e.value.now ≡ M.value) × (e.mode ≡ M.mode) × (e.counts.ghost_name ≡ M.counts) };
 }
 
 /// The mark of a star token: where the pattern goes on after the token, and the place of the value up to which it takes
@@ -98,7 +105,7 @@ impl Mark {
     }
 }
 
-impl<'s, 'a, L: Ledger, M: Match> Engine<'s, 'a, L, M> {
+impl<'c, 'a, S: Ledger, L: Ledger, M: Match> Engine<'c, 'a, S, L, M> {
     /// How many bytes the pattern has.
     #[inline(always)]
     pub fn pattern_len(&self) -> usize
@@ -107,41 +114,59 @@ impl<'s, 'a, L: Ledger, M: Match> Engine<'s, 'a, L, M> {
         self.pattern.len()
     }
 
-    /// The byte at a place of the pattern.
+    /// How bytes are compared.
     #[inline(always)]
-    pub fn pattern_byte(&self, place: usize) -> u8
-        requires { place < length M.pattern }
-        ensures { result ≡ slice_index M.pattern place }
+    pub fn mode(&self) -> Mode
+        ensures { result ≡ M.mode }
     {
+        self.mode
+    }
+
+    /// Looks at the byte at a place of the pattern; `None` past its end, where there is nothing to look at.
+    #[inline(always)]
+    pub fn look_at(&mut self, place: usize) -> Option<u8>
+        ensures here { IfSome result (λ byte. HasByte M.pattern place byte) }
+        ensures end { IfNone result (length M.pattern ≤ place) }
+        ensures count { Took self.old self.new 0 1 }
+        ensures free { IfNone result (Took self.old self.new 0 0) }
+    {
+        if place >= self.pattern.len() {
+            return None;
+        }
+        self.counts.look();
+        Some(self.pattern[place])
+    }
+
+    /// Looks at the byte at a place inside the pattern.
+    #[inline(always)]
+    pub fn pattern_byte(&mut self, place: usize) -> u8
+        requires { place < length M.pattern }
+        ensures here { result ≡ slice_index M.pattern place }
+        ensures count { Took self.old self.new 0 1 }
+    {
+        self.counts.look();
         self.pattern[place]
     }
 
-    /// The token at a place of the pattern, and the place after it.
-    #[inline(always)]
-    pub fn token_at(&self, place: usize) -> (Shape, usize)
-        requires { place < length M.pattern }
-        ensures { IsToken M.mode M.pattern place result.0 result.1 }
+    /// Looks at each byte from one place of the pattern up to another: the class that they name.
+    pub fn class_named(&mut self, from: usize, to: usize) -> Option<Class>
+        requires order { from ≤ to }
+        requires inside { to ≤ length M.pattern }
+        ensures found { IfSome result (λ class. slice_range M.pattern from to ≡ name_of class) }
+        ensures none { IfNone result ((class : Class) → ¬ (slice_range M.pattern from to ≡ name_of class)) }
+        ensures count { LookedOver 1 self.old self.new from to }
     {
-        token_at(self.pattern, place, self.mode)
-    }
-
-    /// What follows at a place of the pattern; `None` where it is a token of another kind.
-    #[inline(always)]
-    pub fn follow_at(&self, place: usize) -> Option<Follow>
-        requires { place ≤ length M.pattern }
-        ensures follows { IfSome result (λ follow. Follows M.mode M.pattern place follow) }
-        ensures other { IfNone result ((place < length M.pattern) × ¬ StandsForItself (slice_index M.pattern place)) }
-    {
-        follow_at(self.pattern, place, self.mode)
+        self.counts.looks(to - from);
+        Class::named(&self.pattern[from..to])
     }
 
     /// Tests the pattern's end: whether the value ends at this place, too.
     #[inline(always)]
     pub fn ends_at(&mut self, at: usize) -> bool
         ensures answer { IsTrue result ↔ (length M.value ≤ at) }
-        ensures count { self.new ≡ self.old + 1 }
+        ensures count { Took self.old self.new 1 0 }
     {
-        self.steps.tick();
+        self.counts.step();
         at >= self.value.len()
     }
 
@@ -149,9 +174,9 @@ impl<'s, 'a, L: Ledger, M: Match> Engine<'s, 'a, L, M> {
     #[inline(always)]
     pub fn has(&mut self, at: usize, wanted: u8) -> bool
         ensures answer { IsTrue result ↔ ((at < length M.value) × Fits M.mode (Byte wanted) (slice_index M.value at)) }
-        ensures count { self.new ≡ self.old + 1 }
+        ensures count { Took self.old self.new 1 1 }
     {
-        self.steps.tick();
+        self.counts.step_with_look();
         at < self.value.len() && self.mode.fold(self.value[at]) == self.mode.fold(wanted)
     }
 
@@ -159,23 +184,42 @@ impl<'s, 'a, L: Ledger, M: Match> Engine<'s, 'a, L, M> {
     #[inline(always)]
     pub fn ends_in(&mut self, wanted: u8) -> bool
         ensures answer { IsTrue result ↔ ((0 < length M.value) × Fits M.mode (Byte wanted) (slice_index M.value (length M.value - 1))) }
-        ensures count { self.new ≡ self.old + 1 }
+        ensures count { Took self.old self.new 1 1 }
     {
-        self.steps.tick();
+        self.counts.step_with_look();
         let len = self.value.len();
         len > 0 && self.mode.fold(self.value[len - 1]) == self.mode.fold(wanted)
     }
 
-    /// Tests the token of this shape at a place of the pattern.
+    /// Tests a token of this kind, which is no set.
     #[inline(always)]
-    pub fn takes(&mut self, shape: Shape, place: usize, at: usize) -> bool
-        requires { place < length M.pattern }
-        ensures answer { (token : Token) (end : ℕ) → TokenAt M.mode M.pattern place token end → shape ≡ shape_of token
+    pub fn takes(&mut self, shape: Shape, at: usize) -> bool
+        requires { shape ≢ Shape.Set }
+        ensures answer { (token : Token) → shape ≡ shape_of token
             → IsTrue result ↔ ((at < length M.value) × Fits M.mode token (slice_index M.value at)) }
-        ensures count { self.new ≡ self.old + 1 }
+        ensures count { Took self.old self.new 1 1 }
     {
-        self.steps.tick();
-        at < self.value.len() && shape.takes(self.pattern, place, self.value[at], self.mode)
+        self.counts.step_with_look();
+        at < self.value.len() && shape.fits(self.value[at], self.mode)
+    }
+
+    /// Tests the set whose bracket stands at a place of the pattern: the place after it, and whether it takes the byte of the
+    /// value. Where the value ends, any byte will do. `None` where no set begins, which is no step.
+    #[inline(always)]
+    pub fn takes_set(&mut self, place: usize, at: usize) -> Option<(usize, bool)>
+        requires { HasByte M.pattern place open_bracket }
+        ensures found { IfSome result (λ found. IsSetTested M.mode M.pattern M.value place at found.0 found.1) }
+        ensures none { IfNone result ((set : Set) (end : ℕ) → ¬ SetAt M.pattern place set end) }
+        ensures count { IfSome result (λ found. IsSetPaid 1 self.old self.new place found.0) }
+        ensures broken { IfNone result (IsSetPaid 0 self.old self.new place (length M.pattern)) }
+    {
+        self.counts.look();
+        let byte = self.value.get(at).copied();
+        let Some((end, holds)) = self.set_at(place, byte.unwrap_or(0)) else {
+            return None;
+        };
+        self.counts.step();
+        Some((end, byte.is_some() && holds))
     }
 
     /// Sets a mark.
@@ -183,9 +227,9 @@ impl<'s, 'a, L: Ledger, M: Match> Engine<'s, 'a, L, M> {
     pub fn set_mark(&mut self, place: usize, at: usize) -> Mark
         ensures place { result.place ≡ place }
         ensures at { result.at ≡ at }
-        ensures count { self.new ≡ self.old + 1 }
+        ensures count { Took self.old self.new 1 0 }
     {
-        self.steps.tick();
+        self.counts.step();
         Mark { place, at }
     }
 
@@ -194,9 +238,9 @@ impl<'s, 'a, L: Ledger, M: Match> Engine<'s, 'a, L, M> {
     pub fn pass(&mut self, mark: Mark) -> Option<(Mark, u8)>
         ensures moved { IfSome result (λ x. (x.0.place ≡ mark.place) × (x.0.at ≡ mark.at + 1) × (mark.at < length M.value) × (slice_index M.value mark.at ≡ x.1)) }
         ensures unable { IfNone result (length M.value ≤ mark.at) }
-        ensures count { self.new ≡ self.old + 1 }
+        ensures count { Took self.old self.new 1 1 }
     {
-        self.steps.tick();
+        self.counts.step_with_look();
         if mark.at >= self.value.len() {
             return None;
         }
@@ -213,9 +257,9 @@ impl<'s, 'a, L: Ledger, M: Match> Engine<'s, 'a, L, M> {
         requires { mark.at < length M.value }
         ensures moved { IfSome result (λ x. (x.place ≡ mark.place) × (x.at ≡ mark.at + 1) × (mark.at < length M.value) × (slice_index M.value mark.at ≢ slash)) }
         ensures unable { IfNone result (slice_index M.value mark.at ≡ slash) }
-        ensures count { self.new ≡ self.old + 1 }
+        ensures count { Took self.old self.new 1 1 }
     {
-        self.steps.tick();
+        self.counts.step_with_look();
         if self.value[mark.at] == b'/' {
             return None;
         }
@@ -230,10 +274,10 @@ impl<'s, 'a, L: Ledger, M: Match> Engine<'s, 'a, L, M> {
     pub fn pass_within_or_end(&mut self, mark: Mark) -> Option<Mark>
         ensures moved { IfSome result (λ x. (x.place ≡ mark.place) × (x.at ≡ mark.at + 1) × (mark.at < length M.value) × (slice_index M.value mark.at ≢ slash)) }
         ensures unable { IfNone result ((length M.value ≤ mark.at) ⊎ (slice_index M.value mark.at ≡ slash)) }
-        ensures count { self.new ≡ self.old + 1 }
+        ensures count { Took self.old self.new 1 1 }
     {
         if mark.at >= self.value.len() {
-            self.steps.tick();
+            self.counts.step_with_look();
             return None;
         }
         self.pass_within(mark)
@@ -253,45 +297,65 @@ impl<'s, 'a, L: Ledger, M: Match> Engine<'s, 'a, L, M> {
     pub fn suits<N: Needle>(&mut self, mark: Mark, needle: N) -> bool
         requires { mark.at < length M.value }
         ensures answer { IsTrue result ↔ N.suits needle (slice_index M.value mark.at) }
-        ensures count { self.new ≡ self.old + 1 }
+        ensures count { Took self.old self.new 1 1 }
     {
-        self.steps.tick();
+        self.counts.step_with_look();
         needle.takes(self.value[mark.at])
     }
 }
 
-/// Whether the pattern matches the value, and the count of the steps that it took. An engine is made here alone.
+/// Whether the pattern matches the value, and the counts of what it took.
 #[inline(always)]
-pub fn run<'s, 'a, L: Ledger, M: Match>(
+pub fn run<'c, 'a, S: Ledger, L: Ledger, M: Match>(
     pattern: &'a [u8],
     value: &'a [u8],
     mode: Mode,
-    steps: &'s mut Steps<L>,
-) -> (bool, &'s mut Steps<L>)
+    counts: &'c mut Counts<S, L>,
+) -> (bool, &'c mut Counts<S, L>)
     requires pattern { pattern.now ≡ M.pattern }
     requires value { value.now ≡ M.value }
     requires mode { mode ≡ M.mode }
-    requires count { steps.ghost_name ≡ M.count }
+    requires counts { counts.ghost_name ≡ M.counts }
     ensures exact { IsTrue result.0 ↔ Splits value.now pattern.now mode }
-    ensures same { result.1.ghost_name ≡ steps.entry.ghost_name }
-    ensures count { result.1.now ≤ steps.old + step_limit (length pattern.now) (length value.now) }
+    ensures same { result.1.ghost_name ≡ counts.entry.ghost_name }
+    ensures steps { result.1.now.steps ≤ counts.old.steps + step_limit (length pattern.now) (length value.now) }
+    ensures looks { result.1.now.looks ≤ counts.old.looks + look_limit (length pattern.now) (length value.now) }
 {
-    let mut engine = Engine::<'s, 'a, L, M> {
+    let mut engine = Engine::<'c, 'a, S, L, M> {
         pattern,
         value,
         mode,
-        steps,
+        counts,
         of: PhantomData,
     };
     let answer = engine.search();
-    let Engine { steps, .. } = engine;
-    (answer, steps)
+    let Engine { counts, .. } = engine;
+    (answer, counts)
+}
+
+impl<'c, 'a, S: Ledger, L: Ledger, M: Match> Engine<'c, 'a, S, L, M> {
+    /// An engine over a pattern and the empty value, for those that read the pattern alone.
+    #[inline(always)]
+    pub fn over(pattern: &'a [u8], mode: Mode, counts: &'c mut Counts<S, L>) -> Self
+        requires pattern { pattern.now ≡ M.pattern }
+        requires value { M.value ≡ [] }
+        requires mode { mode ≡ M.mode }
+        requires counts { counts.ghost_name ≡ M.counts }
+    {
+        Engine {
+            pattern,
+            value: b"",
+            mode,
+            counts,
+            of: PhantomData,
+        }
+    }
 }
 
 /// A text has no more bytes than a place can count.
 #[inline(always)]
 pub fn is_short(text: &[u8])
-    ensures { length text.now < 2 ^ 64 }
+    ensures { text.now ≡ take (2 ^ 64 - 1) text.now }
 {
     let _ = text.len();
 }

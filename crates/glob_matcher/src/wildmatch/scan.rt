@@ -21,7 +21,7 @@ pub enum Scan {
     Undecided(Mark),
 }
 
-impl<'s, 'a, L: Ledger, M: Match> Engine<'s, 'a, L, M> {
+impl<'c, 'a, S: Ledger, L: Ledger, M: Match> Engine<'c, 'a, S, L, M> {
     /// From the mark of a run of stars that crosses slashes, the next place of the value that has what is looked for; where
     /// there is none, the value's end.
     #[inline(always)]

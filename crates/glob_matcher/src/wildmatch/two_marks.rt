@@ -1,4 +1,4 @@
-//! The engine with two marks: no recursion, no memory, and a bound on its steps.
+//! The engine with two marks: no recursion, no memory, and a bound on its steps and its looks.
 //!
 //! One mark belongs to the last token met that crosses slashes, the other to the last run of stars within a component met
 //! after it. Where a token does not fit, the local mark moves by one byte, or, where that would pass a slash, the crossing
@@ -9,12 +9,12 @@
 ghost use Rattle.std.specs.Prelude.{◌≢◌, ◌↔◌, ◌+◌, ◌<◌, ◌≤◌, true, IsTrue, length};
 ghost use Rattle.glob_matcher.specs.Bytes.{close_bracket, question_mark, slash, star};
 ghost use Rattle.glob_matcher.specs.Matching.{Splits};
-ghost use Rattle.glob_matcher.specs.Steps.{step_bound, step_limit};
+ghost use Rattle.glob_matcher.specs.Steps.{look_limit, step_bound, step_limit};
 
+use super::counts::Counts;
 use super::engine::{Engine, Match, is_short, run};
 use super::mode::Mode;
 use super::state::{Crossing, State, Turn};
-use super::steps::Steps;
 use std::marker::Brand;
 use std::sync::ledger::Ledger;
 
@@ -26,12 +26,13 @@ fn is_alone(byte: u8) -> bool
     !matches!(byte, b'*' | b'?' | b']' | b'/')
 }
 
-impl<'s, 'a, L: Ledger, M: Match> Engine<'s, 'a, L, M> {
+impl<'c, 'a, S: Ledger, L: Ledger, M: Match> Engine<'c, 'a, S, L, M> {
     /// Whether the pattern ends in such a byte, and the value does not end in it.
     #[inline(always)]
     fn ends_otherwise(&mut self) -> bool
         ensures meaning { IsTrue result → ¬ Splits M.value M.pattern M.mode }
-        ensures count { self.new ≤ self.old + 1 }
+        ensures steps { self.new.steps ≤ self.old.steps + 1 }
+        ensures looks { self.new.looks ≤ self.old.looks + 2 }
     {
         let len = self.pattern_len();
         if len == 0 {
@@ -45,7 +46,8 @@ impl<'s, 'a, L: Ledger, M: Match> Engine<'s, 'a, L, M> {
     #[inline(always)]
     pub fn search(&mut self) -> bool
         ensures exact { IsTrue result ↔ Splits M.value M.pattern M.mode }
-        ensures count { self.new ≤ self.old + step_limit (length M.pattern) (length M.value) }
+        ensures steps { self.new.steps ≤ self.old.steps + step_limit (length M.pattern) (length M.value) }
+        ensures looks { self.new.looks ≤ self.old.looks + look_limit (length M.pattern) (length M.value) }
     {
         if self.ends_otherwise() {
             return false;
@@ -70,17 +72,24 @@ impl<'s, 'a, L: Ledger, M: Match> Engine<'s, 'a, L, M> {
     }
 }
 
-/// Whether `pattern` matches the whole of `value`, as `wildmatch` answers it, with the steps counted.
+/// Whether `pattern` matches the whole of `value`, as `wildmatch` answers it, with its steps and looks counted.
 ///
-/// The count rises by at most `2 * (p + 1) * (v + 1)` in plain mode, and by at most `2 * (p + 1) * (v + 1) * (v + 1)` in path
-/// mode, `p` and `v` being the lengths in bytes of pattern and value; and in fact by at most the first in both. It takes no
-/// memory, and no recursion. The rules are in `docs/MATCHING.md`.
-pub fn marked<L: Ledger>(pattern: &[u8], value: &[u8], mode: Mode, steps: &mut Steps<L>) -> bool
+/// The count of steps rises by at most `2 * (p + 1) * (v + 1)` in plain mode, and by at most `2 * (p + 1) * (v + 1) * (v + 1)`
+/// in path mode, `p` and `v` being the lengths in bytes of pattern and value; and in fact by at most the first in both. The
+/// count of looks rises by at most `8 * (p + 1) * (v + 1)`. It takes no memory, and no recursion. The rules are in
+/// `docs/MATCHING.md`.
+pub fn marked<S: Ledger, L: Ledger>(
+    pattern: &[u8],
+    value: &[u8],
+    mode: Mode,
+    counts: &mut Counts<S, L>,
+) -> bool
     ensures exact { IsTrue result ↔ Splits value.now pattern.now mode }
-    ensures bound { steps.new ≤ steps.old + step_bound mode (length pattern.now) (length value.now) }
-    ensures limit { steps.new ≤ steps.old + step_limit (length pattern.now) (length value.now) }
+    ensures bound { counts.new.steps ≤ counts.old.steps + step_bound mode (length pattern.now) (length value.now) }
+    ensures limit { counts.new.steps ≤ counts.old.steps + step_limit (length pattern.now) (length value.now) }
+    ensures looks { counts.new.looks ≤ counts.old.looks + look_limit (length pattern.now) (length value.now) }
 {
     is_short(pattern);
     is_short(value);
-    run::<L, Brand>(pattern, value, mode, steps).0
+    run::<S, L, Brand>(pattern, value, mode, counts).0
 }

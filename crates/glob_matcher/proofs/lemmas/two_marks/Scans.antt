@@ -16,12 +16,17 @@ use Rattle.glob_matcher.specs.Bytes.{NoSlash, StandsForItself, fold, folds, is_p
 use Rattle.glob_matcher.specs.Tokens.{Byte}
 use Rattle.glob_matcher.specs.Matching.{SplitsFrom}
 use Rattle.glob_matcher.specs.Private.Reader.{Fits}
-use Rattle.glob_matcher.specs.Private.Scans.{Follows, IsScan, HasScanned, Passed, last_steps, reached_by}
+use Rattle.glob_matcher.specs.Private.Scans.{Follows, IsScan, HasScanned, Passed, reached_by}
 use Rattle.glob_matcher.specs.Private.States.{IsMet, IsScanFor, Stands}
-use Rattle.glob_matcher.specs.Private.Budget.{Allows}
+use Rattle.glob_matcher.specs.Steps.{Counts}
+use Rattle.glob_matcher.specs.Private.Took.{Took}
+use Rattle.glob_matcher.specs.Private.Pieces.{piece}
+use Rattle.glob_matcher.specs.Private.Prices.{Counted, amount, counted, move, test}
+use Rattle.glob_matcher.specs.Private.Budget.{Allows, Missed}
 use Rattle.glob_matcher.proofs.lemmas.two_marks.Components.{inner}
 use Rattle.glob_matcher.proofs.lemmas.two_marks.States.{end_missed, free_moved, inner_of, left_without, literal_token, local_moved, mark_of, mark_eq, misses_byte, stands_on, stands_past_slash}
-use Rattle.glob_matcher.proofs.lemmas.two_marks.Budget.{allows_free_moved, allows_local_moved, allows_on, allows_past_slash, counted_on, left_miss}
+use Rattle.glob_matcher.proofs.lemmas.two_marks.Budget.{allows_free_moved, allows_less, allows_local_moved, allows_missed, allows_on, allows_past_slash, left_missed}
+use Rattle.glob_matcher.proofs.lemmas.two_marks.Prices.{amount_mono, move_some, took_none, took_on}
 
 same_or_not : (a b : ℕ) → (a ≡ b) ⊎ (a ≢ b)
 same_or_not a b = elim (cases_lt a b) [
@@ -73,10 +78,11 @@ unsuited mode p v i j (follow.Folded b) is inside other =
     ∙ (fits.1 ∙ (fold_lower mode (get_or p i 0) is.2 ∙ ap to_ascii_lowercase is.0.is))))
 unsuited mode p v i j follow.End is inside other = end_missed mode p v i j is (λ past. omega arith)
 
--- A scan for what follows is a scan for the rest of the pattern.
-pub scan_for : (mode : Mode) (p : List ℕ) {v : List ℕ} (f : Follow) {from : Mark} {s : Scan} {before after : ℕ} → Follows mode p from.place f
-    → IsScan v (Suits f) from s before after → IsScanFor mode p v from s before after
-scan_for mode p {v} f {from} {s = scan.Found m} is found =
+-- A scan for what follows is a scan for the rest of the pattern, after the look at what follows.
+pub scan_for : (mode : Mode) (p : List ℕ) {v : List ℕ} (f : Follow) {from : Mark} {s : Scan} {before between after : Counts}
+    → Follows mode p from.place f → Took before between 0 1 → IsScan v (Suits f) from s between after
+    → IsScanFor mode p v from s before after
+scan_for mode p {v} f {from} {s = scan.Found m} is looked found =
     let so = found.meaning in
     let here : Follows mode p m.place f = subst (λ (i : ℕ). Follows mode p i f) (sym so.0.same) is in
     let fits = suited mode p m.place f (get_or v m.at 0) here so.2 in
@@ -86,9 +92,9 @@ scan_for mode p {v} f {from} {s = scan.Found m} is found =
       inside = so.0.inside;
       missed = λ k low below. unsuited mode p v from.place k f is (omega (arith, so.0.inside)) (so.0.unsuited k low below);
       met = (fits.0, fits.1, so.1, fits.2);
-      count = found.count;
+      took = took_on looked found.took (omega arith) (omega arith);
     }
-scan_for mode p {v} f {from} {s = scan.Blocked m} is found =
+scan_for mode p {v} f {from} {s = scan.Blocked m} is looked found =
     let so = found.meaning in
     let here : Follows mode p m.place f = subst (λ (i : ℕ). Follows mode p i f) (sym so.0.same) is in
     record {
@@ -97,9 +103,9 @@ scan_for mode p {v} f {from} {s = scan.Blocked m} is found =
       inside = so.0.inside;
       missed = λ k low below. unsuited mode p v from.place k f is (omega (arith, so.0.inside)) (so.0.unsuited k low below);
       met = (so.1, so.3, unsuited mode p v m.place m.at f here so.1 so.2);
-      count = found.count;
+      took = took_on looked found.took (omega arith) (omega arith);
     }
-scan_for mode p {v} f {from} {s = scan.Undecided m} is found =
+scan_for mode p {v} f {from} {s = scan.Undecided m} is looked found =
     let so = found.meaning in
     record {
       same = so.same;
@@ -107,7 +113,7 @@ scan_for mode p {v} f {from} {s = scan.Undecided m} is found =
       inside = so.inside;
       missed = λ k low below. unsuited mode p v from.place k f is (omega (arith, so.inside)) (so.unsuited k low below);
       met = tt;
-      count = found.count;
+      took = took_on looked found.took (omega arith) (omega arith);
     }
 
 -- The crossing mark of a run of stars moves on over places from which the rest of the pattern splits nothing.
@@ -129,28 +135,23 @@ pub stands_free_skipped : {mode : Mode} {p v : List ℕ} {m : Mark} (x : Mark) �
 stands_free_skipped {m} x st same low inside missed =
     free_skips (x.at - m.at) x st same (omega arith) inside missed
 
-free_skips_steps : (d : ℕ) {mode : Mode} {p v : List ℕ} {m : Mark} (x : Mark) {s n : ℕ}
-    → Allows mode p v m.place m.at (crossing.Free m) None s n → x.place ≡ m.place → x.at ≡ m.at + d → x.at ≤ length v
-    → Allows mode p v x.place x.at (crossing.Free x) None (s + 2 * d) n
-free_skips_steps zero {mode} {p} {v} {m} x {s} {n} a same far inside =
+free_skips_counts : (d : ℕ) {kind : Counted} {mode : Mode} {p v : List ℕ} {m : Mark} (x : Mark) {s n : ℕ}
+    → Allows kind mode p v m.place m.at (crossing.Free m) None s n → x.place ≡ m.place → x.at ≡ m.at + d → x.at ≤ length v
+    → Allows kind mode p v x.place x.at (crossing.Free x) None (s + 2 * d) n
+free_skips_counts zero {kind} {mode} {p} {v} {m} x {s} {n} a same far inside =
     let at : x.at ≡ m.at = omega arith in
-    let none : s + 2 * 0 ≡ s = omega arith in
-    counted_on none
-    (subst (λ (y : Mark). Allows mode p v y.place y.at (crossing.Free y) None s n) (mark_eq x m.place m.at same at) a)
-free_skips_steps (suc d) {m} x {s} a same far inside =
+    allows_less (omega arith)
+    (subst (λ (y : Mark). Allows kind mode p v y.place y.at (crossing.Free y) None s n) (mark_eq x m.place m.at same at) a)
+free_skips_counts (suc d) {kind} {m = m} x a same far inside =
     let next : Mark = mark_of m.place (m.at + 1) in
-    let left = left_miss (omega arith) a in
-    let more : s + 2 * suc d ≡ s + 1 + 1 + 2 * d = omega arith in
-    counted_on more
-    (free_skips_steps d x (allows_free_moved next (omega arith) refl refl left) same
-    (omega arith) inside)
+    let left = left_missed (omega arith) (allows_missed a) in
+    allows_less (omega (arith, move_some kind))
+    (free_skips_counts d x (allows_free_moved next (omega arith) refl refl left) same (omega arith) inside)
 
-pub allows_free_skipped : {mode : Mode} {p v : List ℕ} {m : Mark} (x : Mark) {s : ℕ} (r : ℕ) {n : ℕ}
-    → Allows mode p v m.place m.at (crossing.Free m) None s n → x.place ≡ m.place → m.at ≤ x.at → x.at ≤ length v
-    → r + 2 * m.at ≡ s + 2 * x.at → Allows mode p v x.place x.at (crossing.Free x) None r n
-allows_free_skipped {m} x {s} r a same low inside steps =
-    let taken : r ≡ s + 2 * (x.at - m.at) = omega arith in
-    counted_on taken (free_skips_steps (x.at - m.at) x a same (omega arith) inside)
+pub allows_free_skipped : {kind : Counted} {mode : Mode} {p v : List ℕ} {m : Mark} (x : Mark) {s n : ℕ}
+    → Allows kind mode p v m.place m.at (crossing.Free m) None s n → x.place ≡ m.place → m.at ≤ x.at → x.at ≤ length v
+    → Allows kind mode p v x.place x.at (crossing.Free x) None (s + 2 * (x.at - m.at)) n
+allows_free_skipped {m = m} x a same low inside = free_skips_counts (x.at - m.at) x a same (omega arith) inside
 
 -- The local mark moves on within its component, over places from which the rest of the pattern splits nothing.
 local_skips : (d : ℕ) {mode : Mode} {p v : List ℕ} {c : Crossing} {m : Mark} (x : Mark) → Stands mode p v m.place m.at c (Some m)
@@ -173,30 +174,26 @@ pub stands_local_skipped : {mode : Mode} {p v : List ℕ} {c : Crossing} {m : Ma
 stands_local_skipped {m} x st same low inside bare missed =
     local_skips (x.at - m.at) x st same (omega arith) inside bare missed
 
-local_skips_steps : (d : ℕ) {mode : Mode} {p v : List ℕ} {c : Crossing} {m : Mark} (x : Mark) {s n : ℕ} → IsTrue (is_path mode)
-    → Allows mode p v m.place m.at c (Some m) s n → x.place ≡ m.place → x.at ≡ m.at + d → x.at ≤ length v → NoSlash v m.at x.at
-    → Allows mode p v x.place x.at c (Some x) (s + 2 * d) n
-local_skips_steps zero {mode} {p} {v} {c} {m} x {s} {n} path a same far inside bare =
+local_skips_counts : (d : ℕ) {kind : Counted} {mode : Mode} {p v : List ℕ} {c : Crossing} {m : Mark} (x : Mark) {s n : ℕ}
+    → IsTrue (is_path mode) → Allows kind mode p v m.place m.at c (Some m) s n → x.place ≡ m.place → x.at ≡ m.at + d
+    → x.at ≤ length v → NoSlash v m.at x.at → Allows kind mode p v x.place x.at c (Some x) (s + 2 * d) n
+local_skips_counts zero {kind} {mode} {p} {v} {c} {m} x {s} {n} path a same far inside bare =
     let at : x.at ≡ m.at = omega arith in
-    let none : s + 2 * 0 ≡ s = omega arith in
-    counted_on none
-    (subst (λ (y : Mark). Allows mode p v y.place y.at c (Some y) s n) (mark_eq x m.place m.at same at) a)
-local_skips_steps (suc d) {mode} {v} {m} x {s} path a same far inside bare =
+    allows_less (omega arith)
+    (subst (λ (y : Mark). Allows kind mode p v y.place y.at c (Some y) s n) (mark_eq x m.place m.at same at) a)
+local_skips_counts (suc d) {kind} {mode} {v = v} {m = m} x path a same far inside bare =
     let next : Mark = mark_of m.place (m.at + 1) in
     let within = inner mode (get_or v m.at 0) path (bare.at m.at (omega arith) (omega arith)) in
-    let more : s + 2 * suc d ≡ s + 1 + 1 + 2 * d = omega arith in
-    counted_on more
-    (local_skips_steps d x path
-    (allows_local_moved next (omega arith) within refl refl a) same (omega arith) inside
+    allows_less (omega (arith, move_some kind))
+    (local_skips_counts d x path
+    (allows_local_moved next (omega arith) within refl refl (allows_missed a)) same (omega arith) inside
     (record { at = λ k low below. bare.at k (omega arith) below }))
 
-pub allows_local_skipped : {mode : Mode} {p v : List ℕ} {c : Crossing} {m : Mark} (x : Mark) {s : ℕ} (r : ℕ) {n : ℕ} → IsTrue (is_path mode)
-    → Allows mode p v m.place m.at c (Some m) s n → x.place ≡ m.place → m.at ≤ x.at → x.at ≤ length v → NoSlash v m.at x.at
-    → r + 2 * m.at ≡ s + 2 * x.at → Allows mode p v x.place x.at c (Some x) r n
-allows_local_skipped {m} x {s} r path a same low inside bare steps =
-    let taken : r ≡ s + 2 * (x.at - m.at) = omega arith in
-    counted_on taken
-    (local_skips_steps (x.at - m.at) x path a same (omega arith) inside bare)
+pub allows_local_skipped : {kind : Counted} {mode : Mode} {p v : List ℕ} {c : Crossing} {m : Mark} (x : Mark) {s n : ℕ}
+    → IsTrue (is_path mode) → Allows kind mode p v m.place m.at c (Some m) s n → x.place ≡ m.place → m.at ≤ x.at
+    → x.at ≤ length v → NoSlash v m.at x.at → Allows kind mode p v x.place x.at c (Some x) (s + 2 * (x.at - m.at)) n
+allows_local_skipped {m = m} x path a same low inside bare =
+    local_skips_counts (x.at - m.at) x path a same (omega arith) inside bare
 
 -- a byte is known by its token
 pub byte_of : {b d : ℕ} → Byte b ≡ Byte d → b ≡ d
@@ -214,11 +211,15 @@ free_found {mode} {p} {m} st met =
           stands_on st token refl met.2 met.3 (λ is. other (byte_of is))
     ]
 
-pub free_found_steps : {mode : Mode} {p v : List ℕ} {m : Mark} {s n : ℕ} → Allows mode p v m.place m.at (crossing.Free m) None s n
-    → IsMet mode p v (scan.Found m) → Allows mode p v (m.place + 1) (m.at + 1) (crossing.Free m) None (s + 1) n
-free_found_steps {mode} {p} {m} a met =
+byte_price : (kind : Counted) (i s : ℕ) → s + amount kind 1 8 ≤ s + amount kind 1 (8 * (i + 1 - i))
+byte_price kind i s = let more : amount kind 1 8 ≤ amount kind 1 (8 * (i + 1 - i)) = amount_mono kind (omega arith) (omega arith) in omega arith
+
+pub free_found_counts : {kind : Counted} {mode : Mode} {p v : List ℕ} {m : Mark} {s n : ℕ}
+    → Allows kind mode p v m.place m.at (crossing.Free m) None s n → IsMet mode p v (scan.Found m)
+    → Allows kind mode p v (m.place + 1) (m.at + 1) (crossing.Free m) None (s + amount kind 1 8) n
+free_found_counts {kind} {mode} {p} {m = m} {s} a met =
     let token = literal_token mode p m.place met.0 met.1 in
-    allows_past_slash token.token (m.place + 1) token.here met.2 met.3 a
+    allows_past_slash token refl (byte_price kind m.place s) met.2 met.3 a
 
 -- what the local mark is past the byte after it
 pub record IsKept (p : List ℕ) (m : Mark) (l : Option Mark) : Type 0 where
@@ -239,18 +240,18 @@ local_found {mode} {p} {v} {c} {m} st met k =
           (stands_on st token refl met.2 met.3 (λ is. other (byte_of is)))
     ]
 
-pub local_found_steps : {mode : Mode} {p v : List ℕ} {c : Crossing} {m : Mark} {l : Option Mark} {s n : ℕ}
-    → Stands mode p v m.place m.at c (Some m) → Allows mode p v m.place m.at c (Some m) s n → IsMet mode p v (scan.Found m)
-    → IsKept p m l → Allows mode p v (m.place + 1) (m.at + 1) c l (s + 1) n
-local_found_steps {mode} {p} {v} {c} {m} {s} {n} st a met k =
+pub local_found_counts : {kind : Counted} {mode : Mode} {p v : List ℕ} {c : Crossing} {m : Mark} {l : Option Mark} {s n : ℕ}
+    → Stands mode p v m.place m.at c (Some m) → Allows kind mode p v m.place m.at c (Some m) s n → IsMet mode p v (scan.Found m)
+    → IsKept p m l → Allows kind mode p v (m.place + 1) (m.at + 1) c l (s + amount kind 1 8) n
+local_found_counts {kind} {mode} {p} {v} {c} {m} {l} {s} {n} st a met k =
     let token = literal_token mode p m.place met.0 met.1 in
     elim (same_or_not (get_or p m.place 0) slash) [
       | inl is ↦
-          subst (λ (x : Option Mark). Allows mode p v (m.place + 1) (m.at + 1) c x (s + 1) n) (sym (k.forgotten is))
-          (allows_past_slash token.token (m.place + 1) token.here met.2 met.3 a)
+          subst (λ (x : Option Mark). Allows kind mode p v (m.place + 1) (m.at + 1) c x (s + amount kind 1 8) n) (sym (k.forgotten is))
+          (allows_past_slash token refl (byte_price kind m.place s) met.2 met.3 a)
       | inr other ↦
-          subst (λ (x : Option Mark). Allows mode p v (m.place + 1) (m.at + 1) c x (s + 1) n) (sym (k.kept other))
-          (allows_on token.token (m.place + 1) token.here met.2 met.3
+          subst (λ (x : Option Mark). Allows kind mode p v (m.place + 1) (m.at + 1) c x (s + amount kind 1 8) n) (sym (k.kept other))
+          (allows_on token refl (byte_price kind m.place s) met.2 met.3
           (inner_of mode p v m.place m.at c (Some m) token.token st.local met.3 (λ is. other (byte_of is))) a)
     ]
 
@@ -267,19 +268,19 @@ passed_on {b} x y = record {
 }
 
 -- a scan that goes on from where another has come to
-pub scan_on : {v : List ℕ} {P : ℕ → Type 0} {a b : Mark} {s : Scan} (before : ℕ) {between after : ℕ} → Passed v P a b
-    → between + 2 * a.at ≡ before + 2 * b.at → IsScan v P b s between after → IsScan v P a s before after
-scan_on {s = scan.Found m} before x steps y = record {
+pub scan_on : {v : List ℕ} {P : ℕ → Type 0} {a b : Mark} {s : Scan} {before between after : Counts} → Passed v P a b
+    → Took before between (2 * (b.at - a.at)) (2 * (b.at - a.at)) → IsScan v P b s between after → IsScan v P a s before after
+scan_on {s = scan.Found m} x taken y = record {
   meaning = (passed_on x y.meaning.0, y.meaning.1, y.meaning.2);
-  count = omega (arith, steps, y.count);
+  took = took_on taken y.took (omega (arith, x.low, y.meaning.0.low)) (omega (arith, x.low, y.meaning.0.low));
 }
-scan_on {s = scan.Blocked m} before x steps y = record {
+scan_on {s = scan.Blocked m} x taken y = record {
   meaning = (passed_on x y.meaning.0, y.meaning.1, y.meaning.2, y.meaning.3);
-  count = omega (arith, steps, y.count);
+  took = took_on taken y.took (omega (arith, x.low, y.meaning.0.low)) (omega (arith, x.low, y.meaning.0.low));
 }
-scan_on {s = scan.Undecided m} before x steps y = record {
+scan_on {s = scan.Undecided m} x taken y = record {
   meaning = passed_on x y.meaning;
-  count = omega (arith, steps, y.count);
+  took = took_on taken y.took (omega (arith, x.low, y.meaning.low)) (omega (arith, x.low, y.meaning.low));
 }
 
 -- no mark, where it is none of all
@@ -288,24 +289,22 @@ none_of None other = refl
 none_of (Some m) other = absurd (other m refl)
 
 -- A scan from the local mark, once it has moved: the engine stands where the scan has come to.
-pub local_scanned : {mode : Mode} {p v : List ℕ} {i j : ℕ} {c : Crossing} {m x : Mark} {s : Scan} {before after : ℕ}
+pub local_scanned : {mode : Mode} {p v : List ℕ} {i j : ℕ} {c : Crossing} {m x : Mark} {s : Scan} {before after : Counts}
     → Stands mode p v i j c (Some m) → ¬ SplitsFrom v j p i mode → m.at < length v → get_or v m.at 0 ≢ slash → x.place ≡ m.place
     → x.at ≡ m.at + 1 → IsScanFor mode p v x s before after → NoSlash v x.at (reached_by s).at
     → Stands mode p v (reached_by s).place (reached_by s).at c (Some (reached_by s))
-local_scanned {x} {s} st miss inside other same at so bare =
+local_scanned {x = x} {s} st miss inside other same at so bare =
     stands_local_skipped (reached_by s) (local_moved x st miss inside other same at) so.same so.low
     so.inside bare so.missed
 
-pub local_scanned_steps : {mode : Mode} {p v : List ℕ} {i j : ℕ} {c : Crossing} {m x : Mark} {s : Scan} {before after : ℕ} (r : ℕ) {w n : ℕ}
+pub local_scanned_counts : {kind : Counted} {mode : Mode} {p v : List ℕ} {i j : ℕ} {c : Crossing} {m x : Mark} {s : Scan} {before after : Counts} {w n : ℕ}
     → Stands mode p v i j c (Some m) → m.at < length v → get_or v m.at 0 ≢ slash → x.place ≡ m.place → x.at ≡ m.at + 1
-    → IsScanFor mode p v x s before after → NoSlash v x.at (reached_by s).at → before ≡ w + 1 + 1 → after ≡ r + last_steps s
-    → Allows mode p v i j c (Some m) w n
-    → Allows mode p v (reached_by s).place (reached_by s).at c (Some (reached_by s)) r n
-local_scanned_steps {mode} {v} {m} {x} {s} r st inside other same at so bare first last a =
+    → IsScanFor mode p v x s before after → NoSlash v x.at (reached_by s).at → Missed kind mode p v i j c (Some m) w n
+    → Allows kind mode p v (reached_by s).place (reached_by s).at c (Some (reached_by s))
+    (w + move kind + 2 * ((reached_by s).at - x.at)) n
+local_scanned_counts {mode = mode} {v = v} {m = m} {x} {s} st inside other same at so bare a =
     let within = inner mode (get_or v m.at 0) st.local.path other in
-    allows_local_skipped (reached_by s) r st.local.path
-    (allows_local_moved x inside within same at a) so.same so.low so.inside bare
-    (omega (arith, so.count, so.low))
+    allows_local_skipped (reached_by s) st.local.path (allows_local_moved x inside within same at a) so.same so.low so.inside bare
 
 -- the steps go on, from before a call as from after it
 pub progress_on : (x : Option State) (a b c : ℕ) → a ≤ b → OnSome x (b < c) → OnSome x (a < c)

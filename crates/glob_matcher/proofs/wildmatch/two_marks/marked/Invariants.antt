@@ -8,7 +8,7 @@ ghosts-run g a = record {
   pattern = take (2 ^ 64 - 1) a.pattern.now;
   value = take (2 ^ 64 - 1) a.value.now;
   mode = a.mode;
-  count = a.steps.ghost_name;
+  counts = a.counts.ghost_name;
   short_pattern = short a.pattern.now;
   short_value = short a.value.now;
 }

@@ -1,25 +1,27 @@
 use Rattle.std.proofs.Common.{ℕ, Option, None, subst, sym, arith}
 use Rattle.glob_matcher.specs.declared.wildmatch.state.Crossing.{Crossing}
 use Rattle.glob_matcher.specs.declared.wildmatch.state.Crossing.TheVariants as crossing
+use Rattle.glob_matcher.specs.Private.Prices.{counted}
 use Rattle.glob_matcher.specs.Private.Budget.{AllowsLeft}
 use Rattle.glob_matcher.specs.Private.Turns.{IsBacktrack}
 use Rattle.glob_matcher.proofs.lemmas.two_marks.States.{known_crossing, known_places, dirs_moved, dirs_stuck, unmet_left}
+use Rattle.glob_matcher.proofs.lemmas.two_marks.Prices.{moves_price}
 use Rattle.glob_matcher.proofs.lemmas.two_marks.Budget as budget
-use Rattle.glob_matcher.proofs.lemmas.two_marks.Budget.{allows_left, allows_dirs_moved, dirs_stuck_steps}
+use Rattle.glob_matcher.proofs.lemmas.two_marks.Budget.{allows_left, allows_less, allows_dirs_moved, dirs_stuck_counts}
 use Rattle.glob_matcher.proofs.wildmatch.engine.Engine.back_to_crossing.Goals as goal
 
 pub returns-in-Unmet : goal.returns-in-Unmet
 returns-in-Unmet g c =
     record {
       meaning = unmet_left (known_crossing c.in-Unmet.is c.requires);
-      allows = λ n a. allows_left a;
+      allows = λ kind n a. allows_left a;
       progress = tt;
     }
 
 pub returns-in-Free : goal.returns-in-Free
 returns-in-Free g c =
     let m = g.M.Match in
-    subst (λ (x : Crossing). IsBacktrack m.mode m.pattern m.value (AllowsLeft m.mode m.pattern m.value x c.args.self.now)
+    subst (λ (x : Crossing). IsBacktrack m.mode m.pattern m.value (λ kind. AllowsLeft kind m.mode m.pattern m.value x (counted kind c.args.self.now))
     c.back_to_free.result c.args.self.now c.back_to_free.new.self) (sym c.in-Free.is) c.back_to_free.ensures
 
 pub returns-in-None : goal.returns-in-None
@@ -27,7 +29,8 @@ returns-in-None g c =
     let left = known_crossing c.in-Dirs.is c.requires in
     record {
       meaning = dirs_stuck left c.in-None.ensures.unable;
-      allows = λ n a. dirs_stuck_steps c.next_directory.new.self c.in-None.ensures.count (budget.known_crossing c.in-Dirs.is a);
+      allows = λ kind n a.
+          dirs_stuck_counts (λ inside. moves_price kind (c.in-None.ensures.count inside)) (budget.known_crossing c.in-Dirs.is a);
       progress = tt;
     }
 
@@ -35,10 +38,11 @@ pub returns-in-Some : goal.returns-in-Some
 returns-in-Some g c =
     let left = known_crossing c.in-Dirs.is c.requires in
     let moved = c.in-Some.ensures.moved in
+    let moves = c.in-Some.ensures.moves in
     record {
       meaning = known_places c.place.ensures c.at.ensures (dirs_moved left moved);
-      allows = λ n a.
-          budget.known_places c.place.ensures c.at.ensures (allows_dirs_moved c.next_directory.new.self moved c.in-Some.ensures.moves
-          (budget.known_crossing c.in-Dirs.is a));
-      progress = omega (arith, moved.after.past, c.in-Some.ensures.moves);
+      allows = λ kind n a.
+          budget.known_places c.place.ensures c.at.ensures
+          (allows_less (moves_price kind moves) (allows_dirs_moved moved (budget.known_crossing c.in-Dirs.is a)));
+      progress = omega (arith, moved.after.past, moves.steps);
     }

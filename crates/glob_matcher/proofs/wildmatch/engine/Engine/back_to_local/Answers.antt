@@ -1,33 +1,33 @@
-use Rattle.std.proofs.Common.{◌≡◌, ◌+◌, ◌-◌, ◌*◌, ◌∙◌, ℕ, None, Some, inr, ap, arith}
+use Rattle.std.proofs.Common.{◌≡◌, ◌+◌, ◌-◌, ◌*◌, ℕ, None, Some, inr, ap, arith}
 use Rattle.glob_matcher.specs.declared.wildmatch.scan.Scan.TheVariants as scan
 use Rattle.glob_matcher.proofs.lemmas.two_marks.States.{known_local, known_places, left_stuck, left_without}
+use Rattle.glob_matcher.proofs.lemmas.two_marks.Prices.{amount_same, move_over, move_price, scan_price, took_both}
 use Rattle.glob_matcher.proofs.lemmas.two_marks.Budget as budget
-use Rattle.glob_matcher.proofs.lemmas.two_marks.Budget.{left_miss, left_stuck_steps, counted_on, counted_left}
-use Rattle.glob_matcher.proofs.lemmas.two_marks.Scans.{local_found, local_found_steps, local_scanned, local_scanned_steps, none_of}
+use Rattle.glob_matcher.proofs.lemmas.two_marks.Budget.{allows_less, allows_missed, left_less, left_missed, left_stuck_counts}
+use Rattle.glob_matcher.proofs.lemmas.two_marks.Scans.{IsKept, local_found, local_found_counts, local_scanned, local_scanned_counts, none_of}
 use Rattle.glob_matcher.proofs.wildmatch.engine.Engine.back_to_local.Goals as goal
 
 pub returns-in_default : goal.returns-in_default
 returns-in_default g c =
-    let st = c.args.state in
-    let none = none_of st.local c.in_default.not-Some in
+    let none = none_of c.args.state.local c.in_default.not-Some in
     record {
       meaning = left_without (known_local none c.requires.stands) c.requires.missed;
-      allows = λ n a. counted_left a.one (left_miss c.requires.stands.inside (budget.known_local none a.allows));
+      allows = λ kind n a. left_missed c.requires.stands.inside (budget.known_local none a);
       progress = tt;
-      counts = omega arith;
+      low = omega arith;
     }
 
 pub returns-in_default-pass_within_or_end : goal.returns-in_default-pass_within_or_end
 returns-in_default-pass_within_or_end g c =
     let here = known_local c.in-Some.is c.requires.stands in
     let stuck = c.in_default-pass_within_or_end.ensures.unable in
+    let pass = c.pass_within_or_end.ensures.count in
     record {
       meaning = left_stuck here c.requires.missed stuck;
-      allows = λ n a.
-          counted_left (c.pass_within_or_end.ensures.count ∙ ap (λ (x : ℕ). x + 1) a.one) (left_stuck_steps stuck (budget.known_local
-          c.in-Some.is a.allows));
+      allows = λ kind n a.
+          left_less (move_price kind pass (omega arith) (omega arith)) (left_stuck_counts stuck (budget.known_local c.in-Some.is a));
       progress = tt;
-      counts = omega (arith, c.pass_within_or_end.ensures.count);
+      low = omega (arith, pass.steps);
     }
 
 pub returns-in-Blocked : goal.returns-in-Blocked
@@ -35,17 +35,18 @@ returns-in-Blocked g c =
     let moved = c.in-Some-pass_within_or_end.ensures.moved in
     let so = c.in-Blocked.ensures.meaning in
     let here = known_local c.in-Some.is c.requires.stands in
-    let reached = local_scanned here c.requires.missed moved.2 moved.3 moved.0 moved.1 so c.in-Blocked.ensures.bare in
+    let bare = c.in-Blocked.ensures.bare in
+    let passed = 2 * (c.in-Blocked.field-0.at - c.in-Some-pass_within_or_end.moved.at) in
+    let pass = c.pass_within_or_end.ensures.count in
+    let reached = local_scanned here c.requires.missed moved.2 moved.3 moved.0 moved.1 so bare in
     record {
       meaning = left_stuck reached so.met.2 (inr so.met.1);
-      allows = λ n a.
-          let before = a.before + 1 + 1 + 2 * (c.in-Blocked.field-0.at - c.in-Some-pass_within_or_end.moved.at) in
-          counted_left (omega (arith, so.count, so.low, c.pass_within_or_end.ensures.count, a.one)) (left_stuck_steps (inr so.met.1)
-          (local_scanned_steps before here moved.2 moved.3
-          moved.0 moved.1 so c.in-Blocked.ensures.bare (c.pass_within_or_end.ensures.count ∙ ap (λ (x : ℕ). x + 1) a.one) (omega (arith, so.count, so.low, c.pass_within_or_end.ensures.count, a.one))
-          (budget.known_local c.in-Some.is a.allows)));
+      allows = λ kind n a.
+          left_less (omega (arith, move_over kind, scan_price kind passed 2 5 (took_both pass so.took) (omega arith) (omega arith)))
+          (left_stuck_counts (inr so.met.1)
+          (allows_missed (local_scanned_counts here moved.2 moved.3 moved.0 moved.1 so bare (budget.known_local c.in-Some.is a))));
       progress = tt;
-      counts = omega (arith, so.count, so.low, c.pass_within_or_end.ensures.count);
+      low = omega (arith, so.took.steps, pass.steps);
     }
 
 pub returns-in-Undecided : goal.returns-in-Undecided
@@ -53,15 +54,17 @@ returns-in-Undecided g c =
     let moved = c.in-Some-pass_within_or_end.ensures.moved in
     let so = c.in-Undecided.ensures.meaning in
     let here = known_local c.in-Some.is c.requires.stands in
-    let reached = local_scanned here c.requires.missed moved.2 moved.3 moved.0 moved.1 so c.in-Undecided.ensures.bare in
+    let bare = c.in-Undecided.ensures.bare in
+    let passed = 2 * (c.in-Undecided.reached.at - c.in-Some-pass_within_or_end.moved.at) in
+    let pass = c.pass_within_or_end.ensures.count in
     record {
-      meaning = known_places c.place.ensures c.at.ensures reached;
-      allows = λ n a.
-          budget.known_places c.place.ensures c.at.ensures (local_scanned_steps c.scan_from_within.new.self here moved.2 moved.3
-          moved.0 moved.1 so c.in-Undecided.ensures.bare (c.pass_within_or_end.ensures.count ∙ ap (λ (x : ℕ). x + 1) a.one) (omega arith)
-          (budget.known_local c.in-Some.is a.allows));
-      progress = omega (arith, so.count, so.low, c.pass_within_or_end.ensures.count);
-      counts = omega (arith, so.count, so.low, c.pass_within_or_end.ensures.count);
+      meaning = known_places c.place.ensures c.at.ensures (local_scanned here c.requires.missed moved.2 moved.3 moved.0 moved.1 so bare);
+      allows = λ kind n a.
+          budget.known_places c.place.ensures c.at.ensures
+          (allows_less (omega (arith, amount_same kind 0, scan_price kind passed 0 0 (took_both pass so.took) (omega arith) (omega arith)))
+          (local_scanned_counts here moved.2 moved.3 moved.0 moved.1 so bare (budget.known_local c.in-Some.is a)));
+      progress = omega (arith, so.took.steps, pass.steps);
+      low = omega (arith, so.took.steps, pass.steps);
     }
 
 pub returns-in-Found : goal.returns-in-Found
@@ -69,19 +72,21 @@ returns-in-Found g c =
     let moved = c.in-Some-pass_within_or_end.ensures.moved in
     let so = c.in-Found.ensures.meaning in
     let here = known_local c.in-Some.is c.requires.stands in
-    let reached = local_scanned here c.requires.missed moved.2 moved.3 moved.0 moved.1 so c.in-Found.ensures.bare in
+    let bare = c.in-Found.ensures.bare in
+    let passed = 2 * (c.in-Found.found.at - c.in-Some-pass_within_or_end.moved.at) in
+    let pass = c.pass_within_or_end.ensures.count in
+    let kept : IsKept g.M.Match.pattern c.in-Found.found c.local_past.result = record { forgotten = c.local_past.ensures.forgotten; kept = c.local_past.ensures.kept } in
+    let all = took_both (took_both pass so.took) c.local_past.ensures.count in
+    let reached = local_scanned here c.requires.missed moved.2 moved.3 moved.0 moved.1 so bare in
     record {
       meaning =
-          known_places (ap (λ (x : ℕ). x + 1) c.place-in-Found.ensures) (ap (λ (x : ℕ). x + 1) c.at-in-Found.ensures) (local_found reached
-          so.met (record { forgotten = c.local_past.ensures.forgotten; kept = c.local_past.ensures.kept }));
-      allows = λ n a.
-          let before = a.before + 1 + 1 + 2 * (c.in-Found.found.at - c.in-Some-pass_within_or_end.moved.at) in
-          let one : c.scan_from_within.new.self ≡ before + 1 = omega (arith, so.count, so.low, c.pass_within_or_end.ensures.count, a.one) in
-          budget.known_places (ap (λ (x : ℕ). x + 1) c.place-in-Found.ensures) (ap (λ (x : ℕ). x + 1) c.at-in-Found.ensures) (counted_on one
-          (local_found_steps reached (local_scanned_steps before here moved.2 moved.3
-          moved.0 moved.1 so c.in-Found.ensures.bare (c.pass_within_or_end.ensures.count ∙ ap (λ (x : ℕ). x + 1) a.one) one
-          (budget.known_local c.in-Some.is a.allows))
-          so.met (record { forgotten = c.local_past.ensures.forgotten; kept = c.local_past.ensures.kept })));
-      progress = omega (arith, so.count, so.low, c.pass_within_or_end.ensures.count);
-      counts = omega (arith, so.count, so.low, c.pass_within_or_end.ensures.count);
+          known_places (ap (λ (x : ℕ). x + 1) c.place-in-Found.ensures) (ap (λ (x : ℕ). x + 1) c.at-in-Found.ensures)
+          (local_found reached so.met kept);
+      allows = λ kind n a.
+          budget.known_places (ap (λ (x : ℕ). x + 1) c.place-in-Found.ensures) (ap (λ (x : ℕ). x + 1) c.at-in-Found.ensures)
+          (allows_less (scan_price kind passed 1 8 all (omega arith) (omega arith))
+          (local_found_counts reached
+          (local_scanned_counts here moved.2 moved.3 moved.0 moved.1 so bare (budget.known_local c.in-Some.is a)) so.met kept));
+      progress = omega (arith, so.took.steps, pass.steps, c.local_past.ensures.count.steps);
+      low = omega (arith, so.took.steps, pass.steps, c.local_past.ensures.count.steps);
     }

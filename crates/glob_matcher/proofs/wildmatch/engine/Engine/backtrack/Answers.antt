@@ -5,15 +5,15 @@ use Rattle.glob_matcher.proofs.wildmatch.engine.Engine.backtrack.Goals as goal
 pub returns-in-Some : goal.returns-in-Some
 returns-in-Some g c = record {
   meaning = c.in-Some.ensures.meaning;
-  allows = λ n a. c.in-Some.ensures.allows n a;
+  allows = λ kind n a. c.in-Some.ensures.allows kind n a;
   progress = c.in-Some.ensures.progress;
 }
 
 pub returns-in-None : goal.returns-in-None
 returns-in-None g c = record {
   meaning = c.back_to_crossing.ensures.meaning;
-  allows = λ n a. c.back_to_crossing.ensures.allows n (c.in-None.ensures.allows n a);
+  allows = λ kind n a. c.back_to_crossing.ensures.allows kind n (c.in-None.ensures.allows kind n a);
   progress =
-      progress_on c.back_to_crossing.result c.args.self.now c.back_to_local.new.self c.back_to_crossing.new.self
-      c.in-None.ensures.counts c.back_to_crossing.ensures.progress;
+      progress_on c.back_to_crossing.result c.args.self.now.steps c.back_to_local.new.self.steps c.back_to_crossing.new.self.steps
+      c.in-None.ensures.low c.back_to_crossing.ensures.progress;
 }

@@ -1,16 +1,16 @@
 use Rattle.std.proofs.Common.{◌≡◌, arith}
 use Rattle.glob_matcher.proofs.lemmas.two_marks.States.{dirs_met}
-use Rattle.glob_matcher.proofs.lemmas.two_marks.Budget.{allows_dirs, counted_on}
+use Rattle.glob_matcher.proofs.lemmas.two_marks.Prices.{took_within}
+use Rattle.glob_matcher.proofs.lemmas.two_marks.Budget.{allows_dirs}
 use Rattle.glob_matcher.proofs.wildmatch.engine.Engine.dirs_turn.Goals as goal
 
 pub returns : goal.returns
 returns g c =
+    let mark = c.set_mark-mark.ensures in
     record {
-      meaning =
-          dirs_met c.set_mark-mark.result c.requires.stands c.requires.token c.requires.inside
-          c.set_mark-mark.ensures.place c.set_mark-mark.ensures.at;
-      allows = λ n a.
-          counted_on c.set_mark-mark.ensures.count (allows_dirs c.set_mark-mark.result c.requires.token c.requires.stands.inside
-          c.set_mark-mark.ensures.place c.set_mark-mark.ensures.at a);
-      counts = omega (arith, c.set_mark-mark.ensures.count);
+      meaning = dirs_met c.set_mark-mark.result c.requires.stands c.requires.token c.requires.inside mark.place mark.at;
+      allows = λ kind s n low a.
+          allows_dirs c.set_mark-mark.result c.requires.token c.requires.stands.inside mark.place mark.at
+          (took_within kind s 0 _ low mark.count (omega arith) (omega arith)) a;
+      progress = omega (arith, mark.count.steps);
     }

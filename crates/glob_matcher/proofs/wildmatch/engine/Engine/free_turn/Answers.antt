@@ -1,6 +1,7 @@
-use Rattle.std.proofs.Common.{◌≡◌, ◌≢◌, ◌∙◌, arith, length}
+use Rattle.std.proofs.Common.{◌≡◌, ◌≢◌, arith, length}
 use Rattle.glob_matcher.proofs.lemmas.two_marks.States.{free_last, free_known, free_met}
-use Rattle.glob_matcher.proofs.lemmas.two_marks.Budget.{allows_one, allows_free, counted_on}
+use Rattle.glob_matcher.proofs.lemmas.two_marks.Prices.{took_none, took_within}
+use Rattle.glob_matcher.proofs.lemmas.two_marks.Budget.{allows_free, free_last_counts}
 use Rattle.glob_matcher.proofs.wildmatch.engine.Engine.free_turn.Goals as goal
 
 pub returns-then-after-pattern_len : goal.returns-then-after-pattern_len
@@ -9,23 +10,22 @@ returns-then-after-pattern_len g c =
     let last : c.args.after ≡ length m.pattern = omega (arith, c.if-after-pattern_len.true, c.pattern_len.ensures) in
     record {
       meaning = free_last c.requires.stands c.requires.token last;
-      allows = λ n a.
-          let one = allows_one c.requires.stands.inside a in
-          omega (arith, one);
-      counts = tt;
+      allows = λ kind s n low a.
+          free_last_counts c.requires.token c.requires.stands.inside
+          (took_within kind s 0 _ low took_none (omega arith) (omega arith)) a;
+      progress = tt;
     }
 
 pub returns : goal.returns
 returns g c =
     let m = g.M.Match in
+    let mark = c.set_mark-mark.ensures in
     let more : c.args.after ≢ length m.pattern = λ last. c.if-after-pattern_len.false (omega (arith, last, c.pattern_len.ensures)) in
     record {
       meaning =
-          free_met c.set_mark-mark.result c.requires.stands c.requires.token c.requires.inside more
-          c.set_mark-mark.ensures.place c.set_mark-mark.ensures.at;
-      allows = λ n a.
-          counted_on c.set_mark-mark.ensures.count (allows_free c.set_mark-mark.result c.requires.token more
-          (free_known m.value c.requires.token c.requires.inside more)
-          c.requires.stands.inside c.set_mark-mark.ensures.place c.set_mark-mark.ensures.at a);
-      counts = omega (arith, c.set_mark-mark.ensures.count);
+          free_met c.set_mark-mark.result c.requires.stands c.requires.token c.requires.inside more mark.place mark.at;
+      allows = λ kind s n low a.
+          allows_free c.set_mark-mark.result c.requires.token more (free_known m.value c.requires.token c.requires.inside more)
+          c.requires.stands.inside mark.place mark.at (took_within kind s 0 _ low mark.count (omega arith) (omega arith)) a;
+      progress = omega (arith, mark.count.steps);
     }

@@ -1,16 +1,20 @@
-use Rattle.std.proofs.Common.{◌≡◌, ℕ, ◌+◌, ◌<◌, length, get_or, false, true, refl, sym, ◌∙◌, subst, arith}
+use Rattle.std.proofs.Common.{◌≡◌, ℕ, ◌+◌, ◌-◌, ◌*◌, ◌<◌, ◌≤◌, length, get_or, false, true, inl, inr, refl, sym, ◌∙◌, ap, subst, arith}
+use Rattle.std.proofs.lemmas.Bool.{cases_lt}
 use Rattle.glob_matcher.specs.Tokens.{Byte}
 use Rattle.glob_matcher.specs.Private.Reader.{Fits}
+use Rattle.glob_matcher.specs.Private.Prices.{amount, counted}
 use Rattle.glob_matcher.specs.Bytes.{StandsForItself}
 use Rattle.glob_matcher.proofs.lemmas.two_marks.States.{inner_of, literal_token, misses_byte, stands_on}
-use Rattle.glob_matcher.proofs.lemmas.two_marks.Budget.{allows_on, counted_on}
+use Rattle.glob_matcher.proofs.lemmas.two_marks.Prices.{amount_mono, amount_same, amount_sum, took_both, took_on, took_within}
+use Rattle.glob_matcher.proofs.lemmas.two_marks.Budget.{allows_less, allows_on, tested}
 use Rattle.glob_matcher.proofs.lemmas.two_marks.Scans.{byte_of}
 use Rattle.glob_matcher.proofs.wildmatch.engine.Engine.literal_turns.Goals as goal
+use Rattle.glob_matcher.proofs.wildmatch.engine.Engine.literal_turns.Goals.{then-byte-eq47-via-then-byte-eq47, then-byte-eq47-via-else-byte-eq47+then-not-stands_for_itself}
 
 pub returns-then-not-has : goal.returns-then-not-has
 returns-then-not-has g c =
     let m = g.M.Match in
-    let same : c.pattern_byte-byte.result ≡ get_or m.pattern c.bytes.place 0 = c.pattern_byte-byte.ensures in
+    let same : c.pattern_byte-byte.result ≡ get_or m.pattern c.bytes.place 0 = c.pattern_byte-byte.ensures.here in
     let inside : c.bytes.place < length m.pattern = omega (arith, c.bytes-test.true, c.pattern_len.ensures) in
     let own = subst StandsForItself same (c.if-not-stands_for_itself.ensures.0 refl) in
     record {
@@ -23,14 +27,25 @@ returns-then-not-has g c =
             (subst (λ (b : ℕ). (c.bytes.at < length m.value) × Fits m.mode (Byte b) (get_or m.value c.bytes.at 0)) (sym same) fits) in
             cc);
       };
-      allows = λ n a. record { before = c.bytes.self; one = c.has.ensures.count; allows = c.bytes.invariant.allows n a };
-      counts = omega (arith, c.has.ensures.count, c.bytes.invariant.count, c.bytes.invariant.low);
+      allows = λ kind s n low a.
+          let passed = c.bytes.place - c.args.state.place in
+          let one = took_both c.pattern_byte-byte.ensures.count c.has.ensures.count in
+          let all : counted kind c.has.new.self ≤ s + amount kind (passed + 1) (2 * passed + 3) =
+          took_within kind s 0 1 low (took_both c.bytes.invariant.count one) (omega arith) (omega arith) in
+          let price : amount kind (passed + 1) (2 * passed + 3)
+          ≤ amount kind passed (8 * passed) + amount kind 1 (8 * (c.bytes.place + 1 - c.bytes.place)) = amount_sum kind passed (8 * passed) 1 (8 * (c.bytes.place + 1 - c.bytes.place)) (omega arith) (omega arith) in
+          record {
+            before = s + amount kind passed (8 * passed);
+            tested = tested (literal_token m.mode m.pattern c.bytes.place inside own) refl (omega arith);
+            allows = c.bytes.invariant.allows kind s n a;
+          };
+      progress = omega (arith, c.has.ensures.count.steps, c.pattern_byte-byte.ensures.count.steps, c.bytes.invariant.count.steps);
     }
 
 pub bytes-preserved : goal.bytes-preserved
 bytes-preserved g c =
     let m = g.M.Match in
-    let same : c.pattern_byte-byte.result ≡ get_or m.pattern c.bytes.place 0 = c.pattern_byte-byte.ensures in
+    let same : c.pattern_byte-byte.result ≡ get_or m.pattern c.bytes.place 0 = c.pattern_byte-byte.ensures.here in
     let inside : c.bytes.place < length m.pattern = omega (arith, c.bytes-test.true, c.pattern_len.ensures) in
     let own = subst StandsForItself same (c.if-not-stands_for_itself.ensures.0 refl) in
     let token = literal_token m.mode m.pattern c.bytes.place inside own in
@@ -38,11 +53,63 @@ bytes-preserved g c =
     (c.if-not-has.ensures.answer.0 refl) in
     record {
       stands = stands_on c.bytes.invariant.stands token refl fits.0 fits.1 (λ is. c.if-byte-eq47.false (same ∙ byte_of is));
-      allows = λ n a.
-          counted_on c.has.ensures.count (allows_on token.token (c.bytes.place + 1) token.here fits.0 fits.1
+      allows = λ kind s n a.
+          let passed = c.bytes.place - c.args.state.place in
+          let now = c.bytes.place + 1 - c.args.state.place in
+          let price : amount kind now (8 * now) ≤ amount kind passed (8 * passed) + amount kind 1 (8 * (c.bytes.place + 1 - c.bytes.place)) =
+          amount_sum kind passed (8 * passed) 1 (8 * (c.bytes.place + 1 - c.bytes.place)) (omega (arith, c.bytes.invariant.low)) (omega (arith, c.bytes.invariant.low)) in
+          allows_on {r = s + amount kind now (8 * now)} token refl (omega arith) fits.0 fits.1
           (inner_of m.mode m.pattern m.value c.bytes.place c.bytes.at c.args.state.crossing c.args.state.local
           token.token c.bytes.invariant.stands.local fits.1 (λ is. c.if-byte-eq47.false (same ∙ byte_of is)))
-          (c.bytes.invariant.allows n a));
+          (c.bytes.invariant.allows kind s n a);
       low = omega (arith, c.bytes.invariant.low);
-      count = omega (arith, c.has.ensures.count, c.bytes.invariant.count);
+      count =
+          took_on c.bytes.invariant.count (took_both c.pattern_byte-byte.ensures.count c.has.ensures.count)
+          (omega (arith, c.bytes.invariant.low)) (omega (arith, c.bytes.invariant.low));
+    }
+
+pub bytes-init : goal.bytes-init
+bytes-init g c =
+    let start = c.args.state.place in
+    record {
+      stands = c.requires.stands;
+      allows = λ kind s n a.
+          let none : amount kind (start - start) (8 * (start - start)) ≤ amount kind 0 0 = amount_mono kind (omega arith) (omega arith) in
+          allows_less (omega (arith, none, amount_same kind 0)) a;
+      low = omega arith;
+      count = record { steps = omega arith; looks = omega arith };
+    }
+
+pub returns-after-bytes : goal.returns-after-bytes
+returns-after-bytes g c =
+    let moved : c.args.state.place < c.bytes.place = omega (arith, c.bytes-test.false, c.pattern_len.ensures, c.requires.place) in
+    record {
+      meaning = c.bytes.invariant.stands;
+      allows = λ kind s n low a.
+          allows_less (took_within kind s 0 1 low c.bytes.invariant.count (omega arith) (omega arith)) (c.bytes.invariant.allows kind s n a);
+      progress = omega (arith, c.bytes.invariant.count.steps);
+    }
+
+pub returns-then-byte-eq47 : goal.returns-then-byte-eq47
+returns-then-byte-eq47 g c =
+    let m = g.M.Match in
+    let moved : c.args.state.place < c.bytes.place = elim (cases_lt c.args.state.place c.bytes.place) [
+      | inl below ↦ below
+      | inr high ↦
+          let at : c.bytes.place ≡ c.args.state.place = omega (arith, c.bytes.invariant.low) in
+          let same : c.pattern_byte-byte.result ≡ get_or m.pattern c.args.state.place 0 =
+          c.pattern_byte-byte.ensures.here ∙ ap (λ (i : ℕ). get_or m.pattern i 0) at in
+          absurd (elim c.then-byte-eq47.branch [
+            | then-byte-eq47-via-then-byte-eq47 w ↦ c.requires.other (sym same ∙ w.if-byte-eq47.true)
+            | then-byte-eq47-via-else-byte-eq47+then-not-stands_for_itself w ↦
+                let wrong : false ≡ true = w.if-not-stands_for_itself.ensures.1 (subst StandsForItself (sym same) c.requires.literal) in cc
+          ])
+    ] in
+    record {
+      meaning = c.bytes.invariant.stands;
+      allows = λ kind s n low a.
+          allows_less
+          (took_within kind s 0 1 low (took_both c.bytes.invariant.count c.pattern_byte-byte.ensures.count) (omega arith) (omega arith))
+          (c.bytes.invariant.allows kind s n a);
+      progress = omega (arith, c.bytes.invariant.count.steps, c.pattern_byte-byte.ensures.count.steps);
     }

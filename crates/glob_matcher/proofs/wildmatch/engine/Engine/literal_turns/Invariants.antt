@@ -1,16 +1,19 @@
--- The engine stands here with the same marks, and each byte taken is a step.
-use Rattle.std.proofs.Common.{◌≡◌, ℕ, ◌+◌, ◌-◌, ◌≤◌, length}
+-- The engine stands here with the same marks, and each byte taken is a step and two looks.
+use Rattle.std.proofs.Common.{◌≡◌, ℕ, ◌+◌, ◌-◌, ◌*◌, ◌≤◌, length}
+use Rattle.glob_matcher.specs.Private.Took.{Took}
 use Rattle.glob_matcher.specs.Private.States.{Stands}
+use Rattle.glob_matcher.specs.Private.Prices.{Counted, amount}
 use Rattle.glob_matcher.specs.Private.Budget.{Allows, AllowsAt}
 use Rattle.glob_matcher.proofs.wildmatch.engine.Engine.literal_turns.Given as goal
 
 abbrev pub invariant-bytes : goal.invariant-bytes
 invariant-bytes g l = record {
   stands : Stands g.M.Match.mode g.M.Match.pattern g.M.Match.value l.place l.at l.state.crossing l.state.local;
-  allows : (n : ℕ) → AllowsAt g.M.Match.mode g.M.Match.pattern g.M.Match.value l.state l.fn.self n
-      → Allows g.M.Match.mode g.M.Match.pattern g.M.Match.value l.place l.at l.state.crossing l.state.local l.self n;
+  allows : (kind : Counted) (s n : ℕ) → AllowsAt kind g.M.Match.mode g.M.Match.pattern g.M.Match.value l.state s n
+      → Allows kind g.M.Match.mode g.M.Match.pattern g.M.Match.value l.place l.at l.state.crossing l.state.local
+      (s + amount kind (l.place - l.fn.state.place) (8 * (l.place - l.fn.state.place))) n;
   low : l.fn.state.place ≤ l.place;
-  count : l.self + l.fn.state.place ≡ l.fn.self + l.place;
+  count : Took l.fn.self l.self (l.place - l.fn.state.place) (2 * (l.place - l.fn.state.place));
 }
 
 abbrev pub decreases-bytes : goal.decreases-bytes

@@ -1,5 +1,6 @@
 use Rattle.std.proofs.Common.{arith}
 use Rattle.glob_matcher.proofs.lemmas.two_marks.States.{bare_on}
+use Rattle.glob_matcher.proofs.lemmas.two_marks.Prices.{took_on}
 use Rattle.glob_matcher.proofs.lemmas.two_marks.Scans.{passed_on, scan_on}
 use Rattle.glob_matcher.proofs.wildmatch.engine.Engine.look_on.Goals as goal
 
@@ -11,9 +12,10 @@ stride-preserved g c =
       passed = passed_on c.stride.invariant.passed seen.meaning;
       bare = bare_on c.stride.invariant.bare c.in-Undecided.ensures.bare;
       on = omega (arith, c.in-Undecided.ensures.onward, c.stride.invariant.on);
-      count = omega (arith, seen.count, c.stride.invariant.count);
+      count =
+          took_on c.stride.invariant.count seen.took (omega (arith, c.stride.invariant.on, seen.meaning.low))
+          (omega (arith, c.stride.invariant.on, seen.meaning.low));
     }
 
 pub returns-in_default-clause-scan : goal.returns-in_default-clause-scan
-returns-in_default-clause-scan g c =
-    scan_on c.args.self.now c.stride.invariant.passed c.stride.invariant.count c.look.ensures.scan
+returns-in_default-clause-scan g c = scan_on c.stride.invariant.passed c.stride.invariant.count c.look.ensures.scan

@@ -11,7 +11,7 @@ returns-in-Some-Byte-clause-meaning g c =
     scan_for m.mode m.pattern (follow.Byte c.in-Some-Byte.byte)
     (subst (λ (x : Follow). Follows m.mode m.pattern c.args.mark.place x) c.in-Some-Byte.field-0-is
     (subst (λ (i : ℕ). Follows m.mode m.pattern i c.in-Some-Byte.field-0) c.place.ensures c.in-Some-Byte.ensures.follows))
-    c.scan.ensures.scan
+    c.follow_at.ensures.count c.scan.ensures.scan
 
 pub returns-in-Some-Folded-clause-meaning : goal.returns-in-Some-Folded-clause-meaning
 returns-in-Some-Folded-clause-meaning g c =
@@ -19,4 +19,4 @@ returns-in-Some-Folded-clause-meaning g c =
     scan_for m.mode m.pattern (follow.Folded c.in-Some-Folded.byte)
     (subst (λ (x : Follow). Follows m.mode m.pattern c.args.mark.place x) c.in-Some-Folded.field-0-is
     (subst (λ (i : ℕ). Follows m.mode m.pattern i c.in-Some-Folded.field-0) c.place.ensures c.in-Some-Folded.ensures.follows))
-    c.scan-in-Some-Folded.ensures.scan
+    c.follow_at.ensures.count c.scan-in-Some-Folded.ensures.scan

@@ -11,7 +11,7 @@ returns-in-Some-Byte-clause-meaning g c =
     scan_for m.mode m.pattern (follow.Byte c.in-Some-Byte.byte)
     (subst (λ (x : Follow). Follows m.mode m.pattern c.args.mark.place x) c.in-Some-Byte.field-0-is
     (subst (λ (i : ℕ). Follows m.mode m.pattern i c.in-Some-Byte.field-0) c.place.ensures c.in-Some-Byte.ensures.follows))
-    c.scan_within.ensures.scan
+    c.follow_at.ensures.count c.scan_within.ensures.scan
 
 pub returns-in-Some-Folded-clause-meaning : goal.returns-in-Some-Folded-clause-meaning
 returns-in-Some-Folded-clause-meaning g c =
@@ -19,11 +19,11 @@ returns-in-Some-Folded-clause-meaning g c =
     scan_for m.mode m.pattern (follow.Folded c.in-Some-Folded.byte)
     (subst (λ (x : Follow). Follows m.mode m.pattern c.args.mark.place x) c.in-Some-Folded.field-0-is
     (subst (λ (i : ℕ). Follows m.mode m.pattern i c.in-Some-Folded.field-0) c.place.ensures c.in-Some-Folded.ensures.follows))
-    c.scan_within-in-Some-Folded.ensures.scan
+    c.follow_at.ensures.count c.scan_within-in-Some-Folded.ensures.scan
 
 pub returns-in-Some-End-clause-meaning : goal.returns-in-Some-End-clause-meaning
 returns-in-Some-End-clause-meaning g c =
     let m = g.M.Match in
     scan_for m.mode m.pattern follow.End (subst (λ (x : Follow). Follows m.mode m.pattern c.args.mark.place x) c.in-Some-End.field-0-is
     (subst (λ (i : ℕ). Follows m.mode m.pattern i c.in-Some-End.field-0) c.place.ensures c.in-Some-End.ensures.follows))
-    c.scan_within-in-Some-End.ensures.scan
+    c.follow_at.ensures.count c.scan_within-in-Some-End.ensures.scan

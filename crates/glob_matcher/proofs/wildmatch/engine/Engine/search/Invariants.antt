@@ -1,15 +1,17 @@
--- The engine stands where it may, and the steps left are enough.
+-- The engine stands where it may, and what is left of its budget is enough.
 use Rattle.std.proofs.Common.{◌+◌, ◌-◌, length}
-use Rattle.glob_matcher.specs.Steps.{step_limit}
+use Rattle.glob_matcher.specs.Steps.{step_limit, look_limit}
 use Rattle.glob_matcher.specs.Private.States.{StandsAt}
+use Rattle.glob_matcher.specs.Private.Prices.{Counted, amount, counted}
 use Rattle.glob_matcher.specs.Private.Budget.{AllowsAt}
 use Rattle.glob_matcher.proofs.wildmatch.engine.Engine.search.Given as goal
 
 abbrev pub invariant-turns : goal.invariant-turns
 invariant-turns g l = record {
   stands : StandsAt g.M.Match.mode g.M.Match.pattern g.M.Match.value l.state;
-  allows : AllowsAt g.M.Match.mode g.M.Match.pattern g.M.Match.value l.state l.self (l.fn.self + step_limit (length g.M.Match.pattern) (length g.M.Match.value));
+  allows : (kind : Counted) → AllowsAt kind g.M.Match.mode g.M.Match.pattern g.M.Match.value l.state (counted kind l.self)
+      (counted kind l.fn.self + amount kind (step_limit (length g.M.Match.pattern) (length g.M.Match.value)) (look_limit (length g.M.Match.pattern) (length g.M.Match.value)));
 }
 
 abbrev pub decreases-turns : goal.decreases-turns
-decreases-turns g l = l.fn.self + step_limit (length g.M.Match.pattern) (length g.M.Match.value) - l.self
+decreases-turns g l = l.fn.self.steps + step_limit (length g.M.Match.pattern) (length g.M.Match.value) - l.self.steps

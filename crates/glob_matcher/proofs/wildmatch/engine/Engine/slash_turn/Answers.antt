@@ -1,9 +1,9 @@
 use Rattle.std.proofs.Common.{◌≡◌, ◌+◌, ◌<◌, ℕ, length, get_or, false, true, ap, refl, sym, subst, arith}
-use Rattle.glob_matcher.specs.Bytes.{slash}
 use Rattle.glob_matcher.specs.Tokens.{Byte}
 use Rattle.glob_matcher.specs.Private.Reader.{Fits}
 use Rattle.glob_matcher.proofs.lemmas.two_marks.States.{literal_token, misses_byte, stands_past_slash}
-use Rattle.glob_matcher.proofs.lemmas.two_marks.Budget.{allows_past_slash, counted_on}
+use Rattle.glob_matcher.proofs.lemmas.two_marks.Prices.{took_within}
+use Rattle.glob_matcher.proofs.lemmas.two_marks.Budget.{allows_past_slash, tested}
 use Rattle.glob_matcher.proofs.lemmas.two_marks.Scans.{slash_is_itself}
 use Rattle.glob_matcher.proofs.wildmatch.engine.Engine.slash_turn.Goals as goal
 
@@ -21,8 +21,14 @@ returns-then-not-has g c =
             (subst (λ (b : ℕ). (c.args.state.at < length m.value) × Fits m.mode (Byte b) (get_or m.value c.args.state.at 0)) c.requires.is fits) in
             cc);
       };
-      allows = λ n a. record { before = c.args.self.now; one = c.has.ensures.count; allows = a };
-      counts = omega (arith, c.has.ensures.count);
+      allows = λ kind s n low a.
+          let token = literal_token m.mode m.pattern c.args.state.place c.requires.place (slash_is_itself _ c.requires.is) in
+          record {
+            before = s;
+            tested = tested token refl (took_within kind s 0 1 low c.has.ensures.count (omega arith) (omega arith));
+            allows = a;
+          };
+      progress = omega (arith, c.has.ensures.count.steps);
     }
 
 pub returns : goal.returns
@@ -34,6 +40,7 @@ returns g c =
     (c.if-not-has.ensures.answer.0 refl) in
     record {
       meaning = stands_past_slash c.requires.stands token refl fits.0 fits.1 (ap Byte c.requires.is);
-      allows = λ n a. counted_on c.has.ensures.count (allows_past_slash token.token (c.args.state.place + 1) token.here fits.0 fits.1 a);
-      counts = omega (arith, c.has.ensures.count);
+      allows = λ kind s n low a.
+          allows_past_slash token refl (took_within kind s 0 1 low c.has.ensures.count (omega arith) (omega arith)) fits.0 fits.1 a;
+      progress = omega (arith, c.has.ensures.count.steps);
     }

@@ -1,6 +1,9 @@
-use Rattle.std.proofs.Common.{◌≡◌, ◌≤◌, length, false, true, refl, arith}
+use Rattle.std.proofs.Common.{◌≡◌, ◌+◌, ◌≤◌, length, false, true, refl, arith}
+use Rattle.glob_matcher.specs.Private.Prices.{amount, counted}
 use Rattle.glob_matcher.proofs.lemmas.two_marks.States.{end_met, end_missed}
-use Rattle.glob_matcher.proofs.lemmas.two_marks.Budget.{allows_one}
+use Rattle.glob_matcher.proofs.lemmas.two_marks.Prices.{amount_same, took_within}
+use Rattle.glob_matcher.proofs.lemmas.two_marks.Turns.{turn_on}
+use Rattle.glob_matcher.proofs.lemmas.two_marks.Budget.{allows_test, tested_one}
 use Rattle.glob_matcher.proofs.wildmatch.engine.Engine.take_turn.Goals as goal
 
 pub returns-then-ends_at : goal.returns-then-ends_at
@@ -10,10 +13,11 @@ returns-then-ends_at g c =
     let low : c.args.state.place ≤ length m.pattern = c.requires.low in
     record {
       meaning = end_met c.requires (omega arith) (c.if-ends_at.ensures.answer.0 refl);
-      allows = λ n a.
-          let one = allows_one c.requires.inside a in
-          omega (arith, one, c.ends_at.ensures.count);
-      counts = tt;
+      allows = λ kind s n low a.
+          let one : counted kind c.ends_at.new.self ≤ s + amount kind 1 1 =
+          took_within kind s 0 0 low c.ends_at.ensures.count (omega arith) (omega arith) in
+          allows_test c.requires.inside (tested_one (omega (arith, one, amount_same kind 1))) a;
+      progress = tt;
     }
 
 pub returns-then-state-pattern_len : goal.returns-then-state-pattern_len
@@ -28,6 +32,21 @@ returns-then-state-pattern_len g c =
             end_missed m.mode m.pattern m.value c.args.state.place c.args.state.at (omega arith)
             (λ end. let wrong : false ≡ true = c.if-ends_at.ensures.answer.1 end in cc);
       };
-      allows = λ n a. record { before = c.args.self.now; one = c.ends_at.ensures.count; allows = a };
-      counts = omega (arith, c.ends_at.ensures.count);
+      allows = λ kind s n low a.
+          let one : counted kind c.ends_at.new.self ≤ s + amount kind 1 1 =
+          took_within kind s 0 0 low c.ends_at.ensures.count (omega arith) (omega arith) in
+          record { before = s; tested = tested_one (omega (arith, one, amount_same kind 1)); allows = a };
+      progress = omega (arith, c.ends_at.ensures.count.steps);
     }
+
+pub returns-then-byte-eq47 : goal.returns-then-byte-eq47
+returns-then-byte-eq47 g c = turn_on c.pattern_byte-byte.ensures.count (omega arith) c.slash_turn.ensures
+
+pub returns-then-stands_for_itself : goal.returns-then-stands_for_itself
+returns-then-stands_for_itself g c = turn_on c.pattern_byte-byte.ensures.count (omega arith) c.literal_turns.ensures
+
+pub returns-then-byte-eq91 : goal.returns-then-byte-eq91
+returns-then-byte-eq91 g c = turn_on c.pattern_byte-byte.ensures.count (omega arith) c.set_turn.ensures
+
+pub returns : goal.returns
+returns g c = turn_on c.pattern_byte-byte.ensures.count (omega arith) c.special_turn.ensures

@@ -1,0 +1,44 @@
+-- A turn of the engine with two marks, after looks at its token.
+use Rattle.std.proofs.Common.{◌≡◌, ℕ, ◌+◌, ◌-◌, ◌*◌, ◌<◌, ◌≤◌, Bool, true, false, List, refl, arith}
+use Rattle.glob_matcher.specs.declared.wildmatch.mode.Mode.{Mode}
+use Rattle.glob_matcher.specs.declared.wildmatch.state.State.{State}
+use Rattle.glob_matcher.specs.declared.wildmatch.state.Turn.{Turn}
+use Rattle.glob_matcher.specs.declared.wildmatch.state.Turn.TheVariants as turn
+use Rattle.glob_matcher.specs.Steps.{Counts}
+use Rattle.glob_matcher.specs.Private.Took.{Took}
+use Rattle.glob_matcher.specs.declared.wildmatch.tokens.Shape.{Shape}
+use Rattle.glob_matcher.specs.Private.Looks.{IsSetPaid}
+use Rattle.glob_matcher.specs.Private.Reader.{IsTokenRead, is_star}
+use Rattle.glob_matcher.specs.Private.Budget.{CountsOutcome}
+use Rattle.glob_matcher.specs.Private.Turns.{IsTurn}
+use Rattle.glob_matcher.proofs.lemmas.two_marks.Prices.{took_within}
+
+counts_on : (t : Turn) (a b c : ℕ) → b ≡ a → CountsOutcome t b c → CountsOutcome t a c
+counts_on turn.Match a b c same more = tt
+counts_on turn.NoMatch a b c same more = tt
+counts_on (turn.Miss s) a b c same more = omega arith
+counts_on (turn.On s) a b c same more = omega arith
+
+pub turn_on : {mode : Mode} {p v : List ℕ} {state : State} {t : Turn} {before between after : Counts} {looks looked all : ℕ}
+    → Took before between 0 looks → looked + looks ≤ all → IsTurn mode p v state all t between after
+    → IsTurn mode p v state looked t before after
+turn_on {t = t} {before} {between} {after} {looked = looked} taken enough so = record {
+  meaning = so.meaning;
+  allows = λ kind s n low a. so.allows kind s n (took_within kind s 0 looked low taken (omega arith) enough) a;
+  progress = counts_on t before.steps between.steps after.steps (omega (arith, taken.steps)) so.progress;
+}
+
+-- the looks of the readers
+pub token_looks : {before after : Counts} {i : ℕ} {shape : Shape} {j : ℕ} → i < j → IsTokenRead before after i shape j
+    → Took before after 0 (6 * (j - i))
+token_looks {before} {after} {i} {shape} {j} past read = cases (is_star shape) refl where
+  cases : (star : Bool) → is_star shape ≡ star → Took before after 0 (6 * (j - i))
+  cases true star = record { steps = omega (arith, read.steps); looks = omega (arith, read.run star) }
+  cases false one = record { steps = omega (arith, read.steps); looks = omega (arith, read.other one) }
+
+pub star_looks : {before after : Counts} {i : ℕ} {shape : Shape} {j : ℕ} → i < j → is_star shape ≡ true → IsTokenRead before after i shape j
+    → Took before after 0 (5 * (j - i) - 3)
+star_looks {i = i} {j = j} past star read = record { steps = omega (arith, read.steps); looks = omega (arith, read.run star) }
+
+pub set_looks : {n : ℕ} {before after : Counts} {i j : ℕ} → i ≤ j → IsSetPaid n before after i j → Took before after n (4 * (j - i) + 1)
+set_looks {i = i} {j} low paid = record { steps = paid.steps; looks = omega (arith, paid.looks) }

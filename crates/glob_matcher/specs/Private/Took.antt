@@ -1,0 +1,8 @@
+-- What a function of the engine with two marks takes. Nothing public cites it.
+use Rattle.std.specs.Prelude.{◌≡◌, ℕ, ◌+◌, ◌≤◌}
+use Rattle.glob_matcher.specs.Steps.{Counts}
+
+-- from one state of the counts to another: s steps, and at most l looks
+pub record Took (before after : Counts) (s l : ℕ) : Type 0 where
+  pub steps : after.steps ≡ before.steps + s
+  pub looks : after.looks ≤ before.looks + l

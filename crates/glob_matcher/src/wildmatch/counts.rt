@@ -1,0 +1,115 @@
+//! The counts of what a match takes: contracts see them, and they take no bytes.
+ghost use Rattle.std.specs.Prelude.{◌≡◌, ◌+◌, ◌<◌};
+ghost use Rattle.glob_matcher.specs.Private.Took.{Took};
+
+use std::marker::Model;
+use std::sync::ledger::{Blank, Book, Ledger, Share};
+
+/// A number that contracts alone see. It takes no bytes, and counting does nothing when it runs.
+#[derive(Drop)]
+struct Count<L: Ledger> {
+    book: Book<L>,
+    share: Share<L>,
+}
+
+impl<L: Ledger> Model for Count<L> {
+    ghost use Rattle.std.specs.Prelude.{ℕ, ◌<◌};
+
+    ghost Value = { ℕ };
+
+    ghost view = { λ c. c.book.total };
+
+    ghost invariant = { λ c. 0 < c.share.parts };
+}
+
+impl<L: Ledger> Count<L> {
+    /// A count of nothing, in a ledger that nothing counts in yet.
+    fn new(blank: Blank) -> Count<L>
+        requires name { blank.name ≡ L.name }
+        requires parts { blank.parts ≡ L.parts }
+        requires some { 0 < blank.parts }
+        ensures { result ≡ 0 }
+    {
+        let (book, share) = blank.open::<L>();
+        Count { book, share }
+    }
+
+    /// Counts so many.
+    #[inline(always)]
+    fn add(&mut self, count: usize)
+        ensures { self.new ≡ self.old + count }
+    {
+        self.book.add(&mut self.share, count as u64);
+    }
+}
+
+/// How many steps and how many looks were taken, each in a ledger of its own.
+///
+/// A step is one token, or the pattern's end, tested at one place of the value; one mark set; or one mark moved by one byte
+/// or found unable to move. A look is one byte of the pattern or of the value that is read. The bounds are in
+/// `docs/ENGINES.md`.
+#[derive(Drop)]
+pub struct Counts<S: Ledger, L: Ledger> {
+    steps: Count<S>,
+    looks: Count<L>,
+}
+
+impl<S: Ledger, L: Ledger> Model for Counts<S, L> {
+    ghost use Rattle.glob_matcher.specs.Steps.{Counts};
+
+    ghost Value = { Counts };
+
+    ghost view = { λ c. record { steps = c.steps; looks = c.looks } };
+}
+
+impl<S: Ledger, L: Ledger> Counts<S, L> {
+    /// Counts of nothing, in two ledgers that nothing counts in yet: `Blank::new(1)` makes one.
+    pub fn new(steps: Blank, looks: Blank) -> Counts<S, L>
+        requires steps_name { steps.name ≡ S.name }
+        requires steps_parts { steps.parts ≡ S.parts }
+        requires steps_some { 0 < steps.parts }
+        requires looks_name { looks.name ≡ L.name }
+        requires looks_parts { looks.parts ≡ L.parts }
+        requires looks_some { 0 < looks.parts }
+        ensures steps { result.steps ≡ 0 }
+        ensures looks { result.looks ≡ 0 }
+    {
+        Counts {
+            steps: Count::new(steps),
+            looks: Count::new(looks),
+        }
+    }
+
+    /// Counts one step.
+    #[inline(always)]
+    pub(super) fn step(&mut self)
+        ensures { Took self.old self.new 1 0 }
+    {
+        self.steps.add(1);
+    }
+
+    /// Counts one step that reads a byte.
+    #[inline(always)]
+    pub(super) fn step_with_look(&mut self)
+        ensures { Took self.old self.new 1 1 }
+    {
+        self.steps.add(1);
+        self.looks.add(1);
+    }
+
+    /// Counts one look.
+    #[inline(always)]
+    pub(super) fn look(&mut self)
+        ensures { Took self.old self.new 0 1 }
+    {
+        self.looks.add(1);
+    }
+
+    /// Counts looks at so many bytes.
+    #[inline(always)]
+    pub(super) fn looks(&mut self, count: usize)
+        ensures { Took self.old self.new 0 count }
+    {
+        self.looks.add(count);
+    }
+}
