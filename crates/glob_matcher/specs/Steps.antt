@@ -17,6 +17,6 @@ step_bound mode p v = if is_path mode then 2 * (p + 1) * (v + 1) * (v + 1) else 
 abbrev pub step_limit : ℕ → ℕ → ℕ
 step_limit p v = 2 * (p + 1) * (v + 1)
 
--- how many bytes of the pattern and of the value a match reads at most, each time that it reads one counted
+-- how many looks a match takes at most, in each mode
 abbrev pub look_limit : ℕ → ℕ → ℕ
 look_limit p v = 8 * (p + 1) * (v + 1)
