@@ -1,10 +1,11 @@
--- How many steps a match takes at most, p and v being the lengths of the pattern and of the value. A step is one token, or the
--- pattern's end, tested at one place of the value; one mark set; or one mark moved by one byte or found unable to move.
+-- How many steps and looks a match takes at most, p and v being the lengths of the pattern and of the value. A step is one
+-- token, or the pattern's end, tested at one place of the value; one mark set; or one mark moved by one byte or found unable to
+-- move. A look reads one byte of the pattern or of the value.
 use Rattle.std.specs.Prelude.{ℕ, ◌+◌, ◌*◌, if◌then◌else◌}
 use Rattle.glob_matcher.specs.declared.wildmatch.mode.Mode.{Mode}
 use Rattle.glob_matcher.specs.Bytes.{is_path}
 
--- what a match has taken so far: its steps, and its looks, each of one byte of the pattern or of the value
+-- what a match has taken so far
 pub record Counts : Type 0 where
   pub steps : ℕ
   pub looks : ℕ
@@ -17,6 +18,6 @@ step_bound mode p v = if is_path mode then 2 * (p + 1) * (v + 1) * (v + 1) else 
 abbrev pub step_limit : ℕ → ℕ → ℕ
 step_limit p v = 2 * (p + 1) * (v + 1)
 
--- how many bytes of the pattern and of the value a match reads at most, each time that it reads one counted
+-- how many looks a match takes at most, in each mode
 abbrev pub look_limit : ℕ → ℕ → ℕ
 look_limit p v = 8 * (p + 1) * (v + 1)

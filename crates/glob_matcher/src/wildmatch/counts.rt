@@ -91,7 +91,8 @@ impl<S: Ledger, L: Ledger> Counts<S, L> {
     /// Counts one step that reads a byte.
     #[inline(always)]
     pub(super) fn step_with_look(&mut self)
-        ensures { Took self.old self.new 1 1 }
+        ensures count { Took self.old self.new 1 1 }
+        ensures looked { self.new.looks ≡ self.old.looks + 1 }
     {
         self.steps.add(1);
         self.looks.add(1);
@@ -100,7 +101,8 @@ impl<S: Ledger, L: Ledger> Counts<S, L> {
     /// Counts one look.
     #[inline(always)]
     pub(super) fn look(&mut self)
-        ensures { Took self.old self.new 0 1 }
+        ensures count { Took self.old self.new 0 1 }
+        ensures looked { self.new.looks ≡ self.old.looks + 1 }
     {
         self.looks.add(1);
     }
@@ -108,7 +110,8 @@ impl<S: Ledger, L: Ledger> Counts<S, L> {
     /// Counts looks at so many bytes.
     #[inline(always)]
     pub(super) fn looks(&mut self, count: usize)
-        ensures { Took self.old self.new 0 count }
+        ensures count { Took self.old self.new 0 count }
+        ensures looked { self.new.looks ≡ self.old.looks + count }
     {
         self.looks.add(count);
     }

@@ -129,6 +129,7 @@ impl<'c, 'a, S: Ledger, L: Ledger, M: Match> Engine<'c, 'a, S, L, M> {
         ensures end { IfNone result (length M.pattern ≤ place) }
         ensures count { Took self.old self.new 0 1 }
         ensures free { IfNone result (Took self.old self.new 0 0) }
+        ensures looked { IfSome result (λ byte. self.new.looks ≡ self.old.looks + 1) }
     {
         if place >= self.pattern.len() {
             return None;
@@ -143,6 +144,7 @@ impl<'c, 'a, S: Ledger, L: Ledger, M: Match> Engine<'c, 'a, S, L, M> {
         requires { place < length M.pattern }
         ensures here { result ≡ slice_index M.pattern place }
         ensures count { Took self.old self.new 0 1 }
+        ensures looked { self.new.looks ≡ self.old.looks + 1 }
     {
         self.counts.look();
         self.pattern[place]
@@ -155,6 +157,7 @@ impl<'c, 'a, S: Ledger, L: Ledger, M: Match> Engine<'c, 'a, S, L, M> {
         ensures found { IfSome result (λ class. slice_range M.pattern from to ≡ name_of class) }
         ensures none { IfNone result ((class : Class) → ¬ (slice_range M.pattern from to ≡ name_of class)) }
         ensures count { LookedOver 1 self.old self.new from to }
+        ensures looked { self.new.looks + from ≡ self.old.looks + to }
     {
         self.counts.looks(to - from);
         Class::named(&self.pattern[from..to])
@@ -175,6 +178,7 @@ impl<'c, 'a, S: Ledger, L: Ledger, M: Match> Engine<'c, 'a, S, L, M> {
     pub fn has(&mut self, at: usize, wanted: u8) -> bool
         ensures answer { IsTrue result ↔ ((at < length M.value) × Fits M.mode (Byte wanted) (slice_index M.value at)) }
         ensures count { Took self.old self.new 1 1 }
+        ensures looked { self.new.looks ≡ self.old.looks + 1 }
     {
         self.counts.step_with_look();
         at < self.value.len() && self.mode.fold(self.value[at]) == self.mode.fold(wanted)
@@ -185,6 +189,7 @@ impl<'c, 'a, S: Ledger, L: Ledger, M: Match> Engine<'c, 'a, S, L, M> {
     pub fn ends_in(&mut self, wanted: u8) -> bool
         ensures answer { IsTrue result ↔ ((0 < length M.value) × Fits M.mode (Byte wanted) (slice_index M.value (length M.value - 1))) }
         ensures count { Took self.old self.new 1 1 }
+        ensures looked { self.new.looks ≡ self.old.looks + 1 }
     {
         self.counts.step_with_look();
         let len = self.value.len();
@@ -198,6 +203,7 @@ impl<'c, 'a, S: Ledger, L: Ledger, M: Match> Engine<'c, 'a, S, L, M> {
         ensures answer { (token : Token) → shape ≡ shape_of token
             → IsTrue result ↔ ((at < length M.value) × Fits M.mode token (slice_index M.value at)) }
         ensures count { Took self.old self.new 1 1 }
+        ensures looked { self.new.looks ≡ self.old.looks + 1 }
     {
         self.counts.step_with_look();
         at < self.value.len() && shape.fits(self.value[at], self.mode)
@@ -239,6 +245,7 @@ impl<'c, 'a, S: Ledger, L: Ledger, M: Match> Engine<'c, 'a, S, L, M> {
         ensures moved { IfSome result (λ x. (x.0.place ≡ mark.place) × (x.0.at ≡ mark.at + 1) × (mark.at < length M.value) × (slice_index M.value mark.at ≡ x.1)) }
         ensures unable { IfNone result (length M.value ≤ mark.at) }
         ensures count { Took self.old self.new 1 1 }
+        ensures looked { self.new.looks ≡ self.old.looks + 1 }
     {
         self.counts.step_with_look();
         if mark.at >= self.value.len() {
@@ -258,6 +265,7 @@ impl<'c, 'a, S: Ledger, L: Ledger, M: Match> Engine<'c, 'a, S, L, M> {
         ensures moved { IfSome result (λ x. (x.place ≡ mark.place) × (x.at ≡ mark.at + 1) × (mark.at < length M.value) × (slice_index M.value mark.at ≢ slash)) }
         ensures unable { IfNone result (slice_index M.value mark.at ≡ slash) }
         ensures count { Took self.old self.new 1 1 }
+        ensures looked { self.new.looks ≡ self.old.looks + 1 }
     {
         self.counts.step_with_look();
         if self.value[mark.at] == b'/' {
@@ -275,6 +283,7 @@ impl<'c, 'a, S: Ledger, L: Ledger, M: Match> Engine<'c, 'a, S, L, M> {
         ensures moved { IfSome result (λ x. (x.place ≡ mark.place) × (x.at ≡ mark.at + 1) × (mark.at < length M.value) × (slice_index M.value mark.at ≢ slash)) }
         ensures unable { IfNone result ((length M.value ≤ mark.at) ⊎ (slice_index M.value mark.at ≡ slash)) }
         ensures count { Took self.old self.new 1 1 }
+        ensures looked { self.new.looks ≡ self.old.looks + 1 }
     {
         if mark.at >= self.value.len() {
             self.counts.step_with_look();
@@ -298,6 +307,7 @@ impl<'c, 'a, S: Ledger, L: Ledger, M: Match> Engine<'c, 'a, S, L, M> {
         requires { mark.at < length M.value }
         ensures answer { IsTrue result ↔ N.suits needle (slice_index M.value mark.at) }
         ensures count { Took self.old self.new 1 1 }
+        ensures looked { self.new.looks ≡ self.old.looks + 1 }
     {
         self.counts.step_with_look();
         needle.takes(self.value[mark.at])

@@ -1,6 +1,6 @@
 -- The engine with two marks: what the pieces of a pattern may take of its steps, or of its looks.
-use Rattle.std.proofs.Common.{◌≡◌, ◌≢◌, ◌⊎◌, inl, inr, ℕ, ◌+◌, ◌-◌, ◌*◌, ◌<◌, ◌≤◌, Bool, true, false, List, [], ◌∷◌, length, get_or, refl, sym, ◌∙◌, ap, subst, arith, if◌then◌else◌}
-use Rattle.std.proofs.Math.Nat.{mul-le-mul_left, mul-le-mul_right, mul-le-mul}
+use Rattle.std.proofs.Common.{◌≡◌, ◌⊎◌, inl, inr, ℕ, ◌+◌, ◌-◌, ◌*◌, ◌<◌, ◌≤◌, Bool, true, false, List, [], ◌∷◌, length, get_or, refl, sym, ◌∙◌, ap, subst, arith, if◌then◌else◌}
+use Rattle.std.proofs.Math.Nat.{mul-le-mul_left, mul-le-mul}
 use Rattle.glob_matcher.specs.declared.wildmatch.mode.Mode.{Mode}
 use Rattle.glob_matcher.specs.declared.wildmatch.tokens.Shape.{Shape}
 use Rattle.glob_matcher.specs.Steps.{Counts, step_limit, look_limit}
@@ -12,7 +12,7 @@ use Rattle.glob_matcher.specs.Private.Pieces.{Piece, piece, PiecesFrom}
 use Rattle.glob_matcher.specs.Private.Prices.{Counted, Steps, Looks, amount, counted, for_star, move, test, each, trial, onward, left, cost, hop, stretch}
 use Rattle.glob_matcher.proofs.lemmas.reading.TokenLemmas.{TokenAt-unique, TokenAt-inside}
 use Rattle.glob_matcher.proofs.lemmas.reading.Existence.{settle, TokenAt-past}
-use Rattle.glob_matcher.proofs.lemmas.two_marks.Components.{next-end, next-inner, next_past, next_mono}
+use Rattle.glob_matcher.proofs.lemmas.two_marks.Components.{next-inner, next_past, next_mono}
 
 -- so many steps, or so many looks
 

@@ -16,17 +16,16 @@ use Rattle.glob_matcher.specs.Bytes.{NoSlash, StandsForItself, fold, folds, is_p
 use Rattle.glob_matcher.specs.Tokens.{Byte}
 use Rattle.glob_matcher.specs.Matching.{SplitsFrom}
 use Rattle.glob_matcher.specs.Private.Reader.{Fits}
-use Rattle.glob_matcher.specs.Private.Scans.{Follows, IsScan, HasScanned, Passed, reached_by}
+use Rattle.glob_matcher.specs.Private.Scans.{Follows, IsScan, Passed, reached_by}
 use Rattle.glob_matcher.specs.Private.States.{IsMet, IsScanFor, Stands}
 use Rattle.glob_matcher.specs.Steps.{Counts}
 use Rattle.glob_matcher.specs.Private.Took.{Took}
-use Rattle.glob_matcher.specs.Private.Pieces.{piece}
-use Rattle.glob_matcher.specs.Private.Prices.{Counted, amount, counted, move, test}
+use Rattle.glob_matcher.specs.Private.Prices.{Counted, amount, move}
 use Rattle.glob_matcher.specs.Private.Budget.{Allows, Missed}
 use Rattle.glob_matcher.proofs.lemmas.two_marks.Components.{inner}
 use Rattle.glob_matcher.proofs.lemmas.two_marks.States.{end_missed, free_moved, inner_of, left_without, literal_token, local_moved, mark_of, mark_eq, misses_byte, stands_on, stands_past_slash}
 use Rattle.glob_matcher.proofs.lemmas.two_marks.Budget.{allows_free_moved, allows_less, allows_local_moved, allows_missed, allows_on, allows_past_slash, left_missed}
-use Rattle.glob_matcher.proofs.lemmas.two_marks.Prices.{amount_mono, move_some, took_none, took_on}
+use Rattle.glob_matcher.proofs.lemmas.two_marks.Prices.{amount_mono, move_some, took_on}
 
 same_or_not : (a b : ℕ) → (a ≡ b) ⊎ (a ≢ b)
 same_or_not a b = elim (cases_lt a b) [

@@ -1,6 +1,5 @@
-use Rattle.std.proofs.Common.{ℕ, Option, None, subst, sym, arith}
+use Rattle.std.proofs.Common.{subst, sym, arith}
 use Rattle.glob_matcher.specs.declared.wildmatch.state.Crossing.{Crossing}
-use Rattle.glob_matcher.specs.declared.wildmatch.state.Crossing.TheVariants as crossing
 use Rattle.glob_matcher.specs.Private.Prices.{counted}
 use Rattle.glob_matcher.specs.Private.Budget.{AllowsLeft}
 use Rattle.glob_matcher.specs.Private.Turns.{IsBacktrack}

@@ -1,5 +1,4 @@
-use Rattle.std.proofs.Common.{◌≡◌, ◌+◌, ◌-◌, ◌*◌, ℕ, None, ap, arith}
-use Rattle.glob_matcher.specs.declared.wildmatch.state.Crossing.TheVariants as crossing
+use Rattle.std.proofs.Common.{◌+◌, ◌-◌, ◌*◌, ℕ, ap, arith}
 use Rattle.glob_matcher.proofs.lemmas.two_marks.States.{known_places, free_moved, free_stuck}
 use Rattle.glob_matcher.proofs.lemmas.two_marks.Prices.{amount_same, move_price, scan_price, took_both}
 use Rattle.glob_matcher.proofs.lemmas.two_marks.Budget as budget

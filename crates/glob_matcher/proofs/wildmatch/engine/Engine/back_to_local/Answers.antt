@@ -1,5 +1,4 @@
-use Rattle.std.proofs.Common.{◌≡◌, ◌+◌, ◌-◌, ◌*◌, ℕ, None, Some, inr, ap, arith}
-use Rattle.glob_matcher.specs.declared.wildmatch.scan.Scan.TheVariants as scan
+use Rattle.std.proofs.Common.{◌+◌, ◌-◌, ◌*◌, ℕ, inr, ap, arith}
 use Rattle.glob_matcher.proofs.lemmas.two_marks.States.{known_local, known_places, left_stuck, left_without}
 use Rattle.glob_matcher.proofs.lemmas.two_marks.Prices.{amount_same, move_over, move_price, scan_price, took_both}
 use Rattle.glob_matcher.proofs.lemmas.two_marks.Budget as budget

@@ -1,4 +1,3 @@
-use Rattle.std.proofs.Common.{arith}
 use Rattle.glob_matcher.proofs.lemmas.two_marks.Scans.{progress_on}
 use Rattle.glob_matcher.proofs.wildmatch.engine.Engine.backtrack.Goals as goal
 

@@ -1,5 +1,5 @@
 -- The engine stands here with the same marks, and each byte taken is a step and two looks.
-use Rattle.std.proofs.Common.{◌≡◌, ℕ, ◌+◌, ◌-◌, ◌*◌, ◌≤◌, length}
+use Rattle.std.proofs.Common.{ℕ, ◌+◌, ◌-◌, ◌*◌, ◌≤◌, length}
 use Rattle.glob_matcher.specs.Private.Took.{Took}
 use Rattle.glob_matcher.specs.Private.States.{Stands}
 use Rattle.glob_matcher.specs.Private.Prices.{Counted, amount}

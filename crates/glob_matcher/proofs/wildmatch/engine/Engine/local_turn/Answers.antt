@@ -1,4 +1,4 @@
-use Rattle.std.proofs.Common.{◌≡◌, arith}
+use Rattle.std.proofs.Common.{arith}
 use Rattle.glob_matcher.proofs.lemmas.two_marks.States.{local_met}
 use Rattle.glob_matcher.proofs.lemmas.two_marks.Prices.{took_within}
 use Rattle.glob_matcher.proofs.lemmas.two_marks.Budget.{allows_local}

@@ -1,6 +1,6 @@
 use Rattle.std.proofs.Common.{◌+◌, length, arith}
 use Rattle.glob_matcher.specs.Steps.{step_limit, look_limit}
-use Rattle.glob_matcher.specs.Private.Prices.{Counted, Steps, Looks, amount, counted}
+use Rattle.glob_matcher.specs.Private.Prices.{Steps, Looks, amount, counted}
 use Rattle.glob_matcher.proofs.lemmas.two_marks.States.{stands_start}
 use Rattle.glob_matcher.proofs.lemmas.two_marks.Prices.{rose}
 use Rattle.glob_matcher.proofs.lemmas.two_marks.Budget.{allows_one, allows_start}

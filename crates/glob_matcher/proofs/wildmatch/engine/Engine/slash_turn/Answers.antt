@@ -1,4 +1,4 @@
-use Rattle.std.proofs.Common.{◌≡◌, ◌+◌, ◌<◌, ℕ, length, get_or, false, true, ap, refl, sym, subst, arith}
+use Rattle.std.proofs.Common.{◌≡◌, ◌<◌, ℕ, length, get_or, false, true, ap, refl, sym, subst, arith}
 use Rattle.glob_matcher.specs.Tokens.{Byte}
 use Rattle.glob_matcher.specs.Private.Reader.{Fits}
 use Rattle.glob_matcher.proofs.lemmas.two_marks.States.{literal_token, misses_byte, stands_past_slash}
