@@ -152,7 +152,7 @@ impl<'s, 'a, L: Ledger, M: Match> Engine<'s, 'a, L, M> {
         ensures count { self.new ≡ self.old + 1 }
     {
         self.steps.tick();
-        at < self.value.len() && self.mode.fold(self.value[at]) == self.mode.fold(wanted)
+        at < self.value.len() && self.mode.alike(self.value[at], wanted)
     }
 
     /// Tests the pattern's last token, where it is this byte: whether it takes the value's last byte.
@@ -205,6 +205,21 @@ impl<'s, 'a, L: Ledger, M: Match> Engine<'s, 'a, L, M> {
             at: mark.at + 1,
         };
         Some((moved, self.value[mark.at]))
+    }
+
+    /// Moves a mark inside the value by one byte.
+    #[inline(always)]
+    pub fn pass_inside(&mut self, mark: Mark) -> Mark
+        requires { mark.at < length M.value }
+        ensures place { result.place ≡ mark.place }
+        ensures at { result.at ≡ mark.at + 1 }
+        ensures count { self.new ≡ self.old + 1 }
+    {
+        self.steps.tick();
+        Mark {
+            place: mark.place,
+            at: mark.at + 1,
+        }
     }
 
     /// Moves a mark inside the value by one byte that is not a slash; `None` where it is at a slash.

@@ -71,7 +71,7 @@ impl Needle for End {
 pub fn stands_for_itself(byte: u8) -> bool
     ensures { IsTrue result ↔ StandsForItself byte }
 {
-    !matches!(byte, b'*' | b'?' | b'[' | b'\\')
+    !(matches!(byte, b'*' | b'?' | b'[') || byte == b'\\')
 }
 
 /// What follows at this place of the pattern; `None` where it is a token of another kind.
