@@ -275,7 +275,65 @@ impl<'s, 'a, L: Ledger, M: Match> Engine<'s, 'a, L, M> {
     }
 }
 
-/// Whether the pattern matches the value, and the count of the steps that it took. An engine is made here alone.
+/// Whether the last bytes alone show that the pattern does not match the value, and the count of the steps. An engine is made
+/// here and in `searched` alone.
+#[inline(always)]
+fn refuses<'s, 'a, L: Ledger, M: Match>(
+    pattern: &'a [u8],
+    value: &'a [u8],
+    mode: Mode,
+    steps: &'s mut Steps<L>,
+) -> (bool, &'s mut Steps<L>)
+    requires pattern { pattern.now ≡ M.pattern }
+    requires value { value.now ≡ M.value }
+    requires mode { mode ≡ M.mode }
+    requires count { steps.ghost_name ≡ M.count }
+    ensures meaning { IsTrue result.0 → ¬ Whole mode pattern.now value.now }
+    ensures same { result.1.ghost_name ≡ steps.entry.ghost_name }
+    ensures count { result.1.now ≤ steps.old + 1 }
+{
+    let mut ends = Engine::<'s, 'a, L, M> {
+        pattern,
+        value,
+        mode,
+        steps,
+        of: PhantomData,
+    };
+    let answer = ends.ends_otherwise();
+    let Engine { steps, .. } = ends;
+    (answer, steps)
+}
+
+/// Whether the search says that the pattern matches the value, and the count of the steps. It is not inlined, so that a value
+/// that the last bytes refuse doesn't pay for the registers of the search.
+#[inline(never)]
+fn searched<'s, 'a, L: Ledger, M: Match>(
+    pattern: &'a [u8],
+    value: &'a [u8],
+    mode: Mode,
+    steps: &'s mut Steps<L>,
+) -> (bool, &'s mut Steps<L>)
+    requires pattern { pattern.now ≡ M.pattern }
+    requires value { value.now ≡ M.value }
+    requires mode { mode ≡ M.mode }
+    requires count { steps.ghost_name ≡ M.count }
+    ensures exact { IsTrue result.0 ↔ Whole mode pattern.now value.now }
+    ensures same { result.1.ghost_name ≡ steps.entry.ghost_name }
+    ensures count { result.1.now + 1 ≤ steps.old + step_limit (length pattern.now) (length value.now) }
+{
+    let mut engine = Engine::<'s, 'a, L, M> {
+        pattern,
+        value,
+        mode,
+        steps,
+        of: PhantomData,
+    };
+    let answer = engine.search();
+    let Engine { steps, .. } = engine;
+    (answer, steps)
+}
+
+/// Whether the pattern matches the value, and the count of the steps that it took.
 #[inline(always)]
 pub fn run<'s, 'a, L: Ledger, M: Match>(
     pattern: &'a [u8],
@@ -291,16 +349,11 @@ pub fn run<'s, 'a, L: Ledger, M: Match>(
     ensures same { result.1.ghost_name ≡ steps.entry.ghost_name }
     ensures count { result.1.now ≤ steps.old + step_limit (length pattern.now) (length value.now) }
 {
-    let mut engine = Engine::<'s, 'a, L, M> {
-        pattern,
-        value,
-        mode,
-        steps,
-        of: PhantomData,
-    };
-    let answer = engine.search();
-    let Engine { steps, .. } = engine;
-    (answer, steps)
+    let (is_refused, steps) = refuses::<L, M>(pattern, value, mode, steps);
+    if is_refused {
+        return (false, steps);
+    }
+    searched::<L, M>(pattern, value, mode, steps)
 }
 
 /// A text has no more bytes than a place can count.

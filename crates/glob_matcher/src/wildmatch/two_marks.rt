@@ -30,7 +30,7 @@ fn is_alone(byte: u8) -> bool
 impl<'s, 'a, L: Ledger, M: Match> Engine<'s, 'a, L, M> {
     /// Whether the pattern ends in such a byte, and the value does not end in it.
     #[inline(always)]
-    fn ends_otherwise(&mut self) -> bool
+    pub fn ends_otherwise(&mut self) -> bool
         ensures meaning { IsTrue result → ¬ Whole M.mode M.pattern M.value }
         ensures count { self.new ≤ self.old + 1 }
     {
@@ -46,11 +46,8 @@ impl<'s, 'a, L: Ledger, M: Match> Engine<'s, 'a, L, M> {
     #[inline(always)]
     pub fn search(&mut self) -> bool
         ensures exact { IsTrue result ↔ Whole M.mode M.pattern M.value }
-        ensures count { self.new ≤ self.old + step_limit (length M.pattern) (length M.value) }
+        ensures count { self.new + 1 ≤ self.old + step_limit (length M.pattern) (length M.value) }
     {
-        if self.ends_otherwise() {
-            return false;
-        }
         let mut state = State {
             place: 0,
             at: 0,

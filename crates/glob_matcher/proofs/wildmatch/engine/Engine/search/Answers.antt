@@ -1,4 +1,4 @@
-use Rattle.std.proofs.Common.{◌+◌, length, arith}
+use Rattle.std.proofs.Common.{◌+◌, ◌-◌, length, arith}
 use Rattle.glob_matcher.specs.Steps.{step_limit}
 use Rattle.glob_matcher.proofs.lemmas.two_marks.States.{stands_start}
 use Rattle.glob_matcher.proofs.lemmas.two_marks.Budget.{allows_start, allows_one}
@@ -10,8 +10,8 @@ turns-init g c =
     record {
       stands = stands_start m.mode m.pattern m.value;
       allows =
-          allows_start m.mode m.pattern m.value c.ends_otherwise.new.self
-          (c.args.self.now + step_limit (length m.pattern) (length m.value)) (omega (arith, c.ends_otherwise.ensures.count));
+          allows_start m.mode m.pattern m.value c.args.self.now
+          (c.args.self.now + step_limit (length m.pattern) (length m.value) - 1) (omega arith);
     }
 
 pub turns-smaller-in-On : goal.turns-smaller-in-On
@@ -22,7 +22,7 @@ turns-smaller-in-On g c =
 pub turns-smaller : goal.turns-smaller
 turns-smaller g c =
     let m = g.M.Match in
-    let all = c.args.self.now + step_limit (length m.pattern) (length m.value) in
+    let all = c.args.self.now + step_limit (length m.pattern) (length m.value) - 1 in
     let allows = c.in-Some.ensures.allows all (c.in-Miss.ensures.allows all c.turns.invariant.allows) in
     let one = allows_one c.in-Some.ensures.meaning.inside allows in
     omega (arith, one, c.in-Some.ensures.progress, c.in-Miss.ensures.counts)

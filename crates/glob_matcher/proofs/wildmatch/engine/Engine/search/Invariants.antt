@@ -8,7 +8,7 @@ use Rattle.glob_matcher.proofs.wildmatch.engine.Engine.search.Given as goal
 abbrev pub invariant-turns : goal.invariant-turns
 invariant-turns g l = record {
   stands : StandsAt g.M.Match.mode g.M.Match.pattern g.M.Match.value l.state;
-  allows : AllowsAt g.M.Match.mode g.M.Match.pattern g.M.Match.value l.state l.self (l.fn.self + step_limit (length g.M.Match.pattern) (length g.M.Match.value));
+  allows : AllowsAt g.M.Match.mode g.M.Match.pattern g.M.Match.value l.state l.self (l.fn.self + step_limit (length g.M.Match.pattern) (length g.M.Match.value) - 1);
 }
 
 abbrev pub decreases-turns : goal.decreases-turns
