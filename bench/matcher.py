@@ -13,6 +13,8 @@ import sys
 HERE = os.path.dirname(os.path.abspath(__file__))
 LIBRARY = os.path.join(os.path.dirname(HERE), "crates", "gix_glob_c", "out", "libgix_glob_c.a")
 ENGINES = ("crate", "here")
+# hostile sets, and the length at which they are counted
+SETS = {"sets_by_pattern": 100, "sets_by_value": 200, "open_sets_by_pattern": 100, "open_sets_by_value": 200, "brackets": 5_000, "members_by_pattern": 500, "members_by_value": 500}
 
 
 def said(words, **how):
@@ -99,6 +101,17 @@ def judge(driver, loads):
     return missed
 
 
+def doubled(driver):
+    """Prints what hostile sets cost at a length and at twice the length, and answers how many cost more than twice as much."""
+    print("\n| Sets | Length | Here | Twice as long | Ratio |\n|---|---|---|---|---|")
+    missed = 0
+    for load, size in SETS.items():
+        one, two = (counted(driver, "count_hostile", "here", load, str(size * times)) for times in (1, 2))
+        missed += two / one > 2.02
+        print(f"| `{load}` | {size:,} | {one:,.0f} | {two:,.0f} | {two / one:.2f} |", flush=True)
+    return missed
+
+
 def main():
     args = argparse.ArgumentParser(description=__doc__, formatter_class=argparse.RawDescriptionHelpFormatter)
     args.add_argument("sources")
@@ -107,11 +120,14 @@ def main():
     args.add_argument("--only", default="", help="a word that the names of the counted loads hold")
     args.add_argument("--fuzz", type=int, default=1_000_000, help="how many random inputs the answers are compared on")
     args.add_argument("--draw", metavar="FILE.svg", help="count hostile inputs of several lengths too, and draw them")
+    args.add_argument("--sets", action="store_true", help="count hostile sets of two lengths too: twice the length is to cost at most twice as much")
     options = args.parse_args()
     driver = build(os.path.abspath(options.out), options.sources, options.library)
     print("Answers that differ from the crate's, of a load or of random inputs:")
     print(said([driver, "agree"]).stdout + said([driver, "fuzz", options.fuzz, 1]).stdout)
     missed = judge(driver, {load: goal for load, goal in goals().items() if options.only in load})
+    if options.sets:
+        missed += doubled(driver)
     if options.draw:
         import draw
 

@@ -135,12 +135,31 @@ pub fn loads() -> Vec<Load> {
     ]
 }
 
-/// Hostile input of a size: stars that each could end anywhere, and double stars that each could end at any slash.
+/// A set of so many `[:` that begin no class, tried at each place of a value. Unclosed it matches nothing.
+fn sets(classes: usize, end: &str, places: usize) -> Case {
+    one(format!("*[{}{end}", "[:".repeat(classes)), "b".repeat(places), 0)
+}
+
+/// A set of so many members, none of which is in the value, tried at each of its places.
+fn members(count: usize, places: usize) -> Case {
+    let all: String = ('c'..='z').cycle().take(count).collect();
+    one(format!("*[{all}]?"), "b".repeat(places), 0)
+}
+
+/// Hostile input of a size: stars that each could end anywhere, double stars that each could end at any slash, and sets that are
+/// long, or tried at many places.
 pub fn hostile(load: &str, size: usize) -> Case {
     match load {
         "stars" => one("*a".repeat(size) + "xb", "a".repeat(8 * size) + "b", 0),
         "dirs" => one("**/".repeat(size) + "x", "a/".repeat(size) + "yx", PATH),
-        _ => panic!("stars | dirs"),
+        "sets_by_pattern" => sets(size, "a]?", 50),
+        "sets_by_value" => sets(50, "a]?", size),
+        "open_sets_by_pattern" => sets(size, "a?", 50),
+        "open_sets_by_value" => sets(50, "a?", size),
+        "brackets" => one("[".repeat(size), "[".repeat(size), 0),
+        "members_by_pattern" => members(size, 1_000),
+        "members_by_value" => members(500, size),
+        _ => panic!("stars | dirs | brackets | sets, open_sets or members, and _by_pattern or _by_value"),
     }
 }
 

@@ -181,7 +181,7 @@ impl<'c, 'a, S: Ledger, L: Ledger, M: Match> Engine<'c, 'a, S, L, M> {
         ensures looked { self.new.looks ≡ self.old.looks + 1 }
     {
         self.counts.step_with_look();
-        at < self.value.len() && self.mode.fold(self.value[at]) == self.mode.fold(wanted)
+        at < self.value.len() && self.mode.alike(self.value[at], wanted)
     }
 
     /// Tests the pattern's last token, where it is this byte: whether it takes the value's last byte.
@@ -258,6 +258,21 @@ impl<'c, 'a, S: Ledger, L: Ledger, M: Match> Engine<'c, 'a, S, L, M> {
         Some((moved, self.value[mark.at]))
     }
 
+    /// Moves a mark inside the value by one byte.
+    #[inline(always)]
+    pub fn pass_inside(&mut self, mark: Mark) -> Mark
+        requires { mark.at < length M.value }
+        ensures place { result.place ≡ mark.place }
+        ensures at { result.at ≡ mark.at + 1 }
+        ensures count { Took self.old self.new 1 0 }
+    {
+        self.counts.step();
+        Mark {
+            place: mark.place,
+            at: mark.at + 1,
+        }
+    }
+
     /// Moves a mark inside the value by one byte that is not a slash; `None` where it is at a slash.
     #[inline(always)]
     pub fn pass_within(&mut self, mark: Mark) -> Option<Mark>
@@ -314,6 +329,65 @@ impl<'c, 'a, S: Ledger, L: Ledger, M: Match> Engine<'c, 'a, S, L, M> {
     }
 }
 
+/// Whether the last bytes alone show that the pattern does not match the value, and the counts of what it took.
+#[inline(always)]
+fn refuses<'c, 'a, S: Ledger, L: Ledger, M: Match>(
+    pattern: &'a [u8],
+    value: &'a [u8],
+    mode: Mode,
+    counts: &'c mut Counts<S, L>,
+) -> (bool, &'c mut Counts<S, L>)
+    requires pattern { pattern.now ≡ M.pattern }
+    requires value { value.now ≡ M.value }
+    requires mode { mode ≡ M.mode }
+    requires counts { counts.ghost_name ≡ M.counts }
+    ensures meaning { IsTrue result.0 → ¬ Splits value.now pattern.now mode }
+    ensures same { result.1.ghost_name ≡ counts.entry.ghost_name }
+    ensures steps { result.1.now.steps ≤ counts.old.steps + 1 }
+    ensures looks { result.1.now.looks ≤ counts.old.looks + 2 }
+{
+    let mut ends = Engine::<'c, 'a, S, L, M> {
+        pattern,
+        value,
+        mode,
+        counts,
+        of: PhantomData,
+    };
+    let answer = ends.ends_otherwise();
+    let Engine { counts, .. } = ends;
+    (answer, counts)
+}
+
+/// Whether the search says that the pattern matches the value, and the counts of what it took. It is not inlined, so that a
+/// value that the last bytes refuse doesn't pay for the registers of the search.
+#[inline(never)]
+fn searched<'c, 'a, S: Ledger, L: Ledger, M: Match>(
+    pattern: &'a [u8],
+    value: &'a [u8],
+    mode: Mode,
+    counts: &'c mut Counts<S, L>,
+) -> (bool, &'c mut Counts<S, L>)
+    requires pattern { pattern.now ≡ M.pattern }
+    requires value { value.now ≡ M.value }
+    requires mode { mode ≡ M.mode }
+    requires counts { counts.ghost_name ≡ M.counts }
+    ensures exact { IsTrue result.0 ↔ Splits value.now pattern.now mode }
+    ensures same { result.1.ghost_name ≡ counts.entry.ghost_name }
+    ensures steps { result.1.now.steps + 1 ≤ counts.old.steps + step_limit (length pattern.now) (length value.now) }
+    ensures looks { result.1.now.looks + 2 ≤ counts.old.looks + look_limit (length pattern.now) (length value.now) }
+{
+    let mut engine = Engine::<'c, 'a, S, L, M> {
+        pattern,
+        value,
+        mode,
+        counts,
+        of: PhantomData,
+    };
+    let answer = engine.search();
+    let Engine { counts, .. } = engine;
+    (answer, counts)
+}
+
 /// Whether the pattern matches the value, and the counts of what it took.
 #[inline(always)]
 pub fn run<'c, 'a, S: Ledger, L: Ledger, M: Match>(
@@ -331,16 +405,11 @@ pub fn run<'c, 'a, S: Ledger, L: Ledger, M: Match>(
     ensures steps { result.1.now.steps ≤ counts.old.steps + step_limit (length pattern.now) (length value.now) }
     ensures looks { result.1.now.looks ≤ counts.old.looks + look_limit (length pattern.now) (length value.now) }
 {
-    let mut engine = Engine::<'c, 'a, S, L, M> {
-        pattern,
-        value,
-        mode,
-        counts,
-        of: PhantomData,
-    };
-    let answer = engine.search();
-    let Engine { counts, .. } = engine;
-    (answer, counts)
+    let (is_refused, counts) = refuses::<S, L, M>(pattern, value, mode, counts);
+    if is_refused {
+        return (false, counts);
+    }
+    searched::<S, L, M>(pattern, value, mode, counts)
 }
 
 impl<'c, 'a, S: Ledger, L: Ledger, M: Match> Engine<'c, 'a, S, L, M> {

@@ -1,5 +1,5 @@
 //! How a pattern is matched: whether a slash is special, and whether case counts.
-ghost use Rattle.std.specs.Prelude.{⊤, ◌≡◌, [], ◌∷◌, codes};
+ghost use Rattle.std.specs.Prelude.{⊤, ◌≡◌, ◌↔◌, [], ◌∷◌, codes, IsTrue};
 
 use bitflags::{Flag, Flags, bitflag_items};
 
@@ -67,6 +67,14 @@ impl Mode {
         ensures { result ≡ folds self }
     {
         self.contains(Mode::IGNORE_CASE)
+    }
+
+    /// Whether two bytes are equal, after folding where the mode asks for it.
+    #[inline(always)]
+    pub(crate) fn alike(self, one: u8, other: u8) -> bool
+        ensures { IsTrue result ↔ (fold self one ≡ fold self other) }
+    {
+        one == other || self.fold(one) == self.fold(other)
     }
 
     /// A byte after folding, where the mode asks for it.

@@ -74,7 +74,7 @@ impl Needle for End {
 pub fn stands_for_itself(byte: u8) -> bool
     ensures { IsTrue result ↔ StandsForItself byte }
 {
-    !matches!(byte, b'*' | b'?' | b'[' | b'\\')
+    !(matches!(byte, b'*' | b'?' | b'[') || byte == b'\\')
 }
 
 impl<'c, 'a, S: Ledger, L: Ledger, M: Match> Engine<'c, 'a, S, L, M> {

@@ -22,6 +22,38 @@ pub enum Scan {
 }
 
 impl<'c, 'a, S: Ledger, L: Ledger, M: Match> Engine<'c, 'a, S, L, M> {
+    /// At a mark inside the value: looks at one byte, which may be a slash.
+    #[inline(always)]
+    fn glance<N: Needle>(&mut self, mark: Mark, needle: N) -> Scan
+        requires { mark.at < length M.value }
+        ensures scan { IsScan M.value (N.suits needle) mark result self.old self.new }
+        ensures free { IsUnblocked result }
+        ensures onward { MovesBy 1 mark.at result }
+    {
+        if self.suits(mark, needle) {
+            return Scan::Found(mark);
+        }
+        Scan::Undecided(self.pass_inside(mark))
+    }
+
+    /// Looks at bytes one after the other, slashes too, at most as many as the stride has, all of which the value holds.
+    #[inline(always)]
+    fn glance_on<N: Needle>(&mut self, mark: Mark, needle: N) -> Scan
+        requires { mark.at + STRIDE ≤ length M.value }
+        ensures scan { IsScan M.value (N.suits needle) mark result self.old self.new }
+        ensures free { IsUnblocked result }
+        ensures onward { MovesBy STRIDE mark.at result }
+    {
+        let mut reached = mark;
+        'stride: for _ in 0..STRIDE {
+            match self.glance(reached, needle) {
+                Scan::Undecided(moved) => reached = moved,
+                ended => return ended,
+            }
+        }
+        Scan::Undecided(reached)
+    }
+
     /// From the mark of a run of stars that crosses slashes, the next place of the value that has what is looked for; where
     /// there is none, the value's end.
     #[inline(always)]
@@ -32,12 +64,14 @@ impl<'c, 'a, S: Ledger, L: Ledger, M: Match> Engine<'c, 'a, S, L, M> {
     {
         let mut reached = mark;
         'bytes: while self.holds(reached, 1) {
-            if self.suits(reached, needle) {
-                return Scan::Found(reached);
-            }
-            match self.pass(reached) {
-                None => return Scan::Undecided(reached),
-                Some((moved, _)) => reached = moved,
+            let scan = if self.holds(reached, STRIDE) {
+                self.glance_on(reached, needle)
+            } else {
+                self.glance(reached, needle)
+            };
+            match scan {
+                Scan::Undecided(moved) => reached = moved,
+                ended => return ended,
             }
         }
         Scan::Undecided(reached)

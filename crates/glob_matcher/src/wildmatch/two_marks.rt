@@ -29,7 +29,7 @@ fn is_alone(byte: u8) -> bool
 impl<'c, 'a, S: Ledger, L: Ledger, M: Match> Engine<'c, 'a, S, L, M> {
     /// Whether the pattern ends in such a byte, and the value does not end in it.
     #[inline(always)]
-    fn ends_otherwise(&mut self) -> bool
+    pub fn ends_otherwise(&mut self) -> bool
         ensures meaning { IsTrue result → ¬ Splits M.value M.pattern M.mode }
         ensures steps { self.new.steps ≤ self.old.steps + 1 }
         ensures looks { self.new.looks ≤ self.old.looks + 2 }
@@ -46,12 +46,9 @@ impl<'c, 'a, S: Ledger, L: Ledger, M: Match> Engine<'c, 'a, S, L, M> {
     #[inline(always)]
     pub fn search(&mut self) -> bool
         ensures exact { IsTrue result ↔ Splits M.value M.pattern M.mode }
-        ensures steps { self.new.steps ≤ self.old.steps + step_limit (length M.pattern) (length M.value) }
-        ensures looks { self.new.looks ≤ self.old.looks + look_limit (length M.pattern) (length M.value) }
+        ensures steps { self.new.steps + 1 ≤ self.old.steps + step_limit (length M.pattern) (length M.value) }
+        ensures looks { self.new.looks + 2 ≤ self.old.looks + look_limit (length M.pattern) (length M.value) }
     {
-        if self.ends_otherwise() {
-            return false;
-        }
         let mut state = State {
             place: 0,
             at: 0,

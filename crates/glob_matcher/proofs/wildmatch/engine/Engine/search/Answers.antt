@@ -1,8 +1,8 @@
-use Rattle.std.proofs.Common.{◌+◌, length, arith}
+use Rattle.std.proofs.Common.{◌+◌, ◌-◌, length, arith}
 use Rattle.glob_matcher.specs.Steps.{step_limit, look_limit}
 use Rattle.glob_matcher.specs.Private.Prices.{Steps, Looks, amount, counted}
 use Rattle.glob_matcher.proofs.lemmas.two_marks.States.{stands_start}
-use Rattle.glob_matcher.proofs.lemmas.two_marks.Prices.{rose}
+use Rattle.glob_matcher.proofs.lemmas.two_marks.Prices.{amount_sum}
 use Rattle.glob_matcher.proofs.lemmas.two_marks.Budget.{allows_one, allows_start}
 use Rattle.glob_matcher.proofs.wildmatch.engine.Engine.search.Goals as goal
 
@@ -12,9 +12,11 @@ turns-init g c =
     record {
       stands = stands_start m.mode m.pattern m.value;
       allows = λ kind.
-          allows_start kind m.mode m.pattern m.value (counted kind c.ends_otherwise.new.self)
-          (counted kind c.args.self.now + amount kind (step_limit (length m.pattern) (length m.value)) (look_limit (length m.pattern) (length m.value)))
-          (omega (arith, rose kind c.args.self.now c.ends_otherwise.new.self 1 2 c.ends_otherwise.ensures.steps c.ends_otherwise.ensures.looks));
+          let steps = step_limit (length m.pattern) (length m.value) in
+          let looks = look_limit (length m.pattern) (length m.value) in
+          allows_start kind m.mode m.pattern m.value (counted kind c.args.self.now)
+          (counted kind c.args.self.now + amount kind (steps - 1) (looks - 2))
+          (omega (arith, amount_sum kind (steps - 1) (looks - 2) 1 2 {steps} {looks} (omega arith) (omega arith)));
     }
 
 pub turns-smaller-in-On : goal.turns-smaller-in-On

@@ -1,0 +1,18 @@
+use Rattle.std.proofs.Common.{arith}
+use Rattle.glob_matcher.proofs.lemmas.two_marks.Prices.{took_on}
+use Rattle.glob_matcher.proofs.lemmas.two_marks.Scans.{passed_on, scan_on}
+use Rattle.glob_matcher.proofs.wildmatch.engine.Engine.glance_on.Goals as goal
+
+pub stride-preserved : goal.stride-preserved
+stride-preserved g c =
+    let seen = c.in-Undecided.ensures.scan in
+    record {
+      passed = passed_on c.stride.invariant.passed seen.meaning;
+      on = omega (arith, c.in-Undecided.ensures.onward, c.stride.invariant.on);
+      count =
+          took_on c.stride.invariant.count seen.took (omega (arith, c.stride.invariant.on, seen.meaning.low))
+          (omega (arith, c.stride.invariant.on, seen.meaning.low));
+    }
+
+pub returns-in_default-clause-scan : goal.returns-in_default-clause-scan
+returns-in_default-clause-scan g c = scan_on c.stride.invariant.passed c.stride.invariant.count c.glance.ensures.scan
