@@ -209,6 +209,18 @@ impl<'c, 'a, S: Ledger, L: Ledger, M: Match> Engine<'c, 'a, S, L, M> {
         at < self.value.len() && shape.fits(self.value[at], self.mode)
     }
 
+    /// Looks at the byte at a place of the value, for a step that is counted once the set is read; `None` past its end.
+    #[inline(always)]
+    fn value_byte(&mut self, at: usize) -> Option<u8>
+        ensures here { IfSome result (λ byte. HasByte M.value at byte) }
+        ensures end { IfNone result (length M.value ≤ at) }
+        ensures count { Took self.old self.new 0 1 }
+        ensures looked { self.new.looks ≡ self.old.looks + 1 }
+    {
+        self.counts.look();
+        self.value.get(at).copied()
+    }
+
     /// Tests the set whose bracket stands at a place of the pattern: the place after it, and whether it takes the byte of the
     /// value. Where the value ends, any byte will do. `None` where no set begins, which is no step.
     #[inline(always)]
@@ -219,8 +231,7 @@ impl<'c, 'a, S: Ledger, L: Ledger, M: Match> Engine<'c, 'a, S, L, M> {
         ensures count { IfSome result (λ found. IsSetPaid 1 self.old self.new place found.0) }
         ensures broken { IfNone result (IsSetPaid 0 self.old self.new place (length M.pattern)) }
     {
-        self.counts.look();
-        let byte = self.value.get(at).copied();
+        let byte = self.value_byte(at);
         let Some((end, holds)) = self.set_at(place, byte.unwrap_or(0)) else {
             return None;
         };
