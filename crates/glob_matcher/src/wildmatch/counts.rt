@@ -93,8 +93,8 @@ impl<S: Ledger, L: Ledger> Counts<S, L> {
     pub(super) fn step_with_look(&mut self)
         ensures { Took self.old self.new 1 1 }
     {
-        self.steps.add(1);
-        self.looks.add(1);
+        self.step();
+        self.look();
     }
 
     /// Counts one look.
