@@ -4,12 +4,12 @@
 //! The bytes of the value are read by the methods of this module alone, and each that reads one counts one step and one look.
 //! So no other module can read the value without a step, or count in another place. `holds` looks at the length alone, and
 //! counts none.
-ghost use Rattle.std.specs.Prelude.{◌≡◌, ◌≢◌, ◌↔◌, ◌⊎◌, ℕ, ◌+◌, ◌-◌, ◌^◌, ◌<◌, ◌≤◌, IsTrue, IfSome, IfNone, [], length, slice_index, slice_range, take};
+ghost use Rattle.std.specs.Prelude.{◌≡◌, ◌≢◌, ◌↔◌, ◌⊎◌, ℕ, ◌+◌, ◌-◌, ◌^◌, ◌<◌, ◌≤◌, IsTrue, IfSome, IfNone, length, slice_index, slice_range, take};
 ghost use Rattle.glob_matcher.specs.declared.wildmatch.sets.Class.{Class};
-ghost use Rattle.glob_matcher.specs.Bytes.{HasByte, open_bracket, slash};
-ghost use Rattle.glob_matcher.specs.Sets.{Set, SetAt, name_of};
+ghost use Rattle.glob_matcher.specs.Bytes.{HasByte, folds, is_path, open_bracket, slash};
+ghost use Rattle.glob_matcher.specs.Sets.{Set, SetAt, name_of, set_holds};
 ghost use Rattle.glob_matcher.specs.Tokens.{Token, Byte};
-ghost use Rattle.glob_matcher.specs.Private.Reader.{shape_of, Fits, IsSetTested};
+ghost use Rattle.glob_matcher.specs.Private.Reader.{shape_of, Fits, IsSetTested, IsToken};
 ghost use Rattle.glob_matcher.specs.Matching.{Splits};
 ghost use Rattle.glob_matcher.specs.Private.Looks.{LookedOver, IsSetPaid};
 ghost use Rattle.glob_matcher.specs.Private.Took.{Took};
@@ -120,6 +120,22 @@ impl<'c, 'a, S: Ledger, L: Ledger, M: Match> Engine<'c, 'a, S, L, M> {
         ensures { result ≡ M.mode }
     {
         self.mode
+    }
+
+    /// Whether a wildcard matches no slash.
+    #[inline(always)]
+    pub fn is_path(&self) -> bool
+        ensures { result ≡ is_path M.mode }
+    {
+        self.mode.is_path()
+    }
+
+    /// Whether the case of letters does not count.
+    #[inline(always)]
+    pub fn folds(&self) -> bool
+        ensures { result ≡ folds M.mode }
+    {
+        self.mode.folds()
     }
 
     /// Looks at the byte at a place of the pattern; `None` past its end, where there is nothing to look at.
@@ -423,23 +439,61 @@ pub fn run<'c, 'a, S: Ledger, L: Ledger, M: Match>(
     searched::<S, L, M>(pattern, value, mode, counts)
 }
 
-impl<'c, 'a, S: Ledger, L: Ledger, M: Match> Engine<'c, 'a, S, L, M> {
-    /// An engine over a pattern and the empty value, for those that read the pattern alone.
-    #[inline(always)]
-    pub fn over(pattern: &'a [u8], mode: Mode, counts: &'c mut Counts<S, L>) -> Self
-        requires pattern { pattern.now ≡ M.pattern }
-        requires value { M.value ≡ [] }
-        requires mode { mode ≡ M.mode }
-        requires counts { counts.ghost_name ≡ M.counts }
-    {
-        Engine {
-            pattern,
-            value: b"",
-            mode,
-            counts,
-            of: PhantomData,
-        }
-    }
+/// The token at a place of the pattern, and the place after it, by an engine that reads no value; and the counts.
+#[inline(always)]
+pub fn read_token<'c, 'a, S: Ledger, L: Ledger, M: Match>(
+    pattern: &'a [u8],
+    place: usize,
+    mode: Mode,
+    counts: &'c mut Counts<S, L>,
+) -> ((Shape, usize), &'c mut Counts<S, L>)
+    requires pattern { pattern.now ≡ M.pattern }
+    requires value { pattern.now ≡ M.value }
+    requires mode { mode ≡ M.mode }
+    requires counts { counts.ghost_name ≡ M.counts }
+    requires inside { place < length pattern.now }
+    ensures { IsToken mode pattern.now place result.0.0 result.0.1 }
+{
+    let mut engine = Engine::<'c, 'a, S, L, M> {
+        pattern,
+        value: pattern,
+        mode,
+        counts,
+        of: PhantomData,
+    };
+    let answer = engine.token_at(place);
+    let Engine { counts, .. } = engine;
+    (answer, counts)
+}
+
+/// The set whose bracket stands at a place of the pattern, by an engine that reads no value: the place after it, and whether
+/// it holds a byte, `None` where no set begins; and the counts.
+#[inline(always)]
+pub fn read_set<'c, 'a, S: Ledger, L: Ledger, M: Match>(
+    pattern: &'a [u8],
+    place: usize,
+    byte: u8,
+    mode: Mode,
+    counts: &'c mut Counts<S, L>,
+) -> (Option<(usize, bool)>, &'c mut Counts<S, L>)
+    requires pattern { pattern.now ≡ M.pattern }
+    requires value { pattern.now ≡ M.value }
+    requires mode { mode ≡ M.mode }
+    requires counts { counts.ghost_name ≡ M.counts }
+    requires bracket { HasByte pattern.now place open_bracket }
+    ensures found { IfSome result.0 (λ found. (set : Set) × SetAt pattern.now place set found.0 × (found.1 ≡ set_holds mode set byte)) }
+    ensures none { IfNone result.0 ((set : Set) (end : ℕ) → ¬ SetAt pattern.now place set end) }
+{
+    let mut engine = Engine::<'c, 'a, S, L, M> {
+        pattern,
+        value: pattern,
+        mode,
+        counts,
+        of: PhantomData,
+    };
+    let answer = engine.set_at(place, byte);
+    let Engine { counts, .. } = engine;
+    (answer, counts)
 }
 
 /// A text has no more bytes than a place can count.

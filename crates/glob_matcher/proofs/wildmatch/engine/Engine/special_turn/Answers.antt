@@ -1,6 +1,6 @@
 use Rattle.std.proofs.Common.{◌-◌, ap, arith}
 use Rattle.glob_matcher.specs.Private.Reader.{is_star}
-use Rattle.glob_matcher.proofs.lemmas.reading.Shapes.{is_free, is_local, is_dirs, is_nothing}
+use Rattle.glob_matcher.proofs.lemmas.reading.Shapes.{is_free, is_local, is_dirs, is_nothing, no_set}
 use Rattle.glob_matcher.proofs.lemmas.two_marks.States.{nothing_met}
 use Rattle.glob_matcher.proofs.lemmas.two_marks.Prices.{took_within}
 use Rattle.glob_matcher.proofs.lemmas.two_marks.Turns.{star_looks, token_looks, turn_on}
@@ -46,3 +46,6 @@ returns-in-Nothing g c =
           (tested x (ap is_star c.in-Nothing.is) (took_within kind s 0 1 low (token_looks x.past c.token_at-shape.ensures.count) (omega arith) (omega (arith, x.past)))) a;
       progress = tt;
     }
+
+pub single_turn-requires-clause-other : goal.single_turn-requires-clause-other
+single_turn-requires-clause-other g c = no_set c.token_at-shape.ensures.token c.requires.other
