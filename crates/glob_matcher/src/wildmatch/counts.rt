@@ -94,8 +94,8 @@ impl<S: Ledger, L: Ledger> Counts<S, L> {
         ensures count { Took self.old self.new 1 1 }
         ensures looked { self.new.looks ≡ self.old.looks + 1 }
     {
-        self.step();
-        self.look();
+        self.steps.add(1);
+        self.looks.add(1);
     }
 
     /// Counts one look.

@@ -16,7 +16,7 @@ turns-init g c =
           let looks = look_limit (length m.pattern) (length m.value) in
           allows_start kind m.mode m.pattern m.value (counted kind c.args.self.now)
           (counted kind c.args.self.now + amount kind (steps - 1) (looks - 2))
-          (omega (arith, amount_sum kind (steps - 1) (looks - 2) 1 2 {steps} {looks} (omega arith) (omega arith)));
+          (omega (arith, amount_sum kind (steps - 1) (looks - 2) 1 2 {e = steps} {f = looks} (omega arith) (omega arith)));
     }
 
 pub turns-smaller-in-On : goal.turns-smaller-in-On
@@ -35,26 +35,36 @@ turns-smaller g c =
 
 pub returns-in-Match-clause-steps : goal.returns-in-Match-clause-steps
 unfolding counted amount
-returns-in-Match-clause-steps g c = c.in-Match.ensures.allows Steps _ _ (omega arith) (c.turns.invariant.allows Steps)
+returns-in-Match-clause-steps g c =
+    let low = c.in-Match.ensures.allows Steps _ _ (omega arith) (c.turns.invariant.allows Steps) in
+    omega (arith, low)
 
 pub returns-in-NoMatch-clause-steps : goal.returns-in-NoMatch-clause-steps
 unfolding counted amount
-returns-in-NoMatch-clause-steps g c = c.in-NoMatch.ensures.allows Steps _ _ (omega arith) (c.turns.invariant.allows Steps)
+returns-in-NoMatch-clause-steps g c =
+    let low = c.in-NoMatch.ensures.allows Steps _ _ (omega arith) (c.turns.invariant.allows Steps) in
+    omega (arith, low)
 
 pub returns-in-None-clause-steps : goal.returns-in-None-clause-steps
 unfolding counted amount
 returns-in-None-clause-steps g c =
-    c.in-None.ensures.allows Steps _ (c.in-Miss.ensures.allows Steps _ _ (omega arith) (c.turns.invariant.allows Steps))
+    let low = c.in-None.ensures.allows Steps _ (c.in-Miss.ensures.allows Steps _ _ (omega arith) (c.turns.invariant.allows Steps)) in
+    omega (arith, low)
 
 pub returns-in-Match-clause-looks : goal.returns-in-Match-clause-looks
 unfolding counted amount
-returns-in-Match-clause-looks g c = c.in-Match.ensures.allows Looks _ _ (omega arith) (c.turns.invariant.allows Looks)
+returns-in-Match-clause-looks g c =
+    let low = c.in-Match.ensures.allows Looks _ _ (omega arith) (c.turns.invariant.allows Looks) in
+    omega (arith, low)
 
 pub returns-in-NoMatch-clause-looks : goal.returns-in-NoMatch-clause-looks
 unfolding counted amount
-returns-in-NoMatch-clause-looks g c = c.in-NoMatch.ensures.allows Looks _ _ (omega arith) (c.turns.invariant.allows Looks)
+returns-in-NoMatch-clause-looks g c =
+    let low = c.in-NoMatch.ensures.allows Looks _ _ (omega arith) (c.turns.invariant.allows Looks) in
+    omega (arith, low)
 
 pub returns-in-None-clause-looks : goal.returns-in-None-clause-looks
 unfolding counted amount
 returns-in-None-clause-looks g c =
-    c.in-None.ensures.allows Looks _ (c.in-Miss.ensures.allows Looks _ _ (omega arith) (c.turns.invariant.allows Looks))
+    let low = c.in-None.ensures.allows Looks _ (c.in-Miss.ensures.allows Looks _ _ (omega arith) (c.turns.invariant.allows Looks)) in
+    omega (arith, low)
