@@ -13,8 +13,9 @@ mod plain;
 mod pruned;
 mod scan;
 mod sets;
+pub(crate) mod slices;
 mod state;
-pub(crate) mod tokens;
+mod tokens;
 mod two_marks;
 
 pub use counts::Counts;

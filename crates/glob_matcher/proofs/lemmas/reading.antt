@@ -1,6 +1,7 @@
 pub mod SetLemmas
 pub mod TokenLemmas
 pub mod Walks
+pub mod LookLemmas
 pub mod Reading
 pub mod Shapes
 pub mod Existence

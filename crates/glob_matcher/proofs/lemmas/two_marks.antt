@@ -3,3 +3,4 @@ pub mod States
 pub mod Budget
 pub mod Scans
 pub mod Texts
+pub mod Onward

@@ -1,25 +1,36 @@
 -- What the reader of a pattern answers: the items of a set and the tokens, each with the place after it.
-use Rattle.std.specs.Prelude.{◌≡◌, ◌≢◌, ◌⊎◌, ℕ, ◌+◌, ◌-◌, ◌<◌, ◌≤◌, ⊤, Bool, true, false, not, IsTrue, List, [], length, slice_index, Option}
+use Rattle.std.specs.Prelude.{◌≡◌, ◌≢◌, ◌↔◌, ◌⊎◌, ℕ, ◌+◌, ◌-◌, ◌*◌, ◌<◌, ◌≤◌, ⊤, Bool, true, false, not, IsTrue, List, [], length, slice_index, Option, None, if◌then◌else◌}
 use Rattle.glob_matcher.specs.declared.wildmatch.sets.Item.{Item}
+use Rattle.glob_matcher.specs.declared.wildmatch.sets.Cursor.{Cursor}
+use Rattle.glob_matcher.specs.declared.wildmatch.sets.Spelled.{Spelled}
 use Rattle.glob_matcher.specs.declared.wildmatch.sets.Entry.{Entry}
 use Rattle.glob_matcher.specs.declared.wildmatch.sets.Entry.TheVariants as entry
 use Rattle.glob_matcher.specs.declared.wildmatch.mode.Mode.{Mode}
 use Rattle.glob_matcher.specs.declared.wildmatch.tokens.Shape.{Shape}
 use Rattle.glob_matcher.specs.declared.wildmatch.tokens.Shape.TheVariants as shape
 use Rattle.glob_matcher.specs.Bytes.{HasByte, NoSlash, close_bracket, fold, is_path, slash}
-use Rattle.glob_matcher.specs.Sets.{ItemAt, ItemsAt, IsSign, set_holds}
+use Rattle.glob_matcher.specs.Sets.{ItemsAt, Set, SetAt, member_of, set_holds}
+use Rattle.glob_matcher.specs.Steps.{Counts}
+use Rattle.glob_matcher.specs.Private.Looks.{IsSpelled}
 use Rattle.glob_matcher.specs.Tokens.{Token, Byte, Any, OneOf, Free, Local, Dirs, Nothing, TokenAt}
 
 -- what stands at place i, after the member `low` or none
 abbrev pub IsEntry : List ℕ → Bool → Option ℕ → ℕ → Entry → Type 0
-IsEntry text first low i (entry.Item x j) =
-    (IsTrue (not first) → ¬ HasByte text i close_bracket) × ItemAt text low i x j × (i < j) × (j ≤ length text)
+IsEntry text first low i (entry.Item s) =
+    (IsTrue (not first) → ¬ HasByte text i close_bracket) × IsSpelled text low i s
 IsEntry text first low i entry.Close = ItemsAt text first low i [] i × (i < length text)
 IsEntry text first low i entry.Broken = (xs : List Item) (j : ℕ) → ¬ ItemsAt text first low i xs j
 
--- the items of the set that begins at place i begin at place k
-abbrev pub IsFirstItem : List ℕ → ℕ → ℕ → Type 0
-IsFirstItem text i k = (IsSign text (i + 1) × (k ≡ i + 2)) ⊎ (¬ IsSign text (i + 1) × (k ≡ i + 1))
+-- where the items of the set begin whose bracket stands at place i
+abbrev pub first_item : Bool → ℕ → ℕ
+first_item negated i = if negated then i + 2 else i + 1
+
+-- where the reader of a set stands before its first item, and after an item
+abbrev pub at_first : ℕ → Cursor
+at_first i = record { place = i; is_first = true; low = None; close = None }
+
+abbrev pub after_item : Spelled → Cursor
+after_item s = record { place = s.next; is_first = false; low = member_of s.item; close = s.close }
 
 -- what the code keeps of a token: of a set its place alone
 abbrev pub shape_of : Token → Shape
@@ -46,6 +57,18 @@ pub record IsToken (mode : Mode) (pattern : List ℕ) (i : ℕ) (shape : Shape) 
   pub past : i < j
   pub inside : j ≤ length pattern
 
+-- Reading a run of stars from place i up to place j takes at most five looks a byte, less four.
+pub record IsRunRead (before after : Counts) (i : ℕ) (shape : Shape) (j : ℕ) : Type 0 where
+  pub run : is_star shape ≡ true
+  pub steps : after.steps ≡ before.steps
+  pub looks : after.looks + 5 * i + 4 ≤ before.looks + 5 * j
+
+-- Reading a token from place i up to place j takes at most five looks a byte, less three, if it is a star token, else six.
+pub record IsTokenRead (before after : Counts) (i : ℕ) (shape : Shape) (j : ℕ) : Type 0 where
+  pub steps : after.steps ≡ before.steps
+  pub run : is_star shape ≡ true → after.looks + 5 * i + 3 ≤ before.looks + 5 * j
+  pub other : is_star shape ≡ false → after.looks + 6 * i ≤ before.looks + 6 * j
+
 -- place e lies past k and comes directly after a slash
 pub record AfterSlash (value : List ℕ) (k e : ℕ) : Type 0 where
   pub past : k < e
@@ -65,3 +88,11 @@ Spans shape.Free value k e = ⊤
 Spans shape.Local value k e = NoSlash value k e
 Spans shape.Dirs value k e = (e ≡ k) ⊎ AfterSlash value k e
 Spans _ value k e = ⊥
+
+-- The set from place i up to place j is tested at place k of the value: whether the value has a byte there that it holds.
+pub record IsSetTested (mode : Mode) (p v : List ℕ) (i k j : ℕ) (holds : Bool) : Type 0 where
+  pub set : Set
+  pub here : SetAt p i set j
+  pub past : i < j
+  pub inside : j ≤ length p
+  pub answer : IsTrue holds ↔ ((k < length v) × Fits mode (OneOf set) (slice_index v k))

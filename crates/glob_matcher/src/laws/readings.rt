@@ -3,7 +3,7 @@ ghost use Rattle.std.specs.Prelude.{◌≤◌, List, length};
 ghost use Rattle.glob_matcher.specs.Tokens.{Token, From};
 
 use crate::wildmatch::Mode;
-use crate::wildmatch::tokens::token_at;
+use crate::wildmatch::slices::token_at;
 
 /// Each pattern has a reading from each of its places on, and so from its start, and from each place where a token starts:
 /// going from token to token comes to the pattern's end.

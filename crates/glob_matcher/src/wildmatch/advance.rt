@@ -1,7 +1,7 @@
 //! The turns of the engine with two marks: the token at a place of the pattern is tested at a place of the value, and after a
 //! literal byte the ones that follow it, up to a slash.
 ghost use Rattle.std.specs.Prelude.{◌≡◌, ◌≢◌, ◌<◌, ◌≤◌, false, length, slice_index};
-ghost use Rattle.glob_matcher.specs.Bytes.{slash};
+ghost use Rattle.glob_matcher.specs.Bytes.{HasByte, open_bracket, slash};
 ghost use Rattle.glob_matcher.specs.Tokens.{FreeAt, LocalAt, DirsAt};
 ghost use Rattle.glob_matcher.specs.Private.Reader.{IsToken, is_star};
 ghost use Rattle.glob_matcher.specs.Private.Scans.{StandsForItself};
@@ -15,16 +15,17 @@ use super::tokens::Shape;
 use std::sync::ledger::Ledger;
 
 impl<'c, 'a, S: Ledger, L: Ledger, M: Match> Engine<'c, 'a, S, L, M> {
-    /// A turn at a question mark, a set or an escaped byte.
+    /// A turn at a question mark or an escaped byte.
     #[inline(always)]
     fn single_turn(&mut self, state: State, shape: Shape, after: usize) -> Turn
         requires stands { StandsAt M.mode M.pattern M.value state }
         requires token { IsToken M.mode M.pattern state.place shape after }
         requires single { is_star shape ≡ false }
+        requires other { shape ≢ Shape.Set }
         requires place { state.place < length M.pattern }
         ensures { IsTurn M.mode M.pattern M.value state result self.old.steps self.new.steps }
     {
-        if !self.takes(shape, state.place, state.at) {
+        if !self.takes(shape, state.at) {
             return Turn::Miss(state);
         }
         let next = State {
@@ -39,6 +40,26 @@ impl<'c, 'a, S: Ledger, L: Ledger, M: Match> Engine<'c, 'a, S, L, M> {
             });
         }
         Turn::On(next)
+    }
+
+    /// A turn at a set, or at a bracket that begins none.
+    #[inline(always)]
+    fn set_turn(&mut self, state: State) -> Turn
+        requires stands { StandsAt M.mode M.pattern M.value state }
+        requires bracket { HasByte M.pattern state.place open_bracket }
+        ensures { IsTurn M.mode M.pattern M.value state result self.old.steps self.new.steps }
+    {
+        let Some((after, takes)) = self.takes_set(state.place, state.at) else {
+            return Turn::NoMatch;
+        };
+        if !takes {
+            return Turn::Miss(state);
+        }
+        Turn::On(State {
+            place: after,
+            at: state.at + 1,
+            ..state
+        })
     }
 
     /// A turn at a run of stars that crosses slashes: both marks are forgotten, and one is set. At the pattern's end it takes
@@ -95,11 +116,12 @@ impl<'c, 'a, S: Ledger, L: Ledger, M: Match> Engine<'c, 'a, S, L, M> {
         })
     }
 
-    /// A turn at a star, a question mark, a set or an escape.
+    /// A turn at a star, a question mark or an escape.
     #[inline(always)]
     fn special_turn(&mut self, state: State) -> Turn
         requires stands { StandsAt M.mode M.pattern M.value state }
         requires place { state.place < length M.pattern }
+        requires other { slice_index M.pattern state.place ≢ open_bracket }
         ensures { IsTurn M.mode M.pattern M.value state result self.old.steps self.new.steps }
     {
         let (shape, after) = self.token_at(state.place);
@@ -173,9 +195,12 @@ impl<'c, 'a, S: Ledger, L: Ledger, M: Match> Engine<'c, 'a, S, L, M> {
         if byte == b'/' {
             return self.slash_turn(state);
         }
-        if !stands_for_itself(byte) {
-            return self.special_turn(state);
+        if stands_for_itself(byte) {
+            return self.literal_turns(state);
         }
-        self.literal_turns(state)
+        if byte == b'[' {
+            return self.set_turn(state);
+        }
+        self.special_turn(state)
     }
 }

@@ -3,6 +3,7 @@ ghost use Rattle.std.specs.Prelude.{◌≡◌, ◌≢◌, ◌+◌, ◌<◌, ◌�
 ghost use Rattle.glob_matcher.specs.Bytes.{NoSlash, slash};
 ghost use Rattle.glob_matcher.specs.Private.Scans.{IsUnblocked, reached_by};
 ghost use Rattle.glob_matcher.specs.Private.States.{IsLeft, IsMissed, IsNextDirectory, IsScanFor};
+ghost use Rattle.glob_matcher.specs.Private.Took.{Took};
 ghost use Rattle.glob_matcher.specs.Private.Budget.{AllowsLeft, AllowsMissed};
 ghost use Rattle.glob_matcher.specs.Private.Turns.{IsBacktrack, IsBacktrackWithin};
 
@@ -112,10 +113,11 @@ impl<'c, 'a, S: Ledger, L: Ledger, M: Match> Engine<'c, 'a, S, L, M> {
 
     /// The local mark once the byte after its star is matched: where that is a slash, the mark is forgotten.
     #[inline(always)]
-    fn local_past(&self, mark: Mark) -> Option<Mark>
+    fn local_past(&mut self, mark: Mark) -> Option<Mark>
         requires { mark.place < length M.pattern }
         ensures forgotten { slice_index M.pattern mark.place ≡ slash → result ≡ None }
         ensures kept { slice_index M.pattern mark.place ≢ slash → result ≡ Some mark }
+        ensures count { Took self.old self.new 0 1 }
     {
         if self.pattern_byte(mark.place()) == b'/' {
             None

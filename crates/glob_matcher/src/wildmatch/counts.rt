@@ -34,12 +34,12 @@ impl<L: Ledger> Count<L> {
         Count { book, share }
     }
 
-    /// Counts one.
+    /// Counts so many.
     #[inline(always)]
-    fn tick(&mut self)
-        ensures { self.new ≡ self.old + 1 }
+    fn add(&mut self, count: usize)
+        ensures { self.new ≡ self.old + count }
     {
-        self.book.add(&mut self.share, 1);
+        self.book.add(&mut self.share, count as u64);
     }
 }
 
@@ -85,7 +85,7 @@ impl<S: Ledger, L: Ledger> Counts<S, L> {
     pub(super) fn step(&mut self)
         ensures { Took self.old self.new 1 0 }
     {
-        self.steps.tick();
+        self.steps.add(1);
     }
 
     /// Counts one step that reads a byte.
@@ -93,8 +93,8 @@ impl<S: Ledger, L: Ledger> Counts<S, L> {
     pub(super) fn step_with_look(&mut self)
         ensures { Took self.old self.new 1 1 }
     {
-        self.steps.tick();
-        self.looks.tick();
+        self.step();
+        self.look();
     }
 
     /// Counts one look.
@@ -102,6 +102,14 @@ impl<S: Ledger, L: Ledger> Counts<S, L> {
     pub(super) fn look(&mut self)
         ensures { Took self.old self.new 0 1 }
     {
-        self.looks.tick();
+        self.looks.add(1);
+    }
+
+    /// Counts looks at so many bytes.
+    #[inline(always)]
+    pub(super) fn looks(&mut self, count: usize)
+        ensures { Took self.old self.new 0 count }
+    {
+        self.looks.add(count);
     }
 }

@@ -4,19 +4,22 @@
 //! The bytes of the value are read by the methods of this module alone, and each that reads one counts one step and one look.
 //! So no other module can read the value without a step, or count in another place. `holds` looks at the length alone, and
 //! counts none.
-ghost use Rattle.std.specs.Prelude.{◌≡◌, ◌≢◌, ◌↔◌, ◌⊎◌, ℕ, ◌+◌, ◌-◌, ◌^◌, ◌<◌, ◌≤◌, IsTrue, IfSome, IfNone, length, slice_index, take};
-ghost use Rattle.glob_matcher.specs.Bytes.{slash};
-ghost use Rattle.glob_matcher.specs.Tokens.{Token, Byte, TokenAt};
-ghost use Rattle.glob_matcher.specs.Private.Reader.{IsToken, shape_of, Fits};
-ghost use Rattle.glob_matcher.specs.Private.Scans.{Follows, StandsForItself};
+ghost use Rattle.std.specs.Prelude.{◌≡◌, ◌≢◌, ◌↔◌, ◌⊎◌, ℕ, ◌+◌, ◌-◌, ◌^◌, ◌<◌, ◌≤◌, IsTrue, IfSome, IfNone, length, slice_index, slice_range, take};
+ghost use Rattle.glob_matcher.specs.declared.wildmatch.sets.Class.{Class};
+ghost use Rattle.glob_matcher.specs.Bytes.{HasByte, folds, is_path, open_bracket, slash};
+ghost use Rattle.glob_matcher.specs.Sets.{Set, SetAt, name_of, set_holds};
+ghost use Rattle.glob_matcher.specs.Tokens.{Token, Byte};
+ghost use Rattle.glob_matcher.specs.Private.Reader.{shape_of, Fits, IsSetTested, IsToken};
 ghost use Rattle.glob_matcher.specs.Private.States.{Whole};
+ghost use Rattle.glob_matcher.specs.Private.Looks.{LookedOver, IsSetPaid};
 ghost use Rattle.glob_matcher.specs.Private.Took.{Took};
 ghost use Rattle.glob_matcher.specs.Steps.{step_limit};
 
 use super::counts::Counts;
 use super::mode::Mode;
-use super::needle::{Follow, Needle, follow_at};
-use super::tokens::{Shape, token_at};
+use super::needle::Needle;
+use super::sets::Class;
+use super::tokens::Shape;
 use std::marker::{Brand, Model, PhantomData};
 use std::sync::ledger::Ledger;
 
@@ -111,32 +114,66 @@ impl<'c, 'a, S: Ledger, L: Ledger, M: Match> Engine<'c, 'a, S, L, M> {
         self.pattern.len()
     }
 
-    /// The byte at a place of the pattern.
+    /// How bytes are compared.
     #[inline(always)]
-    pub fn pattern_byte(&self, place: usize) -> u8
-        requires { place < length M.pattern }
-        ensures { result ≡ slice_index M.pattern place }
+    pub fn mode(&self) -> Mode
+        ensures { result ≡ M.mode }
     {
+        self.mode
+    }
+
+    /// Whether a wildcard matches no slash.
+    #[inline(always)]
+    pub fn is_path(&self) -> bool
+        ensures { result ≡ is_path M.mode }
+    {
+        self.mode.is_path()
+    }
+
+    /// Whether the case of letters does not count.
+    #[inline(always)]
+    pub fn folds(&self) -> bool
+        ensures { result ≡ folds M.mode }
+    {
+        self.mode.folds()
+    }
+
+    /// Looks at the byte at a place of the pattern; `None` past its end, where there is nothing to look at.
+    #[inline(always)]
+    pub fn look_at(&mut self, place: usize) -> Option<u8>
+        ensures here { IfSome result (λ byte. HasByte M.pattern place byte) }
+        ensures end { IfNone result (length M.pattern ≤ place) }
+        ensures count { Took self.old self.new 0 1 }
+        ensures free { IfNone result (Took self.old self.new 0 0) }
+    {
+        if place >= self.pattern.len() {
+            return None;
+        }
+        self.counts.look();
+        Some(self.pattern[place])
+    }
+
+    /// Looks at the byte at a place inside the pattern.
+    #[inline(always)]
+    pub fn pattern_byte(&mut self, place: usize) -> u8
+        requires { place < length M.pattern }
+        ensures here { result ≡ slice_index M.pattern place }
+        ensures count { Took self.old self.new 0 1 }
+    {
+        self.counts.look();
         self.pattern[place]
     }
 
-    /// The token at a place of the pattern, and the place after it.
-    #[inline(always)]
-    pub fn token_at(&self, place: usize) -> (Shape, usize)
-        requires { place < length M.pattern }
-        ensures { IsToken M.mode M.pattern place result.0 result.1 }
+    /// Looks at each byte from one place of the pattern up to another: the class that they name.
+    pub fn class_named(&mut self, from: usize, to: usize) -> Option<Class>
+        requires order { from ≤ to }
+        requires inside { to ≤ length M.pattern }
+        ensures found { IfSome result (λ class. slice_range M.pattern from to ≡ name_of class) }
+        ensures none { IfNone result ((class : Class) → ¬ (slice_range M.pattern from to ≡ name_of class)) }
+        ensures count { LookedOver 1 self.old self.new from to }
     {
-        token_at(self.pattern, place, self.mode)
-    }
-
-    /// What follows at a place of the pattern; `None` where it is a token of another kind.
-    #[inline(always)]
-    pub fn follow_at(&self, place: usize) -> Option<Follow>
-        requires { place ≤ length M.pattern }
-        ensures follows { IfSome result (λ follow. Follows M.mode M.pattern place follow) }
-        ensures other { IfNone result ((place < length M.pattern) × ¬ StandsForItself (slice_index M.pattern place)) }
-    {
-        follow_at(self.pattern, place, self.mode)
+        self.counts.looks(to - from);
+        Class::named(&self.pattern[from..to])
     }
 
     /// Tests the pattern's end: whether the value ends at this place, too.
@@ -170,16 +207,35 @@ impl<'c, 'a, S: Ledger, L: Ledger, M: Match> Engine<'c, 'a, S, L, M> {
         len > 0 && self.mode.fold(self.value[len - 1]) == self.mode.fold(wanted)
     }
 
-    /// Tests the token of this shape at a place of the pattern.
+    /// Tests a token of this kind, which is no set.
     #[inline(always)]
-    pub fn takes(&mut self, shape: Shape, place: usize, at: usize) -> bool
-        requires { place < length M.pattern }
-        ensures answer { (token : Token) (end : ℕ) → TokenAt M.mode M.pattern place token end → shape ≡ shape_of token
+    pub fn takes(&mut self, shape: Shape, at: usize) -> bool
+        requires { shape ≢ Shape.Set }
+        ensures answer { (token : Token) → shape ≡ shape_of token
             → IsTrue result ↔ ((at < length M.value) × Fits M.mode token (slice_index M.value at)) }
         ensures count { Took self.old self.new 1 1 }
     {
         self.counts.step_with_look();
-        at < self.value.len() && shape.takes(self.pattern, place, self.value[at], self.mode)
+        at < self.value.len() && shape.fits(self.value[at], self.mode)
+    }
+
+    /// Tests the set whose bracket stands at a place of the pattern: the place after it, and whether it takes the byte of the
+    /// value. Where the value ends, any byte will do. `None` where no set begins, which is no step.
+    #[inline(always)]
+    pub fn takes_set(&mut self, place: usize, at: usize) -> Option<(usize, bool)>
+        requires { HasByte M.pattern place open_bracket }
+        ensures found { IfSome result (λ found. IsSetTested M.mode M.pattern M.value place at found.0 found.1) }
+        ensures none { IfNone result ((set : Set) (end : ℕ) → ¬ SetAt M.pattern place set end) }
+        ensures count { IfSome result (λ found. IsSetPaid 1 self.old self.new place found.0) }
+        ensures broken { IfNone result (IsSetPaid 0 self.old self.new place (length M.pattern)) }
+    {
+        self.counts.look();
+        let byte = self.value.get(at).copied();
+        let Some((end, holds)) = self.set_at(place, byte.unwrap_or(0)) else {
+            return None;
+        };
+        self.counts.step();
+        Some((end, byte.is_some() && holds))
     }
 
     /// Sets a mark.
@@ -264,7 +320,7 @@ impl<'c, 'a, S: Ledger, L: Ledger, M: Match> Engine<'c, 'a, S, L, M> {
     }
 }
 
-/// Whether the pattern matches the value, and the counts of what it took. An engine is made here alone.
+/// Whether the pattern matches the value, and the counts of what it took.
 #[inline(always)]
 pub fn run<'c, 'a, S: Ledger, L: Ledger, M: Match>(
     pattern: &'a [u8],
@@ -288,6 +344,63 @@ pub fn run<'c, 'a, S: Ledger, L: Ledger, M: Match>(
         of: PhantomData,
     };
     let answer = engine.search();
+    let Engine { counts, .. } = engine;
+    (answer, counts)
+}
+
+/// The token at a place of the pattern, and the place after it, by an engine that reads no value; and the counts.
+#[inline(always)]
+pub fn read_token<'c, 'a, S: Ledger, L: Ledger, M: Match>(
+    pattern: &'a [u8],
+    place: usize,
+    mode: Mode,
+    counts: &'c mut Counts<S, L>,
+) -> ((Shape, usize), &'c mut Counts<S, L>)
+    requires pattern { pattern.now ≡ M.pattern }
+    requires value { pattern.now ≡ M.value }
+    requires mode { mode ≡ M.mode }
+    requires counts { counts.ghost_name ≡ M.counts }
+    requires inside { place < length pattern.now }
+    ensures { IsToken mode pattern.now place result.0.0 result.0.1 }
+{
+    let mut engine = Engine::<'c, 'a, S, L, M> {
+        pattern,
+        value: pattern,
+        mode,
+        counts,
+        of: PhantomData,
+    };
+    let answer = engine.token_at(place);
+    let Engine { counts, .. } = engine;
+    (answer, counts)
+}
+
+/// The set whose bracket stands at a place of the pattern, by an engine that reads no value: the place after it, and whether
+/// it holds a byte, `None` where no set begins; and the counts.
+#[inline(always)]
+pub fn read_set<'c, 'a, S: Ledger, L: Ledger, M: Match>(
+    pattern: &'a [u8],
+    place: usize,
+    byte: u8,
+    mode: Mode,
+    counts: &'c mut Counts<S, L>,
+) -> (Option<(usize, bool)>, &'c mut Counts<S, L>)
+    requires pattern { pattern.now ≡ M.pattern }
+    requires value { pattern.now ≡ M.value }
+    requires mode { mode ≡ M.mode }
+    requires counts { counts.ghost_name ≡ M.counts }
+    requires bracket { HasByte pattern.now place open_bracket }
+    ensures found { IfSome result.0 (λ found. (set : Set) × SetAt pattern.now place set found.0 × (found.1 ≡ set_holds mode set byte)) }
+    ensures none { IfNone result.0 ((set : Set) (end : ℕ) → ¬ SetAt pattern.now place set end) }
+{
+    let mut engine = Engine::<'c, 'a, S, L, M> {
+        pattern,
+        value: pattern,
+        mode,
+        counts,
+        of: PhantomData,
+    };
+    let answer = engine.set_at(place, byte);
     let Engine { counts, .. } = engine;
     (answer, counts)
 }

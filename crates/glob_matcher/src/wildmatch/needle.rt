@@ -2,8 +2,10 @@
 ghost use Rattle.std.specs.Prelude.{◌≡◌, ◌↔◌, ◌<◌, ◌≤◌, IsTrue, IfSome, IfNone, length, slice_index};
 ghost use Rattle.std.specs.Char.{to_ascii_lowercase};
 ghost use Rattle.glob_matcher.specs.Private.Scans.{Follows, StandsForItself};
+ghost use Rattle.glob_matcher.specs.Private.Took.{Took};
 
-use super::mode::Mode;
+use super::engine::{Engine, Match};
+use std::sync::ledger::Ledger;
 
 /// What follows a star: a byte that is a token by itself, or the pattern's end.
 #[derive(Copy, Clone)]
@@ -74,23 +76,24 @@ pub fn stands_for_itself(byte: u8) -> bool
     !matches!(byte, b'*' | b'?' | b'[' | b'\\')
 }
 
-/// What follows at this place of the pattern; `None` where it is a token of another kind.
-#[inline(always)]
-pub fn follow_at(pattern: &[u8], place: usize, mode: Mode) -> Option<Follow>
-    requires { place ≤ length pattern.now }
-    ensures follows { IfSome result (λ follow. Follows mode pattern.now place follow) }
-    ensures other { IfNone result ((place < length pattern.now) × ¬ StandsForItself (slice_index pattern.now place)) }
-{
-    if place >= pattern.len() {
-        return Some(Follow::End);
-    }
-    let byte = pattern[place];
-    if !stands_for_itself(byte) {
-        return None;
-    }
-    if mode.folds() {
-        Some(Follow::Folded(byte))
-    } else {
+impl<'c, 'a, S: Ledger, L: Ledger, M: Match> Engine<'c, 'a, S, L, M> {
+    /// What follows at a place of the pattern; `None` where it is a token of another kind.
+    #[inline(always)]
+    pub fn follow_at(&mut self, place: usize) -> Option<Follow>
+        requires { place ≤ length M.pattern }
+        ensures follows { IfSome result (λ follow. Follows M.mode M.pattern place follow) }
+        ensures other { IfNone result ((place < length M.pattern) × ¬ StandsForItself (slice_index M.pattern place)) }
+        ensures count { Took self.old self.new 0 1 }
+    {
+        let Some(byte) = self.look_at(place) else {
+            return Some(Follow::End);
+        };
+        if !stands_for_itself(byte) {
+            return None;
+        }
+        if self.folds() {
+            return Some(Follow::Folded(byte));
+        }
         Some(Follow::Byte(byte))
     }
 }

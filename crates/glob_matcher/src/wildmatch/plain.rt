@@ -5,7 +5,8 @@ ghost use Rattle.glob_matcher.specs.Private.Reader.{Spans};
 ghost use Rattle.glob_matcher.specs.Bytes.{NoSlash};
 
 use super::mode::Mode;
-use super::tokens::{Shape, token_at};
+use super::slices::token_at;
+use super::tokens::Shape;
 
 /// Whether no place from one up to another has a slash.
 fn has_no_slash(value: &[u8], at: usize, end: usize) -> bool

@@ -10,7 +10,8 @@ ghost use Rattle.glob_matcher.specs.Private.StarSearch.{literal_of, Skips, IsCom
 mod tests;
 
 use super::mode::Mode;
-use super::tokens::{Shape, token_at};
+use super::slices::token_at;
+use super::tokens::Shape;
 use memchr::{memchr, memchr2};
 
 /// How many star tokens an attempt may stand below.

@@ -1,15 +1,21 @@
-//! Bracket sets: the items of a set, where it ends, and which bytes it holds.
-ghost use Rattle.std.specs.Prelude.{◌↔◌, ℕ, ◌<◌, ◌≤◌, IsTrue, IfSome, IfNone, Option, Some, None, List, true, length, not, ◌≡◌};
-ghost use Rattle.glob_matcher.specs.declared.wildmatch.sets.Item.{Item};
+//! Bracket sets, read in one pass: where a set ends, and whether it holds a byte.
+//!
+//! Each `[:` wants to know where the first `]` after it is. That one stays the first for each later `[:` before it, so it is
+//! looked for only where it isn't known.
+ghost use Rattle.std.specs.Prelude.{◌↔◌, ℕ, ◌+◌, ◌-◌, ◌<◌, ◌≤◌, IsTrue, IfSome, IfNone, Option, Some, None, true, length, slice_index, not, false, ◌&&◌, ◌||◌, ◌==◌, ◌≡◌, ◌≢◌, if◌then◌else◌, Bool};
 ghost use Rattle.glob_matcher.specs.declared.wildmatch.sets.Class.{Class};
-ghost use Rattle.glob_matcher.specs.Bytes.{HasByte, IsEscaped, open_bracket, close_bracket};
-ghost use Rattle.glob_matcher.specs.Sets.{BeginsRange, BeginsClass, IsFirstFrom, IsUpperEnd, ItemAt, Set, SetAt, member_of, name_of};
-ghost use Rattle.glob_matcher.specs.Sets.{class_holds, item_holds, ItemsAt};
-ghost use Rattle.glob_matcher.specs.Sets.{set_holds as held, range_holds as in_range, is_between as between};
-ghost use Rattle.glob_matcher.specs.Private.Reader.{IsEntry, IsFirstItem};
-ghost use Rattle.std.specs.List.{list_any};
+ghost use Rattle.glob_matcher.specs.declared.wildmatch.sets.Item.{Item};
+ghost use Rattle.glob_matcher.specs.Bytes.{HasByte, IsEscaped, is_path, open_bracket, close_bracket, backslash, colon, dash, slash};
+ghost use Rattle.glob_matcher.specs.Sets.{BeginsRange, BeginsClass, IsFirstFrom, IsSign, IsUpperEnd, ItemAt, Set, SetAt, member_of, name_of};
+ghost use Rattle.glob_matcher.specs.Sets.{class_holds, item_holds};
+ghost use Rattle.glob_matcher.specs.Sets.{set_holds as held_by, range_holds as in_range, is_between as between};
+ghost use Rattle.glob_matcher.specs.Private.Took.{Took};
+ghost use Rattle.glob_matcher.specs.Private.Looks.{LookedOver, IsKnown, IsSpelled, IsPaid, IsPaidToEnd, IsPaidFor, searched};
+ghost use Rattle.glob_matcher.specs.Private.Reader.{IsEntry, after_item, at_first, first_item};
 
+use super::engine::{Engine, Match};
 use super::mode::Mode;
+use std::sync::ledger::Ledger;
 
 /// A class of bytes that a set names between `[:` and `:]`.
 #[derive(Debug, Copy, Clone, Eq, PartialEq)]
@@ -39,220 +45,26 @@ pub enum Item {
     Class(Class),
 }
 
-/// The class of a name, where there is one.
-fn class_named(name: &[u8]) -> Option<Class>
-    ensures found { IfSome result (λ class. name.now ≡ name_of class) }
-    ensures none { IfNone result ((class : Class) → ¬ (name.now ≡ name_of class)) }
-{
-    match name {
-        b"alnum" => Some(Class::Alnum),
-        b"alpha" => Some(Class::Alpha),
-        b"blank" => Some(Class::Blank),
-        b"cntrl" => Some(Class::Cntrl),
-        b"digit" => Some(Class::Digit),
-        b"graph" => Some(Class::Graph),
-        b"lower" => Some(Class::Lower),
-        b"print" => Some(Class::Print),
-        b"punct" => Some(Class::Punct),
-        b"space" => Some(Class::Space),
-        b"upper" => Some(Class::Upper),
-        b"xdigit" => Some(Class::Xdigit),
-        _ => None,
-    }
-}
-
-/// Whether a `-` at this place begins a range.
-fn begins_range(pattern: &[u8], low: Option<u8>, at: usize) -> bool
-    requires { at < length pattern.now }
-    ensures { IsTrue result ↔ BeginsRange pattern.now low at }
-{
-    match (low, pattern.get(at + 1)) {
-        (Some(member), Some(next)) => member != 0 && pattern[at] == b'-' && *next != b']',
-        _ => false,
-    }
-}
-
-/// Whether `[:` stands at this place.
-fn begins_class(pattern: &[u8], at: usize) -> bool
-    requires { at < length pattern.now }
-    ensures { IsTrue result ↔ BeginsClass pattern.now at }
-{
-    match pattern.get(at + 1) {
-        Some(next) => pattern[at] == b'[' && *next == b':',
-        None => false,
-    }
-}
-
-/// The byte that an escape at this place stands for.
-pub fn escaped_at(pattern: &[u8], at: usize) -> Option<u8>
-    requires { at < length pattern.now }
-    ensures found { IfSome result (λ byte. IsEscaped pattern.now at byte) }
-    ensures none { IfNone result ((byte : ℕ) → ¬ IsEscaped pattern.now at byte) }
-{
-    if pattern[at] != b'\\' {
-        return None;
-    }
-    pattern.get(at + 1).copied()
-}
-
-/// The upper end of a range at this place, and the place after it.
-fn upper_end(pattern: &[u8], at: usize) -> Option<(u8, usize)>
-    requires { at < length pattern.now }
-    ensures found { IfSome result (λ end. IsUpperEnd pattern.now at end.0 end.1) }
-    ensures inside { IfSome result (λ end. (at < end.1) × (end.1 ≤ length pattern.now)) }
-    ensures none { IfNone result ((high j : ℕ) → ¬ IsUpperEnd pattern.now at high j) }
-{
-    if pattern[at] != b'\\' {
-        return Some((pattern[at], at + 1));
-    }
-    let byte = escaped_at(pattern, at)?;
-    Some((byte, at + 2))
-}
-
-/// The first closing bracket from a place on.
-fn first_close(pattern: &[u8], from: usize) -> Option<usize>
-    requires { from ≤ length pattern.now }
-    ensures found { IfSome result (λ close. IsFirstFrom pattern.now from close_bracket close) }
-    ensures none { IfNone result ((k : ℕ) → from ≤ k → ¬ HasByte pattern.now k close_bracket) }
-{
-    for i in from..pattern.len() {
-        if pattern[i] == b']' {
-            return Some(i);
-        }
-    }
-    None
-}
-
-/// The class that begins with the `[:` at this place, and the place after it, or a lone `[` where the first `]` ends no
-/// class. `None` where there is no `]`, or no class of that name.
-fn class_at(pattern: &[u8], at: usize) -> Option<(Item, usize)>
-    requires { BeginsClass pattern.now at }
-    ensures found { IfSome result (λ found. (low : Option ℕ) → ItemAt pattern.now low at found.0 found.1) }
-    ensures inside { IfSome result (λ found. (at < found.1) × (found.1 ≤ length pattern.now)) }
-    ensures none { IfNone result ((low : Option ℕ) (x : Item) (j : ℕ) → ¬ ItemAt pattern.now low at x j) }
-{
-    let close = first_close(pattern, at + 2)?;
-    if close < at + 3 || pattern[close - 1] != b':' {
-        return Some((Item::Member(b'['), at + 1));
-    }
-    let class = class_named(&pattern[at + 2..close - 1])?;
-    Some((Item::Class(class), close + 1))
-}
-
-/// The range whose `-` stands at this place, and the place after it.
-fn range_at(pattern: &[u8], low: u8, at: usize) -> Option<(Item, usize)>
-    requires { BeginsRange pattern.now (Some low) at }
-    ensures found { IfSome result (λ found. ItemAt pattern.now (Some low) at found.0 found.1) }
-    ensures inside { IfSome result (λ found. (at < found.1) × (found.1 ≤ length pattern.now)) }
-    ensures none { IfNone result ((x : Item) (j : ℕ) → ¬ ItemAt pattern.now (Some low) at x j) }
-{
-    let Some((high, next)) = upper_end(pattern, at + 1) else {
-        return None;
-    };
-    Some((Item::Range(low, high), next))
-}
-
-/// The item at this place, and the place after it. `low` is the member directly before it.
-fn item_at(pattern: &[u8], low: Option<u8>, at: usize) -> Option<(Item, usize)>
-    requires { at < length pattern.now }
-    ensures found { IfSome result (λ found. ItemAt pattern.now low at found.0 found.1) }
-    ensures inside { IfSome result (λ found. (at < found.1) × (found.1 ≤ length pattern.now)) }
-    ensures none { IfNone result ((x : Item) (j : ℕ) → ¬ ItemAt pattern.now low at x j) }
-{
-    if pattern[at] == b'\\' {
-        let byte = escaped_at(pattern, at)?;
-        return Some((Item::Member(byte), at + 2));
-    }
-    if let Some(member) = low
-        && begins_range(pattern, low, at)
+impl Class {
+    /// The class of a name, where there is one.
+    pub fn named(name: &[u8]) -> Option<Class>
+        ensures found { IfSome result (λ class. name.now ≡ name_of class) }
+        ensures none { IfNone result ((class : Class) → ¬ (name.now ≡ name_of class)) }
     {
-        return range_at(pattern, member, at);
-    }
-    if begins_class(pattern, at) {
-        return class_at(pattern, at);
-    }
-    Some((Item::Member(pattern[at]), at + 1))
-}
-
-/// What stands at an item's place.
-#[derive(Clone, Copy)]
-enum Entry {
-    /// An item, and the place after it.
-    Item(Item, usize),
-    /// The closing bracket.
-    Close,
-    /// Neither: the set doesn't close.
-    Broken,
-}
-
-/// Whether the set closes at this place.
-fn closes(pattern: &[u8], is_first: bool, at: usize) -> bool
-    requires { at < length pattern.now }
-    ensures { IsTrue result ↔ (IsTrue (not is_first) × HasByte pattern.now at close_bracket) }
-{
-    !is_first && pattern[at] == b']'
-}
-
-/// What stands at this place. `low` is the member directly before it; a `]` in the first place doesn't close.
-fn entry_at(pattern: &[u8], is_first: bool, low: Option<u8>, at: usize) -> Entry
-    ensures { IsEntry pattern.now is_first low at result }
-{
-    if at >= pattern.len() {
-        return Entry::Broken;
-    }
-    if closes(pattern, is_first, at) {
-        return Entry::Close;
-    }
-    match item_at(pattern, low, at) {
-        Some((item, next)) => Entry::Item(item, next),
-        None => Entry::Broken,
-    }
-}
-
-/// The place of a set's first item, where the set's bracket stands at this place.
-fn first_item(pattern: &[u8], at: usize) -> usize
-    requires { at < length pattern.now }
-    ensures place { IsFirstItem pattern.now at result }
-    ensures inside { (at < result) × (result ≤ length pattern.now) }
-{
-    match pattern.get(at + 1) {
-        Some(b'!' | b'^') => at + 2,
-        _ => at + 1,
-    }
-}
-
-impl Item {
-    /// The member that a range after this item begins from.
-    fn member(self) -> Option<u8>
-        ensures { result ≡ member_of self }
-    {
-        match self {
-            Item::Member(byte) => Some(byte),
-            Item::Range(..) | Item::Class(_) => None,
-        }
-    }
-}
-
-/// The place after the set whose bracket stands at this place. `None` where no set begins.
-#[inline(never)]
-pub fn set_end(pattern: &[u8], at: usize) -> Option<usize>
-    requires { HasByte pattern.now at open_bracket }
-    ensures found { IfSome result (λ end. (set : Set) × SetAt pattern.now at set end) }
-    ensures inside { IfSome result (λ end. (at < end) × (end ≤ length pattern.now)) }
-    ensures none { IfNone result ((set : Set) (end : ℕ) → ¬ SetAt pattern.now at set end) }
-{
-    let mut is_first = true;
-    let mut low = None;
-    let mut place = first_item(pattern, at);
-    'items: loop {
-        match entry_at(pattern, is_first, low, place) {
-            Entry::Item(item, next) => {
-                is_first = false;
-                low = item.member();
-                place = next;
-            }
-            Entry::Close => return Some(place + 1),
-            Entry::Broken => return None,
+        match name {
+            b"alnum" => Some(Class::Alnum),
+            b"alpha" => Some(Class::Alpha),
+            b"blank" => Some(Class::Blank),
+            b"cntrl" => Some(Class::Cntrl),
+            b"digit" => Some(Class::Digit),
+            b"graph" => Some(Class::Graph),
+            b"lower" => Some(Class::Lower),
+            b"print" => Some(Class::Print),
+            b"punct" => Some(Class::Punct),
+            b"space" => Some(Class::Space),
+            b"upper" => Some(Class::Upper),
+            b"xdigit" => Some(Class::Xdigit),
+            _ => None,
         }
     }
 }
@@ -313,37 +125,408 @@ impl Item {
             Item::Class(class) => class.holds(mode.fold(byte), mode),
         }
     }
+
+    /// Whether the item holds a byte, or one before it does.
+    fn holds_too(self, is_held: bool, byte: u8, mode: Mode) -> bool
+        ensures { result ≡ (is_held || item_holds mode byte self) }
+    {
+        is_held || self.holds(byte, mode)
+    }
 }
 
-/// Whether an item of the set whose first item stands at this place holds a byte.
-fn items_hold(pattern: &[u8], start: usize, byte: u8, mode: Mode) -> bool
-    requires { start ≤ length pattern.now }
-    ensures { (xs : List Item) (close : ℕ) → ItemsAt pattern.now true None start xs close → result ≡ list_any (item_holds mode byte) xs }
-{
-    let mut is_first = true;
-    let mut low = None;
-    let mut place = start;
-    'items: while let Entry::Item(item, next) = entry_at(pattern, is_first, low, place) {
-        if item.holds(byte, mode) {
-            return true;
+impl Item {
+    /// The member that a range after this item begins from.
+    fn member(self) -> Option<u8>
+        ensures { result ≡ member_of self }
+    {
+        match self {
+            Item::Member(byte) => Some(byte),
+            Item::Range(..) | Item::Class(_) => None,
         }
-        is_first = false;
-        low = item.member();
-        place = next;
     }
-    false
 }
 
-/// Whether the set whose bracket stands at this place holds a byte.
-#[inline(never)]
-pub fn set_holds(pattern: &[u8], at: usize, byte: u8, mode: Mode) -> bool
-    requires { at < length pattern.now }
-    ensures { (set : Set) (end : ℕ) → SetAt pattern.now at set end → result ≡ held mode set byte }
-{
-    if mode.is_path() && byte == b'/' {
-        return false;
+/// An item as it is spelled.
+#[derive(Clone, Copy)]
+struct Spelled {
+    item: Item,
+    /// The place after it.
+    next: usize,
+    /// Where a closing bracket is known to be.
+    close: Option<usize>,
+}
+
+impl Spelled {
+    /// Where the reader of a set stands after this item.
+    fn onward(self) -> Cursor
+        ensures { result ≡ after_item self }
+    {
+        Cursor {
+            place: self.next,
+            is_first: false,
+            low: self.item.member(),
+            close: self.close,
+        }
     }
-    let start = first_item(pattern, at);
-    let is_negated = start == at + 2;
-    items_hold(pattern, start, byte, mode) != is_negated
+}
+
+/// What stands at an item's place.
+#[derive(Clone, Copy)]
+enum Entry {
+    /// An item.
+    Item(Spelled),
+    /// The closing bracket.
+    Close,
+    /// Neither: the set doesn't close.
+    Broken,
+}
+
+/// Where the reader of a set stands.
+#[derive(Clone, Copy)]
+struct Cursor {
+    /// The place of the next item, or of the closing bracket.
+    place: usize,
+    /// Whether no item was read yet: a `]` doesn't close then.
+    is_first: bool,
+    /// The member directly before, from which a range may begin.
+    low: Option<u8>,
+    /// The first `]` after a `[:` that was met: until it is passed, it is the first for each later `[:` too.
+    close: Option<usize>,
+}
+
+impl Cursor {
+    /// At the place of a set's first item.
+    fn at_first(place: usize) -> Cursor
+        ensures { result ≡ at_first place }
+    {
+        Cursor {
+            place,
+            is_first: true,
+            low: None,
+            close: None,
+        }
+    }
+
+    /// Whether the set closes at this byte.
+    fn closes(self, byte: u8) -> bool
+        ensures { IsTrue result ↔ (IsTrue (not self.is_first) × (byte ≡ close_bracket)) }
+    {
+        !self.is_first && byte == b']'
+    }
+}
+
+/// Whether a set holds a byte: where it is negated, if none of its items does, but in path mode never a slash.
+fn takes(mode: Mode, is_negated: bool, byte: u8, is_held: bool) -> bool
+    ensures { result ≡ (not (is_path mode && byte == slash) && (if is_negated then not is_held else is_held)) }
+{
+    !(mode.is_path() && byte == b'/') && is_held != is_negated
+}
+
+impl<'c, 'a, S: Ledger, L: Ledger, M: Match> Engine<'c, 'a, S, L, M> {
+    /// The byte that the backslash at this place escapes.
+    pub fn escaped_at(&mut self, place: usize) -> Option<u8>
+        requires { HasByte M.pattern place backslash }
+        ensures found { IfSome result (λ byte. IsEscaped M.pattern place byte) }
+        ensures none { IfNone result ((byte : ℕ) → ¬ IsEscaped M.pattern place byte) }
+        ensures count { Took self.old self.new 0 1 }
+        ensures free { IfNone result (Took self.old self.new 0 0) }
+    {
+        self.look_at(place + 1)
+    }
+
+    /// The upper end of a range at this place, and the place after it.
+    fn upper_end(&mut self, place: usize) -> Option<(u8, usize)>
+        requires { place < length M.pattern }
+        ensures found { IfSome result (λ end. IsUpperEnd M.pattern place end.0 end.1) }
+        ensures inside { IfSome result (λ end. (place < end.1) × (end.1 ≤ length M.pattern)) }
+        ensures none { IfNone result ((high j : ℕ) → ¬ IsUpperEnd M.pattern place high j) }
+        ensures count { IfSome result (λ end. LookedOver 1 self.old self.new place end.1) }
+        ensures broken { IfNone result (Took self.old self.new 0 1) }
+    {
+        let byte = self.pattern_byte(place);
+        if byte != b'\\' {
+            return Some((byte, place + 1));
+        }
+        let Some(high) = self.escaped_at(place) else {
+            return None;
+        };
+        Some((high, place + 2))
+    }
+
+    /// The first closing bracket from a place on.
+    fn first_close(&mut self, from: usize) -> Option<usize>
+        requires { from ≤ length M.pattern }
+        ensures found { IfSome result (λ close. IsFirstFrom M.pattern from close_bracket close) }
+        ensures none { IfNone result ((k : ℕ) → from ≤ k → ¬ HasByte M.pattern k close_bracket) }
+        ensures count { IfSome result (λ close. LookedOver 1 self.old self.new from (close + 1)) }
+        ensures broken { IfNone result (LookedOver 1 self.old self.new from (length M.pattern)) }
+    {
+        let mut place = from;
+        'bytes: while let Some(byte) = self.look_at(place) {
+            if byte == b']' {
+                return Some(place);
+            }
+            place += 1;
+        }
+        None
+    }
+
+    /// The first closing bracket after the `[:` at this place. No byte is looked at where it is known.
+    fn class_close(&mut self, place: usize, close: Option<usize>) -> Option<usize>
+        requires begins { BeginsClass M.pattern place }
+        requires known { IsKnown M.pattern place close }
+        ensures found { IfSome result (λ k. IsFirstFrom M.pattern (place + 2) close_bracket k) }
+        ensures none { IfNone result ((k : ℕ) → place + 2 ≤ k → ¬ HasByte M.pattern k close_bracket) }
+        ensures steps { self.new.steps ≡ self.old.steps }
+        ensures looks { IfSome result (λ k. self.new.looks + searched close place ≤ self.old.looks + k) }
+        ensures broken { IfNone result (LookedOver 1 self.old self.new (place + 2) (length M.pattern)) }
+    {
+        let Some(known) = close else {
+            return self.first_close(place + 2);
+        };
+        if known < place + 2 {
+            return self.first_close(place + 2);
+        }
+        Some(known)
+    }
+
+    /// Whether the closing bracket at `end` ends a class, where it is the first after the `[:` at `place`.
+    fn ends_class(&mut self, place: usize, end: usize) -> bool
+        requires low { place + 2 ≤ end }
+        requires inside { end < length M.pattern }
+        ensures answer { IsTrue result ↔ ((place + 3 ≤ end) × HasByte M.pattern (end - 1) colon) }
+        ensures count { Took self.old self.new 0 1 }
+    {
+        if end < place + 3 {
+            return false;
+        }
+        self.pattern_byte(end - 1) == b':'
+    }
+
+    /// The class that begins with the `[:` at this place, or a lone `[` where the first `]` ends no class. `None` where there
+    /// is no `]`, or no class of that name.
+    fn class_at(&mut self, place: usize, close: Option<usize>) -> Option<Spelled>
+        requires begins { BeginsClass M.pattern place }
+        requires known { IsKnown M.pattern place close }
+        ensures found { IfSome result (λ s. (low : Option ℕ) → IsSpelled M.pattern low place s) }
+        ensures none { IfNone result ((low : Option ℕ) (x : Item) (j : ℕ) → ¬ ItemAt M.pattern low place x j) }
+        ensures count { IfSome result (λ s. IsPaid 2 self.old self.new place close s) }
+        ensures broken { IfNone result (IsPaidToEnd 2 self.old self.new M.pattern place) }
+    {
+        let Some(end) = self.class_close(place, close) else {
+            return None;
+        };
+        if !self.ends_class(place, end) {
+            return Some(Spelled {
+                item: Item::Member(b'['),
+                next: place + 1,
+                close: Some(end),
+            });
+        }
+        let Some(class) = self.class_named(place + 2, end - 1) else {
+            return None;
+        };
+        Some(Spelled {
+            item: Item::Class(class),
+            next: end + 1,
+            close: Some(end),
+        })
+    }
+
+    /// The lower end of the range that the `-` at this place begins, after the member `low` or none; `None` where it begins
+    /// none.
+    fn range_from(&mut self, low: Option<u8>, place: usize) -> Option<u8>
+        requires { HasByte M.pattern place dash }
+        ensures found { IfSome result (λ from. (low ≡ Some from) × BeginsRange M.pattern (Some from) place) }
+        ensures none { IfNone result (¬ BeginsRange M.pattern low place) }
+        ensures count { Took self.old self.new 0 1 }
+    {
+        let Some(member) = low else {
+            return None;
+        };
+        if member == 0 {
+            return None;
+        }
+        match self.look_at(place + 1) {
+            Some(b']') | None => None,
+            Some(_) => Some(member),
+        }
+    }
+
+    /// The range whose `-` stands at this place.
+    fn range_at(&mut self, from: u8, place: usize, close: Option<usize>) -> Option<Spelled>
+        requires begins { BeginsRange M.pattern (Some from) place }
+        requires known { IsKnown M.pattern place close }
+        ensures found { IfSome result (λ s. IsSpelled M.pattern (Some from) place s) }
+        ensures none { IfNone result ((x : Item) (j : ℕ) → ¬ ItemAt M.pattern (Some from) place x j) }
+        ensures count { IfSome result (λ s. IsPaid 2 self.old self.new place close s) }
+        ensures broken { IfNone result (IsPaidToEnd 2 self.old self.new M.pattern place) }
+    {
+        let Some((high, next)) = self.upper_end(place + 1) else {
+            return None;
+        };
+        Some(Spelled {
+            item: Item::Range(from, high),
+            next,
+            close,
+        })
+    }
+
+    /// The range that begins with the `-` at this place, or a `-` alone.
+    fn dash_at(&mut self, low: Option<u8>, place: usize, close: Option<usize>) -> Option<Spelled>
+        requires here { HasByte M.pattern place dash }
+        requires known { IsKnown M.pattern place close }
+        ensures found { IfSome result (λ s. IsSpelled M.pattern low place s) }
+        ensures none { IfNone result ((x : Item) (j : ℕ) → ¬ ItemAt M.pattern low place x j) }
+        ensures count { IfSome result (λ s. IsPaid 1 self.old self.new place close s) }
+        ensures broken { IfNone result (IsPaidToEnd 1 self.old self.new M.pattern place) }
+    {
+        match self.range_from(low, place) {
+            Some(from) => self.range_at(from, place, close),
+            None => Some(Spelled {
+                item: Item::Member(b'-'),
+                next: place + 1,
+                close,
+            }),
+        }
+    }
+
+    /// Whether the `[` at this place is the beginning of `[:`.
+    fn begins_class(&mut self, place: usize) -> bool
+        requires { HasByte M.pattern place open_bracket }
+        ensures answer { IsTrue result ↔ BeginsClass M.pattern place }
+        ensures count { Took self.old self.new 0 1 }
+    {
+        matches!(self.look_at(place + 1), Some(b':'))
+    }
+
+    /// The class that begins with the `[` at this place, or a `[` alone.
+    fn bracket_at(&mut self, low: Option<u8>, place: usize, close: Option<usize>) -> Option<Spelled>
+        requires here { HasByte M.pattern place open_bracket }
+        requires known { IsKnown M.pattern place close }
+        ensures found { IfSome result (λ s. IsSpelled M.pattern low place s) }
+        ensures none { IfNone result ((x : Item) (j : ℕ) → ¬ ItemAt M.pattern low place x j) }
+        ensures count { IfSome result (λ s. IsPaid 1 self.old self.new place close s) }
+        ensures broken { IfNone result (IsPaidToEnd 1 self.old self.new M.pattern place) }
+    {
+        if self.begins_class(place) {
+            return self.class_at(place, close);
+        }
+        Some(Spelled {
+            item: Item::Member(b'['),
+            next: place + 1,
+            close,
+        })
+    }
+
+    /// The member that the backslash at this place escapes.
+    fn escape_at(&mut self, place: usize, close: Option<usize>) -> Option<Spelled>
+        requires here { HasByte M.pattern place backslash }
+        requires known { IsKnown M.pattern place close }
+        ensures found { IfSome result (λ s. (low : Option ℕ) → IsSpelled M.pattern low place s) }
+        ensures none { IfNone result ((low : Option ℕ) (x : Item) (j : ℕ) → ¬ ItemAt M.pattern low place x j) }
+        ensures count { IfSome result (λ s. IsPaid 1 self.old self.new place close s) }
+        ensures broken { IfNone result (IsPaidToEnd 1 self.old self.new M.pattern place) }
+    {
+        let Some(byte) = self.escaped_at(place) else {
+            return None;
+        };
+        Some(Spelled {
+            item: Item::Member(byte),
+            next: place + 2,
+            close,
+        })
+    }
+
+    /// The item where the cursor stands, at this byte.
+    fn item_at(&mut self, cursor: Cursor, byte: u8) -> Option<Spelled>
+        requires here { HasByte M.pattern cursor.place byte }
+        requires known { IsKnown M.pattern cursor.place cursor.close }
+        ensures found { IfSome result (λ s. IsSpelled M.pattern cursor.low cursor.place s) }
+        ensures none { IfNone result ((x : Item) (j : ℕ) → ¬ ItemAt M.pattern cursor.low cursor.place x j) }
+        ensures count { IfSome result (λ s. IsPaid 1 self.old self.new cursor.place cursor.close s) }
+        ensures broken { IfNone result (IsPaidToEnd 1 self.old self.new M.pattern cursor.place) }
+    {
+        match byte {
+            b'\\' => self.escape_at(cursor.place, cursor.close),
+            b'-' => self.dash_at(cursor.low, cursor.place, cursor.close),
+            b'[' => self.bracket_at(cursor.low, cursor.place, cursor.close),
+            _ => Some(Spelled {
+                item: Item::Member(byte),
+                next: cursor.place + 1,
+                close: cursor.close,
+            }),
+        }
+    }
+
+    /// What stands where the cursor stands.
+    fn entry_at(&mut self, cursor: Cursor) -> Entry
+        requires inside { cursor.place ≤ length M.pattern }
+        requires known { IsKnown M.pattern cursor.place cursor.close }
+        ensures entry { IsEntry M.pattern cursor.is_first cursor.low cursor.place result }
+        ensures count { IsPaidFor self.old self.new M.pattern cursor.place cursor.close result }
+    {
+        let Some(byte) = self.look_at(cursor.place) else {
+            return Entry::Broken;
+        };
+        if cursor.closes(byte) {
+            return Entry::Close;
+        }
+        match self.item_at(cursor, byte) {
+            Some(spelled) => Entry::Item(spelled),
+            None => Entry::Broken,
+        }
+    }
+
+    /// Whether a sign that negates stands at this place.
+    fn has_sign(&mut self, place: usize) -> bool
+        ensures answer { IsTrue result ↔ IsSign M.pattern place }
+        ensures count { Took self.old self.new 0 1 }
+    {
+        matches!(self.look_at(place), Some(b'!' | b'^'))
+    }
+
+    /// Whether the set whose bracket stands at this place is negated, and where its items begin.
+    fn opened(&mut self, place: usize) -> (bool, Cursor)
+        requires { HasByte M.pattern place open_bracket }
+        ensures sign { IsTrue result.0 ↔ IsSign M.pattern (place + 1) }
+        ensures begin { result.1 ≡ at_first (first_item result.0 place) }
+        ensures inside { (place < result.1.place) × (result.1.place ≤ length M.pattern) }
+        ensures count { Took self.old self.new 0 1 }
+    {
+        if self.has_sign(place + 1) {
+            return (true, Cursor::at_first(place + 2));
+        }
+        (false, Cursor::at_first(place + 1))
+    }
+
+    /// The set whose bracket stands at this place: the place after it, and whether it holds a byte. `None` where no set
+    /// begins.
+    #[inline(never)]
+    pub fn set_at(&mut self, place: usize, byte: u8) -> Option<(usize, bool)>
+        requires { HasByte M.pattern place open_bracket }
+        ensures found { IfSome result (λ found. (set : Set) × SetAt M.pattern place set found.0 × (found.1 ≡ held_by M.mode set byte)) }
+        ensures inside { IfSome result (λ found. (place < found.0) × (found.0 ≤ length M.pattern)) }
+        ensures none { IfNone result ((set : Set) (end : ℕ) → ¬ SetAt M.pattern place set end) }
+        ensures count { IfSome result (λ found. LookedOver 4 self.old self.new place found.0) }
+        ensures broken { IfNone result (LookedOver 4 self.old self.new place (length M.pattern)) }
+    {
+        let mode = self.mode();
+        let (is_negated, first) = self.opened(place);
+        let mut is_held = false;
+        let mut cursor = first;
+        'items: loop {
+            match self.entry_at(cursor) {
+                Entry::Item(spelled) => {
+                    is_held = spelled.item.holds_too(is_held, byte, mode);
+                    cursor = spelled.onward();
+                }
+                Entry::Close => {
+                    let holds = takes(mode, is_negated, byte, is_held);
+                    return Some((cursor.place + 1, holds));
+                }
+                Entry::Broken => return None,
+            }
+        }
+    }
 }

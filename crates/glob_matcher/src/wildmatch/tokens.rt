@@ -1,11 +1,15 @@
 //! The reader of tokens: what stands at a place of the pattern, and the place after it.
-ghost use Rattle.std.specs.Prelude.{◌≡◌, ◌↔◌, ℕ, ◌<◌, ◌≤◌, IsTrue, length};
-ghost use Rattle.glob_matcher.specs.Tokens.{Token, TokenAt, IsRun, IsBounded, IsAfterSlash, IsBeforeSlash};
+ghost use Rattle.std.specs.Prelude.{◌≡◌, ◌≢◌, ◌↔◌, ◌+◌, ◌<◌, ◌≤◌, IsTrue, length};
+ghost use Rattle.glob_matcher.specs.declared.wildmatch.tokens.Shape.TheVariants as shape;
+ghost use Rattle.glob_matcher.specs.Tokens.{Token, IsRun, IsBounded, IsAfterSlash, IsBeforeSlash};
 ghost use Rattle.glob_matcher.specs.Bytes.{HasByte, slash, star};
-ghost use Rattle.glob_matcher.specs.Private.Reader.{IsToken, is_star, shape_of, Fits};
+ghost use Rattle.glob_matcher.specs.Private.Took.{Took};
+ghost use Rattle.glob_matcher.specs.Private.Looks.{LookedOver};
+ghost use Rattle.glob_matcher.specs.Private.Reader.{IsToken, IsTokenRead, IsRunRead, is_star, shape_of, Fits};
 
+use super::engine::{Engine, Match};
 use super::mode::Mode;
-use super::sets::{escaped_at, set_end, set_holds};
+use std::sync::ledger::Ledger;
 
 /// What kind of token stands at a place.
 #[derive(Debug, Copy, Clone, Eq, PartialEq)]
@@ -26,94 +30,6 @@ pub enum Shape {
     Nothing,
 }
 
-/// Whether a place is inside the pattern and has this byte.
-fn has_byte(pattern: &[u8], at: usize, byte: u8) -> bool
-    ensures { IsTrue result ↔ HasByte pattern.now at byte }
-{
-    pattern.get(at) == Some(&byte)
-}
-
-/// The place after the run of stars at this place.
-fn run_end(pattern: &[u8], at: usize) -> usize
-    requires { HasByte pattern.now at star }
-    ensures run { IsRun pattern.now at result }
-    ensures inside { result ≤ length pattern.now }
-{
-    let mut end = at + 1;
-    'stars: while end < pattern.len() && pattern[end] == b'*' {
-        end += 1;
-    }
-    end
-}
-
-/// Whether a run of stars stands alone between slashes or ends of the pattern.
-fn is_bounded(pattern: &[u8], at: usize, end: usize) -> bool
-    requires before { at < end }
-    requires inside { end ≤ length pattern.now }
-    ensures { IsTrue result ↔ IsBounded pattern.now at end }
-{
-    at + 2 <= end && follows_slash(pattern, at) && precedes_slash(pattern, end)
-}
-
-/// Whether a place is the pattern's start or comes directly after a slash.
-fn follows_slash(pattern: &[u8], at: usize) -> bool
-    requires { at ≤ length pattern.now }
-    ensures { IsTrue result ↔ IsAfterSlash pattern.now at }
-{
-    at == 0 || pattern[at - 1] == b'/'
-}
-
-/// Whether a place is the pattern's end or has a slash, bare or escaped.
-fn precedes_slash(pattern: &[u8], end: usize) -> bool
-    requires { end ≤ length pattern.now }
-    ensures { IsTrue result ↔ IsBeforeSlash pattern.now end }
-{
-    match pattern.get(end) {
-        None => true,
-        Some(b'/') => true,
-        Some(b'\\') => pattern.get(end + 1) == Some(&b'/'),
-        Some(_) => false,
-    }
-}
-
-/// The run of stars at this place, and the place after it, or after its slash.
-fn run_at(pattern: &[u8], at: usize, mode: Mode) -> (Shape, usize)
-    requires { HasByte pattern.now at star }
-    ensures { IsToken mode pattern.now at result.0 result.1 }
-{
-    let end = run_end(pattern, at);
-    if !mode.is_path() {
-        return (Shape::Free, end);
-    }
-    if !is_bounded(pattern, at, end) {
-        return (Shape::Local, end);
-    }
-    if has_byte(pattern, end, b'/') {
-        return (Shape::Dirs, end + 1);
-    }
-    (Shape::Free, end)
-}
-
-/// The token at this place, and the place after it.
-pub fn token_at(pattern: &[u8], at: usize, mode: Mode) -> (Shape, usize)
-    requires { at < length pattern.now }
-    ensures { IsToken mode pattern.now at result.0 result.1 }
-{
-    match pattern[at] {
-        b'\\' => match escaped_at(pattern, at) {
-            Some(byte) => (Shape::Byte(byte), at + 2),
-            None => (Shape::Nothing, pattern.len()),
-        },
-        b'?' => (Shape::Any, at + 1),
-        b'[' => match set_end(pattern, at) {
-            Some(end) => (Shape::Set, end),
-            None => (Shape::Nothing, pattern.len()),
-        },
-        b'*' => run_at(pattern, at, mode),
-        byte => (Shape::Byte(byte), at + 1),
-    }
-}
-
 impl Shape {
     /// Whether the token is a star token.
     pub fn is_star(self) -> bool
@@ -129,16 +45,123 @@ impl Shape {
         matches!(self, Shape::Byte(b'/'))
     }
 
-    /// Whether the token of this shape at this place is one of a single byte and takes that byte.
-    pub fn takes(self, pattern: &[u8], at: usize, byte: u8, mode: Mode) -> bool
-        requires { at < length pattern.now }
-        ensures { (token : Token) (end : ℕ) → TokenAt mode pattern.now at token end → self ≡ shape_of token → IsTrue result ↔ Fits mode token byte }
+    /// Whether a token of this kind, which is no set, is one of a single byte and takes that byte.
+    #[inline(always)]
+    pub fn fits(self, byte: u8, mode: Mode) -> bool
+        requires { self ≢ shape.Set }
+        ensures { (token : Token) → self ≡ shape_of token → IsTrue result ↔ Fits mode token byte }
     {
         match self {
             Shape::Byte(wanted) => mode.fold(byte) == mode.fold(wanted),
             Shape::Any => !(mode.is_path() && byte == b'/'),
-            Shape::Set => set_holds(pattern, at, byte, mode),
-            Shape::Free | Shape::Local | Shape::Dirs | Shape::Nothing => false,
+            Shape::Set | Shape::Free | Shape::Local | Shape::Dirs | Shape::Nothing => false,
+        }
+    }
+}
+
+impl<'c, 'a, S: Ledger, L: Ledger, M: Match> Engine<'c, 'a, S, L, M> {
+    /// Whether a place is inside the pattern and has this byte.
+    fn has_byte(&mut self, place: usize, byte: u8) -> bool
+        ensures answer { IsTrue result ↔ HasByte M.pattern place byte }
+        ensures count { Took self.old self.new 0 1 }
+    {
+        self.look_at(place) == Some(byte)
+    }
+
+    /// The place after the run of stars at this place.
+    fn run_end(&mut self, place: usize) -> usize
+        requires { HasByte M.pattern place star }
+        ensures run { IsRun M.pattern place result }
+        ensures inside { result ≤ length M.pattern }
+        ensures count { LookedOver 1 self.old self.new place result }
+    {
+        let mut end = place + 1;
+        'stars: while self.has_byte(end, b'*') {
+            end += 1;
+        }
+        end
+    }
+
+    /// Whether a place is the pattern's start or comes directly after a slash.
+    fn follows_slash(&mut self, place: usize) -> bool
+        requires { place ≤ length M.pattern }
+        ensures answer { IsTrue result ↔ IsAfterSlash M.pattern place }
+        ensures count { Took self.old self.new 0 1 }
+    {
+        if place == 0 {
+            return true;
+        }
+        self.pattern_byte(place - 1) == b'/'
+    }
+
+    /// Whether a place is the pattern's end or has a slash, bare or escaped.
+    fn precedes_slash(&mut self, place: usize) -> bool
+        requires { place ≤ length M.pattern }
+        ensures answer { IsTrue result ↔ IsBeforeSlash M.pattern place }
+        ensures count { Took self.old self.new 0 2 }
+    {
+        match self.look_at(place) {
+            None => true,
+            Some(b'/') => true,
+            Some(b'\\') => self.has_byte(place + 1, b'/'),
+            Some(_) => false,
+        }
+    }
+
+    /// Whether a run of stars stands alone between slashes or ends of the pattern.
+    fn is_bounded(&mut self, place: usize, end: usize) -> bool
+        requires before { place < end }
+        requires inside { end ≤ length M.pattern }
+        ensures answer { IsTrue result ↔ IsBounded M.pattern place end }
+        ensures count { Took self.old self.new 0 3 }
+        ensures single { end < place + 2 → Took self.old self.new 0 0 }
+    {
+        if end - place < 2 {
+            return false;
+        }
+        if !self.follows_slash(place) {
+            return false;
+        }
+        self.precedes_slash(end)
+    }
+
+    /// The run of stars at this place, and the place after it, or after its slash.
+    fn run_at(&mut self, place: usize) -> (Shape, usize)
+        requires { HasByte M.pattern place star }
+        ensures token { IsToken M.mode M.pattern place result.0 result.1 }
+        ensures count { IsRunRead self.old self.new place result.0 result.1 }
+    {
+        let end = self.run_end(place);
+        if !self.is_path() {
+            return (Shape::Free, end);
+        }
+        if !self.is_bounded(place, end) {
+            return (Shape::Local, end);
+        }
+        if self.has_byte(end, b'/') {
+            return (Shape::Dirs, end + 1);
+        }
+        (Shape::Free, end)
+    }
+
+    /// The token at this place, and the place after it.
+    pub fn token_at(&mut self, place: usize) -> (Shape, usize)
+        requires { place < length M.pattern }
+        ensures token { IsToken M.mode M.pattern place result.0 result.1 }
+        ensures count { IsTokenRead self.old self.new place result.0 result.1 }
+    {
+        match self.pattern_byte(place) {
+            b'\\' => match self.escaped_at(place) {
+                Some(byte) => (Shape::Byte(byte), place + 2),
+                None => (Shape::Nothing, self.pattern_len()),
+            },
+            b'?' => (Shape::Any, place + 1),
+            b'[' => match self.set_at(place, 0) {
+                Some((end, _)) => (Shape::Set, end),
+                None => (Shape::Nothing, self.pattern_len()),
+            },
+            b'*' => self.run_at(place),
+            byte => (Shape::Byte(byte), place + 1),
         }
     }
 }

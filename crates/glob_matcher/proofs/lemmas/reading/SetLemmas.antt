@@ -142,7 +142,7 @@ ItemsAt-unique text first low i (x ∷ xs) (y ∷ ys) j k e f =
     (cc, later.1)
 
 -- a set is negated or not, by what stands after its bracket
-negated-unique : (a b : Bool) (P : Type 0) → IsTrue a ↔ P → IsTrue b ↔ P → a ≡ b
+pub negated-unique : (a b : Bool) (P : Type 0) → IsTrue a ↔ P → IsTrue b ↔ P → a ≡ b
 negated-unique true b P e f = sym (f.1 (e.0 refl))
 negated-unique false true P e f = e.1 (f.0 refl)
 negated-unique false false P e f = refl

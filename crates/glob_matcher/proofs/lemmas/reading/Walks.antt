@@ -1,14 +1,13 @@
--- What the readers of a set keep as they go from item to item.
-use Rattle.std.proofs.Common.{◌≡◌, ◌↔◌, inl, inr, ℕ, ◌+◌, ◌<◌, ◌≤◌, Bool, true, false, not, ◌||◌, IsTrue, List, [], ◌∷◌, length, Option, None, refl, sym, ◌∙◌, ap, subst, arith, if◌then◌else◌}
+-- What the reader of a set keeps as it goes from item to item.
+use Rattle.std.proofs.Common.{◌≡◌, ◌↔◌, inl, inr, ℕ, ◌+◌, ◌<◌, ◌≤◌, Bool, true, false, not, ◌&&◌, ◌||◌, ◌==◌, IsTrue, List, [], ◌∷◌, length, Option, None, refl, sym, ◌∙◌, ap, subst, arith, if◌then◌else◌}
 use Rattle.std.specs.List.{list_any}
 use Rattle.glob_matcher.specs.declared.wildmatch.sets.Item.{Item}
 use Rattle.glob_matcher.specs.declared.wildmatch.sets.Item.TheVariants as item
-use Rattle.glob_matcher.specs.declared.wildmatch.sets.Entry.{Entry}
-use Rattle.glob_matcher.specs.declared.wildmatch.sets.Entry.TheVariants as entry
-use Rattle.glob_matcher.specs.Bytes.{HasByte, open_bracket, close_bracket}
-use Rattle.glob_matcher.specs.Sets.{Set, SetAt, ItemAt, ItemsAt, IsSign, member_of}
-use Rattle.glob_matcher.specs.Private.Reader.{IsEntry, IsFirstItem}
-use Rattle.glob_matcher.proofs.lemmas.reading.SetLemmas.{ItemAt-unique, ItemsAt-unique}
+use Rattle.glob_matcher.specs.declared.wildmatch.mode.Mode.{Mode}
+use Rattle.glob_matcher.specs.Bytes.{HasByte, is_path, open_bracket, close_bracket, slash}
+use Rattle.glob_matcher.specs.Sets.{Set, SetAt, ItemAt, ItemsAt, IsSign, item_holds, member_of, set_holds}
+use Rattle.glob_matcher.specs.Private.Reader.{first_item}
+use Rattle.glob_matcher.proofs.lemmas.reading.SetLemmas.{ItemAt-unique, negated-unique}
 
 -- an item begins inside the text
 pub ItemAt-inside : (text : List ℕ) (low : Option ℕ) (i : ℕ) (x : Item) (j : ℕ) → ItemAt text low i x j → i < length text
@@ -30,12 +29,15 @@ pub no_items_here : (text : List ℕ) (first : Bool) (low : Option ℕ) (i : ℕ
 no_items_here text first low i open_yet none [] j e = open_yet e.0 e.1
 no_items_here text first low i open_yet none (x ∷ xs) j e = none x e.1 e.2
 
--- The items from the start on are some items so far, and the items from this place on.
-pub record IsUnderway (text : List ℕ) (start : ℕ) (first : Bool) (low : Option ℕ) (i : ℕ) : Type 0 where
+-- The items from the start on are some items so far, one of which holds the byte if `held` says so, and those from this place on.
+pub record IsUnderway (text : List ℕ) (start : ℕ) (test : Item → Bool) (held first : Bool) (low : Option ℕ) (i : ℕ) : Type 0 where
   pub forth : (xs : List Item) (close : ℕ) → ItemsAt text first low i xs close
-      → (ys : List Item) × ItemsAt text true None start ys close
+      → (ys : List Item) × ItemsAt text true None start ys close × (held || list_any test xs ≡ list_any test ys)
   pub back : (ys : List Item) (close : ℕ) → ItemsAt text true None start ys close
       → (xs : List Item) × ItemsAt text first low i xs close
+
+pub underway_first : (text : List ℕ) (start : ℕ) (test : Item → Bool) → IsUnderway text start test false true None start
+underway_first text start test = record { forth = λ xs close e. (xs, e, refl); back = λ ys close e. (ys, e) }
 
 -- what follows an item that stands here
 after_item : (text : List ℕ) (first : Bool) (low : Option ℕ) (i : ℕ) (x : Item) (j : ℕ)
@@ -50,11 +52,17 @@ after_item text first low i x j open_yet here (y ∷ ys) close e =
     (subst (λ (n : ℕ). ItemsAt text false (member_of y) n ys close) same.1 e.3) in
     (ys, ap (λ (z : Item). z ∷ ys) same.0, moved)
 
-pub underway_next : (text : List ℕ) (start : ℕ) (first : Bool) (low : Option ℕ) (i : ℕ) (x : Item) (j : ℕ)
-    → IsUnderway text start first low i → (IsTrue (not first) → ¬ HasByte text i close_bracket) → ItemAt text low i x j
-    → IsUnderway text start false (member_of x) j
-underway_next text start first low i x j so_far open_yet here = record {
-  forth = λ xs close e. so_far.forth (x ∷ xs) close (open_yet, j, here, e);
+or_assoc : (a b c : Bool) → (a || b) || c ≡ a || (b || c)
+or_assoc true b c = refl
+or_assoc false b c = refl
+
+pub underway_next : {text : List ℕ} {start : ℕ} {test : Item → Bool} {held first : Bool} {low : Option ℕ} {i : ℕ} (x : Item) (j : ℕ)
+    → IsUnderway text start test held first low i → (IsTrue (not first) → ¬ HasByte text i close_bracket) → ItemAt text low i x j
+    → IsUnderway text start test (held || test x) false (member_of x) j
+underway_next {text = text} {test = test} {held = held} {first = first} {low = low} {i = i} x j so_far open_yet here = record {
+  forth = λ xs close e.
+      let all = so_far.forth (x ∷ xs) close (open_yet, j, here, e) in
+      (all.0, all.1, or_assoc held (test x) (list_any test xs) ∙ all.2);
   back = λ ys close e.
       let now = so_far.back ys close e in
       let later = after_item text first low i x j open_yet here now.0 close now.1 in
@@ -64,63 +72,29 @@ underway_next text start first low i x j so_far open_yet here = record {
 abbrev make_set : Bool → List Item → Set
 make_set negated items = record { negated = negated; items = items }
 
--- the items make the set
-pub set_in : (text : List ℕ) (i start : ℕ) (xs : List Item) (close : ℕ) → HasByte text i open_bracket
-    → IsFirstItem text i start → ItemsAt text true None start xs close → (s : Set) × SetAt text i s (close + 1)
-set_in text i start xs close bracket (inl sign) e = (
-  make_set true xs,
-  record {
-    bracket = bracket;
-    sign = (λ t. sign.0, λ s. refl);
-    close = close;
-    items = subst (λ (n : ℕ). ItemsAt text true None n xs close) sign.1 e;
-    after = refl;
-  },
-)
-set_in text i start xs close bracket (inr bare) e = (
-  make_set false xs,
-  record {
-    bracket = bracket;
-    sign = (λ t. cc, λ s. absurd (bare.0 s));
-    close = close;
-    items = subst (λ (n : ℕ). ItemsAt text true None n xs close) bare.1 e;
-    after = refl;
-  },
-)
+or_false : (a : Bool) → a || false ≡ a
+or_false true = refl
+or_false false = refl
 
--- Whether an item holds a byte: of the items from the start on, none so far does.
-pub record IsYetUnheld (text : List ℕ) (start : ℕ) (test : Item → Bool) (first : Bool) (low : Option ℕ) (i : ℕ) : Type 0 where
-  pub rest : (xs : List Item) (close : ℕ) → ItemsAt text true None start xs close
-      → (ys : List Item) × ItemsAt text first low i ys close × (list_any test xs ≡ list_any test ys)
+-- Where the closing bracket stands, the items so far make the set.
+pub set_closed : {text : List ℕ} (mode : Mode) (b : ℕ) {held first : Bool} {low : Option ℕ} {i : ℕ} (place : ℕ) (negated : Bool)
+    → HasByte text place open_bracket → IsTrue negated ↔ IsSign text (place + 1)
+    → IsUnderway text (first_item negated place) (item_holds mode b) held first low i → ItemsAt text first low i [] i
+    → (s : Set) × SetAt text place s (i + 1)
+    × ((not (is_path mode && b == slash) && (if negated then not held else held)) ≡ set_holds mode s b)
+set_closed {text = text} mode b {held = held} {i = i} place negated bracket sign so_far close =
+    let all = so_far.forth [] i close in (
+      make_set negated all.0,
+      record { bracket = bracket; sign = sign; close = i; items = all.1; after = refl },
+      ap (λ (h : Bool). not (is_path mode && b == slash) && (if negated then not h else h)) (sym (or_false held) ∙ all.2),
+    )
 
-pub unheld_next : (text : List ℕ) (start : ℕ) (test : Item → Bool) (first : Bool) (low : Option ℕ) (i : ℕ) (x : Item) (j : ℕ)
-    → IsYetUnheld text start test first low i → (IsTrue (not first) → ¬ HasByte text i close_bracket) → ItemAt text low i x j
-    → test x ≡ false → IsYetUnheld text start test false (member_of x) j
-unheld_next text start test first low i x j so_far open_yet here misses = record {
-  rest = λ xs close e.
-      let now = so_far.rest xs close e in
-      let later = after_item text first low i x j open_yet here now.0 close now.1 in
-      let head : list_any test (x ∷ later.0) ≡ list_any test later.0 =
-      ap (λ (b : Bool). b || list_any test later.0) misses in
-      (later.0, later.2, now.2 ∙ (ap (λ (ys : List Item). list_any test ys) later.1 ∙ head));
-}
-
-pub held_now : (text : List ℕ) (start : ℕ) (test : Item → Bool) (first : Bool) (low : Option ℕ) (i : ℕ) (x : Item) (j : ℕ)
-    → IsYetUnheld text start test first low i → (IsTrue (not first) → ¬ HasByte text i close_bracket) → ItemAt text low i x j
-    → test x ≡ true → (xs : List Item) (close : ℕ) → ItemsAt text true None start xs close → list_any test xs ≡ true
-held_now text start test first low i x j so_far open_yet here holds xs close e =
-    let now = so_far.rest xs close e in
-    let later = after_item text first low i x j open_yet here now.0 close now.1 in
-    now.2 ∙ (ap (λ (ys : List Item). list_any test ys) later.1 ∙ ap (λ (b : Bool). b || list_any test later.0) holds)
-
--- Where no item stands, no item holds the byte.
-pub unheld_end : (text : List ℕ) (start : ℕ) (test : Item → Bool) (first : Bool) (low : Option ℕ) (i : ℕ) (met : Entry)
-    → IsYetUnheld text start test first low i → IsEntry text first low i met → ((x : Item) (j : ℕ) → met ≡ entry.Item x j → ⊥)
-    → (xs : List Item) (close : ℕ) → ItemsAt text true None start xs close → list_any test xs ≡ false
-unheld_end text start test first low i (entry.Item x j) so_far is other xs close e = absurd (other x j refl)
-unheld_end text start test first low i entry.Close so_far is other xs close e =
-    let now = so_far.rest xs close e in
-    let same = ItemsAt-unique text first low i now.0 [] close i now.1 is.0 in
-    now.2 ∙ ap (λ (ys : List Item). list_any test ys) same.0
-unheld_end text start test first low i entry.Broken so_far is other xs close e =
-    let now = so_far.rest xs close e in absurd (is now.0 close now.1)
+-- Where neither an item nor the closing bracket stands, no set does.
+pub set_broken : {text : List ℕ} {test : Item → Bool} {held first : Bool} {low : Option ℕ} {i : ℕ} (place : ℕ) (negated : Bool)
+    → IsTrue negated ↔ IsSign text (place + 1) → IsUnderway text (first_item negated place) test held first low i
+    → ((xs : List Item) (j : ℕ) → ¬ ItemsAt text first low i xs j) → (s : Set) (end : ℕ) → ¬ SetAt text place s end
+set_broken {text = text} place negated sign so_far none s end e =
+    let same = negated-unique s.negated negated (IsSign text (place + 1)) e.sign sign in
+    let items = subst (λ (n : Bool). ItemsAt text true None (first_item n place) s.items e.close) same e.items in
+    let now = so_far.back s.items e.close items in
+    none now.0 e.close now.1

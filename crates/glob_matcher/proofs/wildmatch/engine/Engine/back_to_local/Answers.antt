@@ -75,12 +75,13 @@ returns-in-Found g c =
           so.met (record { forgotten = c.local_past.ensures.forgotten; kept = c.local_past.ensures.kept }));
       allows = λ n a.
           let before = a.before + 1 + 1 + 2 * (c.in-Found.found.at - c.in-Some-pass_within_or_end.moved.at) in
-          let one : c.scan_from_within.new.self.steps ≡ before + 1 = omega (arith, so.count, so.low, c.pass_within_or_end.ensures.count.steps, a.one) in
+          let scanned : c.scan_from_within.new.self.steps ≡ before + 1 = omega (arith, so.count, so.low, c.pass_within_or_end.ensures.count.steps, a.one) in
+          let one : c.local_past.new.self.steps ≡ before + 1 = omega (arith, scanned, c.local_past.ensures.count.steps) in
           budget.known_places (ap (λ (x : ℕ). x + 1) c.place-in-Found.ensures) (ap (λ (x : ℕ). x + 1) c.at-in-Found.ensures) (counted_on one
           (local_found_steps reached (local_scanned_steps before here moved.2 moved.3
-          moved.0 moved.1 so c.in-Found.ensures.bare (c.pass_within_or_end.ensures.count.steps ∙ ap (λ (x : ℕ). x + 1) a.one) one
+          moved.0 moved.1 so c.in-Found.ensures.bare (c.pass_within_or_end.ensures.count.steps ∙ ap (λ (x : ℕ). x + 1) a.one) scanned
           (budget.known_local c.in-Some.is a.allows))
           so.met (record { forgotten = c.local_past.ensures.forgotten; kept = c.local_past.ensures.kept })));
-      progress = omega (arith, so.count, so.low, c.pass_within_or_end.ensures.count.steps);
-      counts = omega (arith, so.count, so.low, c.pass_within_or_end.ensures.count.steps);
+      progress = omega (arith, c.local_past.ensures.count.steps, so.count, so.low, c.pass_within_or_end.ensures.count.steps);
+      counts = omega (arith, c.local_past.ensures.count.steps, so.count, so.low, c.pass_within_or_end.ensures.count.steps);
     }

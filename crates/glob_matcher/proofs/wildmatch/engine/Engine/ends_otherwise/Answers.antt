@@ -8,7 +8,7 @@ pub returns-then-is_alone-clause-meaning : goal.returns-then-is_alone-clause-mea
 returns-then-is_alone-clause-meaning g c = λ no all.
     let m = g.M.Match in
     let same : c.pattern_byte-last.result ≡ last m.pattern =
-    c.pattern_byte-last.ensures ∙ ap (λ (n : ℕ). get_or m.pattern (n - 1) 0) c.pattern_len-len.ensures in
+    c.pattern_byte-last.ensures.here ∙ ap (λ (n : ℕ). get_or m.pattern (n - 1) 0) c.pattern_len-len.ensures in
     let alone : IsAlone (last m.pattern) = subst IsAlone same (c.if-is_alone.ensures.0 refl) in
     let ends : EndsInLast m.mode m.pattern m.value =
     ends_in_last m.mode m.pattern m.value (omega (arith, c.if-len-eq0.false, c.pattern_len-len.ensures)) alone all in

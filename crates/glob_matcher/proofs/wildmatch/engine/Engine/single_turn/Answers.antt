@@ -14,7 +14,7 @@ returns-then-not-takes g c =
         stands = c.requires.stands;
         missed =
             misses_byte m.value c.args.state.at x c.requires.single c.requires.stands.inside
-            (λ fits. let wrong : false ≡ true = (c.if-not-takes.ensures.answer x.token c.args.after x.here x.shown).1 fits in cc);
+            (λ fits. let wrong : false ≡ true = (c.if-not-takes.ensures.answer x.token x.shown).1 fits in cc);
       };
       allows = λ n a. record { before = c.args.self.now.steps; one = c.takes.ensures.count.steps; allows = a };
       counts = omega (arith, c.takes.ensures.count.steps);
@@ -23,7 +23,7 @@ returns-then-not-takes g c =
 pub returns-then-is_slash : goal.returns-then-is_slash
 returns-then-is_slash g c =
     let x = c.requires.token in
-    let fits = (c.if-not-takes.ensures.answer x.token c.args.after x.here x.shown).0 refl in
+    let fits = (c.if-not-takes.ensures.answer x.token x.shown).0 refl in
     record {
       meaning =
           stands_past_slash c.requires.stands x c.requires.single fits.0 fits.1
@@ -36,7 +36,7 @@ pub returns : goal.returns
 returns g c =
     let m = g.M.Match in
     let x = c.requires.token in
-    let fits = (c.if-not-takes.ensures.answer x.token c.args.after x.here x.shown).0 refl in
+    let fits = (c.if-not-takes.ensures.answer x.token x.shown).0 refl in
     record {
       meaning =
           stands_on c.requires.stands x c.requires.single fits.0 fits.1

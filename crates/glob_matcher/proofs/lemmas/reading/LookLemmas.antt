@@ -1,0 +1,108 @@
+-- What the reader of a set keeps of its looks: what is known of a closing bracket stays known further on, and how far it was looked for.
+use Rattle.std.proofs.lemmas.Bool.{cases_lt}
+use Rattle.std.proofs.Common.{◌≡◌, ℕ, Bool, false, ◌||◌, ◌+◌, ◌*◌, ◌<◌, ◌≤◌, List, length, Option, Some, None, IfSome, inl, inr, refl, sym, subst, arith}
+use Rattle.glob_matcher.specs.declared.wildmatch.sets.Item.{Item}
+use Rattle.glob_matcher.specs.declared.wildmatch.sets.Spelled.{Spelled}
+use Rattle.glob_matcher.specs.declared.wildmatch.sets.Cursor.{Cursor}
+use Rattle.glob_matcher.specs.declared.wildmatch.sets.Entry.TheVariants as entry
+use Rattle.glob_matcher.specs.Steps.{Counts}
+use Rattle.glob_matcher.specs.Bytes.{HasByte, close_bracket}
+use Rattle.glob_matcher.specs.Private.Looks.{IsKnown, IsPaid, LookedOver, searched}
+use Rattle.glob_matcher.specs.Private.Reader.{IsEntry, after_item, at_first}
+use Rattle.glob_matcher.specs.Private.Took.{Took}
+use Rattle.glob_matcher.proofs.lemmas.reading.Walks.{IsUnderway, underway_first, underway_next}
+
+pub known_on : (text : List ℕ) (i j : ℕ) (known : Option ℕ) → i ≤ j → IsKnown text i known → IsKnown text j known
+known_on text i j None low is = tt
+known_on text i j (Some k) low is = λ ahead.
+    let first = is (omega arith) in
+    record { low = ahead; here = first.here; before = λ m far here. first.before m (omega arith) here }
+
+pub searched_on : (known : Option ℕ) (i j : ℕ) → i ≤ j → searched known i ≤ searched known j
+searched_on None i j low = low
+searched_on (Some k) i j low = omega arith
+
+-- it was looked for from this place on
+pub searched_low : (known : Option ℕ) (i : ℕ) → i ≤ searched known i
+searched_low None i = omega arith
+searched_low (Some k) i = omega arith
+
+-- what is known lies inside the text
+pub searched_inside : (text : List ℕ) (i : ℕ) (known : Option ℕ) → IsKnown text i known → i ≤ length text
+    → searched known i ≤ length text
+searched_inside text i None is low = low
+searched_inside text i (Some k) is low =
+    elim (cases_lt k i) [ inl passed ↦ omega arith | inr ahead ↦ omega (arith, (is ahead).here.inside) ]
+
+-- where a closing bracket stands, none further ahead is known
+pub searched_here : (text : List ℕ) (i : ℕ) (known : Option ℕ) → IsKnown text i known → HasByte text i close_bracket
+    → searched known i ≤ i
+searched_here text i None is here = omega arith
+searched_here text i (Some k) is here =
+    elim (cases_lt k i) [ inl passed ↦ omega arith | inr ahead ↦ omega (arith, (is ahead).before i (omega arith) here) ]
+
+-- it is no further than a closing bracket that is known and ahead
+pub searched_known : (known : Option ℕ) (k i : ℕ) → known ≡ Some k → i ≤ k → searched known i ≤ k
+searched_known known k i is ahead = subst (λ (x : Option ℕ). searched x i ≤ k) (sym is) (omega arith)
+
+-- where none is known, it begins here
+pub searched_unknown : (known : Option ℕ) (i : ℕ) → ((k : ℕ) → known ≡ Some k → ⊥) → searched known i ≤ i
+searched_unknown None i none = omega arith
+searched_unknown (Some k) i none = absurd (none k refl)
+
+-- a known one that is too near is passed
+pub searched_passed : (known : Option ℕ) (k i : ℕ) → known ≡ Some k → k < i + 2 → searched known i ≤ i + 1
+searched_passed known k i is near = subst (λ (x : Option ℕ). searched x i ≤ i + 1) (sym is) (omega arith)
+
+-- the looks of a new search, behind the two bytes of a `[:`
+pub searched_anew : (result known : Option ℕ) (before after : Counts) (i : ℕ) → searched known i ≤ i + 1
+    → IfSome result (λ k. LookedOver 1 before after (i + 2) (k + 1))
+    → IfSome result (λ k. after.looks + searched known i ≤ before.looks + k)
+searched_anew None known before after i near over = tt
+searched_anew (Some k) known before after i near over = omega (arith, near, over.looks)
+
+-- what is known of the closing bracket is as before
+pub paid_same : {before after : Counts} {i : ℕ} {s : Spelled} (spare : ℕ) → after.steps ≡ before.steps → i ≤ s.next
+    → after.looks + spare + 3 * i ≤ before.looks + 3 * s.next → IsPaid spare before after i s.close s
+paid_same {i = i} {s = s} spare steps low looks =
+    record { steps = steps; looks = let more = searched_on s.close i s.next low in omega (arith, looks, more) }
+
+-- The reader of a set stands at this cursor: the items so far, and those from here on, are the set's; what is known of the closing
+-- bracket; and what pays the looks.
+pub record IsReading (text : List ℕ) (place start : ℕ) (test : Item → Bool) (held : Bool) (cursor : Cursor) (before now : Counts) : Type 0 where
+  pub underway : IsUnderway text start test held cursor.is_first cursor.low cursor.place
+  pub past : place < cursor.place
+  pub inside : cursor.place ≤ length text
+  pub known : IsKnown text cursor.place cursor.close
+  pub steps : now.steps ≡ before.steps
+  pub looks : now.looks + 4 * place + 3 ≤ before.looks + 3 * cursor.place + searched cursor.close cursor.place
+
+module _ {text : List ℕ} {place start : ℕ} {test : Item → Bool} {before now : Counts} where
+  pub reading_first : {cursor : Cursor} → cursor ≡ at_first start → place < cursor.place → cursor.place ≤ length text
+      → Took before now 0 1 → IsReading text place start test false cursor before now
+  reading_first {cursor = cursor} is past inside took =
+      subst (λ (x : Cursor). IsReading text place start test false x before now) (sym is) (record {
+        underway = underway_first text start test;
+        past = subst (λ (x : Cursor). place < x.place) is past;
+        inside = subst (λ (x : Cursor). x.place ≤ length text) is inside;
+        known = tt;
+        steps = omega (arith, took.steps);
+        looks =
+            let low : place < start = subst (λ (x : Cursor). place < x.place) is past in
+            omega (arith, took.looks, low);
+      })
+
+  pub reading_next : {held next_held : Bool} {cursor next : Cursor} {after : Counts} (s : Spelled)
+      → next_held ≡ held || test s.item → next ≡ after_item s
+      → IsReading text place start test held cursor before now → IsEntry text cursor.is_first cursor.low cursor.place (entry.Item s)
+      → IsPaid 0 now after cursor.place cursor.close s → IsReading text place start test next_held next before after
+  reading_next {held = held} {next_held = next_held} {after = after} s holds is so_far here paid =
+      subst (λ (x : Cursor). IsReading text place start test next_held x before after) (sym is)
+      (subst (λ (h : Bool). IsReading text place start test h (after_item s) before after) (sym holds) (record {
+        underway = underway_next s.item s.next so_far.underway here.0 here.1.item;
+        past = omega (arith, so_far.past, here.1.past);
+        inside = here.1.inside;
+        known = here.1.known;
+        steps = omega (arith, so_far.steps, paid.steps);
+        looks = omega (arith, so_far.looks, paid.looks);
+      }))

@@ -1,0 +1,16 @@
+-- The run so far is of stars, and each but the first was looked at once.
+use Rattle.std.proofs.Common.{◌≡◌, ◌+◌, ◌-◌, ◌<◌, ◌≤◌, ℕ, length}
+use Rattle.glob_matcher.specs.Bytes.{HasByte, star}
+use Rattle.glob_matcher.proofs.wildmatch.engine.Engine.run_end.Given as goal
+
+abbrev pub invariant-stars : goal.invariant-stars
+invariant-stars g l = record {
+  stars : (k : ℕ) → l.place ≤ k → k < l.end → HasByte g.M.Match.pattern k star;
+  past : l.place < l.end;
+  inside : l.end ≤ length g.M.Match.pattern;
+  steps : l.self.steps ≡ l.fn.self.steps;
+  looks : l.self.looks + l.place + 1 ≤ l.fn.self.looks + l.end;
+}
+
+abbrev pub decreases-stars : goal.decreases-stars
+decreases-stars g l = length g.M.Match.pattern - l.end

@@ -1,0 +1,54 @@
+-- What the readers of the pattern say of their looks to one another: a set is read in one pass, with at most four looks for
+-- each byte of its spelling. Nothing public cites it.
+use Rattle.std.specs.Prelude.{◌≡◌, ℕ, ◌+◌, ◌*◌, ◌<◌, ◌≤◌, List, Option, None, Some, max, length}
+use Rattle.glob_matcher.specs.declared.wildmatch.sets.Spelled.{Spelled}
+use Rattle.glob_matcher.specs.declared.wildmatch.sets.Entry.{Entry}
+use Rattle.glob_matcher.specs.declared.wildmatch.sets.Entry.TheVariants as entry
+use Rattle.glob_matcher.specs.Bytes.{close_bracket}
+use Rattle.glob_matcher.specs.Sets.{IsFirstFrom, ItemAt}
+use Rattle.glob_matcher.specs.Steps.{Counts}
+use Rattle.glob_matcher.specs.Private.Took.{Took}
+
+-- no step, and at most n looks for each byte from place i up to place j
+pub record LookedOver (n : ℕ) (before after : Counts) (i j : ℕ) : Type 0 where
+  pub steps : after.steps ≡ before.steps
+  pub looks : after.looks + n * i ≤ before.looks + n * j
+
+-- A set from place i up to place j is tested in s steps, with one look at the value and at most four for each byte of its spelling.
+pub record IsSetPaid (s : ℕ) (before after : Counts) (i j : ℕ) : Type 0 where
+  pub steps : after.steps ≡ before.steps + s
+  pub looks : after.looks + 4 * i ≤ before.looks + 4 * j + 1
+
+-- what is known of a closing bracket: where it isn't passed yet, it is the first from place i on
+abbrev pub IsKnown : List ℕ → ℕ → Option ℕ → Type 0
+IsKnown text i None = Unit {0}
+IsKnown text i (Some k) = i ≤ k → IsFirstFrom text i close_bracket k
+
+-- how far the closing bracket was looked for, from place i on
+abbrev pub searched : Option ℕ → ℕ → ℕ
+searched None i = i
+searched (Some k) i = max k i
+
+-- An item is spelled from place i on, after the member `low` or none, and what is known of the closing bracket behind it.
+pub record IsSpelled (text : List ℕ) (low : Option ℕ) (i : ℕ) (s : Spelled) : Type 0 where
+  pub item : ItemAt text low i s.item s.next
+  pub past : i < s.next
+  pub inside : s.next ≤ length text
+  pub known : IsKnown text s.next s.close
+
+-- The looks are paid by the way over an item, three a byte, and by how far ahead the closing bracket is known; as many as
+-- `spare` are left over.
+pub record IsPaid (spare : ℕ) (before after : Counts) (i : ℕ) (known : Option ℕ) (s : Spelled) : Type 0 where
+  pub steps : after.steps ≡ before.steps
+  pub looks : after.looks + spare + 3 * i + searched known i ≤ before.looks + 3 * s.next + searched s.close s.next
+
+-- Where no item is spelled, they are paid by the way to the text's end, two a byte.
+pub record IsPaidToEnd (spare : ℕ) (before after : Counts) (text : List ℕ) (i : ℕ) : Type 0 where
+  pub steps : after.steps ≡ before.steps
+  pub looks : after.looks + spare + 2 * i ≤ before.looks + 2 * length text
+
+-- the looks at what stands at place i
+abbrev pub IsPaidFor : Counts → Counts → List ℕ → ℕ → Option ℕ → Entry → Type 0
+IsPaidFor before after text i known (entry.Item s) = IsPaid 0 before after i known s
+IsPaidFor before after text i known entry.Close = Took before after 0 1
+IsPaidFor before after text i known entry.Broken = IsPaidToEnd 0 before after text i
