@@ -1,9 +1,9 @@
 //! One match as the engine with two marks sees it: its pattern, its value, its mode and the counts of what it takes, as one
 //! value.
 //!
-//! The bytes of the value are read by the methods of this module alone, and each that reads one counts one step and one look.
-//! So no other module can read the value without a step, or count in another place. `holds` looks at the length alone, and
-//! counts none.
+//! The bytes of both texts are read by the methods of this module alone, and each byte that is read counts as one look, or,
+//! where it is one of the value, as one step and one look. So no other module can read a byte without a look, read the value
+//! without a step, or count in another place. No method hands out a slice. `holds` looks at the length alone, and counts none.
 ghost use Rattle.std.specs.Prelude.{◌≡◌, ◌≢◌, ◌↔◌, ◌⊎◌, ℕ, ◌+◌, ◌-◌, ◌^◌, ◌<◌, ◌≤◌, IsTrue, IfSome, IfNone, length, slice_index, slice_range, take};
 ghost use Rattle.glob_matcher.specs.declared.wildmatch.sets.Class.{Class};
 ghost use Rattle.glob_matcher.specs.Bytes.{HasByte, folds, is_path, open_bracket, slash};
@@ -144,6 +144,7 @@ impl<'c, 'a, S: Ledger, L: Ledger, M: Match> Engine<'c, 'a, S, L, M> {
         ensures here { IfSome result (λ byte. HasByte M.pattern place byte) }
         ensures end { IfNone result (length M.pattern ≤ place) }
         ensures count { Took self.old self.new 0 1 }
+        ensures look { IfSome result (λ _. self.new.looks ≡ self.old.looks + 1) }
         ensures free { IfNone result (Took self.old self.new 0 0) }
     {
         if place >= self.pattern.len() {
@@ -159,6 +160,7 @@ impl<'c, 'a, S: Ledger, L: Ledger, M: Match> Engine<'c, 'a, S, L, M> {
         requires { place < length M.pattern }
         ensures here { result ≡ slice_index M.pattern place }
         ensures count { Took self.old self.new 0 1 }
+        ensures look { self.new.looks ≡ self.old.looks + 1 }
     {
         self.counts.look();
         self.pattern[place]
@@ -171,6 +173,7 @@ impl<'c, 'a, S: Ledger, L: Ledger, M: Match> Engine<'c, 'a, S, L, M> {
         ensures found { IfSome result (λ class. slice_range M.pattern from to ≡ name_of class) }
         ensures none { IfNone result ((class : Class) → ¬ (slice_range M.pattern from to ≡ name_of class)) }
         ensures count { LookedOver 1 self.old self.new from to }
+        ensures looks { self.new.looks + from ≡ self.old.looks + to }
     {
         self.counts.looks(to - from);
         Class::named(&self.pattern[from..to])
@@ -191,6 +194,7 @@ impl<'c, 'a, S: Ledger, L: Ledger, M: Match> Engine<'c, 'a, S, L, M> {
     pub fn has(&mut self, at: usize, wanted: u8) -> bool
         ensures answer { IsTrue result ↔ ((at < length M.value) × Fits M.mode (Byte wanted) (slice_index M.value at)) }
         ensures count { Took self.old self.new 1 1 }
+        ensures look { self.new.looks ≡ self.old.looks + 1 }
     {
         self.counts.step_with_look();
         at < self.value.len() && self.mode.fold(self.value[at]) == self.mode.fold(wanted)
@@ -201,6 +205,7 @@ impl<'c, 'a, S: Ledger, L: Ledger, M: Match> Engine<'c, 'a, S, L, M> {
     pub fn ends_in(&mut self, wanted: u8) -> bool
         ensures answer { IsTrue result ↔ ((0 < length M.value) × Fits M.mode (Byte wanted) (slice_index M.value (length M.value - 1))) }
         ensures count { Took self.old self.new 1 1 }
+        ensures look { self.new.looks ≡ self.old.looks + 1 }
     {
         self.counts.step_with_look();
         let len = self.value.len();
@@ -214,9 +219,25 @@ impl<'c, 'a, S: Ledger, L: Ledger, M: Match> Engine<'c, 'a, S, L, M> {
         ensures answer { (token : Token) → shape ≡ shape_of token
             → IsTrue result ↔ ((at < length M.value) × Fits M.mode token (slice_index M.value at)) }
         ensures count { Took self.old self.new 1 1 }
+        ensures look { self.new.looks ≡ self.old.looks + 1 }
     {
         self.counts.step_with_look();
         at < self.value.len() && shape.fits(self.value[at], self.mode)
+    }
+
+    /// Looks at the byte at a place of the value, which the caller counts as a step; `None` where the value ends.
+    #[inline(always)]
+    fn value_at(&mut self, at: usize) -> Option<u8>
+        ensures here { IfSome result (λ byte. HasByte M.value at byte) }
+        ensures end { IfNone result (length M.value ≤ at) }
+        ensures count { Took self.old self.new 0 1 }
+        ensures look { IfSome result (λ _. self.new.looks ≡ self.old.looks + 1) }
+    {
+        if at >= self.value.len() {
+            return None;
+        }
+        self.counts.look();
+        Some(self.value[at])
     }
 
     /// Tests the set whose bracket stands at a place of the pattern: the place after it, and whether it takes the byte of the
@@ -229,8 +250,7 @@ impl<'c, 'a, S: Ledger, L: Ledger, M: Match> Engine<'c, 'a, S, L, M> {
         ensures count { IfSome result (λ found. IsSetPaid 1 self.old self.new place found.0) }
         ensures broken { IfNone result (IsSetPaid 0 self.old self.new place (length M.pattern)) }
     {
-        self.counts.look();
-        let byte = self.value.get(at).copied();
+        let byte = self.value_at(at);
         let Some((end, holds)) = self.set_at(place, byte.unwrap_or(0)) else {
             return None;
         };
@@ -255,6 +275,7 @@ impl<'c, 'a, S: Ledger, L: Ledger, M: Match> Engine<'c, 'a, S, L, M> {
         ensures moved { IfSome result (λ x. (x.0.place ≡ mark.place) × (x.0.at ≡ mark.at + 1) × (mark.at < length M.value) × (slice_index M.value mark.at ≡ x.1)) }
         ensures unable { IfNone result (length M.value ≤ mark.at) }
         ensures count { Took self.old self.new 1 1 }
+        ensures look { self.new.looks ≡ self.old.looks + 1 }
     {
         self.counts.step_with_look();
         if mark.at >= self.value.len() {
@@ -274,6 +295,7 @@ impl<'c, 'a, S: Ledger, L: Ledger, M: Match> Engine<'c, 'a, S, L, M> {
         ensures moved { IfSome result (λ x. (x.place ≡ mark.place) × (x.at ≡ mark.at + 1) × (mark.at < length M.value) × (slice_index M.value mark.at ≢ slash)) }
         ensures unable { IfNone result (slice_index M.value mark.at ≡ slash) }
         ensures count { Took self.old self.new 1 1 }
+        ensures look { self.new.looks ≡ self.old.looks + 1 }
     {
         self.counts.step_with_look();
         if self.value[mark.at] == b'/' {
@@ -314,6 +336,7 @@ impl<'c, 'a, S: Ledger, L: Ledger, M: Match> Engine<'c, 'a, S, L, M> {
         requires { mark.at < length M.value }
         ensures answer { IsTrue result ↔ N.suits needle (slice_index M.value mark.at) }
         ensures count { Took self.old self.new 1 1 }
+        ensures look { self.new.looks ≡ self.old.looks + 1 }
     {
         self.counts.step_with_look();
         needle.takes(self.value[mark.at])
