@@ -1,15 +1,15 @@
 //! One match as the engine with two marks sees it: its pattern, its value, its mode and the counts of what it takes, as one
 //! value.
 //!
-//! The bytes of the value are read by the methods of this module alone, and each that reads one counts one step and one look.
-//! So no other module can read the value without a step, or count in another place. `holds` looks at the length alone, and
-//! counts none.
-ghost use Rattle.std.specs.Prelude.{◌≡◌, ◌≢◌, ◌↔◌, ◌⊎◌, ℕ, ◌+◌, ◌-◌, ◌^◌, ◌<◌, ◌≤◌, IsTrue, IfSome, IfNone, [], length, slice_index, slice_range, take};
+//! The bytes of both texts are read by the methods of this module alone, and each byte that is read counts as one look, or,
+//! where it is one of the value, as one step and one look. So no other module can read a byte without a look, read the value
+//! without a step, or count in another place. No method hands out a slice. `holds` looks at the length alone, and counts none.
+ghost use Rattle.std.specs.Prelude.{◌≡◌, ◌≢◌, ◌↔◌, ◌⊎◌, ℕ, ◌+◌, ◌-◌, ◌^◌, ◌<◌, ◌≤◌, IsTrue, IfSome, IfNone, length, slice_index, slice_range, take};
 ghost use Rattle.glob_matcher.specs.declared.wildmatch.sets.Class.{Class};
-ghost use Rattle.glob_matcher.specs.Bytes.{HasByte, open_bracket, slash};
-ghost use Rattle.glob_matcher.specs.Sets.{Set, SetAt, name_of};
+ghost use Rattle.glob_matcher.specs.Bytes.{HasByte, folds, is_path, open_bracket, slash};
+ghost use Rattle.glob_matcher.specs.Sets.{Set, SetAt, name_of, set_holds};
 ghost use Rattle.glob_matcher.specs.Tokens.{Token, Byte};
-ghost use Rattle.glob_matcher.specs.Private.Reader.{shape_of, Fits, IsSetTested};
+ghost use Rattle.glob_matcher.specs.Private.Reader.{shape_of, Fits, IsSetTested, IsToken};
 ghost use Rattle.glob_matcher.specs.Private.States.{Whole};
 ghost use Rattle.glob_matcher.specs.Private.Looks.{LookedOver, IsSetPaid};
 ghost use Rattle.glob_matcher.specs.Private.Took.{Took};
@@ -122,14 +122,30 @@ impl<'c, 'a, S: Ledger, L: Ledger, M: Match> Engine<'c, 'a, S, L, M> {
         self.mode
     }
 
+    /// Whether a wildcard matches no slash.
+    #[inline(always)]
+    pub fn is_path(&self) -> bool
+        ensures { result ≡ is_path M.mode }
+    {
+        self.mode.is_path()
+    }
+
+    /// Whether the case of letters does not count.
+    #[inline(always)]
+    pub fn folds(&self) -> bool
+        ensures { result ≡ folds M.mode }
+    {
+        self.mode.folds()
+    }
+
     /// Looks at the byte at a place of the pattern; `None` past its end, where there is nothing to look at.
     #[inline(always)]
     pub fn look_at(&mut self, place: usize) -> Option<u8>
         ensures here { IfSome result (λ byte. HasByte M.pattern place byte) }
         ensures end { IfNone result (length M.pattern ≤ place) }
         ensures count { Took self.old self.new 0 1 }
+        ensures look { IfSome result (λ _. self.new.looks ≡ self.old.looks + 1) }
         ensures free { IfNone result (Took self.old self.new 0 0) }
-        ensures looked { IfSome result (λ byte. self.new.looks ≡ self.old.looks + 1) }
     {
         if place >= self.pattern.len() {
             return None;
@@ -144,7 +160,7 @@ impl<'c, 'a, S: Ledger, L: Ledger, M: Match> Engine<'c, 'a, S, L, M> {
         requires { place < length M.pattern }
         ensures here { result ≡ slice_index M.pattern place }
         ensures count { Took self.old self.new 0 1 }
-        ensures looked { self.new.looks ≡ self.old.looks + 1 }
+        ensures look { self.new.looks ≡ self.old.looks + 1 }
     {
         self.counts.look();
         self.pattern[place]
@@ -157,7 +173,7 @@ impl<'c, 'a, S: Ledger, L: Ledger, M: Match> Engine<'c, 'a, S, L, M> {
         ensures found { IfSome result (λ class. slice_range M.pattern from to ≡ name_of class) }
         ensures none { IfNone result ((class : Class) → ¬ (slice_range M.pattern from to ≡ name_of class)) }
         ensures count { LookedOver 1 self.old self.new from to }
-        ensures looked { self.new.looks + from ≡ self.old.looks + to }
+        ensures looks { self.new.looks + from ≡ self.old.looks + to }
     {
         self.counts.looks(to - from);
         Class::named(&self.pattern[from..to])
@@ -178,7 +194,7 @@ impl<'c, 'a, S: Ledger, L: Ledger, M: Match> Engine<'c, 'a, S, L, M> {
     pub fn has(&mut self, at: usize, wanted: u8) -> bool
         ensures answer { IsTrue result ↔ ((at < length M.value) × Fits M.mode (Byte wanted) (slice_index M.value at)) }
         ensures count { Took self.old self.new 1 1 }
-        ensures looked { self.new.looks ≡ self.old.looks + 1 }
+        ensures look { self.new.looks ≡ self.old.looks + 1 }
     {
         self.counts.step_with_look();
         at < self.value.len() && self.mode.fold(self.value[at]) == self.mode.fold(wanted)
@@ -189,7 +205,7 @@ impl<'c, 'a, S: Ledger, L: Ledger, M: Match> Engine<'c, 'a, S, L, M> {
     pub fn ends_in(&mut self, wanted: u8) -> bool
         ensures answer { IsTrue result ↔ ((0 < length M.value) × Fits M.mode (Byte wanted) (slice_index M.value (length M.value - 1))) }
         ensures count { Took self.old self.new 1 1 }
-        ensures looked { self.new.looks ≡ self.old.looks + 1 }
+        ensures look { self.new.looks ≡ self.old.looks + 1 }
     {
         self.counts.step_with_look();
         let len = self.value.len();
@@ -203,22 +219,25 @@ impl<'c, 'a, S: Ledger, L: Ledger, M: Match> Engine<'c, 'a, S, L, M> {
         ensures answer { (token : Token) → shape ≡ shape_of token
             → IsTrue result ↔ ((at < length M.value) × Fits M.mode token (slice_index M.value at)) }
         ensures count { Took self.old self.new 1 1 }
-        ensures looked { self.new.looks ≡ self.old.looks + 1 }
+        ensures look { self.new.looks ≡ self.old.looks + 1 }
     {
         self.counts.step_with_look();
         at < self.value.len() && shape.fits(self.value[at], self.mode)
     }
 
-    /// Looks at the byte at a place of the value, for a step that is counted once the set is read; `None` past its end.
+    /// Looks at the byte at a place of the value, which the caller counts as a step; `None` where the value ends.
     #[inline(always)]
-    fn value_byte(&mut self, at: usize) -> Option<u8>
+    fn value_at(&mut self, at: usize) -> Option<u8>
         ensures here { IfSome result (λ byte. HasByte M.value at byte) }
         ensures end { IfNone result (length M.value ≤ at) }
         ensures count { Took self.old self.new 0 1 }
-        ensures looked { self.new.looks ≡ self.old.looks + 1 }
+        ensures look { IfSome result (λ _. self.new.looks ≡ self.old.looks + 1) }
     {
+        if at >= self.value.len() {
+            return None;
+        }
         self.counts.look();
-        self.value.get(at).copied()
+        Some(self.value[at])
     }
 
     /// Tests the set whose bracket stands at a place of the pattern: the place after it, and whether it takes the byte of the
@@ -231,7 +250,7 @@ impl<'c, 'a, S: Ledger, L: Ledger, M: Match> Engine<'c, 'a, S, L, M> {
         ensures count { IfSome result (λ found. IsSetPaid 1 self.old self.new place found.0) }
         ensures broken { IfNone result (IsSetPaid 0 self.old self.new place (length M.pattern)) }
     {
-        let byte = self.value_byte(at);
+        let byte = self.value_at(at);
         let Some((end, holds)) = self.set_at(place, byte.unwrap_or(0)) else {
             return None;
         };
@@ -256,7 +275,7 @@ impl<'c, 'a, S: Ledger, L: Ledger, M: Match> Engine<'c, 'a, S, L, M> {
         ensures moved { IfSome result (λ x. (x.0.place ≡ mark.place) × (x.0.at ≡ mark.at + 1) × (mark.at < length M.value) × (slice_index M.value mark.at ≡ x.1)) }
         ensures unable { IfNone result (length M.value ≤ mark.at) }
         ensures count { Took self.old self.new 1 1 }
-        ensures looked { self.new.looks ≡ self.old.looks + 1 }
+        ensures look { self.new.looks ≡ self.old.looks + 1 }
     {
         self.counts.step_with_look();
         if mark.at >= self.value.len() {
@@ -276,7 +295,7 @@ impl<'c, 'a, S: Ledger, L: Ledger, M: Match> Engine<'c, 'a, S, L, M> {
         ensures moved { IfSome result (λ x. (x.place ≡ mark.place) × (x.at ≡ mark.at + 1) × (mark.at < length M.value) × (slice_index M.value mark.at ≢ slash)) }
         ensures unable { IfNone result (slice_index M.value mark.at ≡ slash) }
         ensures count { Took self.old self.new 1 1 }
-        ensures looked { self.new.looks ≡ self.old.looks + 1 }
+        ensures look { self.new.looks ≡ self.old.looks + 1 }
     {
         self.counts.step_with_look();
         if self.value[mark.at] == b'/' {
@@ -294,7 +313,7 @@ impl<'c, 'a, S: Ledger, L: Ledger, M: Match> Engine<'c, 'a, S, L, M> {
         ensures moved { IfSome result (λ x. (x.place ≡ mark.place) × (x.at ≡ mark.at + 1) × (mark.at < length M.value) × (slice_index M.value mark.at ≢ slash)) }
         ensures unable { IfNone result ((length M.value ≤ mark.at) ⊎ (slice_index M.value mark.at ≡ slash)) }
         ensures count { Took self.old self.new 1 1 }
-        ensures looked { self.new.looks ≡ self.old.looks + 1 }
+        ensures look { self.new.looks ≡ self.old.looks + 1 }
     {
         if mark.at >= self.value.len() {
             self.counts.step_with_look();
@@ -318,7 +337,7 @@ impl<'c, 'a, S: Ledger, L: Ledger, M: Match> Engine<'c, 'a, S, L, M> {
         requires { mark.at < length M.value }
         ensures answer { IsTrue result ↔ N.suits needle (slice_index M.value mark.at) }
         ensures count { Took self.old self.new 1 1 }
-        ensures looked { self.new.looks ≡ self.old.looks + 1 }
+        ensures look { self.new.looks ≡ self.old.looks + 1 }
     {
         self.counts.step_with_look();
         needle.takes(self.value[mark.at])
@@ -354,23 +373,61 @@ pub fn run<'c, 'a, S: Ledger, L: Ledger, M: Match>(
     (answer, counts)
 }
 
-impl<'c, 'a, S: Ledger, L: Ledger, M: Match> Engine<'c, 'a, S, L, M> {
-    /// An engine over a pattern and the empty value, for those that read the pattern alone.
-    #[inline(always)]
-    pub fn over(pattern: &'a [u8], mode: Mode, counts: &'c mut Counts<S, L>) -> Self
-        requires pattern { pattern.now ≡ M.pattern }
-        requires value { M.value ≡ [] }
-        requires mode { mode ≡ M.mode }
-        requires counts { counts.ghost_name ≡ M.counts }
-    {
-        Engine {
-            pattern,
-            value: b"",
-            mode,
-            counts,
-            of: PhantomData,
-        }
-    }
+/// The token at a place of the pattern, and the place after it, by an engine that reads no value; and the counts.
+#[inline(always)]
+pub fn read_token<'c, 'a, S: Ledger, L: Ledger, M: Match>(
+    pattern: &'a [u8],
+    place: usize,
+    mode: Mode,
+    counts: &'c mut Counts<S, L>,
+) -> ((Shape, usize), &'c mut Counts<S, L>)
+    requires pattern { pattern.now ≡ M.pattern }
+    requires value { pattern.now ≡ M.value }
+    requires mode { mode ≡ M.mode }
+    requires counts { counts.ghost_name ≡ M.counts }
+    requires inside { place < length pattern.now }
+    ensures { IsToken mode pattern.now place result.0.0 result.0.1 }
+{
+    let mut engine = Engine::<'c, 'a, S, L, M> {
+        pattern,
+        value: pattern,
+        mode,
+        counts,
+        of: PhantomData,
+    };
+    let answer = engine.token_at(place);
+    let Engine { counts, .. } = engine;
+    (answer, counts)
+}
+
+/// The set whose bracket stands at a place of the pattern, by an engine that reads no value: the place after it, and whether
+/// it holds a byte, `None` where no set begins; and the counts.
+#[inline(always)]
+pub fn read_set<'c, 'a, S: Ledger, L: Ledger, M: Match>(
+    pattern: &'a [u8],
+    place: usize,
+    byte: u8,
+    mode: Mode,
+    counts: &'c mut Counts<S, L>,
+) -> (Option<(usize, bool)>, &'c mut Counts<S, L>)
+    requires pattern { pattern.now ≡ M.pattern }
+    requires value { pattern.now ≡ M.value }
+    requires mode { mode ≡ M.mode }
+    requires counts { counts.ghost_name ≡ M.counts }
+    requires bracket { HasByte pattern.now place open_bracket }
+    ensures found { IfSome result.0 (λ found. (set : Set) × SetAt pattern.now place set found.0 × (found.1 ≡ set_holds mode set byte)) }
+    ensures none { IfNone result.0 ((set : Set) (end : ℕ) → ¬ SetAt pattern.now place set end) }
+{
+    let mut engine = Engine::<'c, 'a, S, L, M> {
+        pattern,
+        value: pattern,
+        mode,
+        counts,
+        of: PhantomData,
+    };
+    let answer = engine.set_at(place, byte);
+    let Engine { counts, .. } = engine;
+    (answer, counts)
 }
 
 /// A text has no more bytes than a place can count.

@@ -91,7 +91,7 @@ impl<'c, 'a, S: Ledger, L: Ledger, M: Match> Engine<'c, 'a, S, L, M> {
         if !stands_for_itself(byte) {
             return None;
         }
-        if self.mode().folds() {
+        if self.folds() {
             return Some(Follow::Folded(byte));
         }
         Some(Follow::Byte(byte))

@@ -1,13 +1,12 @@
-//! The readers of tokens over slices, for what counts nothing: each asks an engine over the pattern and the empty value, with
-//! new counts that no one looks at.
-ghost use Rattle.std.specs.Prelude.{◌≡◌, ◌↔◌, ℕ, ◌<◌, ◌≤◌, IsTrue, IfSome, IfNone, [], length};
+//! The readers of tokens over slices, for what counts nothing: each asks an engine with new counts that no one looks at.
+ghost use Rattle.std.specs.Prelude.{◌≡◌, ◌↔◌, ℕ, ◌<◌, IsTrue, IfSome, IfNone, length};
 ghost use Rattle.glob_matcher.specs.Bytes.{HasByte, open_bracket};
 ghost use Rattle.glob_matcher.specs.Sets.{Set, SetAt, set_holds};
 ghost use Rattle.glob_matcher.specs.Tokens.{Token, TokenAt};
 ghost use Rattle.glob_matcher.specs.Private.Reader.{IsToken, shape_of, Fits};
 
 use super::counts::Counts;
-use super::engine::{Engine, Match, is_short};
+use super::engine::{is_short, read_set, read_token};
 use super::mode::Mode;
 use super::tokens::Shape;
 use std::marker::Brand;
@@ -40,25 +39,7 @@ fn token_with_counts<S: Ledger, L: Ledger>(
     ensures { IsToken mode pattern.now place result.0 result.1 }
 {
     is_short(pattern);
-    token_by::<S, L, Brand>(pattern, place, mode, &mut Counts::new(steps, looks))
-}
-
-/// The same, by an engine.
-#[inline(always)]
-fn token_by<S: Ledger, L: Ledger, M: Match>(
-    pattern: &[u8],
-    place: usize,
-    mode: Mode,
-    counts: &mut Counts<S, L>,
-) -> (Shape, usize)
-    requires pattern { pattern.now ≡ M.pattern }
-    requires value { M.value ≡ [] }
-    requires mode { mode ≡ M.mode }
-    requires counts { counts.ghost_name ≡ M.counts }
-    requires inside { place < length pattern.now }
-    ensures { IsToken mode pattern.now place result.0 result.1 }
-{
-    Engine::<S, L, M>::over(pattern, mode, counts).token_at(place)
+    read_token::<S, L, Brand>(pattern, place, mode, &mut Counts::new(steps, looks)).0
 }
 
 /// The set whose bracket stands at this place: the place after it, and whether it holds a byte. `None` where no set begins.
@@ -91,27 +72,7 @@ fn set_with_counts<S: Ledger, L: Ledger>(
     ensures none { IfNone result ((set : Set) (end : ℕ) → ¬ SetAt pattern.now place set end) }
 {
     is_short(pattern);
-    set_by::<S, L, Brand>(pattern, place, byte, mode, &mut Counts::new(steps, looks))
-}
-
-/// The same, by an engine.
-#[inline(always)]
-fn set_by<S: Ledger, L: Ledger, M: Match>(
-    pattern: &[u8],
-    place: usize,
-    byte: u8,
-    mode: Mode,
-    counts: &mut Counts<S, L>,
-) -> Option<(usize, bool)>
-    requires pattern { pattern.now ≡ M.pattern }
-    requires value { M.value ≡ [] }
-    requires mode { mode ≡ M.mode }
-    requires counts { counts.ghost_name ≡ M.counts }
-    requires bracket { HasByte pattern.now place open_bracket }
-    ensures found { IfSome result (λ found. (set : Set) × SetAt pattern.now place set found.0 × (found.1 ≡ set_holds mode set byte)) }
-    ensures none { IfNone result ((set : Set) (end : ℕ) → ¬ SetAt pattern.now place set end) }
-{
-    Engine::<S, L, M>::over(pattern, mode, counts).set_at(place, byte)
+    read_set::<S, L, Brand>(pattern, place, byte, mode, &mut Counts::new(steps, looks)).0
 }
 
 impl Shape {
@@ -120,12 +81,15 @@ impl Shape {
         requires { place < length pattern.now }
         ensures { (token : Token) (end : ℕ) → TokenAt mode pattern.now place token end → self ≡ shape_of token → IsTrue result ↔ Fits mode token byte }
     {
-        if self != Shape::Set {
+        let Shape::Set = self else {
             return self.fits(byte, mode);
-        }
+        };
         if pattern[place] != b'[' {
             return false;
         }
-        matches!(set_at(pattern, place, byte, mode), Some((_, true)))
+        match set_at(pattern, place, byte, mode) {
+            Some((_, holds)) => holds,
+            None => false,
+        }
     }
 }

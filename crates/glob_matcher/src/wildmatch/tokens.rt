@@ -116,7 +116,7 @@ impl<'c, 'a, S: Ledger, L: Ledger, M: Match> Engine<'c, 'a, S, L, M> {
         ensures count { Took self.old self.new 0 3 }
         ensures single { end < place + 2 → Took self.old self.new 0 0 }
     {
-        if end < place + 2 {
+        if end - place < 2 {
             return false;
         }
         if !self.follows_slash(place) {
@@ -132,7 +132,7 @@ impl<'c, 'a, S: Ledger, L: Ledger, M: Match> Engine<'c, 'a, S, L, M> {
         ensures count { IsRunRead self.old self.new place result.0 result.1 }
     {
         let end = self.run_end(place);
-        if !self.mode().is_path() {
+        if !self.is_path() {
             return (Shape::Free, end);
         }
         if !self.is_bounded(place, end) {

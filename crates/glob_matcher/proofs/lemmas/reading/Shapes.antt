@@ -1,14 +1,14 @@
 -- What the shape of a token tells of it.
-use Rattle.std.proofs.Common.{◌≡◌, ◌⊎◌, inl, inr, ℕ, List, refl, sym, ◌∙◌, subst, arith}
+use Rattle.std.proofs.Common.{◌≡◌, ◌≢◌, ◌↔◌, ◌⊎◌, Bool, IsTrue, get_or, inl, inr, ℕ, List, refl, sym, ◌∙◌, subst, arith}
 use Rattle.glob_matcher.specs.declared.wildmatch.mode.Mode.{Mode}
 use Rattle.glob_matcher.specs.declared.wildmatch.tokens.Shape.{Shape}
 use Rattle.glob_matcher.specs.declared.wildmatch.tokens.Shape.TheVariants as shape
-use Rattle.glob_matcher.specs.Bytes.{star, slash}
-use Rattle.glob_matcher.specs.Sets.{Set}
+use Rattle.glob_matcher.specs.Bytes.{open_bracket, star, slash}
+use Rattle.glob_matcher.specs.Sets.{Set, SetAt, set_holds}
 use Rattle.glob_matcher.specs.Tokens.{Token, Byte, Any, OneOf, Free, Local, Dirs, Nothing, TokenAt, DirsAt}
-use Rattle.glob_matcher.specs.Private.Reader.{IsToken, shape_of}
+use Rattle.glob_matcher.specs.Private.Reader.{Fits, IsToken, shape_of}
 use Rattle.glob_matcher.specs.Pruning.{IsStart, IsBoundary, IsDirsSlash}
-use Rattle.glob_matcher.proofs.lemmas.reading.SetLemmas.{two_bytes}
+use Rattle.glob_matcher.proofs.lemmas.reading.SetLemmas.{SetAt-unique, two_bytes}
 use Rattle.glob_matcher.proofs.lemmas.reading.TokenLemmas.{run_lead}
 use Rattle.glob_matcher.proofs.lemmas.cutting.CutLemmas.{IsOne}
 use Rattle.glob_matcher.proofs.lemmas.reading.Starts.{dirs_slash}
@@ -52,6 +52,22 @@ module _ {mode : Mode} {p : List ℕ} {i : ℕ} {s : Shape} {j : ℕ} (x : IsTok
   is_one (inl e) = subst IsOne (sym (token_is x.token (sym x.shown ∙ e.1))) tt
   is_one (inr (inl e)) = subst IsOne (sym (token_is x.token (sym x.shown ∙ e))) tt
   is_one (inr (inr e)) = let found = token_is x.token (sym x.shown ∙ e) in subst IsOne (sym found.1) tt
+
+  -- a token that begins with no bracket is no set
+  pub no_set : get_or p i 0 ≢ open_bracket → s ≢ shape.Set
+  no_set other e =
+      let found = token_is x.token (sym x.shown ∙ e) in
+      other (subst (λ (t : Token). TokenAt mode p i t j) found.1 x.here).bracket.is
+
+-- a set that was read is the one of the token there
+pub set_takes : (mode : Mode) (b : ℕ) {p : List ℕ} {i : ℕ} {s : Shape} {set : Set} {k : ℕ} {holds : Bool} → s ≡ shape.Set → SetAt p i set k
+    → holds ≡ set_holds mode set b → (t : Token) (j : ℕ) → TokenAt mode p i t j → s ≡ shape_of t → IsTrue holds ↔ Fits mode t b
+set_takes mode b {p = p} {i = i} {set = set} {k = k} {holds = holds} is read answer t j here shown =
+    let other = token_is t (sym shown ∙ is) in
+    let there : SetAt p i other.0 j = subst (λ (x : Token). TokenAt mode p i x j) other.1 here in
+    let same = SetAt-unique p i set other.0 k j read there in
+    let answers : holds ≡ set_holds mode other.0 b = subst (λ (x : Set). holds ≡ set_holds mode x b) same.0 answer in
+    subst (λ (x : Token). IsTrue holds ↔ Fits mode x b) (sym other.1) (λ yes. sym answers ∙ yes, λ yes. answers ∙ yes)
 
 -- a double star begins at a token's start
 pub dirs_boundary : (mode : Mode) (p : List ℕ) (i j : ℕ) → IsStart p i mode → DirsAt mode p i j → IsBoundary p i mode

@@ -1,10 +1,7 @@
 -- Where an attempt may begin: starts lie inside the pattern, and a token leads from one to the next.
-use Rattle.std.proofs.Common.{◌≡◌, ◌⊎◌, inl, inr, ℕ, ◌+◌, ◌-◌, ◌<◌, ◌≤◌, Bool, List, [], ◌∷◌, ◌++◌, Option, None, length, refl, sym, subst, arith, true, false, if◌then◌else◌}
+use Rattle.std.proofs.Common.{◌≡◌, ◌⊎◌, inl, inr, ℕ, ◌+◌, ◌-◌, ◌<◌, ◌≤◌, List, [], ◌∷◌, ◌++◌, length, refl, sym, subst, arith}
 use Rattle.glob_matcher.specs.declared.wildmatch.mode.Mode.{Mode}
-use Rattle.glob_matcher.specs.declared.wildmatch.sets.Item.{Item}
-use Rattle.glob_matcher.specs.declared.wildmatch.sets.Item.TheVariants as item
 use Rattle.glob_matcher.specs.Bytes.{HasByte, star, close_bracket, slash}
-use Rattle.glob_matcher.specs.Sets.{ItemAt, ItemsAt, IsUpperEnd, member_of}
 use Rattle.glob_matcher.specs.Tokens.{Token, Byte, Any, OneOf, Free, Local, Dirs, Nothing, TokenAt, DirsAt, IsRun}
 use Rattle.glob_matcher.specs.Pruning.{Spells, IsBoundary, IsDirsSlash, IsStart}
 use Rattle.glob_matcher.proofs.lemmas.reading.TokenLemmas.{TokenAt-unique, TokenAt-inside}

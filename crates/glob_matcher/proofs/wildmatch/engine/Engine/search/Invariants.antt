@@ -2,14 +2,14 @@
 use Rattle.std.proofs.Common.{◌+◌, ◌-◌, length}
 use Rattle.glob_matcher.specs.Steps.{step_limit, look_limit}
 use Rattle.glob_matcher.specs.Private.States.{StandsAt}
-use Rattle.glob_matcher.specs.Private.Prices.{Counted, amount, counted}
+use Rattle.glob_matcher.specs.Private.Prices.{Kind, amount, counted}
 use Rattle.glob_matcher.specs.Private.Budget.{AllowsAt}
 use Rattle.glob_matcher.proofs.wildmatch.engine.Engine.search.Given as goal
 
 abbrev pub invariant-turns : goal.invariant-turns
 invariant-turns g l = record {
   stands : StandsAt g.M.Match.mode g.M.Match.pattern g.M.Match.value l.state;
-  allows : (kind : Counted) → AllowsAt kind g.M.Match.mode g.M.Match.pattern g.M.Match.value l.state (counted kind l.self)
+  allows : (kind : Kind) → AllowsAt kind g.M.Match.mode g.M.Match.pattern g.M.Match.value l.state (counted kind l.self)
       (counted kind l.fn.self + amount kind (step_limit (length g.M.Match.pattern) (length g.M.Match.value)) (look_limit (length g.M.Match.pattern) (length g.M.Match.value)));
 }
 

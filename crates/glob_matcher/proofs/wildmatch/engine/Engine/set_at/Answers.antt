@@ -26,8 +26,7 @@ returns-in-Close-clause-found g c =
     let begin = c.opened-is_negated in
     let all =
     set_closed c.mode-mode.result c.args.byte c.args.place begin.result.0 c.requires begin.ensures.sign c.items.invariant.underway
-    c.in-Close.ensures.entry.0 in
-    (
+    c.in-Close.ensures.entry.0 in (
       all.0,
       all.1,
       subst (λ (m : Mode). c.takes-holds.result ≡ set_holds m all.0 c.args.byte) c.mode-mode.ensures (c.takes-holds.ensures ∙ all.2),

@@ -1,0 +1,7 @@
+use Rattle.glob_matcher.proofs.lemmas.reading.Shapes.{set_takes}
+use Rattle.glob_matcher.proofs.wildmatch.tokens.Shape.takes.Goals as goal
+
+pub returns-in-Some : goal.returns-in-Some
+returns-in-Some c =
+    let found = c.in-Some.ensures.found in
+    set_takes c.args.mode c.args.byte c.in-Set.is found.1 found.2
