@@ -113,3 +113,26 @@ fn sets_of_any_bytes(rt: HostRuntime) {
         );
     }
 }
+
+/// `[`, then `[:` 500 times, and `a]`: no `[:` begins a class, since the first `]` ends none.
+fn openings() -> [u8; 1003] {
+    let mut pattern = [b':'; 1003];
+    pattern[0] = b'[';
+    for i in 0..500 {
+        pattern[2 * i + 1] = b'[';
+    }
+    pattern[1001] = b'a';
+    pattern[1002] = b']';
+    pattern
+}
+
+#[test]
+fn openings_of_no_class_are_members(rt: HostRuntime) {
+    let pattern = openings();
+    for (value, answer) in [(b':', true), (b'[', true), (b'a', true), (b'b', false)] {
+        for mode in [plain(), path()] {
+            assert_eq!(rt; wildmatch(&pattern, &[value], mode), answer, "{value}");
+            assert_eq!(rt; recursive(&pattern, &[value], mode), answer, "{value}");
+        }
+    }
+}

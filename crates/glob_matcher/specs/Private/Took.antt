@@ -6,3 +6,8 @@ use Rattle.glob_matcher.specs.Steps.{Counts}
 pub record Took (before after : Counts) (s l : ℕ) : Type 0 where
   pub steps : after.steps ≡ before.steps + s
   pub looks : after.looks ≤ before.looks + l
+
+-- the same, with exactly l looks
+pub record Counted (before after : Counts) (s l : ℕ) : Type 0 where
+  pub steps : after.steps ≡ before.steps + s
+  pub looks : after.looks ≡ before.looks + l

@@ -1,6 +1,6 @@
 //! The counts of what a match takes: contracts see them, and they take no bytes.
 ghost use Rattle.std.specs.Prelude.{◌≡◌, ◌+◌, ◌<◌};
-ghost use Rattle.glob_matcher.specs.Private.Took.{Took};
+ghost use Rattle.glob_matcher.specs.Private.Took.{Counted};
 
 use std::marker::Model;
 use std::sync::ledger::{Blank, Book, Ledger, Share};
@@ -83,7 +83,7 @@ impl<S: Ledger, L: Ledger> Counts<S, L> {
     /// Counts one step.
     #[inline(always)]
     pub(super) fn step(&mut self)
-        ensures { Took self.old self.new 1 0 }
+        ensures { Counted self.old self.new 1 0 }
     {
         self.steps.add(1);
     }
@@ -91,18 +91,16 @@ impl<S: Ledger, L: Ledger> Counts<S, L> {
     /// Counts one step that reads a byte.
     #[inline(always)]
     pub(super) fn step_with_look(&mut self)
-        ensures count { Took self.old self.new 1 1 }
-        ensures looked { self.new.looks ≡ self.old.looks + 1 }
+        ensures { Counted self.old self.new 1 1 }
     {
-        self.steps.add(1);
-        self.looks.add(1);
+        self.step();
+        self.look();
     }
 
     /// Counts one look.
     #[inline(always)]
     pub(super) fn look(&mut self)
-        ensures count { Took self.old self.new 0 1 }
-        ensures looked { self.new.looks ≡ self.old.looks + 1 }
+        ensures { Counted self.old self.new 0 1 }
     {
         self.looks.add(1);
     }
@@ -110,8 +108,7 @@ impl<S: Ledger, L: Ledger> Counts<S, L> {
     /// Counts looks at so many bytes.
     #[inline(always)]
     pub(super) fn looks(&mut self, count: usize)
-        ensures count { Took self.old self.new 0 count }
-        ensures looked { self.new.looks ≡ self.old.looks + count }
+        ensures { Counted self.old self.new 0 count }
     {
         self.looks.add(count);
     }

@@ -144,8 +144,8 @@ impl<'c, 'a, S: Ledger, L: Ledger, M: Match> Engine<'c, 'a, S, L, M> {
         ensures here { IfSome result (λ byte. HasByte M.pattern place byte) }
         ensures end { IfNone result (length M.pattern ≤ place) }
         ensures count { Took self.old self.new 0 1 }
+        ensures look { IfSome result (λ _. self.new.looks ≡ self.old.looks + 1) }
         ensures free { IfNone result (Took self.old self.new 0 0) }
-        ensures looked { IfSome result (λ byte. self.new.looks ≡ self.old.looks + 1) }
     {
         if place >= self.pattern.len() {
             return None;
@@ -160,7 +160,7 @@ impl<'c, 'a, S: Ledger, L: Ledger, M: Match> Engine<'c, 'a, S, L, M> {
         requires { place < length M.pattern }
         ensures here { result ≡ slice_index M.pattern place }
         ensures count { Took self.old self.new 0 1 }
-        ensures looked { self.new.looks ≡ self.old.looks + 1 }
+        ensures look { self.new.looks ≡ self.old.looks + 1 }
     {
         self.counts.look();
         self.pattern[place]
@@ -173,7 +173,7 @@ impl<'c, 'a, S: Ledger, L: Ledger, M: Match> Engine<'c, 'a, S, L, M> {
         ensures found { IfSome result (λ class. slice_range M.pattern from to ≡ name_of class) }
         ensures none { IfNone result ((class : Class) → ¬ (slice_range M.pattern from to ≡ name_of class)) }
         ensures count { LookedOver 1 self.old self.new from to }
-        ensures looked { self.new.looks + from ≡ self.old.looks + to }
+        ensures looks { self.new.looks + from ≡ self.old.looks + to }
     {
         self.counts.looks(to - from);
         Class::named(&self.pattern[from..to])
@@ -194,7 +194,7 @@ impl<'c, 'a, S: Ledger, L: Ledger, M: Match> Engine<'c, 'a, S, L, M> {
     pub fn has(&mut self, at: usize, wanted: u8) -> bool
         ensures answer { IsTrue result ↔ ((at < length M.value) × Fits M.mode (Byte wanted) (slice_index M.value at)) }
         ensures count { Took self.old self.new 1 1 }
-        ensures looked { self.new.looks ≡ self.old.looks + 1 }
+        ensures look { self.new.looks ≡ self.old.looks + 1 }
     {
         self.counts.step_with_look();
         at < self.value.len() && self.mode.alike(self.value[at], wanted)
@@ -205,7 +205,7 @@ impl<'c, 'a, S: Ledger, L: Ledger, M: Match> Engine<'c, 'a, S, L, M> {
     pub fn ends_in(&mut self, wanted: u8) -> bool
         ensures answer { IsTrue result ↔ ((0 < length M.value) × Fits M.mode (Byte wanted) (slice_index M.value (length M.value - 1))) }
         ensures count { Took self.old self.new 1 1 }
-        ensures looked { self.new.looks ≡ self.old.looks + 1 }
+        ensures look { self.new.looks ≡ self.old.looks + 1 }
     {
         self.counts.step_with_look();
         let len = self.value.len();
@@ -219,22 +219,25 @@ impl<'c, 'a, S: Ledger, L: Ledger, M: Match> Engine<'c, 'a, S, L, M> {
         ensures answer { (token : Token) → shape ≡ shape_of token
             → IsTrue result ↔ ((at < length M.value) × Fits M.mode token (slice_index M.value at)) }
         ensures count { Took self.old self.new 1 1 }
-        ensures looked { self.new.looks ≡ self.old.looks + 1 }
+        ensures look { self.new.looks ≡ self.old.looks + 1 }
     {
         self.counts.step_with_look();
         at < self.value.len() && shape.fits(self.value[at], self.mode)
     }
 
-    /// Looks at the byte at a place of the value, for a step that is counted once the set is read; `None` past its end.
+    /// Looks at the byte at a place of the value, which the caller counts as a step; `None` where the value ends.
     #[inline(always)]
-    fn value_byte(&mut self, at: usize) -> Option<u8>
+    fn value_at(&mut self, at: usize) -> Option<u8>
         ensures here { IfSome result (λ byte. HasByte M.value at byte) }
         ensures end { IfNone result (length M.value ≤ at) }
         ensures count { Took self.old self.new 0 1 }
-        ensures looked { self.new.looks ≡ self.old.looks + 1 }
+        ensures look { IfSome result (λ _. self.new.looks ≡ self.old.looks + 1) }
     {
+        if at >= self.value.len() {
+            return None;
+        }
         self.counts.look();
-        self.value.get(at).copied()
+        Some(self.value[at])
     }
 
     /// Tests the set whose bracket stands at a place of the pattern: the place after it, and whether it takes the byte of the
@@ -247,7 +250,7 @@ impl<'c, 'a, S: Ledger, L: Ledger, M: Match> Engine<'c, 'a, S, L, M> {
         ensures count { IfSome result (λ found. IsSetPaid 1 self.old self.new place found.0) }
         ensures broken { IfNone result (IsSetPaid 0 self.old self.new place (length M.pattern)) }
     {
-        let byte = self.value_byte(at);
+        let byte = self.value_at(at);
         let Some((end, holds)) = self.set_at(place, byte.unwrap_or(0)) else {
             return None;
         };
@@ -272,7 +275,7 @@ impl<'c, 'a, S: Ledger, L: Ledger, M: Match> Engine<'c, 'a, S, L, M> {
         ensures moved { IfSome result (λ x. (x.0.place ≡ mark.place) × (x.0.at ≡ mark.at + 1) × (mark.at < length M.value) × (slice_index M.value mark.at ≡ x.1)) }
         ensures unable { IfNone result (length M.value ≤ mark.at) }
         ensures count { Took self.old self.new 1 1 }
-        ensures looked { self.new.looks ≡ self.old.looks + 1 }
+        ensures look { self.new.looks ≡ self.old.looks + 1 }
     {
         self.counts.step_with_look();
         if mark.at >= self.value.len() {
@@ -307,7 +310,7 @@ impl<'c, 'a, S: Ledger, L: Ledger, M: Match> Engine<'c, 'a, S, L, M> {
         ensures moved { IfSome result (λ x. (x.place ≡ mark.place) × (x.at ≡ mark.at + 1) × (mark.at < length M.value) × (slice_index M.value mark.at ≢ slash)) }
         ensures unable { IfNone result (slice_index M.value mark.at ≡ slash) }
         ensures count { Took self.old self.new 1 1 }
-        ensures looked { self.new.looks ≡ self.old.looks + 1 }
+        ensures look { self.new.looks ≡ self.old.looks + 1 }
     {
         self.counts.step_with_look();
         if self.value[mark.at] == b'/' {
@@ -325,7 +328,7 @@ impl<'c, 'a, S: Ledger, L: Ledger, M: Match> Engine<'c, 'a, S, L, M> {
         ensures moved { IfSome result (λ x. (x.place ≡ mark.place) × (x.at ≡ mark.at + 1) × (mark.at < length M.value) × (slice_index M.value mark.at ≢ slash)) }
         ensures unable { IfNone result ((length M.value ≤ mark.at) ⊎ (slice_index M.value mark.at ≡ slash)) }
         ensures count { Took self.old self.new 1 1 }
-        ensures looked { self.new.looks ≡ self.old.looks + 1 }
+        ensures look { self.new.looks ≡ self.old.looks + 1 }
     {
         if mark.at >= self.value.len() {
             self.counts.step_with_look();
@@ -349,7 +352,7 @@ impl<'c, 'a, S: Ledger, L: Ledger, M: Match> Engine<'c, 'a, S, L, M> {
         requires { mark.at < length M.value }
         ensures answer { IsTrue result ↔ N.suits needle (slice_index M.value mark.at) }
         ensures count { Took self.old self.new 1 1 }
-        ensures looked { self.new.looks ≡ self.old.looks + 1 }
+        ensures look { self.new.looks ≡ self.old.looks + 1 }
     {
         self.counts.step_with_look();
         needle.takes(self.value[mark.at])

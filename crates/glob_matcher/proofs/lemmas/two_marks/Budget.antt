@@ -16,13 +16,13 @@ use Rattle.glob_matcher.specs.Steps.{step_limit, look_limit}
 use Rattle.glob_matcher.specs.Private.Components.{ends, separates, next_component}
 use Rattle.glob_matcher.specs.Private.States.{FreeKnown, IsNextDirectory}
 use Rattle.glob_matcher.specs.Private.Pieces.{Piece, piece, PiecesFrom}
-use Rattle.glob_matcher.specs.Private.Prices.{Counted, amount, move, test, each, trial, left, cost, hop, stretch}
+use Rattle.glob_matcher.specs.Private.Prices.{Kind, amount, move, test, each, trial, left, cost, hop, stretch}
 use Rattle.glob_matcher.specs.Private.Budget.{FreeRest, DirsRest, LocalRest, WithinRest, Owes, Allows, OwesLeft, AllowsLeft, Tested, Missed}
 use Rattle.glob_matcher.proofs.lemmas.two_marks.Components.{IsInner, separates-fits, slash_ends, ends_or_not, next-end, next-past, next-inner, next_past, next_high, next_before_end}
 use Rattle.glob_matcher.proofs.lemmas.two_marks.Prices.{apart_or_joined, cost-apart, cost-joined, cost_hop, cost_limit, cost_mono, each_of_star, hop-apart, hop-joined, left_is, pieces_head, settle_pieces, stretch-joined, stretch_left, stretch_step, test_each, test_one, test_star, times_less, times_mono, trial_is, trial_left, trial_some, trial_stretch}
 
 -- the engine at its start, after the look at the last byte
-pub allows_start : (kind : Counted) (mode : Mode) (p v : List ℕ) (s n : ℕ)
+pub allows_start : (kind : Kind) (mode : Mode) (p v : List ℕ) (s n : ℕ)
     → s + amount kind (step_limit (length p) (length v)) (look_limit (length p) (length v)) ≤ n + amount kind 1 2
     → Allows kind mode p v 0 0 crossing.Unmet None s n
 allows_start kind mode p v s n enough = record {
@@ -41,7 +41,7 @@ allows_start kind mode p v s n enough = record {
 }
 
 -- a count that is no higher
-within_less : (kind : Counted) (mode : Mode) (p v : List ℕ) (xs : List Piece) (j rest : ℕ) (l : Option Mark) (r s n : ℕ) → r ≤ s
+within_less : (kind : Kind) (mode : Mode) (p v : List ℕ) (xs : List Piece) (j rest : ℕ) (l : Option Mark) (r s n : ℕ) → r ≤ s
     → WithinRest kind mode p v xs j rest s n l → WithinRest kind mode p v xs j rest r n l
 within_less kind mode p v xs j rest None r s n low w = tt
 within_less kind mode p v xs j rest (Some m) r s n low w = record {
@@ -53,7 +53,7 @@ within_less kind mode p v xs j rest (Some m) r s n low w = record {
   back = omega (arith, w.back);
 }
 
-pub allows_less : {kind : Counted} {mode : Mode} {p v : List ℕ} {i j : ℕ} {c : Crossing} {l : Option Mark} {r s n : ℕ} → r ≤ s
+pub allows_less : {kind : Kind} {mode : Mode} {p v : List ℕ} {i j : ℕ} {c : Crossing} {l : Option Mark} {r s n : ℕ} → r ≤ s
     → Allows kind mode p v i j c l s n → Allows kind mode p v i j c l r n
 allows_less {kind} {mode} {p} {v} {j = j} {l = l} {r} {s} {n} low a = record {
   all = λ xs read.
@@ -69,30 +69,30 @@ allows_less {kind} {mode} {p} {v} {j = j} {l = l} {r} {s} {n} low a = record {
       };
 }
 
-pub left_less : {kind : Counted} {mode : Mode} {p v : List ℕ} {c : Crossing} {r s n : ℕ} → r ≤ s → AllowsLeft kind mode p v c s n
+pub left_less : {kind : Kind} {mode : Mode} {p v : List ℕ} {c : Crossing} {r s n : ℕ} → r ≤ s → AllowsLeft kind mode p v c s n
     → AllowsLeft kind mode p v c r n
 left_less low a = record {
   all = λ xs read. let o = a.all xs read in record { rest = o.rest; crossing = o.crossing; enough = omega (arith, o.enough) };
 }
 
 -- what was counted is within the budget, and so is one test
-owes_test : {kind : Counted} {mode : Mode} {p v : List ℕ} {i j : ℕ} {c : Crossing} {l : Option Mark} {s n : ℕ} → j ≤ length v
+owes_test : {kind : Kind} {mode : Mode} {p v : List ℕ} {i j : ℕ} {c : Crossing} {l : Option Mark} {s n : ℕ} → j ≤ length v
     → (o : Owes kind mode p v i j c l s n) → s + trial kind o.pieces + o.rest ≤ n
 owes_test {kind} {mode} {v} {j} inside o = omega (arith, trial_left kind mode v o.pieces j inside, o.here)
 
-pub allows_test : {kind : Counted} {mode : Mode} {p v : List ℕ} {i j : ℕ} {c : Crossing} {l : Option Mark} {r s n : ℕ} → j ≤ length v
+pub allows_test : {kind : Kind} {mode : Mode} {p v : List ℕ} {i j : ℕ} {c : Crossing} {l : Option Mark} {r s n : ℕ} → j ≤ length v
     → Tested kind mode p i s r → Allows kind mode p v i j c l s n → r ≤ n
 allows_test {mode = mode} {p} {r = r} {n = n} inside tested a =
     settle_pieces mode p r n (λ xs read. let o = a.all xs read in omega (arith, owes_test inside o, tested.high o.pieces o.read))
 
-pub allows_left : {kind : Counted} {mode : Mode} {p v : List ℕ} {c : Crossing} {s n : ℕ} → AllowsLeft kind mode p v c s n → s ≤ n
+pub allows_left : {kind : Kind} {mode : Mode} {p v : List ℕ} {c : Crossing} {s n : ℕ} → AllowsLeft kind mode p v c s n → s ≤ n
 allows_left {mode} {p} {s} {n} a = settle_pieces mode p s n (λ xs read. let o = a.all xs read in omega (arith, o.enough))
 
 -- a test of the pattern's end, or of one token
-pub tested_one : {kind : Counted} {mode : Mode} {p : List ℕ} {i s r : ℕ} → r ≤ s + 1 → Tested kind mode p i s r
+pub tested_one : {kind : Kind} {mode : Mode} {p : List ℕ} {i s r : ℕ} → r ≤ s + 1 → Tested kind mode p i s r
 tested_one {kind} {mode} {p} {i} low = record { high = λ xs read. omega (arith, trial_some kind mode p i xs read) }
 
-pub tested : {kind : Counted} {mode : Mode} {p : List ℕ} {i k : ℕ} {shape : Shape} (x : IsToken mode p i shape k) → is_star shape ≡ false
+pub tested : {kind : Kind} {mode : Mode} {p : List ℕ} {i k : ℕ} {shape : Shape} (x : IsToken mode p i shape k) → is_star shape ≡ false
     → {r s : ℕ} → r ≤ s + amount kind 1 (8 * (k - i)) → Tested kind mode p i s r
 tested {kind} {mode} {p} {i} {k} x one low = record {
   high = λ xs read.
@@ -101,16 +101,16 @@ tested {kind} {mode} {p} {i} {k} x one low = record {
       omega (arith, test_one kind x one);
 }
 
-pub allows_one : {kind : Counted} {mode : Mode} {p v : List ℕ} {i j : ℕ} {c : Crossing} {l : Option Mark} {s n : ℕ} → j ≤ length v
+pub allows_one : {kind : Kind} {mode : Mode} {p v : List ℕ} {i j : ℕ} {c : Crossing} {l : Option Mark} {s n : ℕ} → j ≤ length v
     → Allows kind mode p v i j c l s n → s + 1 ≤ n
 allows_one inside a = allows_test inside (tested_one (omega arith)) a
 
-pub allows_missed : {kind : Counted} {mode : Mode} {p v : List ℕ} {i j : ℕ} {c : Crossing} {l : Option Mark} {s n : ℕ}
+pub allows_missed : {kind : Kind} {mode : Mode} {p v : List ℕ} {i j : ℕ} {c : Crossing} {l : Option Mark} {s n : ℕ}
     → Allows kind mode p v i j c l s n → Missed kind mode p v i j c l (s + 1) n
 allows_missed {s = s} a = record { before = s; tested = tested_one (omega arith); allows = a }
 
 -- a token takes a byte: what is left of the budget
-near_on : (kind : Counted) (mode : Mode) (v : List ℕ) (x : Piece) (xs : List Piece) (j s n rest : ℕ) → j < length v
+near_on : (kind : Kind) (mode : Mode) (v : List ℕ) (x : Piece) (xs : List Piece) (j s n rest : ℕ) → j < length v
     → separates mode x.token ≡ false → ends mode (get_or v j 0) ≡ false
     → s + cost kind mode v (x ∷ xs) j + rest ≤ n + cost kind mode v (x ∷ xs) (next_component mode v j)
     → s + test kind x + cost kind mode v xs (j + 1) + rest ≤ n + cost kind mode v xs (next_component mode v (j + 1))
@@ -121,7 +121,7 @@ near_on kind mode v x xs j s n rest inside joined within here =
     let rest : cost kind mode v xs (j + 1) ≤ cost kind mode v xs j = cost_mono kind mode v xs j (j + 1) (omega arith) in
     omega (arith, times_less (each kind x) v j (next_component mode v j) (omega arith) past, test_each kind x, cost-joined kind mode v x xs j joined, cost-joined kind mode v x xs (next_component mode v j) joined)
 
-here_on : (kind : Counted) (mode : Mode) (v : List ℕ) (x : Piece) (xs : List Piece) (j s n rest : ℕ) → j < length v
+here_on : (kind : Kind) (mode : Mode) (v : List ℕ) (x : Piece) (xs : List Piece) (j s n rest : ℕ) → j < length v
     → separates mode x.token ≡ ends mode (get_or v j 0)
     → s + cost kind mode v (x ∷ xs) j + rest ≤ n + cost kind mode v (x ∷ xs) (hop mode v (x ∷ xs) j)
     → s + test kind x + cost kind mode v xs (j + 1) + rest ≤ n + cost kind mode v xs (hop mode v xs (j + 1))
@@ -143,7 +143,7 @@ here_on kind mode v x xs j s n rest inside alike here =
           omega (arith, near_on kind mode v x xs j s n rest inside joined within (omega arith))
     ]
 
-later_on : (kind : Counted) (mode : Mode) (v : List ℕ) (x : Piece) (xs : List Piece) (j rest : ℕ) → j < length v
+later_on : (kind : Kind) (mode : Mode) (v : List ℕ) (x : Piece) (xs : List Piece) (j rest : ℕ) → j < length v
     → separates mode x.token ≡ ends mode (get_or v j 0) → cost kind mode v (x ∷ xs) (next_component mode v j) ≤ rest
     → cost kind mode v xs (next_component mode v (j + 1)) ≤ rest
 later_on kind mode v x xs j rest inside alike later = elim (ends_or_not mode (get_or v j 0)) [
@@ -158,7 +158,7 @@ later_on kind mode v x xs j rest inside alike later = elim (ends_or_not mode (ge
       omega (arith, cost-joined kind mode v x xs (next_component mode v j) (alike ∙ within))
 ]
 
-within_on : (kind : Counted) (mode : Mode) (p v : List ℕ) (x : Piece) (xs : List Piece) (j rest s n : ℕ) (l : Option Mark) → j < length v
+within_on : (kind : Kind) (mode : Mode) (p v : List ℕ) (x : Piece) (xs : List Piece) (j rest s n : ℕ) (l : Option Mark) → j < length v
     → separates mode x.token ≡ ends mode (get_or v j 0) → IsInner mode v j l → WithinRest kind mode p v (x ∷ xs) j rest s n l
     → WithinRest kind mode p v xs (j + 1) rest (s + test kind x) n l
 within_on kind mode p v x xs j rest s n None inside alike inner w = tt
@@ -173,7 +173,7 @@ within_on kind mode p v x xs j rest s n (Some m) inside alike inner w =
       back = omega (arith, w.back, stretch-joined kind mode v x xs joined, test_each kind x);
     }
 
-owes_on : {kind : Counted} {mode : Mode} {p v : List ℕ} {i : ℕ} (t : Token) (k : ℕ) {j : ℕ} {c : Crossing} {l : Option Mark} {s n : ℕ}
+owes_on : {kind : Kind} {mode : Mode} {p v : List ℕ} {i : ℕ} (t : Token) (k : ℕ) {j : ℕ} {c : Crossing} {l : Option Mark} {s n : ℕ}
     → TokenAt mode p i t k → j < length v → Fits mode t (get_or v j 0) → IsInner mode v j l → Owes kind mode p v i j c l s n
     → Owes kind mode p v k (j + 1) c l (s + test kind (piece i t k)) n
 owes_on {kind} {mode} {p} {v} {i} t k {j} {l = l} {s} {n} here inside fits inner o =
@@ -195,7 +195,7 @@ owes_on {kind} {mode} {p} {v} {i} t k {j} {l = l} {s} {n} here inside fits inner
           (subst (λ (ys : List Piece). WithinRest kind mode p v ys j o.rest s n l) head.1 o.local);
     }
 
-owes_without : {kind : Counted} {mode : Mode} {p v : List ℕ} {i j : ℕ} {c : Crossing} {l : Option Mark} {s n : ℕ}
+owes_without : {kind : Kind} {mode : Mode} {p v : List ℕ} {i j : ℕ} {c : Crossing} {l : Option Mark} {s n : ℕ}
     → Owes kind mode p v i j c l s n → Owes kind mode p v i j c None s n
 owes_without o = record {
   pieces = o.pieces;
@@ -208,7 +208,7 @@ owes_without o = record {
 }
 
 -- The token takes the byte here, and is no slash.
-pub allows_on : {kind : Counted} {mode : Mode} {p v : List ℕ} {i k j : ℕ} {shape : Shape} {c : Crossing} {l : Option Mark} {r s n : ℕ}
+pub allows_on : {kind : Kind} {mode : Mode} {p v : List ℕ} {i k j : ℕ} {shape : Shape} {c : Crossing} {l : Option Mark} {r s n : ℕ}
     (x : IsToken mode p i shape k) → is_star shape ≡ false → r ≤ s + amount kind 1 (8 * (k - i)) → j < length v
     → Fits mode x.token (get_or v j 0) → IsInner mode v j l → Allows kind mode p v i j c l s n → Allows kind mode p v k (j + 1) c l r n
 allows_on {kind} {k = k} x one low inside fits inner a =
@@ -216,21 +216,21 @@ allows_on {kind} {k = k} x one low inside fits inner a =
     (record { all = λ xs read. owes_on x.token k x.here inside fits inner (a.all xs read) })
 
 -- The token takes the byte here, and the local mark is forgotten.
-pub allows_past_slash : {kind : Counted} {mode : Mode} {p v : List ℕ} {i k j : ℕ} {shape : Shape} {c : Crossing} {l : Option Mark} {r s n : ℕ}
+pub allows_past_slash : {kind : Kind} {mode : Mode} {p v : List ℕ} {i k j : ℕ} {shape : Shape} {c : Crossing} {l : Option Mark} {r s n : ℕ}
     (x : IsToken mode p i shape k) → is_star shape ≡ false → r ≤ s + amount kind 1 (8 * (k - i)) → j < length v
     → Fits mode x.token (get_or v j 0) → Allows kind mode p v i j c l s n → Allows kind mode p v k (j + 1) c None r n
 allows_past_slash x one low inside fits a =
     allows_on x one low inside fits tt (record { all = λ xs read. owes_without (a.all xs read) })
 
 -- A star token is met: what is left for the pieces after it, and for the moves of its mark.
-record Met (kind : Counted) (mode : Mode) (p v : List ℕ) (k j s n rest : ℕ) : Type 0 where
+record Met (kind : Kind) (mode : Mode) (p v : List ℕ) (k j s n rest : ℕ) : Type 0 where
   pieces : List Piece
   read : PiecesFrom mode p k pieces
   here : s + move kind * left v j + cost kind mode v pieces j + rest
       ≤ n + move kind * left v (next_component mode v j) + cost kind mode v pieces (next_component mode v j)
   later : move kind * left v (next_component mode v j) + cost kind mode v pieces (next_component mode v j) ≤ rest
 
-star_met : {kind : Counted} {mode : Mode} {p v : List ℕ} {i : ℕ} (t : Token) (k : ℕ) {j : ℕ} {c : Crossing} {l : Option Mark} {s n : ℕ}
+star_met : {kind : Kind} {mode : Mode} {p v : List ℕ} {i : ℕ} (t : Token) (k : ℕ) {j : ℕ} {c : Crossing} {l : Option Mark} {s n : ℕ}
     → TokenAt mode p i t k → is_star (shape_of t) ≡ true → separates mode t ≡ false → j ≤ length v → (o : Owes kind mode p v i j c l s n)
     → Met kind mode p v k j (s + test kind (piece i t k)) n o.rest
 star_met {kind} {mode} {p} {v} {i} t k {j} {s = s} {n} here star joined inside o =
@@ -255,7 +255,7 @@ star_met {kind} {mode} {p} {v} {i} t k {j} {s = s} {n} here star joined inside o
     }
 
 -- where a run of stars crosses slashes, each look at what follows begins one place on
-free_skips : {mode : Mode} {p v : List ℕ} {k : ℕ} (kind : Counted) (xs : List Piece) → PiecesFrom mode p k xs → k ≢ length p
+free_skips : {mode : Mode} {p v : List ℕ} {k : ℕ} (kind : Kind) (xs : List Piece) → PiecesFrom mode p k xs → k ≢ length p
     → FreeKnown mode p v k → (j : ℕ) → hop mode v xs j ≡ j + 1
 free_skips kind [] read more known j = absurd (more read)
 free_skips {mode} {v = v} {k} kind (x ∷ xs) read more known j = elim (apart_or_joined mode x.token) [
@@ -266,7 +266,7 @@ free_skips {mode} {v = v} {k} kind (x ∷ xs) read more known j = elim (apart_or
 ]
 
 -- A run of stars that crosses slashes is met: its mark is set.
-pub allows_free : {kind : Counted} {mode : Mode} {p v : List ℕ} {i k j : ℕ} {c : Crossing} {l : Option Mark} (m : Mark) {r s n : ℕ}
+pub allows_free : {kind : Kind} {mode : Mode} {p v : List ℕ} {i k j : ℕ} {c : Crossing} {l : Option Mark} (m : Mark) {r s n : ℕ}
     → TokenAt mode p i Free k → k ≢ length p → FreeKnown mode p v k → j ≤ length v → m.place ≡ k → m.at ≡ j
     → r ≤ s + amount kind 1 (8 * (k - i) - 4) → Allows kind mode p v i j c l s n → Allows kind mode p v k j (crossing.Free m) None r n
 allows_free {kind} {mode} {p} {v} {i} {k} {j} {c} {l} m {r} {s} {n} here more known inside e f low a =
@@ -300,7 +300,7 @@ allows_free {kind} {mode} {p} {v} {i} {k} {j} {c} {l} m {r} {s} {n} here more kn
           }
 
 -- A run of stars that crosses slashes ends the pattern.
-pub free_last_counts : {kind : Counted} {mode : Mode} {p v : List ℕ} {i k j : ℕ} {c : Crossing} {l : Option Mark} {r s n : ℕ}
+pub free_last_counts : {kind : Kind} {mode : Mode} {p v : List ℕ} {i k j : ℕ} {c : Crossing} {l : Option Mark} {r s n : ℕ}
     → TokenAt mode p i Free k → j ≤ length v → r ≤ s + amount kind 1 (8 * (k - i) - 4) → Allows kind mode p v i j c l s n → r ≤ n
 free_last_counts {kind} {mode} {p} {v} {i} {k} {j} {r = r} {s} {n} here inside low a =
     settle_pieces mode p r n (λ xs read.
@@ -310,7 +310,7 @@ free_last_counts {kind} {mode} {p} {v} {i} {k} {j} {r = r} {s} {n} here inside l
     omega (arith, star.here, star.later, test_star kind i Free k refl))
 
 -- A double star with its slash is met: its mark is set.
-pub allows_dirs : {kind : Counted} {mode : Mode} {p v : List ℕ} {i k j : ℕ} {c : Crossing} {l : Option Mark} (m : Mark) {r s n : ℕ}
+pub allows_dirs : {kind : Kind} {mode : Mode} {p v : List ℕ} {i k j : ℕ} {c : Crossing} {l : Option Mark} (m : Mark) {r s n : ℕ}
     → TokenAt mode p i Dirs k → j ≤ length v → m.place ≡ k → m.at ≡ j
     → r ≤ s + amount kind 1 (8 * (k - i) - 4) → Allows kind mode p v i j c l s n → Allows kind mode p v k j (crossing.Dirs m) None r n
 allows_dirs {kind} {mode} {p} {v} {i} {k} {j} {c} {l} m {r} {s} {n} here inside e f low a =
@@ -339,7 +339,7 @@ allows_dirs {kind} {mode} {p} {v} {i} {k} {j} {c} {l} m {r} {s} {n} here inside 
           }
 
 -- the moves over the places from one to another
-moves_between : (kind : Counted) (v : List ℕ) (j k : ℕ) → j ≤ length v + 1 → k ≤ length v + 1
+moves_between : (kind : Kind) (v : List ℕ) (j k : ℕ) → j ≤ length v + 1 → k ≤ length v + 1
     → move kind * left v j + move kind * j ≡ move kind * left v k + move kind * k
 moves_between kind v j k low high =
     let sum : left v j + j ≡ left v k + k = omega (arith, left_is v j, left_is v k) in
@@ -347,7 +347,7 @@ moves_between kind v j k low high =
     omega arith
 
 -- A run of stars within a component is met: its mark is set.
-pub allows_local : {kind : Counted} {mode : Mode} {p v : List ℕ} {i k j : ℕ} {c : Crossing} {l : Option Mark} (m : Mark) {r s n : ℕ}
+pub allows_local : {kind : Kind} {mode : Mode} {p v : List ℕ} {i k j : ℕ} {c : Crossing} {l : Option Mark} (m : Mark) {r s n : ℕ}
     → TokenAt mode p i Local k → j ≤ length v → m.place ≡ k → m.at ≡ j
     → r ≤ s + amount kind 1 (8 * (k - i) - 4) → Allows kind mode p v i j c l s n → Allows kind mode p v k j c (Some m) r n
 allows_local {kind} {mode} {p} {v} {i} {k} {j} {c} {l} m {r} {s} {n} here inside e f low a =
@@ -384,7 +384,7 @@ allows_local {kind} {mode} {p} {v} {i} {k} {j} {c} {l} m {r} {s} {n} here inside
           }
 
 -- The token does not fit here, and there is no local mark.
-pub left_missed : {kind : Counted} {mode : Mode} {p v : List ℕ} {i j : ℕ} {c : Crossing} {s n : ℕ} → j ≤ length v
+pub left_missed : {kind : Kind} {mode : Mode} {p v : List ℕ} {i j : ℕ} {c : Crossing} {s n : ℕ} → j ≤ length v
     → Missed kind mode p v i j c None s n → AllowsLeft kind mode p v c s n
 left_missed inside a = record {
   all = λ xs read.
@@ -400,7 +400,7 @@ stuck_next mode v x (inr is) = elim (cases_lt x (length v)) [
 ]
 
 -- The token does not fit here, and the local mark cannot move.
-pub left_stuck_counts : {kind : Counted} {mode : Mode} {p v : List ℕ} {i j : ℕ} {c : Crossing} {m : Mark} {s n : ℕ}
+pub left_stuck_counts : {kind : Kind} {mode : Mode} {p v : List ℕ} {i j : ℕ} {c : Crossing} {m : Mark} {s n : ℕ}
     → (length v ≤ m.at) ⊎ (get_or v m.at 0 ≡ slash) → Missed kind mode p v i j c (Some m) s n
     → AllowsLeft kind mode p v c (s + move kind) n
 left_stuck_counts {kind} {mode} {p} {v} {i} {j} {c} {m} {s} {n} stuck a = record { all = λ xs read. owes (a.allows.all xs read) } where
@@ -418,7 +418,7 @@ left_stuck_counts {kind} {mode} {p} {v} {i} {j} {c} {m} {s} {n} stuck a = record
       }
 
 -- The token does not fit here, and the local mark moves by one byte.
-pub allows_local_moved : {kind : Counted} {mode : Mode} {p v : List ℕ} {i j : ℕ} {c : Crossing} {m : Mark} (x : Mark) {s n : ℕ} → m.at < length v
+pub allows_local_moved : {kind : Kind} {mode : Mode} {p v : List ℕ} {i j : ℕ} {c : Crossing} {m : Mark} (x : Mark) {s n : ℕ} → m.at < length v
     → ends mode (get_or v m.at 0) ≡ false → x.place ≡ m.place → x.at ≡ m.at + 1 → Missed kind mode p v i j c (Some m) s n
     → Allows kind mode p v x.place x.at c (Some x) (s + move kind) n
 allows_local_moved {kind} {mode} {p} {v} {i} {j} {c} {m} x {s} {n} inside within e f a =
@@ -461,7 +461,7 @@ allows_local_moved {kind} {mode} {p} {v} {i} {j} {c} {m} x {s} {n} inside within
           }
 
 -- The mark of a run of stars moves by one byte, or cannot.
-pub allows_free_moved : {kind : Counted} {mode : Mode} {p v : List ℕ} {m : Mark} (x : Mark) {s n : ℕ} → m.at < length v → x.place ≡ m.place
+pub allows_free_moved : {kind : Kind} {mode : Mode} {p v : List ℕ} {m : Mark} (x : Mark) {s n : ℕ} → m.at < length v → x.place ≡ m.place
     → x.at ≡ m.at + 1 → AllowsLeft kind mode p v (crossing.Free m) s n
     → Allows kind mode p v x.place x.at (crossing.Free x) None (s + move kind) n
 allows_free_moved {kind} {mode} {p} {v} {m} x {s} {n} inside e f a = record { all = λ xs read. owes (a.all xs read) } where
@@ -487,7 +487,7 @@ allows_free_moved {kind} {mode} {p} {v} {m} x {s} {n} inside e f a = record { al
         local = tt;
       }
 
-pub free_stuck_counts : {kind : Counted} {mode : Mode} {p v : List ℕ} {m : Mark} {s n : ℕ} → AllowsLeft kind mode p v (crossing.Free m) s n
+pub free_stuck_counts : {kind : Kind} {mode : Mode} {p v : List ℕ} {m : Mark} {s n : ℕ} → AllowsLeft kind mode p v (crossing.Free m) s n
     → s + move kind ≤ n
 free_stuck_counts {kind} {mode} {p} {v} {m} {s} {n} a = settle_pieces mode p (s + move kind) n (λ xs read. owes (a.all xs read)) where
   owes : OwesLeft kind mode p v (crossing.Free m) s n → s + move kind ≤ n
@@ -496,7 +496,7 @@ free_stuck_counts {kind} {mode} {p} {v} {m} {s} {n} a = settle_pieces mode p (s 
       omega (arith, times_less (move kind) v m.at (m.at + 1) w.inside (omega arith), w.enough, o.enough)
 
 -- The mark of a double star moves to the next place after a slash, or cannot.
-pub allows_dirs_moved : {kind : Counted} {mode : Mode} {p v : List ℕ} {m x : Mark} {s n : ℕ} → IsNextDirectory v m x
+pub allows_dirs_moved : {kind : Kind} {mode : Mode} {p v : List ℕ} {m x : Mark} {s n : ℕ} → IsNextDirectory v m x
     → AllowsLeft kind mode p v (crossing.Dirs m) s n
     → Allows kind mode p v x.place x.at (crossing.Dirs x) None (s + move kind * (x.at - m.at)) n
 allows_dirs_moved {kind} {mode} {p} {v} {m} {x} {s} {n} moved a = record { all = λ xs read. owes (a.all xs read) } where
@@ -526,7 +526,7 @@ allows_dirs_moved {kind} {mode} {p} {v} {m} {x} {s} {n} moved a = record { all =
         local = tt;
       }
 
-pub dirs_stuck_counts : {kind : Counted} {mode : Mode} {p v : List ℕ} {m : Mark} {r s n : ℕ}
+pub dirs_stuck_counts : {kind : Kind} {mode : Mode} {p v : List ℕ} {m : Mark} {r s n : ℕ}
     → (m.at ≤ length v → r ≤ s + move kind * (length v + 1 - m.at)) → AllowsLeft kind mode p v (crossing.Dirs m) s n → r ≤ n
 dirs_stuck_counts {kind} {mode} {p} {v} {m} {r} {s} {n} taken a = settle_pieces mode p r n (λ xs read. owes (a.all xs read)) where
   owes : OwesLeft kind mode p v (crossing.Dirs m) s n → r ≤ n
@@ -536,17 +536,17 @@ dirs_stuck_counts {kind} {mode} {p} {v} {m} {r} {s} {n} taken a = settle_pieces 
       omega (arith, taken w.inside, w.enough, o.enough)
 
 -- the local mark, where it is known which it is
-pub known_local : {kind : Counted} {mode : Mode} {p v : List ℕ} {i j : ℕ} {c : Crossing} {k l : Option Mark} {s n : ℕ} → k ≡ l
+pub known_local : {kind : Kind} {mode : Mode} {p v : List ℕ} {i j : ℕ} {c : Crossing} {k l : Option Mark} {s n : ℕ} → k ≡ l
     → Missed kind mode p v i j c k s n → Missed kind mode p v i j c l s n
 known_local {kind} {mode} {p} {v} {i} {j} {c} {s = s} {n} same a = subst (λ (x : Option Mark). Missed kind mode p v i j c x s n) same a
 
 -- the crossing mark, where it is known which it is
-pub known_crossing : {kind : Counted} {mode : Mode} {p v : List ℕ} {c d : Crossing} {s n : ℕ} → c ≡ d → AllowsLeft kind mode p v c s n
+pub known_crossing : {kind : Kind} {mode : Mode} {p v : List ℕ} {c d : Crossing} {s n : ℕ} → c ≡ d → AllowsLeft kind mode p v c s n
     → AllowsLeft kind mode p v d s n
 known_crossing {kind} {mode} {p} {v} {s = s} {n} same a = subst (λ (x : Crossing). AllowsLeft kind mode p v x s n) same a
 
 -- the places, where it is known which they are
-pub known_places : {kind : Counted} {mode : Mode} {p v : List ℕ} {i j k e : ℕ} {c : Crossing} {l : Option Mark} {s n : ℕ} → k ≡ i → e ≡ j
+pub known_places : {kind : Kind} {mode : Mode} {p v : List ℕ} {i j k e : ℕ} {c : Crossing} {l : Option Mark} {s n : ℕ} → k ≡ i → e ≡ j
     → Allows kind mode p v i j c l s n → Allows kind mode p v k e c l s n
 known_places {kind} {mode} {p} {v} {i} {e = e} {c} {l} {s} {n} x y a =
     subst (λ (m : ℕ). Allows kind mode p v m e c l s n) (sym x) (subst (λ (m : ℕ). Allows kind mode p v i m c l s n) (sym y) a)

@@ -9,36 +9,36 @@ use Rattle.glob_matcher.specs.Private.Took.{Took}
 use Rattle.glob_matcher.specs.Private.Reader.{IsToken, shape_of, is_star}
 use Rattle.glob_matcher.specs.Private.Components.{ends, separates, next_component}
 use Rattle.glob_matcher.specs.Private.Pieces.{Piece, piece, PiecesFrom}
-use Rattle.glob_matcher.specs.Private.Prices.{Counted, Steps, Looks, amount, counted, for_star, move, test, each, trial, onward, left, cost, hop, stretch}
+use Rattle.glob_matcher.specs.Private.Prices.{Kind, Steps, Looks, amount, counted, for_star, move, test, each, trial, onward, left, cost, hop, stretch}
 use Rattle.glob_matcher.proofs.lemmas.reading.TokenLemmas.{TokenAt-unique, TokenAt-inside}
 use Rattle.glob_matcher.proofs.lemmas.reading.Existence.{settle, TokenAt-past}
 use Rattle.glob_matcher.proofs.lemmas.two_marks.Components.{next-inner, next_past, next_mono}
 
 -- so many steps, or so many looks
 
-pub amount_mono : (kind : Counted) {a b c d : ℕ} → a ≤ c → b ≤ d → amount kind a b ≤ amount kind c d
+pub amount_mono : (kind : Kind) {a b c d : ℕ} → a ≤ c → b ≤ d → amount kind a b ≤ amount kind c d
 unfolding amount
 amount_mono Steps low high = low
 amount_mono Looks low high = high
 
-pub amount_sum : (kind : Counted) (a b c d : ℕ) {e f : ℕ} → e ≤ a + c → f ≤ b + d → amount kind e f ≤ amount kind a b + amount kind c d
+pub amount_sum : (kind : Kind) (a b c d : ℕ) {e f : ℕ} → e ≤ a + c → f ≤ b + d → amount kind e f ≤ amount kind a b + amount kind c d
 unfolding amount
 amount_sum Steps a b c d steps looks = steps
 amount_sum Looks a b c d steps looks = looks
 
-pub amount_same : (kind : Counted) (n : ℕ) → amount kind n n ≡ n
+pub amount_same : (kind : Kind) (n : ℕ) → amount kind n n ≡ n
 unfolding amount
 amount_same Steps n = refl
 amount_same Looks n = refl
 
 -- what was taken is within a price
-pub took_within : (kind : Counted) {x y : Counts} (s a b : ℕ) {c d e f : ℕ} → counted kind x ≤ s + amount kind a b → Took x y c d
+pub took_within : (kind : Kind) {x y : Counts} (s a b : ℕ) {c d e f : ℕ} → counted kind x ≤ s + amount kind a b → Took x y c d
     → a + c ≤ e → b + d ≤ f → counted kind y ≤ s + amount kind e f
 unfolding counted amount
 took_within Steps s a b low t steps looks = omega (arith, t.steps)
 took_within Looks s a b low t steps looks = omega (arith, t.looks)
 
-pub rose : (kind : Counted) (x y : Counts) (a b : ℕ) → y.steps ≤ x.steps + a → y.looks ≤ x.looks + b
+pub rose : (kind : Kind) (x y : Counts) (a b : ℕ) → y.steps ≤ x.steps + a → y.looks ≤ x.looks + b
     → counted kind y ≤ counted kind x + amount kind a b
 unfolding counted amount
 rose Steps x y a b steps looks = steps
@@ -55,29 +55,29 @@ pub took_none : {x : Counts} → Took x x 0 0
 took_none = record { steps = omega arith; looks = omega arith }
 
 -- the price of a move, and of a scan after it
-pub move_some : (kind : Counted) → 1 ≤ move kind
+pub move_some : (kind : Kind) → 1 ≤ move kind
 unfolding move amount
 move_some Steps = omega arith
 move_some Looks = omega arith
 
-pub move_price : (kind : Counted) {x y : Counts} {a b : ℕ} → Took x y a b → a ≤ 1 → b ≤ 4 → counted kind y ≤ counted kind x + move kind
+pub move_price : (kind : Kind) {x y : Counts} {a b : ℕ} → Took x y a b → a ≤ 1 → b ≤ 4 → counted kind y ≤ counted kind x + move kind
 unfolding counted move amount
 move_price Steps t steps looks = omega (arith, t.steps)
 move_price Looks t steps looks = omega (arith, t.looks)
 
-pub moves_price : (kind : Counted) {x y : Counts} {n : ℕ} → Took x y n n → counted kind y ≤ counted kind x + move kind * n
+pub moves_price : (kind : Kind) {x y : Counts} {n : ℕ} → Took x y n n → counted kind y ≤ counted kind x + move kind * n
 unfolding counted move amount
 moves_price Steps t = omega (arith, t.steps)
 moves_price Looks t = omega (arith, t.looks)
 
-pub scan_price : (kind : Counted) {x y : Counts} {a b : ℕ} (n c d : ℕ) → Took x y a b → a ≤ 1 + n + c → b ≤ 4 + n + d
+pub scan_price : (kind : Kind) {x y : Counts} {a b : ℕ} (n c d : ℕ) → Took x y a b → a ≤ 1 + n + c → b ≤ 4 + n + d
     → counted kind y ≤ counted kind x + move kind + n + amount kind c d
 unfolding counted move amount
 scan_price Steps n c d t steps looks = omega (arith, t.steps)
 scan_price Looks n c d t steps looks = omega (arith, t.looks)
 
 -- a test and a move, where a scan ended in both
-pub move_over : (kind : Counted) → amount kind 2 5 ≡ 1 + move kind
+pub move_over : (kind : Kind) → amount kind 2 5 ≡ 1 + move kind
 unfolding move amount
 move_over Steps = refl
 move_over Looks = refl
@@ -97,35 +97,35 @@ for_a_star : (t : Token) (n : ℕ) → is_star (shape_of t) ≡ true → for_sta
 unfolding for_star
 for_a_star t n star = ap (λ (b : Bool). if b then n else 0) star
 
-pub each_of_star : (kind : Counted) (x : Piece) → is_star (shape_of x.token) ≡ true → each kind x ≡ test kind x + move kind
+pub each_of_star : (kind : Kind) (x : Piece) → is_star (shape_of x.token) ≡ true → each kind x ≡ test kind x + move kind
 unfolding each
 each_of_star kind x star = omega (arith, for_a_star x.token (move kind) star)
 
-pub test_each : (kind : Counted) (x : Piece) → test kind x ≤ each kind x
+pub test_each : (kind : Kind) (x : Piece) → test kind x ≤ each kind x
 unfolding each
 test_each kind x = omega arith
 
-test_some : (kind : Counted) (x : Piece) → 0 < x.width → 1 ≤ test kind x
+test_some : (kind : Kind) (x : Piece) → 0 < x.width → 1 ≤ test kind x
 unfolding test amount
 test_some Steps x some = omega arith
 test_some Looks x some = omega (arith, star_low x.token 4)
 
-each_high : (kind : Counted) (x : Piece) → 0 < x.width → each kind x ≤ amount kind 2 8 * x.width
+each_high : (kind : Kind) (x : Piece) → 0 < x.width → each kind x ≤ amount kind 2 8 * x.width
 unfolding each test move amount
 each_high Steps x some = omega (arith, star_low x.token 1)
 each_high Looks x some = omega (arith, star_low x.token 4)
 
-pub trial_is : (kind : Counted) (x : Piece) (xs : List Piece) → trial kind (x ∷ xs) ≡ test kind x
+pub trial_is : (kind : Kind) (x : Piece) (xs : List Piece) → trial kind (x ∷ xs) ≡ test kind x
 unfolding trial
 trial_is kind x xs = refl
 
 -- the test of a token that is no star, and of one that is
-pub test_one : (kind : Counted) {mode : Mode} {p : List ℕ} {i : ℕ} {shape : Shape} {k : ℕ} (x : IsToken mode p i shape k) → is_star shape ≡ false
+pub test_one : (kind : Kind) {mode : Mode} {p : List ℕ} {i : ℕ} {shape : Shape} {k : ℕ} (x : IsToken mode p i shape k) → is_star shape ≡ false
     → test kind (piece i x.token k) ≡ amount kind 1 (8 * (k - i))
 unfolding test
 test_one kind x one = ap (amount kind 1) (omega (arith, for_no_star x.token 4 (ap is_star (sym x.shown) ∙ one)))
 
-pub test_star : (kind : Counted) (i : ℕ) (t : Token) (k : ℕ) → is_star (shape_of t) ≡ true
+pub test_star : (kind : Kind) (i : ℕ) (t : Token) (k : ℕ) → is_star (shape_of t) ≡ true
     → test kind (piece i t k) ≡ amount kind 1 (8 * (k - i) - 4)
 unfolding test
 test_star kind i t k star = ap (amount kind 1) (omega (arith, for_a_star t 4 star))
@@ -135,7 +135,7 @@ test_star kind i t k star = ap (amount kind 1) (omega (arith, for_a_star t 4 sta
 width_some : (mode : Mode) (p : List ℕ) (i : ℕ) (x : Piece) → TokenAt mode p i x.token (i + x.width) → 0 < x.width
 width_some mode p i x here = omega (arith, TokenAt-past mode p i x.token (i + x.width) here)
 
-pub trial_some : (kind : Counted) (mode : Mode) (p : List ℕ) (i : ℕ) (xs : List Piece) → PiecesFrom mode p i xs → 1 ≤ trial kind xs
+pub trial_some : (kind : Kind) (mode : Mode) (p : List ℕ) (i : ℕ) (xs : List Piece) → PiecesFrom mode p i xs → 1 ≤ trial kind xs
 unfolding trial
 trial_some kind mode p i [] read = omega arith
 trial_some kind mode p i (x ∷ xs) read = test_some kind x (width_some mode p i x read.0)
@@ -197,12 +197,12 @@ apart_or_joined mode t = cases (separates mode t) where
   cases true = inl refl
   cases false = inr refl
 
-limit_high : (kind : Counted) (p v n : ℕ) → n ≤ (amount kind 2 8 * p + 1) * (v + 1) → n + amount kind 1 2 ≤ amount kind (step_limit p v) (look_limit p v)
+limit_high : (kind : Kind) (p v n : ℕ) → n ≤ (amount kind 2 8 * p + 1) * (v + 1) → n + amount kind 1 2 ≤ amount kind (step_limit p v) (look_limit p v)
 unfolding amount
 limit_high Steps p v n all = omega arith
 limit_high Looks p v n all = omega arith
 
-module _ (kind : Counted) (mode : Mode) (v : List ℕ) where
+module _ (kind : Kind) (mode : Mode) (v : List ℕ) where
   cost-cons : (x : Piece) (xs : List Piece) (j : ℕ)
       → cost kind mode v (x ∷ xs) j ≡ each kind x * left v j + cost kind mode v xs (onward mode v (separates mode x.token) j)
   unfolding cost

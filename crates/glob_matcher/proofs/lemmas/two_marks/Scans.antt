@@ -20,7 +20,7 @@ use Rattle.glob_matcher.specs.Private.Scans.{Follows, IsScan, Passed, reached_by
 use Rattle.glob_matcher.specs.Private.States.{IsMet, IsScanFor, Stands}
 use Rattle.glob_matcher.specs.Steps.{Counts}
 use Rattle.glob_matcher.specs.Private.Took.{Took}
-use Rattle.glob_matcher.specs.Private.Prices.{Counted, amount, move}
+use Rattle.glob_matcher.specs.Private.Prices.{Kind, amount, move}
 use Rattle.glob_matcher.specs.Private.Budget.{Allows, Missed}
 use Rattle.glob_matcher.proofs.lemmas.two_marks.Components.{inner}
 use Rattle.glob_matcher.proofs.lemmas.two_marks.States.{end_missed, free_moved, inner_of, left_without, literal_token, local_moved, mark_of, mark_eq, misses_byte, stands_on, stands_past_slash}
@@ -134,7 +134,7 @@ pub stands_free_skipped : {mode : Mode} {p v : List ℕ} {m : Mark} (x : Mark) �
 stands_free_skipped {m} x st same low inside missed =
     free_skips (x.at - m.at) x st same (omega arith) inside missed
 
-free_skips_counts : (d : ℕ) {kind : Counted} {mode : Mode} {p v : List ℕ} {m : Mark} (x : Mark) {s n : ℕ}
+free_skips_counts : (d : ℕ) {kind : Kind} {mode : Mode} {p v : List ℕ} {m : Mark} (x : Mark) {s n : ℕ}
     → Allows kind mode p v m.place m.at (crossing.Free m) None s n → x.place ≡ m.place → x.at ≡ m.at + d → x.at ≤ length v
     → Allows kind mode p v x.place x.at (crossing.Free x) None (s + 2 * d) n
 free_skips_counts zero {kind} {mode} {p} {v} {m} x {s} {n} a same far inside =
@@ -147,7 +147,7 @@ free_skips_counts (suc d) {kind} {m = m} x a same far inside =
     allows_less (omega (arith, move_some kind))
     (free_skips_counts d x (allows_free_moved next (omega arith) refl refl left) same (omega arith) inside)
 
-pub allows_free_skipped : {kind : Counted} {mode : Mode} {p v : List ℕ} {m : Mark} (x : Mark) {s n : ℕ}
+pub allows_free_skipped : {kind : Kind} {mode : Mode} {p v : List ℕ} {m : Mark} (x : Mark) {s n : ℕ}
     → Allows kind mode p v m.place m.at (crossing.Free m) None s n → x.place ≡ m.place → m.at ≤ x.at → x.at ≤ length v
     → Allows kind mode p v x.place x.at (crossing.Free x) None (s + 2 * (x.at - m.at)) n
 allows_free_skipped {m = m} x a same low inside = free_skips_counts (x.at - m.at) x a same (omega arith) inside
@@ -173,7 +173,7 @@ pub stands_local_skipped : {mode : Mode} {p v : List ℕ} {c : Crossing} {m : Ma
 stands_local_skipped {m} x st same low inside bare missed =
     local_skips (x.at - m.at) x st same (omega arith) inside bare missed
 
-local_skips_counts : (d : ℕ) {kind : Counted} {mode : Mode} {p v : List ℕ} {c : Crossing} {m : Mark} (x : Mark) {s n : ℕ}
+local_skips_counts : (d : ℕ) {kind : Kind} {mode : Mode} {p v : List ℕ} {c : Crossing} {m : Mark} (x : Mark) {s n : ℕ}
     → IsTrue (is_path mode) → Allows kind mode p v m.place m.at c (Some m) s n → x.place ≡ m.place → x.at ≡ m.at + d
     → x.at ≤ length v → NoSlash v m.at x.at → Allows kind mode p v x.place x.at c (Some x) (s + 2 * d) n
 local_skips_counts zero {kind} {mode} {p} {v} {c} {m} x {s} {n} path a same far inside bare =
@@ -188,7 +188,7 @@ local_skips_counts (suc d) {kind} {mode} {v = v} {m = m} x path a same far insid
     (allows_local_moved next (omega arith) within refl refl (allows_missed a)) same (omega arith) inside
     (record { at = λ k low below. bare.at k (omega arith) below }))
 
-pub allows_local_skipped : {kind : Counted} {mode : Mode} {p v : List ℕ} {c : Crossing} {m : Mark} (x : Mark) {s n : ℕ}
+pub allows_local_skipped : {kind : Kind} {mode : Mode} {p v : List ℕ} {c : Crossing} {m : Mark} (x : Mark) {s n : ℕ}
     → IsTrue (is_path mode) → Allows kind mode p v m.place m.at c (Some m) s n → x.place ≡ m.place → m.at ≤ x.at
     → x.at ≤ length v → NoSlash v m.at x.at → Allows kind mode p v x.place x.at c (Some x) (s + 2 * (x.at - m.at)) n
 allows_local_skipped {m = m} x path a same low inside bare =
@@ -210,10 +210,10 @@ free_found {mode} {p} {m} st met =
           stands_on st token refl met.2 met.3 (λ is. other (byte_of is))
     ]
 
-byte_price : (kind : Counted) (i s : ℕ) → s + amount kind 1 8 ≤ s + amount kind 1 (8 * (i + 1 - i))
+byte_price : (kind : Kind) (i s : ℕ) → s + amount kind 1 8 ≤ s + amount kind 1 (8 * (i + 1 - i))
 byte_price kind i s = let more : amount kind 1 8 ≤ amount kind 1 (8 * (i + 1 - i)) = amount_mono kind (omega arith) (omega arith) in omega arith
 
-pub free_found_counts : {kind : Counted} {mode : Mode} {p v : List ℕ} {m : Mark} {s n : ℕ}
+pub free_found_counts : {kind : Kind} {mode : Mode} {p v : List ℕ} {m : Mark} {s n : ℕ}
     → Allows kind mode p v m.place m.at (crossing.Free m) None s n → IsMet mode p v (scan.Found m)
     → Allows kind mode p v (m.place + 1) (m.at + 1) (crossing.Free m) None (s + amount kind 1 8) n
 free_found_counts {kind} {mode} {p} {m = m} {s} a met =
@@ -239,7 +239,7 @@ local_found {mode} {p} {v} {c} {m} st met k =
           (stands_on st token refl met.2 met.3 (λ is. other (byte_of is)))
     ]
 
-pub local_found_counts : {kind : Counted} {mode : Mode} {p v : List ℕ} {c : Crossing} {m : Mark} {l : Option Mark} {s n : ℕ}
+pub local_found_counts : {kind : Kind} {mode : Mode} {p v : List ℕ} {c : Crossing} {m : Mark} {l : Option Mark} {s n : ℕ}
     → Stands mode p v m.place m.at c (Some m) → Allows kind mode p v m.place m.at c (Some m) s n → IsMet mode p v (scan.Found m)
     → IsKept p m l → Allows kind mode p v (m.place + 1) (m.at + 1) c l (s + amount kind 1 8) n
 local_found_counts {kind} {mode} {p} {v} {c} {m} {l} {s} {n} st a met k =
@@ -296,7 +296,7 @@ local_scanned {x = x} {s} st miss inside other same at so bare =
     stands_local_skipped (reached_by s) (local_moved x st miss inside other same at) so.same so.low
     so.inside bare so.missed
 
-pub local_scanned_counts : {kind : Counted} {mode : Mode} {p v : List ℕ} {i j : ℕ} {c : Crossing} {m x : Mark} {s : Scan} {before after : Counts} {w n : ℕ}
+pub local_scanned_counts : {kind : Kind} {mode : Mode} {p v : List ℕ} {i j : ℕ} {c : Crossing} {m x : Mark} {s : Scan} {before after : Counts} {w n : ℕ}
     → Stands mode p v i j c (Some m) → m.at < length v → get_or v m.at 0 ≢ slash → x.place ≡ m.place → x.at ≡ m.at + 1
     → IsScanFor mode p v x s before after → NoSlash v x.at (reached_by s).at → Missed kind mode p v i j c (Some m) w n
     → Allows kind mode p v (reached_by s).place (reached_by s).at c (Some (reached_by s))

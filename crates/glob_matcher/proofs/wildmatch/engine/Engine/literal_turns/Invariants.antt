@@ -2,14 +2,14 @@
 use Rattle.std.proofs.Common.{ℕ, ◌+◌, ◌-◌, ◌*◌, ◌≤◌, length}
 use Rattle.glob_matcher.specs.Private.Took.{Took}
 use Rattle.glob_matcher.specs.Private.States.{Stands}
-use Rattle.glob_matcher.specs.Private.Prices.{Counted, amount}
+use Rattle.glob_matcher.specs.Private.Prices.{Kind, amount}
 use Rattle.glob_matcher.specs.Private.Budget.{Allows, AllowsAt}
 use Rattle.glob_matcher.proofs.wildmatch.engine.Engine.literal_turns.Given as goal
 
 abbrev pub invariant-bytes : goal.invariant-bytes
 invariant-bytes g l = record {
   stands : Stands g.M.Match.mode g.M.Match.pattern g.M.Match.value l.place l.at l.state.crossing l.state.local;
-  allows : (kind : Counted) (s n : ℕ) → AllowsAt kind g.M.Match.mode g.M.Match.pattern g.M.Match.value l.state s n
+  allows : (kind : Kind) (s n : ℕ) → AllowsAt kind g.M.Match.mode g.M.Match.pattern g.M.Match.value l.state s n
       → Allows kind g.M.Match.mode g.M.Match.pattern g.M.Match.value l.place l.at l.state.crossing l.state.local
       (s + amount kind (l.place - l.fn.state.place) (8 * (l.place - l.fn.state.place))) n;
   low : l.fn.state.place ≤ l.place;

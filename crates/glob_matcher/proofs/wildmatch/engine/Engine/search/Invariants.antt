@@ -2,7 +2,7 @@
 use Rattle.std.proofs.Common.{◌+◌, ◌-◌, length}
 use Rattle.glob_matcher.specs.Steps.{step_limit, look_limit}
 use Rattle.glob_matcher.specs.Private.States.{StandsAt}
-use Rattle.glob_matcher.specs.Private.Prices.{Counted, amount, counted}
+use Rattle.glob_matcher.specs.Private.Prices.{Kind, amount, counted}
 use Rattle.glob_matcher.specs.Private.Budget.{AllowsAt}
 use Rattle.glob_matcher.proofs.wildmatch.engine.Engine.search.Given as goal
 
