@@ -9,7 +9,7 @@ use Rattle.glob_matcher.proofs.wildmatch.engine.Engine.search.Given as goal
 abbrev pub invariant-turns : goal.invariant-turns
 invariant-turns g l = record {
   stands : StandsAt g.M.Match.mode g.M.Match.pattern g.M.Match.value l.state;
-  allows : (kind : Counted) → AllowsAt kind g.M.Match.mode g.M.Match.pattern g.M.Match.value l.state (counted kind l.self)
+  allows : (kind : Kind) → AllowsAt kind g.M.Match.mode g.M.Match.pattern g.M.Match.value l.state (counted kind l.self)
       (counted kind l.fn.self + amount kind (step_limit (length g.M.Match.pattern) (length g.M.Match.value) - 1) (look_limit (length g.M.Match.pattern) (length g.M.Match.value) - 2));
 }
 
