@@ -10,7 +10,7 @@ use Rattle.glob_matcher.specs.declared.wildmatch.state.Crossing.TheVariants as c
 use Rattle.glob_matcher.specs.Bytes.{HasByte, NoSlash, StandsForItself, backslash, close_bracket, is_path, open_bracket, question_mark, slash, star}
 use Rattle.glob_matcher.specs.Tokens.{Token, Byte, Any, OneOf, Free, Local, Dirs, Nothing, TokenAt, IsRun, IsAfterSlash, IsBeforeSlash}
 use Rattle.glob_matcher.specs.Matching.{Splits, SplitsFrom}
-use Rattle.glob_matcher.specs.Private.Reader.{IsToken, Fits, AfterSlash, is_star, shape_of}
+use Rattle.glob_matcher.specs.Private.Reader.{IsToken, Fits, AfterSlash, is_star}
 use Rattle.glob_matcher.specs.Private.Components.{ends, separates, next_component}
 use Rattle.glob_matcher.specs.Private.States.{LaterFree, LaterDirs, LaterLocal, LaterCrossing, LaterWithin, Ahead, Far, Near, FreeKnown, LocalKnown, WithinKnown, Stands, IsLeft, IsNextDirectory}
 use Rattle.glob_matcher.proofs.lemmas.reading.SetLemmas.{HasByte-unique, two_bytes}

@@ -1,4 +1,4 @@
-use Rattle.std.proofs.Common.{◌≡◌, ◌-◌, true, inr, length, refl, arith}
+use Rattle.std.proofs.Common.{◌≡◌, true, inr, length, refl, arith}
 use Rattle.glob_matcher.specs.declared.wildmatch.tokens.Shape.TheVariants as shape
 use Rattle.glob_matcher.specs.Tokens.{OneOf, Nothing}
 use Rattle.glob_matcher.specs.Private.Reader.{IsToken}

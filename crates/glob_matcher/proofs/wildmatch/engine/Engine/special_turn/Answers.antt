@@ -1,4 +1,4 @@
-use Rattle.std.proofs.Common.{◌-◌, ap, arith}
+use Rattle.std.proofs.Common.{ap, arith}
 use Rattle.glob_matcher.specs.Private.Reader.{is_star}
 use Rattle.glob_matcher.proofs.lemmas.reading.Shapes.{is_free, is_local, is_dirs, is_nothing, no_set}
 use Rattle.glob_matcher.proofs.lemmas.two_marks.States.{nothing_met}
