@@ -105,10 +105,11 @@ impl<S: Ledger, L: Ledger> Counts<S, L> {
         self.looks.add(1);
     }
 
-    /// Counts looks at so many bytes.
+    /// Counts looks at so many bytes. A caller who decides a match without the matcher counts so what it reads.
     #[inline(always)]
-    pub(super) fn looks(&mut self, count: usize)
-        ensures { Counted self.old self.new 0 count }
+    pub fn looks(&mut self, count: usize)
+        ensures steps { self.new.steps ≡ self.old.steps }
+        ensures looks { self.new.looks ≡ self.old.looks + count }
     {
         self.looks.add(count);
     }

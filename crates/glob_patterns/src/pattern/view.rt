@@ -1,8 +1,9 @@
 //! A pattern whose text is borrowed: the parts of a line that was read, without a copy of its text.
-ghost use Rattle.std.specs.Prelude.{◌≡◌, ◌↔◌, drop, take, true, IsTrue, MatchOption, IfSome};
+ghost use Rattle.std.specs.Prelude.{◌≡◌, ◌↔◌, ◌+◌, ◌<◌, ◌≤◌, drop, length, take, true, IsTrue, MatchOption, IfSome};
 ghost use Rattle.std.specs.Option.{ForSome};
 ghost use Rattle.glob_matcher.specs.Bytes.{HasByte, slash};
 ghost use Rattle.glob_matcher.specs.Matching.{Splits};
+ghost use Rattle.glob_matcher.specs.Steps.{pattern_look_limit, step_limit};
 ghost use Rattle.glob_patterns.specs.Patterns.{HasReading, IsPattern, Reads};
 ghost use Rattle.glob_patterns.specs.RepositoryPaths.{Answers, IsAfterLastSlash, subject};
 
@@ -12,6 +13,9 @@ use super::{Case, Mode};
 use crate::parse;
 use bitflags::Flags;
 use glob_matcher::wildmatch;
+use glob_matcher::wildmatch::Counts;
+use std::marker::Brand;
+use std::sync::ledger::{Blank, Ledger};
 
 /// The parts of a pattern, its text borrowed: what `parse::pattern` answers. Nothing is allocated to match with it.
 ///
@@ -69,20 +73,61 @@ impl<'a> PatternView<'a> {
         ensures { IsPattern self.entry.text.now self.entry.mode self.entry.first_wildcard_pos →
             IsTrue result ↔ Splits value.now self.entry.text.now mode }
     {
+        self.matches_with_new_counts::<Brand, Brand>(value, mode, Blank::new(1), Blank::new(1))
+    }
+
+    /// Whether the text matches the value, with new counts that no one asks for.
+    #[inline(always)]
+    fn matches_with_new_counts<S: Ledger, L: Ledger>(
+        self,
+        value: &[u8],
+        mode: wildmatch::Mode,
+        steps: Blank,
+        looks: Blank,
+    ) -> bool
+        requires steps_name { steps.name ≡ S.name }
+        requires steps_parts { steps.parts ≡ S.parts }
+        requires steps_some { 0 < steps.parts }
+        requires looks_name { looks.name ≡ L.name }
+        requires looks_parts { looks.parts ≡ L.parts }
+        requires looks_some { 0 < looks.parts }
+        ensures { IsPattern self.entry.text.now self.entry.mode self.entry.first_wildcard_pos →
+            IsTrue result ↔ Splits value.now self.entry.text.now mode }
+    {
+        self.matches_with_counts(value, mode, &mut Counts::<S, L>::new(steps, looks))
+    }
+
+    /// Whether the text matches the value, as [`PatternView::matches`] answers it, with its steps and looks counted.
+    ///
+    /// The count of steps rises by at most `2 * (p + 1) * (v + 1)`, and that of looks by at most `10 * (p + 1) * (v + 1)`, `p` and
+    /// `v` being the lengths in bytes of text and value. What a shortcut compares counts whole, also where it stops sooner.
+    #[inline(always)]
+    pub fn matches_with_counts<S: Ledger, L: Ledger>(
+        self,
+        value: &[u8],
+        mode: wildmatch::Mode,
+        counts: &mut Counts<S, L>,
+    ) -> bool
+        ensures exact { IsPattern self.entry.text.now self.entry.mode self.entry.first_wildcard_pos →
+            IsTrue result ↔ Splits value.now self.entry.text.now mode }
+        ensures steps { counts.new.steps ≤ counts.old.steps + step_limit (length self.entry.text.now) (length value.now) }
+        ensures looks { counts.new.looks
+            ≤ counts.old.looks + pattern_look_limit (length self.entry.text.now) (length value.now) }
+    {
         let Some(pos) = self.first_wildcard_pos else {
-            return are_alike(self.text, value, mode);
+            return are_alike(self.text, value, mode, counts);
         };
         if self.mode.contains(Mode::ENDS_WITH) {
-            if !ends_alike(past_star(self.text), value, mode) {
+            if !ends_alike(past_star(self.text), value, mode, counts) {
                 return false;
             }
-            if is_one_component(value, mode) {
+            if is_one_component(value, mode, counts) {
                 return true;
             }
-        } else if !begins_alike(front(self.text, pos), value, mode) {
+        } else if !begins_alike(front(self.text, pos), value, mode, counts) {
             return false;
         }
-        wildmatch::wildmatch(self.text, value, mode)
+        wildmatch::marked(self.text, value, mode, counts)
     }
 
     /// Whether a path of a repository matches, as [`super::Pattern::matches_repo_relative_path`] answers.
