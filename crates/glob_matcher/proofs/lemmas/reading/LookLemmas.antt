@@ -12,12 +12,6 @@ use Rattle.glob_matcher.specs.Private.Reader.{IsEntry, after_item, at_first}
 use Rattle.glob_matcher.specs.Private.Took.{Took}
 use Rattle.glob_matcher.proofs.lemmas.reading.Walks.{IsUnderway, underway_first, underway_next}
 
-pub known_on : (text : List ℕ) (i j : ℕ) (known : Option ℕ) → i ≤ j → IsKnown text i known → IsKnown text j known
-known_on text i j None low is = tt
-known_on text i j (Some k) low is = λ ahead.
-    let first = is (omega arith) in
-    record { low = ahead; here = first.here; before = λ m far here. first.before m (omega arith) here }
-
 pub searched_on : (known : Option ℕ) (i j : ℕ) → i ≤ j → searched known i ≤ searched known j
 searched_on None i j low = low
 searched_on (Some k) i j low = omega arith

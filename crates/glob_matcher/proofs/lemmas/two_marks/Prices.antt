@@ -38,12 +38,6 @@ unfolding counted amount
 took_within Steps s a b low t steps looks = omega (arith, t.steps)
 took_within Looks s a b low t steps looks = omega (arith, t.looks)
 
-pub rose : (kind : Kind) (x y : Counts) (a b : ℕ) → y.steps ≤ x.steps + a → y.looks ≤ x.looks + b
-    → counted kind y ≤ counted kind x + amount kind a b
-unfolding counted amount
-rose Steps x y a b steps looks = steps
-rose Looks x y a b steps looks = looks
-
 -- what was taken, one after the other
 pub took_both : {x y z : Counts} {a b c d : ℕ} → Took x y a b → Took y z c d → Took x z (a + c) (b + d)
 took_both t u = record { steps = omega (arith, t.steps, u.steps); looks = omega (arith, t.looks, u.looks) }

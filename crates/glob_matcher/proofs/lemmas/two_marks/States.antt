@@ -7,7 +7,7 @@ use Rattle.glob_matcher.specs.declared.wildmatch.tokens.Shape.TheVariants as sha
 use Rattle.glob_matcher.specs.declared.wildmatch.engine.Mark.{Mark}
 use Rattle.glob_matcher.specs.declared.wildmatch.state.Crossing.{Crossing}
 use Rattle.glob_matcher.specs.declared.wildmatch.state.Crossing.TheVariants as crossing
-use Rattle.glob_matcher.specs.Bytes.{HasByte, NoSlash, StandsForItself, backslash, close_bracket, is_path, open_bracket, question_mark, slash, star}
+use Rattle.glob_matcher.specs.Bytes.{HasByte, NoSlash, StandsForItself, close_bracket, is_path, question_mark, slash, star}
 use Rattle.glob_matcher.specs.Tokens.{Token, Byte, Any, OneOf, Free, Local, Dirs, Nothing, TokenAt, IsRun, IsAfterSlash, IsBeforeSlash}
 use Rattle.glob_matcher.specs.Matching.{Splits, SplitsFrom}
 use Rattle.glob_matcher.specs.Private.Reader.{IsToken, Fits, AfterSlash, is_star}

@@ -1,4 +1,4 @@
-use Rattle.std.proofs.Common.{◌≡◌, ◌≢◌, ◌⊎◌, ◌+◌, ◌-◌, ◌≤◌, inl, inr, length, refl, arith, rules}
+use Rattle.std.proofs.Common.{◌≡◌, ◌≢◌, ◌⊎◌, ◌+◌, ◌≤◌, inl, inr, length, refl, arith, rules}
 use Rattle.glob_matcher.specs.declared.wildmatch.pruned.Answer.{Answer}
 use Rattle.glob_matcher.specs.declared.wildmatch.pruned.Answer.TheVariants.{Match, NoMatch, AbortToStarStar}
 use Rattle.glob_matcher.specs.Pruning.{IsStart}
