@@ -240,6 +240,20 @@ impl<'c, 'a, S: Ledger, L: Ledger, M: Match> Engine<'c, 'a, S, L, M> {
         Some(self.value[at])
     }
 
+    /// Reads the set whose bracket stands at a place of the pattern by an engine of its own, so that this one may stay in
+    /// registers: the place after it, and whether it holds a byte. `None` where no set begins.
+    #[inline(always)]
+    fn set_apart(&mut self, place: usize, byte: u8) -> Option<(usize, bool)>
+        requires { HasByte M.pattern place open_bracket }
+        ensures found { IfSome result (λ found. (set : Set) × SetAt M.pattern place set found.0 × (found.1 ≡ set_holds M.mode set byte)) }
+        ensures inside { IfSome result (λ found. (place < found.0) × (found.0 ≤ length M.pattern)) }
+        ensures none { IfNone result ((set : Set) (end : ℕ) → ¬ SetAt M.pattern place set end) }
+        ensures count { IfSome result (λ found. LookedOver 4 self.old self.new place found.0) }
+        ensures broken { IfNone result (LookedOver 4 self.old self.new place (length M.pattern)) }
+    {
+        read_set::<S, L, Brand>(self.pattern, place, byte, self.mode, &mut *self.counts).0
+    }
+
     /// Tests the set whose bracket stands at a place of the pattern: the place after it, and whether it takes the byte of the
     /// value. Where the value ends, any byte will do. `None` where no set begins, which is no step.
     #[inline(always)]
@@ -251,7 +265,7 @@ impl<'c, 'a, S: Ledger, L: Ledger, M: Match> Engine<'c, 'a, S, L, M> {
         ensures broken { IfNone result (IsSetPaid 0 self.old self.new place (length M.pattern)) }
     {
         let byte = self.value_at(at);
-        let Some((end, holds)) = self.set_at(place, byte.unwrap_or(0)) else {
+        let Some((end, holds)) = self.set_apart(place, byte.unwrap_or(0)) else {
             return None;
         };
         self.counts.step();
@@ -470,8 +484,9 @@ pub fn read_token<'c, 'a, S: Ledger, L: Ledger, M: Match>(
 }
 
 /// The set whose bracket stands at a place of the pattern, by an engine that reads no value: the place after it, and whether
-/// it holds a byte, `None` where no set begins; and the counts.
-#[inline(always)]
+/// it holds a byte, `None` where no set begins; and the counts. It is not inlined, and takes the parts of an engine, not one by
+/// reference, so that a search keeps its own in registers.
+#[inline(never)]
 pub fn read_set<'c, 'a, S: Ledger, L: Ledger, M: Match>(
     pattern: &'a [u8],
     place: usize,
@@ -485,7 +500,11 @@ pub fn read_set<'c, 'a, S: Ledger, L: Ledger, M: Match>(
     requires counts { counts.ghost_name ≡ M.counts }
     requires bracket { HasByte pattern.now place open_bracket }
     ensures found { IfSome result.0 (λ found. (set : Set) × SetAt pattern.now place set found.0 × (found.1 ≡ set_holds mode set byte)) }
+    ensures inside { IfSome result.0 (λ found. (place < found.0) × (found.0 ≤ length pattern.now)) }
     ensures none { IfNone result.0 ((set : Set) (end : ℕ) → ¬ SetAt pattern.now place set end) }
+    ensures same { result.1.ghost_name ≡ counts.entry.ghost_name }
+    ensures count { IfSome result.0 (λ found. LookedOver 4 counts.old result.1.now place found.0) }
+    ensures broken { IfNone result.0 (LookedOver 4 counts.old result.1.now place (length pattern.now)) }
 {
     let mut engine = Engine::<'c, 'a, S, L, M> {
         pattern,

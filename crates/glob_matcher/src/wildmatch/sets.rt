@@ -502,7 +502,7 @@ impl<'c, 'a, S: Ledger, L: Ledger, M: Match> Engine<'c, 'a, S, L, M> {
 
     /// The set whose bracket stands at this place: the place after it, and whether it holds a byte. `None` where no set
     /// begins.
-    #[inline(never)]
+    #[inline(always)]
     pub fn set_at(&mut self, place: usize, byte: u8) -> Option<(usize, bool)>
         requires { HasByte M.pattern place open_bracket }
         ensures found { IfSome result (λ found. (set : Set) × SetAt M.pattern place set found.0 × (found.1 ≡ held_by M.mode set byte)) }
