@@ -1,9 +1,9 @@
 //! One match as the engine with two marks sees it: its pattern, its value, its mode and the counts of what it takes, as one
 //! value.
 //!
-//! The bytes of the value are read by the methods of this module alone, and each that reads one counts one step and one look.
-//! So no other module can read the value without a step, or count in another place. `holds` looks at the length alone, and
-//! counts none.
+//! The bytes of both texts are read by the methods of this module alone: each counts a look for a byte that it reads and, for
+//! one of the value, a step. So no other module can read a byte without a count, or count in another place. `holds` looks at
+//! the length alone, and counts none.
 ghost use Rattle.std.specs.Prelude.{◌≡◌, ◌≢◌, ◌↔◌, ◌⊎◌, ℕ, ◌+◌, ◌-◌, ◌^◌, ◌<◌, ◌≤◌, IsTrue, IfSome, IfNone, length, slice_index, slice_range, take};
 ghost use Rattle.glob_matcher.specs.declared.wildmatch.sets.Class.{Class};
 ghost use Rattle.glob_matcher.specs.Bytes.{HasByte, folds, is_path, open_bracket, slash};
