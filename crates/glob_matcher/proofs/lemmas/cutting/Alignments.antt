@@ -9,7 +9,7 @@ use Rattle.glob_matcher.specs.Private.Reader.{Fits}
 use Rattle.glob_matcher.specs.Pruning.{IsStart, TakeOneByte, EndsShort, star_count}
 use Rattle.glob_matcher.proofs.lemmas.reading.TokenLemmas.{TokenAt-unique, TokenAt-inside}
 use Rattle.glob_matcher.proofs.lemmas.cutting.CutLemmas.{IsOne, one_byte_in, one_byte_out, lang_is_one, one_is_lang, one_in, one_out}
-use Rattle.glob_matcher.proofs.lemmas.cutting.SplitLemmas.{IsStarToken, IsOtherToken, kind_of}
+use Rattle.glob_matcher.proofs.lemmas.cutting.SplitLemmas.{IsStarToken, IsOtherToken, star_or_other}
 use Rattle.glob_matcher.proofs.lemmas.cutting.SlashLemmas.{fold_slash, only_slash, ends_in_slash_byte}
 use Rattle.glob_matcher.proofs.lemmas.reading.Starts.{start_next}
 
@@ -51,7 +51,7 @@ one_count Nothing ts one = absurd one
 
 -- a token of one byte doesn't begin with a star
 pub one_no_star : (mode : Mode) (p : List ℕ) (i : ℕ) (t : Token) (j : ℕ) → IsOne t → TokenAt mode p i t j → ¬ HasByte p i star
-one_no_star mode p i t j one here h = by (kind_of mode p i t j here) where
+one_no_star mode p i t j one here h = by (star_or_other mode p i t j here) where
   by : IsStarToken p i t j ⊎ IsOtherToken p i t j → ⊥
   by (inl x) =
       let more : star_count (t ∷ []) ≡ star_count [] + 1 = x.counts [] in

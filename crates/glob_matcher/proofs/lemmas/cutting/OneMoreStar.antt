@@ -11,7 +11,7 @@ use Rattle.glob_matcher.specs.Pruning.{HasStars, IsBoundary, star_count}
 use Rattle.glob_matcher.proofs.lemmas.reading.SetLemmas.{HasByte-unique}
 use Rattle.glob_matcher.proofs.lemmas.reading.TokenLemmas.{TokenAt-unique, TokenAt-inside, run_lead}
 use Rattle.glob_matcher.proofs.lemmas.reading.Existence.{From-short}
-use Rattle.glob_matcher.proofs.lemmas.cutting.SplitLemmas.{IsStarToken, IsOtherToken, kind_of, slash_token}
+use Rattle.glob_matcher.proofs.lemmas.cutting.SplitLemmas.{IsStarToken, IsOtherToken, star_or_other, slash_token}
 use Rattle.glob_matcher.proofs.lemmas.reading.ForwardReading.{Alike, alike_flip, from_alike, spells_alike}
 
 -- ---- the bytes
@@ -180,7 +180,7 @@ record PlainReading (mode : Mode) (p : List ℕ) (i n : ℕ) : Type 0 where
 plain_reading : (m mode : Mode) (p : List ℕ) (i : ℕ) (ts : List Token) → is_path mode ≡ false → From m p i ts
     → PlainReading mode p i (star_count ts)
 plain_reading m mode p i [] plain e = record { tokens = []; read = e; counted = refl }
-plain_reading m mode p i (t ∷ ts) plain e = by (plain_reading m mode p e.0 ts plain e.2) (kind_of m p i t e.0 e.1) where
+plain_reading m mode p i (t ∷ ts) plain e = by (plain_reading m mode p e.0 ts plain e.2) (star_or_other m p i t e.0 e.1) where
   free : (stop : ℕ) → IsRun p i stop → TokenAt mode p i Free stop
   free stop run = record { run = run; bounded = λ path. cc }
 

@@ -66,17 +66,17 @@ broken_no_star : (p : List ℕ) (i : ℕ) → IsBroken p i → ¬ HasByte p i st
 broken_no_star p i (inl e) h = two_bytes p i backslash star e.0 h (λ is. omega arith)
 broken_no_star p i (inr e) h = two_bytes p i open_bracket star e.0 h (λ is. omega arith)
 
-pub kind_of : (mode : Mode) (p : List ℕ) (i : ℕ) (t : Token) (j : ℕ) → TokenAt mode p i t j
+pub star_or_other : (mode : Mode) (p : List ℕ) (i : ℕ) (t : Token) (j : ℕ) → TokenAt mode p i t j
     → IsStarToken p i t j ⊎ IsOtherToken p i t j
-kind_of mode p i (Byte b) j e = inr (record { alike = λ m. e; counts = λ ts. refl; no_star = byte_no_star p i b j e })
-kind_of mode p i Any j e =
+star_or_other mode p i (Byte b) j e = inr (record { alike = λ m. e; counts = λ ts. refl; no_star = byte_no_star p i b j e })
+star_or_other mode p i Any j e =
     inr (record { alike = λ m. e; counts = λ ts. refl; no_star = λ h. two_bytes p i question_mark star e.0 h (λ is. omega arith) })
-kind_of mode p i (OneOf s) j e =
+star_or_other mode p i (OneOf s) j e =
     inr (record { alike = λ m. e; counts = λ ts. refl; no_star = λ h. two_bytes p i open_bracket star e.bracket h (λ is. omega arith) })
-kind_of mode p i Free j e = inl (record { stop = j; run = e.run; after = inl refl; counts = λ ts. refl })
-kind_of mode p i Local j e = inl (record { stop = j; run = e.run; after = inl refl; counts = λ ts. refl })
-kind_of mode p i Dirs j e = inl (record { stop = e.at; run = e.run; after = inr (e.slash, e.after); counts = λ ts. refl })
-kind_of mode p i Nothing j e =
+star_or_other mode p i Free j e = inl (record { stop = j; run = e.run; after = inl refl; counts = λ ts. refl })
+star_or_other mode p i Local j e = inl (record { stop = j; run = e.run; after = inl refl; counts = λ ts. refl })
+star_or_other mode p i Dirs j e = inl (record { stop = e.at; run = e.run; after = inr (e.slash, e.after); counts = λ ts. refl })
+star_or_other mode p i Nothing j e =
     inr (record { alike = λ m. e; counts = λ ts. refl; no_star = broken_no_star p i e.0 })
 
 -- a bare slash is a token of its own
@@ -134,7 +134,7 @@ module _ (m n : Mode) (p : List ℕ) where
   agree bound i (t ∷ ts) [] few x y = let inside = TokenAt-inside m p i t x.0 x.1 in absurd (omega arith)
   agree zero i (t ∷ ts) (u ∷ us) few x y = absurd (omega arith)
   agree (suc bound) i (t ∷ ts) (u ∷ us) few x y =
-      step bound i x.0 y.0 t u ts us (agree bound) (omega arith) (kind_of m p i t x.0 x.1) (kind_of n p i u y.0 y.1) y.1 x.2 y.2
+      step bound i x.0 y.0 t u ts us (agree bound) (omega arith) (star_or_other m p i t x.0 x.1) (star_or_other n p i u y.0 y.1) y.1 x.2 y.2
 
 pub star_count_alike : (m n : Mode) (p : List ℕ) (i : ℕ) (ts us : List Token) → From m p i ts → From n p i us
     → star_count ts ≡ star_count us

@@ -46,22 +46,22 @@ pub record FirstToken (mode : Mode) (p : List ℕ) (i : ℕ) (wanted : Option �
   pub token : Token
   pub after : ℕ
   pub here : TokenAt mode p i token after
-  pub kind : IsOne token ⊎ (token ≡ Nothing)
+  pub one_or_nothing : IsOne token ⊎ (token ≡ Nothing)
   pub asks : (b : ℕ) → wanted ≡ Some b → token ≡ Byte b
 
 first_token_by : (mode : Mode) (p : List ℕ) (i : ℕ) (wanted : Option ℕ) (t : Token) (j : ℕ) → ¬ HasByte p i star → TokenAt mode p i t j
     → wanted ≡ literal_of (shape_of t) → FirstToken mode p i wanted
 first_token_by mode p i wanted (Byte b) j bare here is =
-    record { token = Byte b; after = j; here = here; kind = inl tt; asks = λ c e. let same : Some b ≡ Some c = sym is ∙ e in cc }
+    record { token = Byte b; after = j; here = here; one_or_nothing = inl tt; asks = λ c e. let same : Some b ≡ Some c = sym is ∙ e in cc }
 first_token_by mode p i wanted Any j bare here is =
-    record { token = Any; after = j; here = here; kind = inl tt; asks = λ c e. let same : None ≡ Some c = sym is ∙ e in cc }
+    record { token = Any; after = j; here = here; one_or_nothing = inl tt; asks = λ c e. let same : None ≡ Some c = sym is ∙ e in cc }
 first_token_by mode p i wanted (OneOf s) j bare here is =
-    record { token = OneOf s; after = j; here = here; kind = inl tt; asks = λ c e. let same : None ≡ Some c = sym is ∙ e in cc }
+    record { token = OneOf s; after = j; here = here; one_or_nothing = inl tt; asks = λ c e. let same : None ≡ Some c = sym is ∙ e in cc }
 first_token_by mode p i wanted Free j bare here is = absurd (bare (run_lead p i j here.run))
 first_token_by mode p i wanted Local j bare here is = absurd (bare (run_lead p i j here.run))
 first_token_by mode p i wanted Dirs j bare here is = absurd (bare (run_lead p i here.at here.run))
 first_token_by mode p i wanted Nothing j bare here is =
-    record { token = Nothing; after = j; here = here; kind = inr refl; asks = λ c e. let same : None ≡ Some c = sym is ∙ e in cc }
+    record { token = Nothing; after = j; here = here; one_or_nothing = inr refl; asks = λ c e. let same : None ≡ Some c = sym is ∙ e in cc }
 
 pub first_token : {mode : Mode} {p : List ℕ} {i j : ℕ} {wanted : Option ℕ} {s : Shape} → ¬ HasByte p i star → IsToken mode p i s j
     → wanted ≡ literal_of s → FirstToken mode p i wanted
@@ -82,7 +82,7 @@ module _ {mode : Mode} {p v : List ℕ} {i : ℕ} {wanted : Option ℕ} where
   -- no split begins at the value's end
   pub not_at_end : (k : ℕ) → FirstToken mode p i wanted → k ≡ length v
       → ¬ SplitsFrom v k p i mode
-  not_at_end k x all s = by x.kind where
+  not_at_end k x all s = by x.one_or_nothing where
     by : IsOne x.token ⊎ (x.token ≡ Nothing) → ⊥
     by (inl one) =
         let out = one_out mode p v i x.after k x.token one x.here s in

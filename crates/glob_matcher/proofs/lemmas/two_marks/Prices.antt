@@ -9,31 +9,31 @@ use Rattle.glob_matcher.specs.Private.Took.{Took}
 use Rattle.glob_matcher.specs.Private.Reader.{IsToken, shape_of, is_star}
 use Rattle.glob_matcher.specs.Private.Components.{ends, separates, next_component}
 use Rattle.glob_matcher.specs.Private.Pieces.{Piece, piece, PiecesFrom}
-use Rattle.glob_matcher.specs.Private.Prices.{Kind, Steps, Looks, amount, counted, for_star, move, test, each, trial, onward, left, cost, hop, stretch}
+use Rattle.glob_matcher.specs.Private.Prices.{Measure, Steps, Looks, amount, counted, for_star, move, test, each, trial, onward, left, cost, hop, stretch}
 use Rattle.glob_matcher.proofs.lemmas.reading.TokenLemmas.{TokenAt-unique, TokenAt-inside}
 use Rattle.glob_matcher.proofs.lemmas.reading.Existence.{settle, TokenAt-past}
 use Rattle.glob_matcher.proofs.lemmas.two_marks.Components.{next-inner, next_past, next_mono}
 
 -- so many steps, or so many looks
 
-pub amount_mono : (kind : Kind) {a b c d : ℕ} → a ≤ c → b ≤ d → amount kind a b ≤ amount kind c d
+pub amount_mono : (measure : Measure) {a b c d : ℕ} → a ≤ c → b ≤ d → amount measure a b ≤ amount measure c d
 unfolding amount
 amount_mono Steps low high = low
 amount_mono Looks low high = high
 
-pub amount_sum : (kind : Kind) (a b c d : ℕ) {e f : ℕ} → e ≤ a + c → f ≤ b + d → amount kind e f ≤ amount kind a b + amount kind c d
+pub amount_sum : (measure : Measure) (a b c d : ℕ) {e f : ℕ} → e ≤ a + c → f ≤ b + d → amount measure e f ≤ amount measure a b + amount measure c d
 unfolding amount
 amount_sum Steps a b c d steps looks = steps
 amount_sum Looks a b c d steps looks = looks
 
-pub amount_same : (kind : Kind) (n : ℕ) → amount kind n n ≡ n
+pub amount_same : (measure : Measure) (n : ℕ) → amount measure n n ≡ n
 unfolding amount
 amount_same Steps n = refl
 amount_same Looks n = refl
 
 -- what was taken is within a price
-pub took_within : (kind : Kind) {x y : Counts} (s a b : ℕ) {c d e f : ℕ} → counted kind x ≤ s + amount kind a b → Took x y c d
-    → a + c ≤ e → b + d ≤ f → counted kind y ≤ s + amount kind e f
+pub took_within : (measure : Measure) {x y : Counts} (s a b : ℕ) {c d e f : ℕ} → counted measure x ≤ s + amount measure a b → Took x y c d
+    → a + c ≤ e → b + d ≤ f → counted measure y ≤ s + amount measure e f
 unfolding counted amount
 took_within Steps s a b low t steps looks = omega (arith, t.steps)
 took_within Looks s a b low t steps looks = omega (arith, t.looks)
@@ -49,29 +49,29 @@ pub took_none : {x : Counts} → Took x x 0 0
 took_none = record { steps = omega arith; looks = omega arith }
 
 -- the price of a move, and of a scan after it
-pub move_some : (kind : Kind) → 1 ≤ move kind
+pub move_some : (measure : Measure) → 1 ≤ move measure
 unfolding move amount
 move_some Steps = omega arith
 move_some Looks = omega arith
 
-pub move_price : (kind : Kind) {x y : Counts} {a b : ℕ} → Took x y a b → a ≤ 1 → b ≤ 4 → counted kind y ≤ counted kind x + move kind
+pub move_price : (measure : Measure) {x y : Counts} {a b : ℕ} → Took x y a b → a ≤ 1 → b ≤ 4 → counted measure y ≤ counted measure x + move measure
 unfolding counted move amount
 move_price Steps t steps looks = omega (arith, t.steps)
 move_price Looks t steps looks = omega (arith, t.looks)
 
-pub moves_price : (kind : Kind) {x y : Counts} {n : ℕ} → Took x y n n → counted kind y ≤ counted kind x + move kind * n
+pub moves_price : (measure : Measure) {x y : Counts} {n : ℕ} → Took x y n n → counted measure y ≤ counted measure x + move measure * n
 unfolding counted move amount
 moves_price Steps t = omega (arith, t.steps)
 moves_price Looks t = omega (arith, t.looks)
 
-pub scan_price : (kind : Kind) {x y : Counts} {a b : ℕ} (n c d : ℕ) → Took x y a b → a ≤ 1 + n + c → b ≤ 4 + n + d
-    → counted kind y ≤ counted kind x + move kind + n + amount kind c d
+pub scan_price : (measure : Measure) {x y : Counts} {a b : ℕ} (n c d : ℕ) → Took x y a b → a ≤ 1 + n + c → b ≤ 4 + n + d
+    → counted measure y ≤ counted measure x + move measure + n + amount measure c d
 unfolding counted move amount
 scan_price Steps n c d t steps looks = omega (arith, t.steps)
 scan_price Looks n c d t steps looks = omega (arith, t.looks)
 
 -- a test and a move, where a scan ended in both
-pub move_over : (kind : Kind) → amount kind 2 5 ≡ 1 + move kind
+pub move_over : (measure : Measure) → amount measure 2 5 ≡ 1 + move measure
 unfolding move amount
 move_over Steps = refl
 move_over Looks = refl
@@ -91,48 +91,48 @@ for_a_star : (t : Token) (n : ℕ) → is_star (shape_of t) ≡ true → for_sta
 unfolding for_star
 for_a_star t n star = ap (λ (b : Bool). if b then n else 0) star
 
-pub each_of_star : (kind : Kind) (x : Piece) → is_star (shape_of x.token) ≡ true → each kind x ≡ test kind x + move kind
+pub each_of_star : (measure : Measure) (x : Piece) → is_star (shape_of x.token) ≡ true → each measure x ≡ test measure x + move measure
 unfolding each
-each_of_star kind x star = omega (arith, for_a_star x.token (move kind) star)
+each_of_star measure x star = omega (arith, for_a_star x.token (move measure) star)
 
-pub test_each : (kind : Kind) (x : Piece) → test kind x ≤ each kind x
+pub test_each : (measure : Measure) (x : Piece) → test measure x ≤ each measure x
 unfolding each
-test_each kind x = omega arith
+test_each measure x = omega arith
 
-test_some : (kind : Kind) (x : Piece) → 0 < x.width → 1 ≤ test kind x
+test_some : (measure : Measure) (x : Piece) → 0 < x.width → 1 ≤ test measure x
 unfolding test amount
 test_some Steps x some = omega arith
 test_some Looks x some = omega (arith, star_low x.token 4)
 
-each_high : (kind : Kind) (x : Piece) → 0 < x.width → each kind x ≤ amount kind 2 8 * x.width
+each_high : (measure : Measure) (x : Piece) → 0 < x.width → each measure x ≤ amount measure 2 8 * x.width
 unfolding each test move amount
 each_high Steps x some = omega (arith, star_low x.token 1)
 each_high Looks x some = omega (arith, star_low x.token 4)
 
-pub trial_is : (kind : Kind) (x : Piece) (xs : List Piece) → trial kind (x ∷ xs) ≡ test kind x
+pub trial_is : (measure : Measure) (x : Piece) (xs : List Piece) → trial measure (x ∷ xs) ≡ test measure x
 unfolding trial
-trial_is kind x xs = refl
+trial_is measure x xs = refl
 
 -- the test of a token that is no star, and of one that is
-pub test_one : (kind : Kind) {mode : Mode} {p : List ℕ} {i : ℕ} {shape : Shape} {k : ℕ} (x : IsToken mode p i shape k) → is_star shape ≡ false
-    → test kind (piece i x.token k) ≡ amount kind 1 (8 * (k - i))
+pub test_one : (measure : Measure) {mode : Mode} {p : List ℕ} {i : ℕ} {shape : Shape} {k : ℕ} (x : IsToken mode p i shape k) → is_star shape ≡ false
+    → test measure (piece i x.token k) ≡ amount measure 1 (8 * (k - i))
 unfolding test
-test_one kind x one = ap (amount kind 1) (omega (arith, for_no_star x.token 4 (ap is_star (sym x.shown) ∙ one)))
+test_one measure x one = ap (amount measure 1) (omega (arith, for_no_star x.token 4 (ap is_star (sym x.shown) ∙ one)))
 
-pub test_star : (kind : Kind) (i : ℕ) (t : Token) (k : ℕ) → is_star (shape_of t) ≡ true
-    → test kind (piece i t k) ≡ amount kind 1 (8 * (k - i) - 4)
+pub test_star : (measure : Measure) (i : ℕ) (t : Token) (k : ℕ) → is_star (shape_of t) ≡ true
+    → test measure (piece i t k) ≡ amount measure 1 (8 * (k - i) - 4)
 unfolding test
-test_star kind i t k star = ap (amount kind 1) (omega (arith, for_a_star t 4 star))
+test_star measure i t k star = ap (amount measure 1) (omega (arith, for_a_star t 4 star))
 
 -- the reading in pieces
 
 width_some : (mode : Mode) (p : List ℕ) (i : ℕ) (x : Piece) → TokenAt mode p i x.token (i + x.width) → 0 < x.width
 width_some mode p i x here = omega (arith, TokenAt-past mode p i x.token (i + x.width) here)
 
-pub trial_some : (kind : Kind) (mode : Mode) (p : List ℕ) (i : ℕ) (xs : List Piece) → PiecesFrom mode p i xs → 1 ≤ trial kind xs
+pub trial_some : (measure : Measure) (mode : Mode) (p : List ℕ) (i : ℕ) (xs : List Piece) → PiecesFrom mode p i xs → 1 ≤ trial measure xs
 unfolding trial
-trial_some kind mode p i [] read = omega arith
-trial_some kind mode p i (x ∷ xs) read = test_some kind x (width_some mode p i x read.0)
+trial_some measure mode p i [] read = omega arith
+trial_some measure mode p i (x ∷ xs) read = test_some measure x (width_some mode p i x read.0)
 
 -- the pieces after the first
 pub pieces_head : {mode : Mode} {p : List ℕ} (i : ℕ) (t : Token) (k : ℕ) (ys : List Piece) → PiecesFrom mode p i ys → TokenAt mode p i t k
@@ -191,40 +191,40 @@ apart_or_joined mode t = cases (separates mode t) where
   cases true = inl refl
   cases false = inr refl
 
-limit_high : (kind : Kind) (p v n : ℕ) → n ≤ (amount kind 2 8 * p + 1) * (v + 1) → n + amount kind 1 2 ≤ amount kind (step_limit p v) (look_limit p v)
+limit_high : (measure : Measure) (p v n : ℕ) → n ≤ (amount measure 2 8 * p + 1) * (v + 1) → n + amount measure 1 2 ≤ amount measure (step_limit p v) (look_limit p v)
 unfolding amount
 limit_high Steps p v n all = omega arith
 limit_high Looks p v n all = omega arith
 
-module _ (kind : Kind) (mode : Mode) (v : List ℕ) where
+module _ (measure : Measure) (mode : Mode) (v : List ℕ) where
   cost-cons : (x : Piece) (xs : List Piece) (j : ℕ)
-      → cost kind mode v (x ∷ xs) j ≡ each kind x * left v j + cost kind mode v xs (onward mode v (separates mode x.token) j)
+      → cost measure mode v (x ∷ xs) j ≡ each measure x * left v j + cost measure mode v xs (onward mode v (separates mode x.token) j)
   unfolding cost
   cost-cons x xs j = refl
 
-  cost-nil : (j : ℕ) → cost kind mode v [] j ≡ left v j
+  cost-nil : (j : ℕ) → cost measure mode v [] j ≡ left v j
   unfolding cost
   cost-nil j = refl
 
   -- a token of either kind
   pub cost-apart : (x : Piece) (xs : List Piece) (j : ℕ) → separates mode x.token ≡ true
-      → cost kind mode v (x ∷ xs) j ≡ each kind x * left v j + cost kind mode v xs (next_component mode v j)
+      → cost measure mode v (x ∷ xs) j ≡ each measure x * left v j + cost measure mode v xs (next_component mode v j)
   unfolding onward
   cost-apart x xs j apart =
-      cost-cons x xs j ∙ ap (λ (b : Bool). each kind x * left v j + cost kind mode v xs (onward mode v b j)) apart
+      cost-cons x xs j ∙ ap (λ (b : Bool). each measure x * left v j + cost measure mode v xs (onward mode v b j)) apart
 
   pub cost-joined : (x : Piece) (xs : List Piece) (j : ℕ) → separates mode x.token ≡ false
-      → cost kind mode v (x ∷ xs) j ≡ each kind x * left v j + cost kind mode v xs j
+      → cost measure mode v (x ∷ xs) j ≡ each measure x * left v j + cost measure mode v xs j
   unfolding onward
   cost-joined x xs j joined =
-      cost-cons x xs j ∙ ap (λ (b : Bool). each kind x * left v j + cost kind mode v xs (onward mode v b j)) joined
+      cost-cons x xs j ∙ ap (λ (b : Bool). each measure x * left v j + cost measure mode v xs (onward mode v b j)) joined
 
   -- from a later place the pieces cost no more
-  pub cost_mono : (xs : List Piece) (j k : ℕ) → j ≤ k → cost kind mode v xs k ≤ cost kind mode v xs j
+  pub cost_mono : (xs : List Piece) (j k : ℕ) → j ≤ k → cost measure mode v xs k ≤ cost measure mode v xs j
   cost_mono [] j k low = omega (arith, cost-nil j, cost-nil k, left_is v j, left_is v k)
   cost_mono (x ∷ xs) j k low =
-      let here : each kind x * left v k ≤ each kind x * left v j = times_mono (each kind x) v j k low in
-      let rest : cost kind mode v xs (onward mode v (separates mode x.token) k) ≤ cost kind mode v xs (onward mode v (separates mode x.token) j) =
+      let here : each measure x * left v k ≤ each measure x * left v j = times_mono (each measure x) v j k low in
+      let rest : cost measure mode v xs (onward mode v (separates mode x.token) k) ≤ cost measure mode v xs (onward mode v (separates mode x.token) j) =
       cost_mono xs (onward mode v (separates mode x.token) j) (onward mode v (separates mode x.token) k)
       (onward_mono mode v (separates mode x.token) j k low) in
       omega (arith, cost-cons x xs j, cost-cons x xs k)
@@ -250,110 +250,110 @@ module _ (kind : Kind) (mode : Mode) (v : List ℕ) where
   ]
 
   -- what is left past the hop is no more than what is left in the next component
-  pub cost_hop : (xs : List Piece) (j : ℕ) → cost kind mode v xs (next_component mode v j) ≤ cost kind mode v xs (hop mode v xs j)
+  pub cost_hop : (xs : List Piece) (j : ℕ) → cost measure mode v xs (next_component mode v j) ≤ cost measure mode v xs (hop mode v xs j)
   cost_hop xs j = cost_mono xs (hop mode v xs j) (next_component mode v j) (hop_low xs j)
 
-  stretch-nil : stretch kind mode [] ≡ 1
+  stretch-nil : stretch measure mode [] ≡ 1
   unfolding stretch
   stretch-nil = refl
 
-  stretch-apart : (x : Piece) (xs : List Piece) → separates mode x.token ≡ true → stretch kind mode (x ∷ xs) ≡ each kind x
+  stretch-apart : (x : Piece) (xs : List Piece) → separates mode x.token ≡ true → stretch measure mode (x ∷ xs) ≡ each measure x
   unfolding stretch
-  stretch-apart x xs apart = ap (λ (b : Bool). each kind x + (if b then 0 else stretch kind mode xs)) apart ∙ omega arith
+  stretch-apart x xs apart = ap (λ (b : Bool). each measure x + (if b then 0 else stretch measure mode xs)) apart ∙ omega arith
 
   pub stretch-joined : (x : Piece) (xs : List Piece) → separates mode x.token ≡ false
-      → stretch kind mode (x ∷ xs) ≡ each kind x + stretch kind mode xs
+      → stretch measure mode (x ∷ xs) ≡ each measure x + stretch measure mode xs
   unfolding stretch
-  stretch-joined x xs joined = ap (λ (b : Bool). each kind x + (if b then 0 else stretch kind mode xs)) joined
+  stretch-joined x xs joined = ap (λ (b : Bool). each measure x + (if b then 0 else stretch measure mode xs)) joined
 
   -- the test of the first piece is within its stretch
-  pub trial_stretch : (xs : List Piece) → trial kind xs ≤ stretch kind mode xs
+  pub trial_stretch : (xs : List Piece) → trial measure xs ≤ stretch measure mode xs
   unfolding trial
   trial_stretch [] = omega (arith, stretch-nil)
   trial_stretch (x ∷ xs) = elim (apart_or_joined mode x.token) [
-    | inl apart ↦ omega (arith, stretch-apart x xs apart, test_each kind x)
-    | inr joined ↦ omega (arith, stretch-joined x xs joined, test_each kind x)
+    | inl apart ↦ omega (arith, stretch-apart x xs apart, test_each measure x)
+    | inr joined ↦ omega (arith, stretch-joined x xs joined, test_each measure x)
   ]
 
   -- a test at a place inside is paid there
-  pub trial_left : (xs : List Piece) (j : ℕ) → j ≤ length v → cost kind mode v xs (hop mode v xs j) + trial kind xs ≤ cost kind mode v xs j
+  pub trial_left : (xs : List Piece) (j : ℕ) → j ≤ length v → cost measure mode v xs (hop mode v xs j) + trial measure xs ≤ cost measure mode v xs j
   unfolding trial
   trial_left [] j inside =
       let past : j < next_component mode v j = next_past mode v j in
-      let at : cost kind mode v [] (hop mode v [] j) ≡ cost kind mode v [] (next_component mode v j) = ap (cost kind mode v []) (hop-nil j) in
+      let at : cost measure mode v [] (hop mode v [] j) ≡ cost measure mode v [] (next_component mode v j) = ap (cost measure mode v []) (hop-nil j) in
       omega (arith, cost-nil j, cost-nil (next_component mode v j), left_is v j, left_is v (next_component mode v j))
   trial_left (x ∷ xs) j inside = elim (apart_or_joined mode x.token) [
     | inl apart ↦
-        let at : cost kind mode v (x ∷ xs) (hop mode v (x ∷ xs) j) ≡ cost kind mode v (x ∷ xs) (j + 1) =
-        ap (cost kind mode v (x ∷ xs)) (hop-apart x xs j apart) in
-        let rest : cost kind mode v xs (next_component mode v (j + 1)) ≤ cost kind mode v xs (next_component mode v j) =
+        let at : cost measure mode v (x ∷ xs) (hop mode v (x ∷ xs) j) ≡ cost measure mode v (x ∷ xs) (j + 1) =
+        ap (cost measure mode v (x ∷ xs)) (hop-apart x xs j apart) in
+        let rest : cost measure mode v xs (next_component mode v (j + 1)) ≤ cost measure mode v xs (next_component mode v j) =
         cost_mono xs (next_component mode v j) (next_component mode v (j + 1)) (next_mono mode v j (j + 1) (omega arith)) in
-        omega (arith, times_one (each kind x) v j inside, test_each kind x, cost-apart x xs j apart, cost-apart x xs (j + 1) apart)
+        omega (arith, times_one (each measure x) v j inside, test_each measure x, cost-apart x xs j apart, cost-apart x xs (j + 1) apart)
     | inr joined ↦
-        let at : cost kind mode v (x ∷ xs) (hop mode v (x ∷ xs) j) ≡ cost kind mode v (x ∷ xs) (next_component mode v j) =
-        ap (cost kind mode v (x ∷ xs)) (hop-joined x xs j joined) in
+        let at : cost measure mode v (x ∷ xs) (hop mode v (x ∷ xs) j) ≡ cost measure mode v (x ∷ xs) (next_component mode v j) =
+        ap (cost measure mode v (x ∷ xs)) (hop-joined x xs j joined) in
         let past : j < next_component mode v j = next_past mode v j in
-        let rest : cost kind mode v xs (next_component mode v j) ≤ cost kind mode v xs j =
+        let rest : cost measure mode v xs (next_component mode v j) ≤ cost measure mode v xs j =
         cost_mono xs j (next_component mode v j) (omega arith) in
-        omega (arith, times_less (each kind x) v j (next_component mode v j) inside past, test_each kind x, cost-joined x xs j joined, cost-joined x xs (next_component mode v j) joined)
+        omega (arith, times_less (each measure x) v j (next_component mode v j) inside past, test_each measure x, cost-joined x xs j joined, cost-joined x xs (next_component mode v j) joined)
   ]
 
   -- one place on within a component costs the stretch less
   pub stretch_step : (xs : List Piece) (j : ℕ) → j < length v → ends mode (get_or v j 0) ≡ false
-      → cost kind mode v xs j ≡ cost kind mode v xs (j + 1) + stretch kind mode xs
+      → cost measure mode v xs j ≡ cost measure mode v xs (j + 1) + stretch measure mode xs
   stretch_step [] j inside within =
       omega (arith, cost-nil j, cost-nil (j + 1), left_is v j, left_is v (j + 1), stretch-nil)
   stretch_step (x ∷ xs) j inside within =
-      let here : each kind x * left v j ≡ each kind x * left v (j + 1) + each kind x = times_one (each kind x) v j (omega arith) in
+      let here : each measure x * left v j ≡ each measure x * left v (j + 1) + each measure x = times_one (each measure x) v j (omega arith) in
       elim (apart_or_joined mode x.token) [
         | inl apart ↦
-            let same : cost kind mode v xs (next_component mode v (j + 1)) ≡ cost kind mode v xs (next_component mode v j) =
-            ap (cost kind mode v xs) (next-inner mode v j inside within) in
+            let same : cost measure mode v xs (next_component mode v (j + 1)) ≡ cost measure mode v xs (next_component mode v j) =
+            ap (cost measure mode v xs) (next-inner mode v j inside within) in
             omega (arith, cost-apart x xs j apart, cost-apart x xs (j + 1) apart, stretch-apart x xs apart)
         | inr joined ↦
-            let rest : cost kind mode v xs j ≡ cost kind mode v xs (j + 1) + stretch kind mode xs = stretch_step xs j inside within in
+            let rest : cost measure mode v xs j ≡ cost measure mode v xs (j + 1) + stretch measure mode xs = stretch_step xs j inside within in
             omega (arith, cost-joined x xs j joined, cost-joined x xs (j + 1) joined, stretch-joined x xs joined)
       ]
 
   -- the next component costs the stretch less
   pub stretch_left : (xs : List Piece) (j : ℕ) → j ≤ length v
-      → cost kind mode v xs (next_component mode v j) + stretch kind mode xs ≤ cost kind mode v xs j
+      → cost measure mode v xs (next_component mode v j) + stretch measure mode xs ≤ cost measure mode v xs j
   stretch_left [] j inside =
       let past : j < next_component mode v j = next_past mode v j in
       omega (arith, cost-nil j, cost-nil (next_component mode v j), left_is v j, left_is v (next_component mode v j), stretch-nil)
   stretch_left (x ∷ xs) j inside =
       let past : j < next_component mode v j = next_past mode v j in
-      let here : each kind x * left v (next_component mode v j) + each kind x ≤ each kind x * left v j =
-      times_less (each kind x) v j (next_component mode v j) inside past in
+      let here : each measure x * left v (next_component mode v j) + each measure x ≤ each measure x * left v j =
+      times_less (each measure x) v j (next_component mode v j) inside past in
       elim (apart_or_joined mode x.token) [
         | inl apart ↦
             let later : next_component mode v j ≤ next_component mode v (next_component mode v j) =
             omega (arith, next_past mode v (next_component mode v j)) in
-            let rest : cost kind mode v xs (next_component mode v (next_component mode v j)) ≤ cost kind mode v xs (next_component mode v j) =
+            let rest : cost measure mode v xs (next_component mode v (next_component mode v j)) ≤ cost measure mode v xs (next_component mode v j) =
             cost_mono xs (next_component mode v j) (next_component mode v (next_component mode v j)) later in
             omega (arith, cost-apart x xs j apart, cost-apart x xs (next_component mode v j) apart, stretch-apart x xs apart)
         | inr joined ↦
-            let rest : cost kind mode v xs (next_component mode v j) + stretch kind mode xs ≤ cost kind mode v xs j = stretch_left xs j inside in
+            let rest : cost measure mode v xs (next_component mode v j) + stretch measure mode xs ≤ cost measure mode v xs j = stretch_left xs j inside in
             omega (arith, cost-joined x xs j joined, cost-joined x xs (next_component mode v j) joined, stretch-joined x xs joined)
       ]
 
   -- all the pieces from place i on: so much for each byte that spells them, at each place of the value
   cost_all : (p : List ℕ) (i : ℕ) (xs : List Piece) (j : ℕ) → PiecesFrom mode p i xs
-      → cost kind mode v xs j + amount kind 2 8 * i * (length v + 1) ≤ (amount kind 2 8 * length p + 1) * (length v + 1)
+      → cost measure mode v xs j + amount measure 2 8 * i * (length v + 1) ≤ (amount measure 2 8 * length p + 1) * (length v + 1)
   cost_all p i [] j read =
-      let same : amount kind 2 8 * i * (length v + 1) ≡ amount kind 2 8 * length p * (length v + 1) =
-      ap (λ (n : ℕ). amount kind 2 8 * n * (length v + 1)) read in
+      let same : amount measure 2 8 * i * (length v + 1) ≡ amount measure 2 8 * length p * (length v + 1) =
+      ap (λ (n : ℕ). amount measure 2 8 * n * (length v + 1)) read in
       omega (arith, cost-nil j, left_is v j)
   cost_all p i (x ∷ xs) j read =
-      let high : each kind x ≤ amount kind 2 8 * x.width = each_high kind x (width_some mode p i x read.0) in
-      let here : each kind x * left v j ≤ amount kind 2 8 * x.width * (length v + 1) = mul-le-mul high (omega (arith, left_is v j)) in
-      let rest : cost kind mode v xs (onward mode v (separates mode x.token) j) + amount kind 2 8 * (i + x.width) * (length v + 1)
-      ≤ (amount kind 2 8 * length p + 1) * (length v + 1) =
+      let high : each measure x ≤ amount measure 2 8 * x.width = each_high measure x (width_some mode p i x read.0) in
+      let here : each measure x * left v j ≤ amount measure 2 8 * x.width * (length v + 1) = mul-le-mul high (omega (arith, left_is v j)) in
+      let rest : cost measure mode v xs (onward mode v (separates mode x.token) j) + amount measure 2 8 * (i + x.width) * (length v + 1)
+      ≤ (amount measure 2 8 * length p + 1) * (length v + 1) =
       cost_all p (i + x.width) xs (onward mode v (separates mode x.token) j) read.1 in
       omega (arith, cost-cons x xs j)
 
   -- how much a match may take in all
   pub cost_limit : (p : List ℕ) (xs : List Piece) → PiecesFrom mode p 0 xs
-      → cost kind mode v xs 0 + amount kind 1 2 ≤ amount kind (step_limit (length p) (length v)) (look_limit (length p) (length v))
+      → cost measure mode v xs 0 + amount measure 1 2 ≤ amount measure (step_limit (length p) (length v)) (look_limit (length p) (length v))
   cost_limit p xs read =
-      limit_high kind (length p) (length v) (cost kind mode v xs 0) (omega (arith, cost_all p 0 xs 0 read))
+      limit_high measure (length p) (length v) (cost measure mode v xs 0) (omega (arith, cost_all p 0 xs 0 read))

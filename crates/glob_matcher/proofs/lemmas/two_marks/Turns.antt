@@ -24,7 +24,7 @@ pub turn_on : {mode : Mode} {p v : List ℕ} {state : State} {t : Turn} {before 
     → IsTurn mode p v state looked t before after
 turn_on {t = t} {before} {between} {after} {looked = looked} taken enough so = record {
   meaning = so.meaning;
-  allows = λ kind s n low a. so.allows kind s n (took_within kind s 0 looked low taken (omega arith) enough) a;
+  allows = λ measure s n low a. so.allows measure s n (took_within measure s 0 looked low taken (omega arith) enough) a;
   progress = counts_on t before.steps between.steps after.steps (omega (arith, taken.steps)) so.progress;
 }
 

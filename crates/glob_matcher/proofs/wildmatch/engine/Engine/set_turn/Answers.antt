@@ -21,10 +21,10 @@ returns-in_default g c =
     } in
     record {
       meaning = nothing_met _ c.requires.stands x.here;
-      allows = λ kind s n low a.
+      allows = λ measure s n low a.
           allows_test c.requires.stands.inside
           (tested x refl
-          (took_within kind s 0 1 low (set_looks (omega arith) c.in_default.ensures.broken) (omega arith) (omega (arith, inside)))) a;
+          (took_within measure s 0 1 low (set_looks (omega arith) c.in_default.ensures.broken) (omega arith) (omega (arith, inside)))) a;
       progress = tt;
     }
 
@@ -42,11 +42,11 @@ returns-then-not-takes g c =
             misses_byte m.value c.args.state.at x refl c.requires.stands.inside
             (λ fits. let held : c.in-Some.takes ≡ true = found.answer.1 fits in let other = c.if-not-takes.true in cc);
       };
-      allows = λ kind s n low a. record {
+      allows = λ measure s n low a. record {
         before = s;
         tested =
             tested x refl
-            (took_within kind s 0 1 low (set_looks (omega (arith, found.past)) paid) (omega arith) (omega (arith, found.past)));
+            (took_within measure s 0 1 low (set_looks (omega (arith, found.past)) paid) (omega arith) (omega (arith, found.past)));
         allows = a;
       };
       progress = omega (arith, paid.steps);
@@ -62,9 +62,9 @@ returns g c =
     let fits = found.answer.0 c.if-not-takes.false in
     record {
       meaning = stands_on c.requires.stands x refl fits.0 fits.1 (λ is. cc);
-      allows = λ kind s n low a.
+      allows = λ measure s n low a.
           allows_on x refl
-          (took_within kind s 0 1 low (set_looks (omega (arith, found.past)) paid) (omega arith) (omega (arith, found.past))) fits.0 fits.1
+          (took_within measure s 0 1 low (set_looks (omega (arith, found.past)) paid) (omega arith) (omega (arith, found.past))) fits.0 fits.1
           (inner_of m.mode m.pattern m.value c.args.state.place c.args.state.at c.args.state.crossing c.args.state.local x.token
           c.requires.stands.local fits.1 (λ is. cc)) a;
       progress = omega (arith, paid.steps);

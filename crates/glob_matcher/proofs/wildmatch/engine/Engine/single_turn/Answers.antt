@@ -17,11 +17,11 @@ returns-then-not-takes g c =
             misses_byte m.value c.args.state.at x c.requires.single c.requires.stands.inside
             (λ fits. let wrong : false ≡ true = (c.if-not-takes.ensures.answer x.token x.shown).1 fits in cc);
       };
-      allows = λ kind s n low a. record {
+      allows = λ measure s n low a. record {
         before = s;
         tested =
             tested x c.requires.single
-            (took_within kind s 0 _ low c.takes.ensures.count (omega arith) (omega (arith, x.past)));
+            (took_within measure s 0 _ low c.takes.ensures.count (omega arith) (omega (arith, x.past)));
         allows = a;
       };
       progress = omega (arith, c.takes.ensures.count.steps);
@@ -35,9 +35,9 @@ returns-then-is_slash g c =
       meaning =
           stands_past_slash c.requires.stands x c.requires.single fits.0 fits.1
           (token_is x.token (sym x.shown ∙ c.if-is_slash.ensures.0 refl));
-      allows = λ kind s n low a.
+      allows = λ measure s n low a.
           allows_past_slash x c.requires.single
-          (took_within kind s 0 _ low c.takes.ensures.count (omega arith) (omega (arith, x.past))) fits.0 fits.1 a;
+          (took_within measure s 0 _ low c.takes.ensures.count (omega arith) (omega (arith, x.past))) fits.0 fits.1 a;
       progress = omega (arith, c.takes.ensures.count.steps);
     }
 
@@ -50,9 +50,9 @@ returns g c =
       meaning =
           stands_on c.requires.stands x c.requires.single fits.0 fits.1
           (λ is. let wrong : false ≡ true = c.if-is_slash.ensures.1 (x.shown ∙ ap shape_of is) in cc);
-      allows = λ kind s n low a.
+      allows = λ measure s n low a.
           allows_on x c.requires.single
-          (took_within kind s 0 _ low c.takes.ensures.count (omega arith) (omega (arith, x.past))) fits.0 fits.1
+          (took_within measure s 0 _ low c.takes.ensures.count (omega arith) (omega (arith, x.past))) fits.0 fits.1
           (inner_of m.mode m.pattern m.value c.args.state.place c.args.state.at c.args.state.crossing
           c.args.state.local x.token c.requires.stands.local fits.1
           (λ is. let wrong : false ≡ true = c.if-is_slash.ensures.1 (x.shown ∙ ap shape_of is) in cc)) a;

@@ -41,9 +41,9 @@ returns-in-Nothing g c =
     let x = c.token_at-shape.ensures.token in
     record {
       meaning = nothing_met _ c.requires.stands (is_nothing x c.in-Nothing.is);
-      allows = λ kind s n low a.
+      allows = λ measure s n low a.
           allows_test c.requires.stands.inside
-          (tested x (ap is_star c.in-Nothing.is) (took_within kind s 0 1 low (token_looks x.past c.token_at-shape.ensures.count) (omega arith) (omega (arith, x.past)))) a;
+          (tested x (ap is_star c.in-Nothing.is) (took_within measure s 0 1 low (token_looks x.past c.token_at-shape.ensures.count) (omega arith) (omega (arith, x.past)))) a;
       progress = tt;
     }
 
