@@ -4,7 +4,7 @@ use Rattle.std.specs.Prelude.{ℕ, ◌+◌, ◌-◌, ◌*◌, Bool, List, [], �
 use Rattle.glob_matcher.specs.declared.wildmatch.mode.Mode.{Mode}
 use Rattle.glob_matcher.specs.Steps.{Counts}
 use Rattle.glob_matcher.specs.Tokens.{Token}
-use Rattle.glob_matcher.specs.Private.Reader.{shape_of, is_star}
+use Rattle.glob_matcher.specs.Private.Reader.{kind_of, is_star}
 use Rattle.glob_matcher.specs.Private.Components.{separates, next_component}
 use Rattle.glob_matcher.specs.Private.Pieces.{Piece}
 
@@ -23,7 +23,7 @@ counted measure counts = amount measure counts.steps counts.looks
 
 -- a number, for a star token alone
 unfoldable pub for_star : Token → ℕ → ℕ
-for_star t n = if is_star (shape_of t) then n else 0
+for_star t n = if is_star (kind_of t) then n else 0
 
 -- The move of a mark by one byte: the look at that byte, and the looks at the byte after the star, which are none where the
 -- mark doesn't move.

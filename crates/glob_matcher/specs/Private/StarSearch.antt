@@ -3,15 +3,15 @@ use Rattle.std.specs.Prelude.{◌≡◌, ◌≢◌, ℕ, ◌+◌, ◌-◌, ◌<�
 use Rattle.glob_matcher.specs.declared.wildmatch.mode.Mode.{Mode}
 use Rattle.glob_matcher.specs.declared.wildmatch.pruned.Answer.{Answer}
 use Rattle.glob_matcher.specs.declared.wildmatch.pruned.Answer.TheVariants.{Match, NoMatch, AbortAll, AbortToStarStar, RecursionLimitReached}
-use Rattle.glob_matcher.specs.declared.wildmatch.tokens.Shape.{Shape}
-use Rattle.glob_matcher.specs.declared.wildmatch.tokens.Shape.TheVariants as shape
+use Rattle.glob_matcher.specs.declared.wildmatch.tokens.TokenKind.{TokenKind}
+use Rattle.glob_matcher.specs.declared.wildmatch.tokens.TokenKind.TheVariants as kind
 use Rattle.glob_matcher.specs.Bytes.{NoSlash, fold, slash}
 use Rattle.glob_matcher.specs.Matching.{SplitsFrom}
 use Rattle.glob_matcher.specs.Pruning.{HasRoom}
 
--- the byte that a token of this shape asks for, where it asks for one
-abbrev pub literal_of : Shape → Option ℕ
-literal_of (shape.Byte b) = Some b
+-- the byte that a token of this kind asks for, where it asks for one
+abbrev pub literal_of : TokenKind → Option ℕ
+literal_of (kind.Byte b) = Some b
 literal_of _ = None
 
 -- From place i up to place j the value has no byte that is the wanted one after folding. With none wanted, none is passed over.

@@ -5,11 +5,11 @@ use Rattle.std.proofs.lemmas.Bool.{cases_lt}
 use Rattle.glob_matcher.specs.declared.wildmatch.mode.Mode.{Mode}
 use Rattle.glob_matcher.specs.declared.wildmatch.pruned.Answer.{Answer}
 use Rattle.glob_matcher.specs.declared.wildmatch.pruned.Answer.TheVariants.{Match, NoMatch, AbortAll, AbortToStarStar, RecursionLimitReached}
-use Rattle.glob_matcher.specs.declared.wildmatch.tokens.Shape.{Shape}
+use Rattle.glob_matcher.specs.declared.wildmatch.tokens.TokenKind.{TokenKind}
 use Rattle.glob_matcher.specs.Bytes.{HasByte, NoSlash, fold, is_path, slash, star}
 use Rattle.glob_matcher.specs.Tokens.{Token, Byte, Any, OneOf, Free, Local, Dirs, Nothing, TokenAt, DirsAt, From}
 use Rattle.glob_matcher.specs.Matching.{SplitsFrom}
-use Rattle.glob_matcher.specs.Private.Reader.{IsToken, AfterSlash, shape_of}
+use Rattle.glob_matcher.specs.Private.Reader.{IsToken, AfterSlash, kind_of}
 use Rattle.glob_matcher.specs.Pruning.{HasRoom, BeginsCrossing, IsAttempt, star_count}
 use Rattle.glob_matcher.specs.Private.StarSearch.{literal_of, Skips, IsComponentEnd, IsCrossing, IsWithin, IsDescent}
 use Rattle.glob_matcher.proofs.lemmas.reading.TokenLemmas.{TokenAt-unique, TokenAt-inside, run_lead}
@@ -50,7 +50,7 @@ pub record FirstToken (mode : Mode) (p : List ℕ) (i : ℕ) (wanted : Option �
   pub asks : (b : ℕ) → wanted ≡ Some b → token ≡ Byte b
 
 first_token_by : (mode : Mode) (p : List ℕ) (i : ℕ) (wanted : Option ℕ) (t : Token) (j : ℕ) → ¬ HasByte p i star → TokenAt mode p i t j
-    → wanted ≡ literal_of (shape_of t) → FirstToken mode p i wanted
+    → wanted ≡ literal_of (kind_of t) → FirstToken mode p i wanted
 first_token_by mode p i wanted (Byte b) j bare here is =
     record { token = Byte b; after = j; here = here; one_or_nothing = inl tt; asks = λ c e. let same : Some b ≡ Some c = sym is ∙ e in cc }
 first_token_by mode p i wanted Any j bare here is =
@@ -63,10 +63,10 @@ first_token_by mode p i wanted Dirs j bare here is = absurd (bare (run_lead p i 
 first_token_by mode p i wanted Nothing j bare here is =
     record { token = Nothing; after = j; here = here; one_or_nothing = inr refl; asks = λ c e. let same : None ≡ Some c = sym is ∙ e in cc }
 
-pub first_token : {mode : Mode} {p : List ℕ} {i j : ℕ} {wanted : Option ℕ} {s : Shape} → ¬ HasByte p i star → IsToken mode p i s j
+pub first_token : {mode : Mode} {p : List ℕ} {i j : ℕ} {wanted : Option ℕ} {s : TokenKind} → ¬ HasByte p i star → IsToken mode p i s j
     → wanted ≡ literal_of s → FirstToken mode p i wanted
 first_token {mode} {p} {i} {j} {wanted} bare x is =
-    first_token_by mode p i wanted x.token j bare x.here (is ∙ ap literal_of x.shown)
+    first_token_by mode p i wanted x.token j bare x.here (is ∙ ap literal_of x.same_kind)
 
 module _ {mode : Mode} {p v : List ℕ} {i : ℕ} {wanted : Option ℕ} where
   -- no split begins at a place that a search passes over

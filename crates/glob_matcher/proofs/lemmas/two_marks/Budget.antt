@@ -8,10 +8,10 @@ use Rattle.glob_matcher.specs.declared.wildmatch.mode.Mode.{Mode}
 use Rattle.glob_matcher.specs.declared.wildmatch.engine.Mark.{Mark}
 use Rattle.glob_matcher.specs.declared.wildmatch.state.Crossing.{Crossing}
 use Rattle.glob_matcher.specs.declared.wildmatch.state.Crossing.TheVariants as crossing
-use Rattle.glob_matcher.specs.declared.wildmatch.tokens.Shape.{Shape}
+use Rattle.glob_matcher.specs.declared.wildmatch.tokens.TokenKind.{TokenKind}
 use Rattle.glob_matcher.specs.Bytes.{slash}
 use Rattle.glob_matcher.specs.Tokens.{Token, Free, Local, Dirs, TokenAt}
-use Rattle.glob_matcher.specs.Private.Reader.{IsToken, Fits, shape_of, is_star}
+use Rattle.glob_matcher.specs.Private.Reader.{IsToken, Fits, kind_of, is_star}
 use Rattle.glob_matcher.specs.Steps.{step_limit, look_limit}
 use Rattle.glob_matcher.specs.Private.Components.{ends, separates, next_component}
 use Rattle.glob_matcher.specs.Private.States.{FreeKnown, IsNextDirectory}
@@ -92,7 +92,7 @@ allows_left {mode} {p} {s} {n} a = settle_pieces mode p s n (λ xs read. let o =
 pub tested_one : {measure : Measure} {mode : Mode} {p : List ℕ} {i s r : ℕ} → r ≤ s + 1 → Tested measure mode p i s r
 tested_one {measure} {mode} {p} {i} low = record { high = λ xs read. omega (arith, trial_some measure mode p i xs read) }
 
-pub tested : {measure : Measure} {mode : Mode} {p : List ℕ} {i k : ℕ} {shape : Shape} (x : IsToken mode p i shape k) → is_star shape ≡ false
+pub tested : {measure : Measure} {mode : Mode} {p : List ℕ} {i k : ℕ} {kind : TokenKind} (x : IsToken mode p i kind k) → is_star kind ≡ false
     → {r s : ℕ} → r ≤ s + amount measure 1 (8 * (k - i)) → Tested measure mode p i s r
 tested {measure} {mode} {p} {i} {k} x one low = record {
   high = λ xs read.
@@ -208,16 +208,16 @@ owes_without o = record {
 }
 
 -- The token takes the byte here, and is no slash.
-pub allows_on : {measure : Measure} {mode : Mode} {p v : List ℕ} {i k j : ℕ} {shape : Shape} {c : Crossing} {l : Option Mark} {r s n : ℕ}
-    (x : IsToken mode p i shape k) → is_star shape ≡ false → r ≤ s + amount measure 1 (8 * (k - i)) → j < length v
+pub allows_on : {measure : Measure} {mode : Mode} {p v : List ℕ} {i k j : ℕ} {kind : TokenKind} {c : Crossing} {l : Option Mark} {r s n : ℕ}
+    (x : IsToken mode p i kind k) → is_star kind ≡ false → r ≤ s + amount measure 1 (8 * (k - i)) → j < length v
     → Fits mode x.token (get_or v j 0) → IsInner mode v j l → Allows measure mode p v i j c l s n → Allows measure mode p v k (j + 1) c l r n
 allows_on {measure} {k = k} x one low inside fits inner a =
     allows_less (omega (arith, test_one measure x one))
     (record { all = λ xs read. owes_on x.token k x.here inside fits inner (a.all xs read) })
 
 -- The token takes the byte here, and the local mark is forgotten.
-pub allows_past_slash : {measure : Measure} {mode : Mode} {p v : List ℕ} {i k j : ℕ} {shape : Shape} {c : Crossing} {l : Option Mark} {r s n : ℕ}
-    (x : IsToken mode p i shape k) → is_star shape ≡ false → r ≤ s + amount measure 1 (8 * (k - i)) → j < length v
+pub allows_past_slash : {measure : Measure} {mode : Mode} {p v : List ℕ} {i k j : ℕ} {kind : TokenKind} {c : Crossing} {l : Option Mark} {r s n : ℕ}
+    (x : IsToken mode p i kind k) → is_star kind ≡ false → r ≤ s + amount measure 1 (8 * (k - i)) → j < length v
     → Fits mode x.token (get_or v j 0) → Allows measure mode p v i j c l s n → Allows measure mode p v k (j + 1) c None r n
 allows_past_slash x one low inside fits a =
     allows_on x one low inside fits tt (record { all = λ xs read. owes_without (a.all xs read) })
@@ -231,7 +231,7 @@ record Met (measure : Measure) (mode : Mode) (p v : List ℕ) (k j s n rest : �
   later : move measure * left v (next_component mode v j) + cost measure mode v pieces (next_component mode v j) ≤ rest
 
 star_met : {measure : Measure} {mode : Mode} {p v : List ℕ} {i : ℕ} (t : Token) (k : ℕ) {j : ℕ} {c : Crossing} {l : Option Mark} {s n : ℕ}
-    → TokenAt mode p i t k → is_star (shape_of t) ≡ true → separates mode t ≡ false → j ≤ length v → (o : Owes measure mode p v i j c l s n)
+    → TokenAt mode p i t k → is_star (kind_of t) ≡ true → separates mode t ≡ false → j ≤ length v → (o : Owes measure mode p v i j c l s n)
     → Met measure mode p v k j (s + test measure (piece i t k)) n o.rest
 star_met {measure} {mode} {p} {v} {i} t k {j} {s = s} {n} here star joined inside o =
     let head = pieces_head i t k o.pieces o.read here in

@@ -2,11 +2,11 @@
 use Rattle.std.proofs.Common.{◌≡◌, ◌⊎◌, inl, inr, ℕ, ◌+◌, ◌-◌, ◌*◌, ◌<◌, ◌≤◌, Bool, true, false, List, [], ◌∷◌, length, get_or, refl, sym, ◌∙◌, ap, subst, arith, if◌then◌else◌}
 use Rattle.std.proofs.Math.Nat.{mul-le-mul_left, mul-le-mul}
 use Rattle.glob_matcher.specs.declared.wildmatch.mode.Mode.{Mode}
-use Rattle.glob_matcher.specs.declared.wildmatch.tokens.Shape.{Shape}
+use Rattle.glob_matcher.specs.declared.wildmatch.tokens.TokenKind.{TokenKind}
 use Rattle.glob_matcher.specs.Steps.{Counts, step_limit, look_limit}
 use Rattle.glob_matcher.specs.Tokens.{Token, TokenAt, From}
 use Rattle.glob_matcher.specs.Private.Took.{Took}
-use Rattle.glob_matcher.specs.Private.Reader.{IsToken, shape_of, is_star}
+use Rattle.glob_matcher.specs.Private.Reader.{IsToken, kind_of, is_star}
 use Rattle.glob_matcher.specs.Private.Components.{ends, separates, next_component}
 use Rattle.glob_matcher.specs.Private.Pieces.{Piece, piece, PiecesFrom}
 use Rattle.glob_matcher.specs.Private.Prices.{Measure, Steps, Looks, amount, counted, for_star, move, test, each, trial, onward, left, cost, hop, stretch}
@@ -78,20 +78,20 @@ move_over Looks = refl
 
 star_low : (t : Token) (n : ℕ) → for_star t n ≤ n
 unfolding for_star
-star_low t n = cases (is_star (shape_of t)) where
+star_low t n = cases (is_star (kind_of t)) where
   cases : (b : Bool) → (if b then n else 0) ≤ n
   cases true = omega arith
   cases false = omega arith
 
-for_no_star : (t : Token) (n : ℕ) → is_star (shape_of t) ≡ false → for_star t n ≡ 0
+for_no_star : (t : Token) (n : ℕ) → is_star (kind_of t) ≡ false → for_star t n ≡ 0
 unfolding for_star
 for_no_star t n no_star = ap (λ (b : Bool). if b then n else 0) no_star
 
-for_a_star : (t : Token) (n : ℕ) → is_star (shape_of t) ≡ true → for_star t n ≡ n
+for_a_star : (t : Token) (n : ℕ) → is_star (kind_of t) ≡ true → for_star t n ≡ n
 unfolding for_star
 for_a_star t n star = ap (λ (b : Bool). if b then n else 0) star
 
-pub each_of_star : (measure : Measure) (x : Piece) → is_star (shape_of x.token) ≡ true → each measure x ≡ test measure x + move measure
+pub each_of_star : (measure : Measure) (x : Piece) → is_star (kind_of x.token) ≡ true → each measure x ≡ test measure x + move measure
 unfolding each
 each_of_star measure x star = omega (arith, for_a_star x.token (move measure) star)
 
@@ -114,12 +114,12 @@ unfolding trial
 trial_is measure x xs = refl
 
 -- the test of a token that is no star, and of one that is
-pub test_one : (measure : Measure) {mode : Mode} {p : List ℕ} {i : ℕ} {shape : Shape} {k : ℕ} (x : IsToken mode p i shape k) → is_star shape ≡ false
+pub test_one : (measure : Measure) {mode : Mode} {p : List ℕ} {i : ℕ} {kind : TokenKind} {k : ℕ} (x : IsToken mode p i kind k) → is_star kind ≡ false
     → test measure (piece i x.token k) ≡ amount measure 1 (8 * (k - i))
 unfolding test
-test_one measure x one = ap (amount measure 1) (omega (arith, for_no_star x.token 4 (ap is_star (sym x.shown) ∙ one)))
+test_one measure x one = ap (amount measure 1) (omega (arith, for_no_star x.token 4 (ap is_star (sym x.same_kind) ∙ one)))
 
-pub test_star : (measure : Measure) (i : ℕ) (t : Token) (k : ℕ) → is_star (shape_of t) ≡ true
+pub test_star : (measure : Measure) (i : ℕ) (t : Token) (k : ℕ) → is_star (kind_of t) ≡ true
     → test measure (piece i t k) ≡ amount measure 1 (8 * (k - i) - 4)
 unfolding test
 test_star measure i t k star = ap (amount measure 1) (omega (arith, for_a_star t 4 star))

@@ -2,8 +2,8 @@
 use Rattle.std.proofs.Common.{◌≡◌, ◌≢◌, ◌⊎◌, inl, inr, ℕ, ◌+◌, ◌-◌, ◌<◌, ◌≤◌, Bool, true, false, IsTrue, List, length, get_or, Option, Some, None, refl, sym, ◌∙◌, ap, subst, arith}
 use Rattle.std.proofs.lemmas.Bool.{cases_lt}
 use Rattle.glob_matcher.specs.declared.wildmatch.mode.Mode.{Mode}
-use Rattle.glob_matcher.specs.declared.wildmatch.tokens.Shape.{Shape}
-use Rattle.glob_matcher.specs.declared.wildmatch.tokens.Shape.TheVariants as shape
+use Rattle.glob_matcher.specs.declared.wildmatch.tokens.TokenKind.{TokenKind}
+use Rattle.glob_matcher.specs.declared.wildmatch.tokens.TokenKind.TheVariants as kind
 use Rattle.glob_matcher.specs.declared.wildmatch.engine.Mark.{Mark}
 use Rattle.glob_matcher.specs.declared.wildmatch.state.Crossing.{Crossing}
 use Rattle.glob_matcher.specs.declared.wildmatch.state.Crossing.TheVariants as crossing
@@ -66,7 +66,7 @@ run_end_not_after {p} {i} {j} run (inr h) =
     two_bytes p (j - 1) star slash (run.stars (j - 1) (omega arith) (omega arith)) h (λ same. omega arith)
 
 -- The byte taken from here on: what was ahead stays ahead.
-ahead_on : {mode : Mode} {p v : List ℕ} {i : ℕ} {s : Shape} {k j : ℕ} → (x : IsToken mode p i s k) → is_star s ≡ false → j < length v
+ahead_on : {mode : Mode} {p v : List ℕ} {i : ℕ} {s : TokenKind} {k j : ℕ} → (x : IsToken mode p i s k) → is_star s ≡ false → j < length v
     → Fits mode x.token (get_or v j 0) → Ahead mode p v i j → Ahead mode p v k (j + 1)
 ahead_on {mode} {p} {v} {i} {s} {k} {j} x single inside fits a =
     let a_past : j < a.e = a.past in
@@ -91,7 +91,7 @@ ahead_on {mode} {p} {v} {i} {s} {k} {j} x single inside fits a =
       after = λ after. after_byte mode p v i s k a.e x out.1 after;
       splits = out.2;
     } where
-      after_byte : (mode : Mode) (p v : List ℕ) (i : ℕ) (s : Shape) (k e : ℕ) → (x : IsToken mode p i s k)
+      after_byte : (mode : Mode) (p v : List ℕ) (i : ℕ) (s : TokenKind) (k e : ℕ) → (x : IsToken mode p i s k)
           → Fits mode x.token (get_or v e 0) → IsAfterSlash p k → get_or v (e + 1 - 1) 0 ≡ slash
       after_byte mode p v i s k e x fits (inl zero_place) = let past : i < k = x.past in absurd (omega arith)
       after_byte mode p v i s k e x fits (inr h) =
@@ -105,7 +105,7 @@ pub not_slash_here : (mode : Mode) (t : Token) (c : ℕ) → IsTrue (is_path mod
 not_slash_here mode t c path fits other is =
     other (separates-slash mode t path (separates-fits mode t c fits ∙ slash_ends mode c is))
 
-near_on : {mode : Mode} {p v : List ℕ} {i : ℕ} {s : Shape} {k j : ℕ} → (x : IsToken mode p i s k) → is_star s ≡ false
+near_on : {mode : Mode} {p v : List ℕ} {i : ℕ} {s : TokenKind} {k j : ℕ} → (x : IsToken mode p i s k) → is_star s ≡ false
     → IsTrue (is_path mode) → Fits mode x.token (get_or v j 0) → x.token ≢ Byte slash → Near mode p v i j → Near mode p v k (j + 1)
 near_on {mode} {p} {v} {i} {s} {k} {j} x single path fits other n =
     let out = byte_out mode p v i s k n.e x single n.inside n.splits in
@@ -131,7 +131,7 @@ local_near : (mode : Mode) (p v : List ℕ) (i j : ℕ) (c : Crossing) (l : Opti
 local_near mode p v i j c None known later = absurd later
 local_near mode p v i j c (Some m) known later = known.near later
 
-within_on : {mode : Mode} {p : List ℕ} (v : List ℕ) {i : ℕ} {s : Shape} {k : ℕ} (j : ℕ) (c : Crossing) (l : Option Mark) → (x : IsToken mode p i s k)
+within_on : {mode : Mode} {p : List ℕ} (v : List ℕ) {i : ℕ} {s : TokenKind} {k : ℕ} (j : ℕ) (c : Crossing) (l : Option Mark) → (x : IsToken mode p i s k)
     → is_star s ≡ false → Fits mode x.token (get_or v j 0) → x.token ≢ Byte slash → WithinKnown mode p v i j c l
     → WithinKnown mode p v k (j + 1) c l
 within_on v j c None x single fits other known = tt
@@ -148,7 +148,7 @@ within_on {mode} {p} v {i} {k} j c (Some m) x single fits other known = record {
   not_after (inr h) = other (slash_token mode i x.token k (get_or v j 0) x.here fits h)
 
 -- The token takes the byte here, and is no slash: both marks stay.
-pub stands_on : {mode : Mode} {p v : List ℕ} {i : ℕ} {s : Shape} {k j : ℕ} {c : Crossing} {l : Option Mark}
+pub stands_on : {mode : Mode} {p v : List ℕ} {i : ℕ} {s : TokenKind} {k j : ℕ} {c : Crossing} {l : Option Mark}
     → Stands mode p v i j c l → (x : IsToken mode p i s k) → is_star s ≡ false → j < length v
     → Fits mode x.token (get_or v j 0) → x.token ≢ Byte slash → Stands mode p v k (j + 1) c l
 stands_on {mode} {p} {v} {i} {s} {k} {j} {c} {l} st x single inside fits other = record {
@@ -174,7 +174,7 @@ found_at_slash {mode} {p} {v} {i} {j} is n = elim (cases_lt j n.e) [
 ]
 
 -- The token is a slash and takes the one here: the local mark is of no more use.
-pub stands_past_slash : {mode : Mode} {p v : List ℕ} {i : ℕ} {s : Shape} {k j : ℕ} {c : Crossing} {l : Option Mark}
+pub stands_past_slash : {mode : Mode} {p v : List ℕ} {i : ℕ} {s : TokenKind} {k j : ℕ} {c : Crossing} {l : Option Mark}
     → Stands mode p v i j c l → (x : IsToken mode p i s k) → is_star s ≡ false → j < length v
     → Fits mode x.token (get_or v j 0) → x.token ≡ Byte slash → Stands mode p v k (j + 1) c None
 stands_past_slash {mode} {p} {v} {i} {s} {k} {j} {c} {l} st x single inside fits is =
@@ -198,7 +198,7 @@ stands_past_slash {mode} {p} {v} {i} {s} {k} {j} {c} {l} st x single inside fits
     }
 
 -- The token takes no byte here.
-pub misses_byte : {mode : Mode} {p : List ℕ} (v : List ℕ) {i : ℕ} {s : Shape} {k : ℕ} (j : ℕ) → (x : IsToken mode p i s k) → is_star s ≡ false → j ≤ length v
+pub misses_byte : {mode : Mode} {p : List ℕ} (v : List ℕ) {i : ℕ} {s : TokenKind} {k : ℕ} (j : ℕ) → (x : IsToken mode p i s k) → is_star s ≡ false → j ≤ length v
     → ((j < length v) × Fits mode x.token (get_or v j 0) → ⊥) → ¬ SplitsFrom v j p i mode
 misses_byte {mode} {p} v {i} {s} {k} j x single inside unfit all =
     let out = byte_out mode p v i s k j x single inside all in unfit (out.0, out.1)
@@ -655,11 +655,11 @@ inner_of mode p v i j c (Some m) t known fits other =
 
 -- A byte that begins no other token is a token by itself.
 abbrev pub literal_token : (mode : Mode) (p : List ℕ) (i : ℕ) → i < length p → StandsForItself (get_or p i 0)
-    → IsToken mode p i (shape.Byte (get_or p i 0)) (i + 1)
+    → IsToken mode p i (kind.Byte (get_or p i 0)) (i + 1)
 literal_token mode p i inside plain = record {
   token = Byte (get_or p i 0);
   here = inr (record { inside = inside; is = refl }, plain, refl);
-  shown = refl;
+  same_kind = refl;
   past = omega arith;
   inside = omega arith;
 }

@@ -1,5 +1,5 @@
 use Rattle.std.proofs.Common.{◌≡◌, true, inr, length, refl, arith}
-use Rattle.glob_matcher.specs.declared.wildmatch.tokens.Shape.TheVariants as shape
+use Rattle.glob_matcher.specs.declared.wildmatch.tokens.TokenKind.TheVariants as kind
 use Rattle.glob_matcher.specs.Tokens.{OneOf, Nothing}
 use Rattle.glob_matcher.specs.Private.Reader.{IsToken}
 use Rattle.glob_matcher.proofs.lemmas.two_marks.States.{inner_of, misses_byte, nothing_met, stands_on}
@@ -12,10 +12,10 @@ pub returns-in_default : goal.returns-in_default
 returns-in_default g c =
     let m = g.M.Match in
     let inside = c.requires.bracket.inside in
-    let x : IsToken m.mode m.pattern c.args.state.place shape.Nothing (length m.pattern) = record {
+    let x : IsToken m.mode m.pattern c.args.state.place kind.Nothing (length m.pattern) = record {
       token = Nothing;
       here = (inr (c.requires.bracket, c.in_default.ensures.none), refl);
-      shown = refl;
+      same_kind = refl;
       past = inside;
       inside = omega arith;
     } in
@@ -33,8 +33,8 @@ returns-then-not-takes g c =
     let m = g.M.Match in
     let found = c.in-Some.ensures.found in
     let paid = c.in-Some.ensures.count in
-    let x : IsToken m.mode m.pattern c.args.state.place shape.Set c.in-Some.after =
-    record { token = OneOf found.set; here = found.here; shown = refl; past = found.past; inside = found.inside } in
+    let x : IsToken m.mode m.pattern c.args.state.place kind.Set c.in-Some.after =
+    record { token = OneOf found.set; here = found.here; same_kind = refl; past = found.past; inside = found.inside } in
     record {
       meaning = record {
         stands = c.requires.stands;
@@ -57,8 +57,8 @@ returns g c =
     let m = g.M.Match in
     let found = c.in-Some.ensures.found in
     let paid = c.in-Some.ensures.count in
-    let x : IsToken m.mode m.pattern c.args.state.place shape.Set c.in-Some.after =
-    record { token = OneOf found.set; here = found.here; shown = refl; past = found.past; inside = found.inside } in
+    let x : IsToken m.mode m.pattern c.args.state.place kind.Set c.in-Some.after =
+    record { token = OneOf found.set; here = found.here; same_kind = refl; past = found.past; inside = found.inside } in
     let fits = found.answer.0 c.if-not-takes.false in
     record {
       meaning = stands_on c.requires.stands x refl fits.0 fits.1 (λ is. cc);
