@@ -18,7 +18,7 @@ pub record FreeRest (measure : Measure) (mode : Mode) (p v : List ℕ) (place at
   pub pieces : List Piece
   pub read : PiecesFrom mode p place pieces
   pub inside : at ≤ length v
-  pub skips : (x : ℕ) → hop mode v pieces x ≡ x + 1
+  pub skips : (k : ℕ) → hop mode v pieces k ≡ k + 1
   pub enough : cost measure mode v pieces (at + 1) + move measure * left v at ≤ rest
 
 pub record DirsRest (measure : Measure) (mode : Mode) (p v : List ℕ) (place at rest : ℕ) : Type 0 where
@@ -33,31 +33,31 @@ CrossingRest measure mode p v (crossing.Free m) rest = FreeRest measure mode p v
 CrossingRest measure mode p v (crossing.Dirs m) rest = DirsRest measure mode p v m.place m.at rest
 
 -- What the local mark may still cost: the count may go on from here, and from the mark.
-pub record LocalRest (measure : Measure) (mode : Mode) (p v : List ℕ) (xs : List Piece) (j rest s n place at : ℕ) : Type 0 where
+pub record LocalRest (measure : Measure) (mode : Mode) (p v : List ℕ) (xs : List Piece) (k rest s n place at : ℕ) : Type 0 where
   pub pieces : List Piece
   pub read : PiecesFrom mode p place pieces
   pub inside : at ≤ length v
   pub later : cost measure mode v pieces (next_component mode v at) ≤ rest
-  pub here : s + cost measure mode v xs j + rest ≤ n + cost measure mode v xs (next_component mode v j)
+  pub here : s + cost measure mode v xs k + rest ≤ n + cost measure mode v xs (next_component mode v k)
   pub back : s + cost measure mode v pieces at + stretch measure mode xs + move measure * next_component mode v at + rest
       ≤ n + stretch measure mode pieces + cost measure mode v pieces (next_component mode v at) + move measure * at
 
 abbrev pub WithinRest : Measure → Mode → List ℕ → List ℕ → List Piece → ℕ → ℕ → ℕ → ℕ → Option Mark → Type 0
-WithinRest measure mode p v xs j rest s n None = Unit {0}
-WithinRest measure mode p v xs j rest s n (Some m) = LocalRest measure mode p v xs j rest s n m.place m.at
+WithinRest measure mode p v xs k rest s n None = Unit {0}
+WithinRest measure mode p v xs k rest s n (Some m) = LocalRest measure mode p v xs k rest s n m.place m.at
 
 -- After a count of s the engine stands here, and it will count no more than n in all.
-pub record Owes (measure : Measure) (mode : Mode) (p v : List ℕ) (i j : ℕ) (c : Crossing) (l : Option Mark) (s n : ℕ) : Type 0 where
+pub record Owes (measure : Measure) (mode : Mode) (p v : List ℕ) (i k : ℕ) (c : Crossing) (l : Option Mark) (s n : ℕ) : Type 0 where
   pub pieces : List Piece
   pub read : PiecesFrom mode p i pieces
   pub rest : ℕ
   pub crossing : CrossingRest measure mode p v c rest
-  pub later : cost measure mode v pieces (next_component mode v j) ≤ rest
-  pub here : s + cost measure mode v pieces j + rest ≤ n + cost measure mode v pieces (hop mode v pieces j)
-  pub local : WithinRest measure mode p v pieces j rest s n l
+  pub later : cost measure mode v pieces (next_component mode v k) ≤ rest
+  pub here : s + cost measure mode v pieces k + rest ≤ n + cost measure mode v pieces (hop mode v pieces k)
+  pub local : WithinRest measure mode p v pieces k rest s n l
 
-pub record Allows (measure : Measure) (mode : Mode) (p v : List ℕ) (i j : ℕ) (c : Crossing) (l : Option Mark) (s n : ℕ) : Type 0 where
-  pub all : (xs : List Piece) → PiecesFrom mode p 0 xs → Owes measure mode p v i j c l s n
+pub record Allows (measure : Measure) (mode : Mode) (p v : List ℕ) (i k : ℕ) (c : Crossing) (l : Option Mark) (s n : ℕ) : Type 0 where
+  pub all : (xs : List Piece) → PiecesFrom mode p 0 xs → Owes measure mode p v i k c l s n
 
 abbrev pub AllowsAt : Measure → Mode → List ℕ → List ℕ → State → ℕ → ℕ → Type 0
 AllowsAt measure mode p v state s n = Allows measure mode p v state.place state.at state.crossing state.local s n
@@ -76,10 +76,10 @@ pub record Tested (measure : Measure) (mode : Mode) (p : List ℕ) (i s r : ℕ)
   pub high : (xs : List Piece) → PiecesFrom mode p i xs → r ≤ s + trial measure xs
 
 -- One test ago the engine stood here, and n are enough.
-pub record Missed (measure : Measure) (mode : Mode) (p v : List ℕ) (i j : ℕ) (c : Crossing) (l : Option Mark) (s n : ℕ) : Type 0 where
+pub record Missed (measure : Measure) (mode : Mode) (p v : List ℕ) (i k : ℕ) (c : Crossing) (l : Option Mark) (s n : ℕ) : Type 0 where
   pub before : ℕ
   pub tested : Tested measure mode p i before s
-  pub allows : Allows measure mode p v i j c l before n
+  pub allows : Allows measure mode p v i k c l before n
 
 abbrev pub AllowsMissed : Measure → Mode → List ℕ → List ℕ → State → ℕ → ℕ → Type 0
 AllowsMissed measure mode p v state s n = Missed measure mode p v state.place state.at state.crossing state.local s n

@@ -46,21 +46,21 @@ trial measure (x ∷ xs) = test measure x
 
 -- where the token after one begins its look
 unfoldable pub onward : Mode → List ℕ → Bool → ℕ → ℕ
-onward mode v apart j = if apart then next_component mode v j else j
+onward mode v apart k = if apart then next_component mode v k else k
 
--- the places from j on, the value's end included
+-- the places from k on, the value's end included
 unfoldable pub left : List ℕ → ℕ → ℕ
-left v j = length v + 1 - j
+left v k = length v + 1 - k
 
--- what the pieces may take from place j of the value on, over all the later places of the mark before them
+-- what the pieces may take from place k of the value on, over all the later places of the mark before them
 unfoldable pub cost : Measure → Mode → List ℕ → List Piece → ℕ → ℕ
-cost measure mode v [] j = left v j
-cost measure mode v (x ∷ xs) j = each measure x * left v j + cost measure mode v xs (onward mode v (separates mode x.token) j)
+cost measure mode v [] k = left v k
+cost measure mode v (x ∷ xs) k = each measure x * left v k + cost measure mode v xs (onward mode v (separates mode x.token) k)
 
 -- the place where the next look at these pieces may begin
 unfoldable pub hop : Mode → List ℕ → List Piece → ℕ → ℕ
-hop mode v [] j = next_component mode v j
-hop mode v (x ∷ xs) j = if separates mode x.token then j + 1 else next_component mode v j
+hop mode v [] k = next_component mode v k
+hop mode v (x ∷ xs) k = if separates mode x.token then k + 1 else next_component mode v k
 
 -- what the pieces up to the first that ends a component, or the pattern's end, may take at one place
 unfoldable pub stretch : Measure → Mode → List Piece → ℕ

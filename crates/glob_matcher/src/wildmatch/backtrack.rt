@@ -116,8 +116,8 @@ impl<'c, 'a, S: Ledger, L: Ledger, M: Match> Engine<'c, 'a, S, L, M> {
     #[inline(always)]
     fn local_past(&mut self, mark: Mark) -> Option<Mark>
         requires { mark.place < length M.pattern }
-        ensures forgotten { slice_index M.pattern mark.place ≡ slash → result ≡ None }
-        ensures kept { slice_index M.pattern mark.place ≢ slash → result ≡ Some mark }
+        ensures at_slash { slice_index M.pattern mark.place ≡ slash → result ≡ None }
+        ensures at_other { slice_index M.pattern mark.place ≢ slash → result ≡ Some mark }
         ensures count { Took self.old self.new 0 1 }
     {
         if self.pattern_byte(mark.place()) == b'/' {

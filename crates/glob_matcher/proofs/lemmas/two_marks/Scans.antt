@@ -64,18 +64,18 @@ suited mode p i (follow.Folded b) c is suits = (
 suited mode p i follow.End c is suits = absurd suits
 
 -- where the value has not what follows, the token there takes no byte
-pub unsuited : (mode : Mode) (p v : List ℕ) (i j : ℕ) (f : Follow) → Follows mode p i f → j < length v → ¬ Suits f (get_or v j 0)
-    → ¬ SplitsFrom v j p i mode
-unsuited mode p v i j (follow.Byte b) is inside other =
-    misses_byte v j (literal_token mode p i is.0.inside (subst StandsForItself (sym is.0.is) is.1)) refl (omega arith)
-    (λ fits. other (sym (fold_exact mode (get_or v j 0) is.2) ∙ (fits.1 ∙ (fold_exact mode (get_or p i 0) is.2 ∙ is.0.is))))
-unsuited mode p v i j (follow.Folded b) is inside other =
-    misses_byte v j (literal_token mode p i is.0.inside (subst StandsForItself (sym is.0.is) is.1)) refl (omega arith)
+pub unsuited : (mode : Mode) (p v : List ℕ) (i k : ℕ) (f : Follow) → Follows mode p i f → k < length v → ¬ Suits f (get_or v k 0)
+    → ¬ SplitsFrom v k p i mode
+unsuited mode p v i k (follow.Byte b) is inside other =
+    misses_byte v k (literal_token mode p i is.0.inside (subst StandsForItself (sym is.0.is) is.1)) refl (omega arith)
+    (λ fits. other (sym (fold_exact mode (get_or v k 0) is.2) ∙ (fits.1 ∙ (fold_exact mode (get_or p i 0) is.2 ∙ is.0.is))))
+unsuited mode p v i k (follow.Folded b) is inside other =
+    misses_byte v k (literal_token mode p i is.0.inside (subst StandsForItself (sym is.0.is) is.1)) refl (omega arith)
     (λ fits.
     other
-    (sym (fold_lower mode (get_or v j 0) is.2)
+    (sym (fold_lower mode (get_or v k 0) is.2)
     ∙ (fits.1 ∙ (fold_lower mode (get_or p i 0) is.2 ∙ ap to_ascii_lowercase is.0.is))))
-unsuited mode p v i j follow.End is inside other = end_missed mode p v i j is (λ past. omega arith)
+unsuited mode p v i k follow.End is inside other = end_missed mode p v i k is (λ past. omega arith)
 
 -- A scan for what follows is a scan for the rest of the pattern, after the look at what follows.
 pub scan_for : (mode : Mode) (p : List ℕ) {v : List ℕ} (f : Follow) {from : Mark} {s : Scan} {before between after : Counts}
@@ -221,35 +221,35 @@ free_found_counts {measure} {mode} {p} {m = m} {s} a met =
     allows_past_slash token refl (byte_price measure m.place s) met.2 met.3 a
 
 -- what the local mark is past the byte after it
-pub record IsKept (p : List ℕ) (m : Mark) (l : Option Mark) : Type 0 where
-  pub forgotten : get_or p m.place 0 ≡ slash → l ≡ None
-  pub kept : get_or p m.place 0 ≢ slash → l ≡ Some m
+pub record IsLocalPast (p : List ℕ) (m : Mark) (l : Option Mark) : Type 0 where
+  pub at_slash : get_or p m.place 0 ≡ slash → l ≡ None
+  pub at_other : get_or p m.place 0 ≢ slash → l ≡ Some m
 
 -- The byte after a run of stars within a component is found.
 pub local_found : {mode : Mode} {p v : List ℕ} {c : Crossing} {m : Mark} {l : Option Mark} → Stands mode p v m.place m.at c (Some m)
-    → IsMet mode p v (scan.Found m) → IsKept p m l → Stands mode p v (m.place + 1) (m.at + 1) c l
-local_found {mode} {p} {v} {c} {m} st met k =
+    → IsMet mode p v (scan.Found m) → IsLocalPast p m l → Stands mode p v (m.place + 1) (m.at + 1) c l
+local_found {mode} {p} {v} {c} {m} st met mark =
     let token = literal_token mode p m.place met.0 met.1 in
     elim (same_or_not (get_or p m.place 0) slash) [
       | inl is ↦
-          subst (λ (x : Option Mark). Stands mode p v (m.place + 1) (m.at + 1) c x) (sym (k.forgotten is))
+          subst (λ (x : Option Mark). Stands mode p v (m.place + 1) (m.at + 1) c x) (sym (mark.at_slash is))
           (stands_past_slash st token refl met.2 met.3 (ap Byte is))
       | inr other ↦
-          subst (λ (x : Option Mark). Stands mode p v (m.place + 1) (m.at + 1) c x) (sym (k.kept other))
+          subst (λ (x : Option Mark). Stands mode p v (m.place + 1) (m.at + 1) c x) (sym (mark.at_other other))
           (stands_on st token refl met.2 met.3 (λ is. other (byte_of is)))
     ]
 
 pub local_found_counts : {measure : Measure} {mode : Mode} {p v : List ℕ} {c : Crossing} {m : Mark} {l : Option Mark} {s n : ℕ}
     → Stands mode p v m.place m.at c (Some m) → Allows measure mode p v m.place m.at c (Some m) s n → IsMet mode p v (scan.Found m)
-    → IsKept p m l → Allows measure mode p v (m.place + 1) (m.at + 1) c l (s + amount measure 1 8) n
-local_found_counts {measure} {mode} {p} {v} {c} {m} {l} {s} {n} st a met k =
+    → IsLocalPast p m l → Allows measure mode p v (m.place + 1) (m.at + 1) c l (s + amount measure 1 8) n
+local_found_counts {measure} {mode} {p} {v} {c} {m} {l} {s} {n} st a met mark =
     let token = literal_token mode p m.place met.0 met.1 in
     elim (same_or_not (get_or p m.place 0) slash) [
       | inl is ↦
-          subst (λ (x : Option Mark). Allows measure mode p v (m.place + 1) (m.at + 1) c x (s + amount measure 1 8) n) (sym (k.forgotten is))
+          subst (λ (x : Option Mark). Allows measure mode p v (m.place + 1) (m.at + 1) c x (s + amount measure 1 8) n) (sym (mark.at_slash is))
           (allows_past_slash token refl (byte_price measure m.place s) met.2 met.3 a)
       | inr other ↦
-          subst (λ (x : Option Mark). Allows measure mode p v (m.place + 1) (m.at + 1) c x (s + amount measure 1 8) n) (sym (k.kept other))
+          subst (λ (x : Option Mark). Allows measure mode p v (m.place + 1) (m.at + 1) c x (s + amount measure 1 8) n) (sym (mark.at_other other))
           (allows_on token refl (byte_price measure m.place s) met.2 met.3
           (inner_of mode p v m.place m.at c (Some m) token.token st.local met.3 (λ is. other (byte_of is))) a)
     ]
@@ -288,17 +288,17 @@ none_of None other = refl
 none_of (Some m) other = absurd (other m refl)
 
 -- A scan from the local mark, once it has moved: the engine stands where the scan has come to.
-pub local_scanned : {mode : Mode} {p v : List ℕ} {i j : ℕ} {c : Crossing} {m x : Mark} {s : Scan} {before after : Counts}
-    → Stands mode p v i j c (Some m) → ¬ SplitsFrom v j p i mode → m.at < length v → get_or v m.at 0 ≢ slash → x.place ≡ m.place
+pub local_scanned : {mode : Mode} {p v : List ℕ} {i k : ℕ} {c : Crossing} {m x : Mark} {s : Scan} {before after : Counts}
+    → Stands mode p v i k c (Some m) → ¬ SplitsFrom v k p i mode → m.at < length v → get_or v m.at 0 ≢ slash → x.place ≡ m.place
     → x.at ≡ m.at + 1 → IsScanFor mode p v x s before after → NoSlash v x.at (reached_by s).at
     → Stands mode p v (reached_by s).place (reached_by s).at c (Some (reached_by s))
 local_scanned {x = x} {s} st miss inside other same at so bare =
     stands_local_skipped (reached_by s) (local_moved x st miss inside other same at) so.same so.low
     so.inside bare so.missed
 
-pub local_scanned_counts : {measure : Measure} {mode : Mode} {p v : List ℕ} {i j : ℕ} {c : Crossing} {m x : Mark} {s : Scan} {before after : Counts} {w n : ℕ}
-    → Stands mode p v i j c (Some m) → m.at < length v → get_or v m.at 0 ≢ slash → x.place ≡ m.place → x.at ≡ m.at + 1
-    → IsScanFor mode p v x s before after → NoSlash v x.at (reached_by s).at → Missed measure mode p v i j c (Some m) w n
+pub local_scanned_counts : {measure : Measure} {mode : Mode} {p v : List ℕ} {i k : ℕ} {c : Crossing} {m x : Mark} {s : Scan} {before after : Counts} {w n : ℕ}
+    → Stands mode p v i k c (Some m) → m.at < length v → get_or v m.at 0 ≢ slash → x.place ≡ m.place → x.at ≡ m.at + 1
+    → IsScanFor mode p v x s before after → NoSlash v x.at (reached_by s).at → Missed measure mode p v i k c (Some m) w n
     → Allows measure mode p v (reached_by s).place (reached_by s).at c (Some (reached_by s))
     (w + move measure + 2 * ((reached_by s).at - x.at)) n
 local_scanned_counts {mode = mode} {v = v} {m = m} {x} {s} st inside other same at so bare a =
