@@ -129,7 +129,9 @@ impl<'c, 'a, S: Ledger, L: Ledger, M: Match> Engine<'c, 'a, S, L, M> {
             TokenKind::Dirs => self.dirs_turn(state, after),
             TokenKind::Local => self.local_turn(state, after),
             TokenKind::Nothing => Turn::NoMatch,
-            TokenKind::Byte(_) | TokenKind::Any | TokenKind::Set => self.single_turn(state, kind, after),
+            TokenKind::Byte(_) | TokenKind::Any | TokenKind::Set => {
+                self.single_turn(state, kind, after)
+            }
         }
     }
 

@@ -54,7 +54,11 @@ impl TokenKind {
         match self {
             TokenKind::Byte(wanted) => mode.fold(byte) == mode.fold(wanted),
             TokenKind::Any => !(mode.is_path() && byte == b'/'),
-            TokenKind::Set | TokenKind::Free | TokenKind::Local | TokenKind::Dirs | TokenKind::Nothing => false,
+            TokenKind::Set
+            | TokenKind::Free
+            | TokenKind::Local
+            | TokenKind::Dirs
+            | TokenKind::Nothing => false,
         }
     }
 }
