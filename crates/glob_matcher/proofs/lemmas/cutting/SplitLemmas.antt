@@ -97,35 +97,35 @@ module _ (m n : Mode) (p : List ℕ) where
   Agree : ℕ → Type 0
   Agree bound = (i : ℕ) (ts us : List Token) → length ts ≤ bound → From m p i ts → From n p i us → star_count ts ≡ star_count us
 
-  after_stars : (bound i j k : ℕ) (ts us : List Token) → Agree bound → length ts ≤ bound
-      → (stop : ℕ) → (j ≡ stop) ⊎ (HasByte p stop slash × (j ≡ stop + 1)) → (k ≡ stop) ⊎ (HasByte p stop slash × (k ≡ stop + 1))
-      → From m p j ts → From n p k us → star_count ts ≡ star_count us
+  after_stars : (bound i j end : ℕ) (ts us : List Token) → Agree bound → length ts ≤ bound
+      → (stop : ℕ) → (j ≡ stop) ⊎ (HasByte p stop slash × (j ≡ stop + 1)) → (end ≡ stop) ⊎ (HasByte p stop slash × (end ≡ stop + 1))
+      → From m p j ts → From n p end us → star_count ts ≡ star_count us
   unfolding Agree
-  after_stars bound i j k ts us later few stop (inl a) (inl b) x y =
+  after_stars bound i j end ts us later few stop (inl a) (inl b) x y =
       later stop ts us few (subst (λ (q : ℕ). From m p q ts) a x) (subst (λ (q : ℕ). From n p q us) b y)
-  after_stars bound i j k ts us later few stop (inl a) (inr b) x y =
+  after_stars bound i j end ts us later few stop (inl a) (inr b) x y =
       let past = after_slash_token m p stop ts b.0 (subst (λ (q : ℕ). From m p q ts) a x) in
       past.3 ∙ later (stop + 1) past.0 us (omega (arith, past.2)) past.1 (subst (λ (q : ℕ). From n p q us) b.1 y)
-  after_stars bound i j k ts us later few stop (inr a) (inl b) x y =
+  after_stars bound i j end ts us later few stop (inr a) (inl b) x y =
       let past = after_slash_token n p stop us a.0 (subst (λ (q : ℕ). From n p q us) b y) in
       later (stop + 1) ts past.0 few (subst (λ (q : ℕ). From m p q ts) a.1 x) past.1 ∙ sym past.3
-  after_stars bound i j k ts us later few stop (inr a) (inr b) x y =
+  after_stars bound i j end ts us later few stop (inr a) (inr b) x y =
       later (stop + 1) ts us few (subst (λ (q : ℕ). From m p q ts) a.1 x) (subst (λ (q : ℕ). From n p q us) b.1 y)
 
-  step : (bound i j k : ℕ) (t u : Token) (ts us : List Token) → Agree bound → length ts ≤ bound
-      → IsStarToken p i t j ⊎ IsOtherToken p i t j → IsStarToken p i u k ⊎ IsOtherToken p i u k
-      → TokenAt n p i u k → From m p j ts → From n p k us → star_count (t ∷ ts) ≡ star_count (u ∷ us)
+  step : (bound i j end : ℕ) (t u : Token) (ts us : List Token) → Agree bound → length ts ≤ bound
+      → IsStarToken p i t j ⊎ IsOtherToken p i t j → IsStarToken p i u end ⊎ IsOtherToken p i u end
+      → TokenAt n p i u end → From m p j ts → From n p end us → star_count (t ∷ ts) ≡ star_count (u ∷ us)
   unfolding Agree
-  step bound i j k t u ts us later few (inl a) (inl b) here x y =
+  step bound i j end t u ts us later few (inl a) (inl b) here x y =
       let same = IsRun-unique p i a.stop b.stop a.run b.run in
-      let again = after_stars bound i j k ts us later few b.stop
+      let again = after_stars bound i j end ts us later few b.stop
       (subst (λ (q : ℕ). (j ≡ q) ⊎ (HasByte p q slash × (j ≡ q + 1))) same a.after) b.after x y in
       a.counts ts ∙ (ap (λ (q : ℕ). q + 1) again ∙ sym (b.counts us))
-  step bound i j k t u ts us later few (inl a) (inr b) here x y = absurd (b.no_star (run_lead p i a.stop a.run))
-  step bound i j k t u ts us later few (inr a) (inl b) here x y = absurd (a.no_star (run_lead p i b.stop b.run))
-  step bound i j k t u ts us later few (inr a) (inr b) here x y =
-      let same = TokenAt-unique n p i t u j k (a.alike n) here in
-      a.counts ts ∙ (later k ts us few (subst (λ (q : ℕ). From m p q ts) same.1 x) y ∙ sym (b.counts us))
+  step bound i j end t u ts us later few (inl a) (inr b) here x y = absurd (b.no_star (run_lead p i a.stop a.run))
+  step bound i j end t u ts us later few (inr a) (inl b) here x y = absurd (a.no_star (run_lead p i b.stop b.run))
+  step bound i j end t u ts us later few (inr a) (inr b) here x y =
+      let same = TokenAt-unique n p i t u j end (a.alike n) here in
+      a.counts ts ∙ (later end ts us few (subst (λ (q : ℕ). From m p q ts) same.1 x) y ∙ sym (b.counts us))
 
   agree : (bound : ℕ) → Agree bound
   unfolding Agree
