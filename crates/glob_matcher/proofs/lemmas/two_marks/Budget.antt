@@ -269,7 +269,7 @@ free_skips {mode} {v = v} {i} measure (x ∷ xs) read more known k = elim (apart
 pub allows_free : {measure : Measure} {mode : Mode} {p v : List ℕ} {i j k : ℕ} {c : Crossing} {l : Option Mark} (m : Mark) {r s n : ℕ}
     → TokenAt mode p i Free j → j ≢ length p → FreeKnown mode p v j → k ≤ length v → m.place ≡ j → m.at ≡ k
     → r ≤ s + amount measure 1 (8 * (j - i) - 4) → Allows measure mode p v i k c l s n → Allows measure mode p v j k (crossing.Free m) None r n
-allows_free {measure} {mode} {p} {v} {i} {j} {k} {c} {l} m {r} {s} {n} here more known inside e f low a =
+allows_free {measure} {mode} {p} {v} {i} {j} {k} {c} {l} m {r} {s} {n} here more known inside same_place same_at low a =
     allows_less (omega (arith, test_star measure i Free j refl)) (record { all = λ xs read. owes (a.all xs read) }) where
       owes : Owes measure mode p v i k c l s n → Owes measure mode p v j k (crossing.Free m) None (s + test measure (piece i Free j)) n
       owes o =
@@ -281,15 +281,15 @@ allows_free {measure} {mode} {p} {v} {i} {j} {k} {c} {l} m {r} {s} {n} here more
           let next : cost measure mode v star.pieces (next_component mode v k) ≤ cost measure mode v star.pieces (k + 1) =
           cost_mono measure mode v star.pieces (k + 1) (next_component mode v k) (omega arith) in
           let costs : cost measure mode v star.pieces (m.at + 1) ≡ cost measure mode v star.pieces (k + 1) =
-          ap (λ (y : ℕ). cost measure mode v star.pieces (y + 1)) f in
-          let lefts : move measure * left v m.at ≡ move measure * left v k = ap (λ (y : ℕ). move measure * left v y) f in
+          ap (λ (y : ℕ). cost measure mode v star.pieces (y + 1)) same_at in
+          let lefts : move measure * left v m.at ≡ move measure * left v k = ap (λ (y : ℕ). move measure * left v y) same_at in
           record {
             pieces = star.pieces;
             read = star.read;
             rest = cost measure mode v star.pieces (k + 1) + move measure * left v k;
             crossing = record {
               pieces = star.pieces;
-              read = subst (λ (y : ℕ). PiecesFrom mode p y star.pieces) (sym e) star.read;
+              read = subst (λ (y : ℕ). PiecesFrom mode p y star.pieces) (sym same_place) star.read;
               inside = omega arith;
               skips = skips;
               enough = omega arith;
@@ -313,7 +313,7 @@ free_last_counts {measure} {mode} {p} {v} {i} {j} {k} {r = r} {s} {n} here insid
 pub allows_dirs : {measure : Measure} {mode : Mode} {p v : List ℕ} {i j k : ℕ} {c : Crossing} {l : Option Mark} (m : Mark) {r s n : ℕ}
     → TokenAt mode p i Dirs j → k ≤ length v → m.place ≡ j → m.at ≡ k
     → r ≤ s + amount measure 1 (8 * (j - i) - 4) → Allows measure mode p v i k c l s n → Allows measure mode p v j k (crossing.Dirs m) None r n
-allows_dirs {measure} {mode} {p} {v} {i} {j} {k} {c} {l} m {r} {s} {n} here inside e f low a =
+allows_dirs {measure} {mode} {p} {v} {i} {j} {k} {c} {l} m {r} {s} {n} here inside same_place same_at low a =
     allows_less (omega (arith, test_star measure i Dirs j refl)) (record { all = λ xs read. owes (a.all xs read) }) where
       owes : Owes measure mode p v i k c l s n → Owes measure mode p v j k (crossing.Dirs m) None (s + test measure (piece i Dirs j)) n
       owes o =
@@ -321,15 +321,15 @@ allows_dirs {measure} {mode} {p} {v} {i} {j} {k} {c} {l} m {r} {s} {n} here insi
           let hopped : cost measure mode v star.pieces (next_component mode v k) ≤ cost measure mode v star.pieces (hop mode v star.pieces k) =
           cost_hop measure mode v star.pieces k in
           let costs : cost measure mode v star.pieces (next_component mode v m.at) ≡ cost measure mode v star.pieces (next_component mode v k) =
-          ap (λ (y : ℕ). cost measure mode v star.pieces (next_component mode v y)) f in
-          let lefts : move measure * left v m.at ≡ move measure * left v k = ap (λ (y : ℕ). move measure * left v y) f in
+          ap (λ (y : ℕ). cost measure mode v star.pieces (next_component mode v y)) same_at in
+          let lefts : move measure * left v m.at ≡ move measure * left v k = ap (λ (y : ℕ). move measure * left v y) same_at in
           record {
             pieces = star.pieces;
             read = star.read;
             rest = cost measure mode v star.pieces (next_component mode v k) + move measure * left v k;
             crossing = record {
               pieces = star.pieces;
-              read = subst (λ (y : ℕ). PiecesFrom mode p y star.pieces) (sym e) star.read;
+              read = subst (λ (y : ℕ). PiecesFrom mode p y star.pieces) (sym same_place) star.read;
               inside = omega arith;
               enough = omega arith;
             };
@@ -350,7 +350,7 @@ moves_between measure v k e low high =
 pub allows_local : {measure : Measure} {mode : Mode} {p v : List ℕ} {i j k : ℕ} {c : Crossing} {l : Option Mark} (m : Mark) {r s n : ℕ}
     → TokenAt mode p i Local j → k ≤ length v → m.place ≡ j → m.at ≡ k
     → r ≤ s + amount measure 1 (8 * (j - i) - 4) → Allows measure mode p v i k c l s n → Allows measure mode p v j k c (Some m) r n
-allows_local {measure} {mode} {p} {v} {i} {j} {k} {c} {l} m {r} {s} {n} here inside e f low a =
+allows_local {measure} {mode} {p} {v} {i} {j} {k} {c} {l} m {r} {s} {n} here inside same_place same_at low a =
     allows_less (omega (arith, test_star measure i Local j refl)) (record { all = λ xs read. owes (a.all xs read) }) where
       owes : Owes measure mode p v i k c l s n → Owes measure mode p v j k c (Some m) (s + test measure (piece i Local j)) n
       owes o =
@@ -361,11 +361,11 @@ allows_local {measure} {mode} {p} {v} {i} {j} {k} {c} {l} m {r} {s} {n} here ins
           let fewer : move measure * left v next ≤ move measure * left v k = times_mono (move measure) v k next (omega arith) in
           let hopped : cost measure mode v star.pieces next ≤ cost measure mode v star.pieces (hop mode v star.pieces k) =
           cost_hop measure mode v star.pieces k in
-          let ats : cost measure mode v star.pieces m.at ≡ cost measure mode v star.pieces k = ap (cost measure mode v star.pieces) f in
+          let ats : cost measure mode v star.pieces m.at ≡ cost measure mode v star.pieces k = ap (cost measure mode v star.pieces) same_at in
           let laters : cost measure mode v star.pieces (next_component mode v m.at) ≡ cost measure mode v star.pieces next =
-          ap (λ (y : ℕ). cost measure mode v star.pieces (next_component mode v y)) f in
-          let moved : move measure * next_component mode v m.at ≡ move measure * next = ap (λ (y : ℕ). move measure * next_component mode v y) f in
-          let marked : move measure * m.at ≡ move measure * k = ap (λ (y : ℕ). move measure * y) f in
+          ap (λ (y : ℕ). cost measure mode v star.pieces (next_component mode v y)) same_at in
+          let moved : move measure * next_component mode v m.at ≡ move measure * next = ap (λ (y : ℕ). move measure * next_component mode v y) same_at in
+          let marked : move measure * m.at ≡ move measure * k = ap (λ (y : ℕ). move measure * y) same_at in
           record {
             pieces = star.pieces;
             read = star.read;
@@ -375,7 +375,7 @@ allows_local {measure} {mode} {p} {v} {i} {j} {k} {c} {l} m {r} {s} {n} here ins
             here = omega (arith, star.here);
             local = record {
               pieces = star.pieces;
-              read = subst (λ (y : ℕ). PiecesFrom mode p y star.pieces) (sym e) star.read;
+              read = subst (λ (y : ℕ). PiecesFrom mode p y star.pieces) (sym same_place) star.read;
               inside = omega arith;
               later = omega (arith, star.later);
               here = omega (arith, star.here);
@@ -421,7 +421,7 @@ left_stuck_counts {measure} {mode} {p} {v} {i} {k} {c} {m} {s} {n} stuck a = rec
 pub allows_local_moved : {measure : Measure} {mode : Mode} {p v : List ℕ} {i k : ℕ} {c : Crossing} {m : Mark} (x : Mark) {s n : ℕ} → m.at < length v
     → ends mode (get_or v m.at 0) ≡ false → x.place ≡ m.place → x.at ≡ m.at + 1 → Missed measure mode p v i k c (Some m) s n
     → Allows measure mode p v x.place x.at c (Some x) (s + move measure) n
-allows_local_moved {measure} {mode} {p} {v} {i} {k} {c} {m} x {s} {n} inside within e f a =
+allows_local_moved {measure} {mode} {p} {v} {i} {k} {c} {m} x {s} {n} inside within same_place same_at a =
     record { all = λ xs read. owes (a.allows.all xs read) } where
       owes : Owes measure mode p v i k c (Some m) a.before n → Owes measure mode p v x.place x.at c (Some x) (s + move measure) n
       owes o =
@@ -432,17 +432,17 @@ allows_local_moved {measure} {mode} {p} {v} {i} {k} {c} {m} x {s} {n} inside wit
           omega (arith, trial_stretch measure mode v o.pieces, a.tested.high o.pieces o.read) in
           let back = w.back in
           let next : next_component mode v x.at ≡ next_component mode v m.at =
-          ap (next_component mode v) f ∙ next-inner mode v m.at inside within in
+          ap (next_component mode v) same_at ∙ next-inner mode v m.at inside within in
           let past : x.at < next_component mode v m.at = omega (arith, next_past mode v x.at) in
           let two : move measure * (m.at + 2) ≤ move measure * next_component mode v m.at = mul-le-mul_left (move measure) (omega arith) in
           let nexts : move measure * next_component mode v x.at ≡ move measure * next_component mode v m.at = ap (λ (y : ℕ). move measure * y) next in
-          let marked : move measure * x.at ≡ move measure * m.at + move measure = ap (λ (y : ℕ). move measure * y) f ∙ omega arith in
-          let ats : cost measure mode v w.pieces x.at ≡ cost measure mode v w.pieces (m.at + 1) = ap (cost measure mode v w.pieces) f in
+          let marked : move measure * x.at ≡ move measure * m.at + move measure = ap (λ (y : ℕ). move measure * y) same_at ∙ omega arith in
+          let ats : cost measure mode v w.pieces x.at ≡ cost measure mode v w.pieces (m.at + 1) = ap (cost measure mode v w.pieces) same_at in
           let laters : cost measure mode v w.pieces (next_component mode v x.at) ≡ cost measure mode v w.pieces (next_component mode v m.at) =
           ap (cost measure mode v w.pieces) next in
           let hopped : cost measure mode v w.pieces (next_component mode v x.at) ≤ cost measure mode v w.pieces (hop mode v w.pieces x.at) =
           cost_hop measure mode v w.pieces x.at in
-          let read : PiecesFrom mode p x.place w.pieces = subst (λ (y : ℕ). PiecesFrom mode p y w.pieces) (sym e) w.read in
+          let read : PiecesFrom mode p x.place w.pieces = subst (λ (y : ℕ). PiecesFrom mode p y w.pieces) (sym same_place) w.read in
           record {
             pieces = w.pieces;
             read = read;
@@ -464,19 +464,19 @@ allows_local_moved {measure} {mode} {p} {v} {i} {k} {c} {m} x {s} {n} inside wit
 pub allows_free_moved : {measure : Measure} {mode : Mode} {p v : List ℕ} {m : Mark} (x : Mark) {s n : ℕ} → m.at < length v → x.place ≡ m.place
     → x.at ≡ m.at + 1 → AllowsLeft measure mode p v (crossing.Free m) s n
     → Allows measure mode p v x.place x.at (crossing.Free x) None (s + move measure) n
-allows_free_moved {measure} {mode} {p} {v} {m} x {s} {n} inside e f a = record { all = λ xs read. owes (a.all xs read) } where
+allows_free_moved {measure} {mode} {p} {v} {m} x {s} {n} inside same_place same_at a = record { all = λ xs read. owes (a.all xs read) } where
   owes : OwesLeft measure mode p v (crossing.Free m) s n → Owes measure mode p v x.place x.at (crossing.Free x) None (s + move measure) n
   owes o =
       let w : FreeRest measure mode p v m.place m.at o.rest = o.crossing in
       let hopped : cost measure mode v w.pieces (hop mode v w.pieces x.at) ≡ cost measure mode v w.pieces (x.at + 1) =
       ap (cost measure mode v w.pieces) (w.skips x.at) in
-      let ats : cost measure mode v w.pieces x.at ≡ cost measure mode v w.pieces (m.at + 1) = ap (cost measure mode v w.pieces) f in
+      let ats : cost measure mode v w.pieces x.at ≡ cost measure mode v w.pieces (m.at + 1) = ap (cost measure mode v w.pieces) same_at in
       let past : x.at < next_component mode v x.at = next_past mode v x.at in
       let next : cost measure mode v w.pieces (next_component mode v x.at) ≤ cost measure mode v w.pieces (x.at + 1) =
       cost_mono measure mode v w.pieces (x.at + 1) (next_component mode v x.at) (omega arith) in
       let fewer : move measure * left v x.at + move measure ≤ move measure * left v m.at =
       times_less (move measure) v m.at x.at (omega arith) (omega arith) in
-      let read : PiecesFrom mode p x.place w.pieces = subst (λ (y : ℕ). PiecesFrom mode p y w.pieces) (sym e) w.read in
+      let read : PiecesFrom mode p x.place w.pieces = subst (λ (y : ℕ). PiecesFrom mode p y w.pieces) (sym same_place) w.read in
       record {
         pieces = w.pieces;
         read = read;

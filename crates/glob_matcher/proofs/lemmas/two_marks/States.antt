@@ -282,7 +282,7 @@ abbrev pub mark_of : ℕ → ℕ → Mark
 mark_of place at = record { place = place; at = at }
 
 pub mark_eq : (m : Mark) (place at : ℕ) → m.place ≡ place → m.at ≡ at → mark_of place at ≡ m
-mark_eq m place at e f = sym (ap (λ (n : ℕ). mark_of n m.at) e ∙ ap (λ (n : ℕ). mark_of place n) f)
+mark_eq m place at same_place same_at = sym (ap (λ (n : ℕ). mark_of n m.at) same_place ∙ ap (λ (n : ℕ). mark_of place n) same_at)
 
 free_from : {mode : Mode} {p : List ℕ} (v : List ℕ) {i j : ℕ} (k e : ℕ) → TokenAt mode p i Free j → k ≤ e → e ≤ length v
     → SplitsFrom v e p i mode → SplitsFrom v k p i mode
@@ -293,8 +293,8 @@ free_from {mode} {p} v {i} {j} k e here low inside all =
 -- A run of stars that crosses slashes: both marks are forgotten, and one is set.
 pub free_met : {mode : Mode} {p v : List ℕ} {i j k : ℕ} {c : Crossing} {l : Option Mark} (m : Mark) → Stands mode p v i k c l
     → TokenAt mode p i Free j → j ≤ length p → j ≢ length p → m.place ≡ j → m.at ≡ k → Stands mode p v j k (crossing.Free m) None
-free_met {mode} {p} {v} {i} {j} {k} m st here j_low more e f =
-    subst (λ (n : Mark). Stands mode p v j k (crossing.Free n) None) (mark_eq m j k e f) (made free_known_here) where
+free_met {mode} {p} {v} {i} {j} {k} m st here j_low more same_place same_at =
+    subst (λ (n : Mark). Stands mode p v j k (crossing.Free n) None) (mark_eq m j k same_place same_at) (made free_known_here) where
       free_known_here : FreeKnown mode p v j
       free_known_here = free_known v here j_low more
 
@@ -350,8 +350,8 @@ no_local_after_slash mode p v i k c (Some m) known after later = known.here afte
 -- A double star with its slash: both marks are forgotten, and one is set.
 pub dirs_met : {mode : Mode} {p v : List ℕ} {i j k : ℕ} {c : Crossing} {l : Option Mark} (m : Mark) → Stands mode p v i k c l
     → TokenAt mode p i Dirs j → j ≤ length p → m.place ≡ j → m.at ≡ k → Stands mode p v j k (crossing.Dirs m) None
-dirs_met {mode} {p} {v} {i} {j} {k} {c} {l} m st here j_low e f =
-    subst (λ (n : Mark). Stands mode p v j k (crossing.Dirs n) None) (mark_eq m j k e f) made where
+dirs_met {mode} {p} {v} {i} {j} {k} {c} {l} m st here j_low same_place same_at =
+    subst (λ (n : Mark). Stands mode p v j k (crossing.Dirs n) None) (mark_eq m j k same_place same_at) made where
       after_slash : IsAfterSlash p i
       after_slash = here.bounded.before
 
@@ -393,8 +393,8 @@ bare_on {b} x y = record {
 -- A run of stars within a component: its mark is set, and the crossing mark stays.
 pub local_met : {mode : Mode} {p v : List ℕ} {i j k : ℕ} {c : Crossing} {l : Option Mark} (m : Mark) → Stands mode p v i k c l
     → TokenAt mode p i Local j → j ≤ length p → m.place ≡ j → m.at ≡ k → Stands mode p v j k c (Some m)
-local_met {mode} {p} {v} {i} {j} {k} {c} {l} m st here j_low e f =
-    subst (λ (n : Mark). Stands mode p v j k c (Some n)) (mark_eq m j k e f) made where
+local_met {mode} {p} {v} {i} {j} {k} {c} {l} m st here j_low same_place same_at =
+    subst (λ (n : Mark). Stands mode p v j k c (Some n)) (mark_eq m j k same_place same_at) made where
       split : (e : ℕ) → k ≤ e → e ≤ length v → NoSlash v k e → SplitsFrom v e p j mode
           → SplitsFrom v k p j mode ⊎ (LaterLocal mode p v j k ⊎ LaterCrossing mode p v c)
       split e low inside bare all = elim (cases_lt k e) [
@@ -445,8 +445,8 @@ local_met {mode} {p} {v} {i} {j} {k} {c} {l} m st here j_low e f =
 pub local_moved : {mode : Mode} {p v : List ℕ} {i k : ℕ} {c : Crossing} {m : Mark} (n : Mark) → Stands mode p v i k c (Some m)
     → ¬ SplitsFrom v k p i mode → m.at < length v → get_or v m.at 0 ≢ slash → n.place ≡ m.place → n.at ≡ m.at + 1
     → Stands mode p v n.place n.at c (Some n)
-local_moved {mode} {p} {v} {i} {k} {c} {m} n st miss inside other e f =
-    subst (λ (x : Mark). Stands mode p v x.place x.at c (Some x)) (mark_eq n m.place (m.at + 1) e f) made where
+local_moved {mode} {p} {v} {i} {k} {c} {m} n st miss inside other same_place same_at =
+    subst (λ (x : Mark). Stands mode p v x.place x.at c (Some x)) (mark_eq n m.place (m.at + 1) same_place same_at) made where
       known : LocalKnown mode p v i k c m.place m.at
       known = st.local
 
@@ -550,8 +550,8 @@ unmet_left left whole = left.complete whole
 
 pub free_moved : {mode : Mode} {p v : List ℕ} {m : Mark} (n : Mark) → IsLeft mode p v (crossing.Free m) → m.at < length v
     → n.place ≡ m.place → n.at ≡ m.at + 1 → Stands mode p v n.place n.at (crossing.Free n) None
-free_moved {mode} {p} {v} {m} n left inside e f =
-    subst (λ (x : Mark). Stands mode p v x.place x.at (crossing.Free x) None) (mark_eq n m.place (m.at + 1) e f) made where
+free_moved {mode} {p} {v} {m} n left inside same_place same_at =
+    subst (λ (x : Mark). Stands mode p v x.place x.at (crossing.Free x) None) (mark_eq n m.place (m.at + 1) same_place same_at) made where
       known : FreeKnown mode p v m.place
       known = left.crossing
 
