@@ -50,12 +50,12 @@ pub record HasRoom (pattern : List ℕ) (i : ℕ) (mode : Mode) (depth : ℕ) : 
   pub few : depth + star_count tokens ≤ 63
 
 -- What an answer excludes, where there is room. What an abort says of further places, it says where no star token begins.
-pub record Excludes (answer : Answer) (pattern : List ℕ) (place : ℕ) (value : List ℕ) (at : ℕ) (mode : Mode) : Type 0 where
-  pub here : answer ≢ Match → ¬ SplitsFrom value at pattern place mode
-  pub everywhere : answer ≡ AbortAll → ¬ HasByte pattern place star
-      → (k : ℕ) → at ≤ k → k ≤ length value → ¬ SplitsFrom value k pattern place mode
-  pub component : answer ≡ AbortToStarStar → ¬ HasByte pattern place star
-      → (k : ℕ) → at ≤ k → k ≤ length value → NoSlash value at k → ¬ SplitsFrom value k pattern place mode
+pub record Excludes (answer : Answer) (pattern : List ℕ) (i : ℕ) (value : List ℕ) (k : ℕ) (mode : Mode) : Type 0 where
+  pub here : answer ≢ Match → ¬ SplitsFrom value k pattern i mode
+  pub everywhere : answer ≡ AbortAll → ¬ HasByte pattern i star
+      → (e : ℕ) → k ≤ e → e ≤ length value → ¬ SplitsFrom value e pattern i mode
+  pub component : answer ≡ AbortToStarStar → ¬ HasByte pattern i star
+      → (e : ℕ) → k ≤ e → e ≤ length value → NoSlash value k e → ¬ SplitsFrom value e pattern i mode
   pub limit : answer ≢ RecursionLimitReached
 
 -- no star token, and none that matches nothing: each token takes one byte
@@ -86,15 +86,15 @@ pub record BeginsCrossing (pattern : List ℕ) (i : ℕ) (mode : Mode) : Type 0 
   pub token : TokenAt mode pattern i Free after ⊎ TokenAt mode pattern i Dirs after
 
 -- Where an abort must come, where there is room.
-pub record Aborts (answer : Answer) (pattern : List ℕ) (place : ℕ) (value : List ℕ) (at : ℕ) (mode : Mode) : Type 0 where
-  pub short : IsFlat pattern place mode → (answer ≡ AbortAll) ↔ EndsShort value at pattern place mode
-  pub long : IsFlat pattern place mode → (answer ≡ AbortAll) ⊎ ((answer ≡ Match) ⊎ (answer ≡ NoMatch))
-  pub crossing : BeginsCrossing pattern place mode → answer ≢ NoMatch
+pub record Aborts (answer : Answer) (pattern : List ℕ) (i : ℕ) (value : List ℕ) (k : ℕ) (mode : Mode) : Type 0 where
+  pub short : IsFlat pattern i mode → (answer ≡ AbortAll) ↔ EndsShort value k pattern i mode
+  pub long : IsFlat pattern i mode → (answer ≡ AbortAll) ⊎ ((answer ≡ Match) ⊎ (answer ≡ NoMatch))
+  pub crossing : BeginsCrossing pattern i mode → answer ≢ NoMatch
 
 -- What one attempt answers, from a place of the pattern and a place of the value. At depth 64 it gives up.
-pub record IsAttempt (answer : Answer) (pattern : List ℕ) (place : ℕ) (value : List ℕ) (at : ℕ) (mode : Mode) (depth : ℕ) : Type 0 where
-  pub split : answer ≡ Match → SplitsFrom value at pattern place mode
-  pub excludes : HasRoom pattern place mode depth → Excludes answer pattern place value at mode
-  pub aborts : HasRoom pattern place mode depth → Aborts answer pattern place value at mode
+pub record IsAttempt (answer : Answer) (pattern : List ℕ) (i : ℕ) (value : List ℕ) (k : ℕ) (mode : Mode) (depth : ℕ) : Type 0 where
+  pub split : answer ≡ Match → SplitsFrom value k pattern i mode
+  pub excludes : HasRoom pattern i mode depth → Excludes answer pattern i value k mode
+  pub aborts : HasRoom pattern i mode depth → Aborts answer pattern i value k mode
   pub path : answer ≡ AbortToStarStar → IsTrue (is_path mode)
   pub limit : depth ≡ 64 → answer ≡ RecursionLimitReached

@@ -68,11 +68,11 @@ set_holds mode set b =
     not (is_path mode && b == slash)
     && (if set.negated then not (list_any (item_holds mode b) set.items) else list_any (item_holds mode b) set.items)
 
--- place k is the first from place i on that has the byte b
-pub record IsFirstFrom (text : List ℕ) (i b k : ℕ) : Type 0 where
-  pub low : i ≤ k
-  pub here : HasByte text k b
-  pub before : (j : ℕ) → i ≤ j → HasByte text j b → k ≤ j
+-- place j is the first from place i on that has the byte b
+pub record IsFirstFrom (text : List ℕ) (i b j : ℕ) : Type 0 where
+  pub low : i ≤ j
+  pub here : HasByte text j b
+  pub before : (m : ℕ) → i ≤ m → HasByte text m b → j ≤ m
 
 -- `-` stands at place i directly after a member that isn't byte 0, and the next byte isn't `]`: a range begins
 pub record BeginsRange (text : List ℕ) (low : Option ℕ) (i : ℕ) : Type 0 where
@@ -86,17 +86,17 @@ pub record BeginsClass (text : List ℕ) (i : ℕ) : Type 0 where
   pub bracket : HasByte text i open_bracket
   pub colon : HasByte text (i + 1) colon
 
--- the first `]` after the `[:` at place i stands at place k, three places on or more, and ends a `:]`
-pub record NamesClass (text : List ℕ) (i k : ℕ) : Type 0 where
+-- the first `]` after the `[:` at place i stands at place j, three places on or more, and ends a `:]`
+pub record NamesClass (text : List ℕ) (i j : ℕ) : Type 0 where
   pub begins : BeginsClass text i
-  pub first : IsFirstFrom text (i + 2) close_bracket k
-  pub far : i + 3 ≤ k
-  pub colon : HasByte text (k - 1) colon
+  pub first : IsFirstFrom text (i + 2) close_bracket j
+  pub far : i + 3 ≤ j
+  pub colon : HasByte text (j - 1) colon
 
 -- there is a `]` after the `[:` at place i, and the first one ends no class
 pub record NamesNoClass (text : List ℕ) (i : ℕ) : Type 0 where
   pub begins : BeginsClass text i
-  pub some : (k : ℕ) × IsFirstFrom text (i + 2) close_bracket k × ¬ NamesClass text i k
+  pub some : (m : ℕ) × IsFirstFrom text (i + 2) close_bracket m × ¬ NamesClass text i m
 
 -- a byte that is a member by itself: no escape, and neither a range nor a class begins with it
 pub record IsBare (text : List ℕ) (low : Option ℕ) (i b : ℕ) : Type 0 where
@@ -116,7 +116,7 @@ ItemAt text low i (item.Member b) j =
     (IsEscaped text i b × (j ≡ i + 2)) ⊎ (IsBare text low i b × (j ≡ i + 1))
 ItemAt text low i (item.Range from to) j = BeginsRange text low i × (low ≡ Some from) × IsUpperEnd text (i + 1) to j
 ItemAt text low i (item.Class c) j =
-    (k : ℕ) × NamesClass text i k × (slice_range text (i + 2) (k - 1) ≡ name_of c) × (j ≡ k + 1)
+    (m : ℕ) × NamesClass text i m × (slice_range text (i + 2) (m - 1) ≡ name_of c) × (j ≡ m + 1)
 
 -- the member that an item leaves for a range after it
 abbrev pub member_of : Item → Option ℕ
@@ -129,7 +129,7 @@ abbrev pub ItemsAt : List ℕ → Bool → Option ℕ → ℕ → List Item → 
 ItemsAt text first low i [] j = IsTrue (not first) × HasByte text i close_bracket × (i ≡ j)
 ItemsAt text first low i (x ∷ xs) j =
     (IsTrue (not first) → ¬ HasByte text i close_bracket)
-    × (k : ℕ) × ItemAt text low i x k × ItemsAt text false (member_of x) k xs j
+    × (m : ℕ) × ItemAt text low i x m × ItemsAt text false (member_of x) m xs j
 
 -- a sign that negates stands at place i
 abbrev pub IsSign : List ℕ → ℕ → Type 0

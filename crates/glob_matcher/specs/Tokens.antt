@@ -24,7 +24,7 @@ pub data Token : Type 0 where
 -- the run of stars from place i up to place j, as long as can be
 pub record IsRun (pattern : List ℕ) (i j : ℕ) : Type 0 where
   pub some : i < j
-  pub stars : (k : ℕ) → i ≤ k → k < j → HasByte pattern k star
+  pub stars : (m : ℕ) → i ≤ m → m < j → HasByte pattern m star
   pub whole : ¬ HasByte pattern j star
 
 -- place i is the pattern's start, or comes directly after a slash
@@ -86,7 +86,7 @@ TokenAt mode pattern i Nothing j = IsBroken pattern i × (j ≡ length pattern)
 -- The tokens are spelled, one after the other, from place i up to place j.
 abbrev pub Spells : Mode → List ℕ → ℕ → List Token → ℕ → Type 0
 Spells mode pattern i [] j = i ≡ j
-Spells mode pattern i (t ∷ ts) j = (k : ℕ) × TokenAt mode pattern i t k × Spells mode pattern k ts j
+Spells mode pattern i (t ∷ ts) j = (m : ℕ) × TokenAt mode pattern i t m × Spells mode pattern m ts j
 
 -- the tokens from place i on, up to the pattern's end
 abbrev pub From : Mode → List ℕ → ℕ → List Token → Type 0

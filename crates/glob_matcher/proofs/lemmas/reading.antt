@@ -3,7 +3,7 @@ pub mod TokenLemmas
 pub mod Walks
 pub mod LookLemmas
 pub mod Reading
-pub mod Shapes
+pub mod TokenKinds
 pub mod Existence
 pub mod Starts
 pub mod ForwardReading

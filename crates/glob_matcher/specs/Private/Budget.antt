@@ -11,85 +11,85 @@ use Rattle.glob_matcher.specs.declared.wildmatch.state.Turn.{Turn}
 use Rattle.glob_matcher.specs.declared.wildmatch.state.Turn.TheVariants as turn
 use Rattle.glob_matcher.specs.Private.Components.{next_component}
 use Rattle.glob_matcher.specs.Private.Pieces.{Piece, PiecesFrom}
-use Rattle.glob_matcher.specs.Private.Prices.{Kind, move, trial, left, cost, hop, stretch}
+use Rattle.glob_matcher.specs.Private.Prices.{Measure, move, trial, left, cost, hop, stretch}
 
 -- What the crossing mark may still cost is at most `rest`.
-pub record FreeRest (kind : Kind) (mode : Mode) (p v : List ℕ) (place at rest : ℕ) : Type 0 where
+pub record FreeRest (measure : Measure) (mode : Mode) (p v : List ℕ) (place at rest : ℕ) : Type 0 where
   pub pieces : List Piece
   pub read : PiecesFrom mode p place pieces
   pub inside : at ≤ length v
-  pub skips : (x : ℕ) → hop mode v pieces x ≡ x + 1
-  pub enough : cost kind mode v pieces (at + 1) + move kind * left v at ≤ rest
+  pub skips : (k : ℕ) → hop mode v pieces k ≡ k + 1
+  pub enough : cost measure mode v pieces (at + 1) + move measure * left v at ≤ rest
 
-pub record DirsRest (kind : Kind) (mode : Mode) (p v : List ℕ) (place at rest : ℕ) : Type 0 where
+pub record DirsRest (measure : Measure) (mode : Mode) (p v : List ℕ) (place at rest : ℕ) : Type 0 where
   pub pieces : List Piece
   pub read : PiecesFrom mode p place pieces
   pub inside : at ≤ length v
-  pub enough : cost kind mode v pieces (next_component mode v at) + move kind * left v at ≤ rest
+  pub enough : cost measure mode v pieces (next_component mode v at) + move measure * left v at ≤ rest
 
-abbrev pub CrossingRest : Kind → Mode → List ℕ → List ℕ → Crossing → ℕ → Type 0
-CrossingRest kind mode p v crossing.Unmet rest = Unit {0}
-CrossingRest kind mode p v (crossing.Free m) rest = FreeRest kind mode p v m.place m.at rest
-CrossingRest kind mode p v (crossing.Dirs m) rest = DirsRest kind mode p v m.place m.at rest
+abbrev pub CrossingRest : Measure → Mode → List ℕ → List ℕ → Crossing → ℕ → Type 0
+CrossingRest measure mode p v crossing.Unmet rest = Unit {0}
+CrossingRest measure mode p v (crossing.Free m) rest = FreeRest measure mode p v m.place m.at rest
+CrossingRest measure mode p v (crossing.Dirs m) rest = DirsRest measure mode p v m.place m.at rest
 
 -- What the local mark may still cost: the count may go on from here, and from the mark.
-pub record LocalRest (kind : Kind) (mode : Mode) (p v : List ℕ) (xs : List Piece) (j rest s n place at : ℕ) : Type 0 where
+pub record LocalRest (measure : Measure) (mode : Mode) (p v : List ℕ) (xs : List Piece) (k rest s n place at : ℕ) : Type 0 where
   pub pieces : List Piece
   pub read : PiecesFrom mode p place pieces
   pub inside : at ≤ length v
-  pub later : cost kind mode v pieces (next_component mode v at) ≤ rest
-  pub here : s + cost kind mode v xs j + rest ≤ n + cost kind mode v xs (next_component mode v j)
-  pub back : s + cost kind mode v pieces at + stretch kind mode xs + move kind * next_component mode v at + rest
-      ≤ n + stretch kind mode pieces + cost kind mode v pieces (next_component mode v at) + move kind * at
+  pub later : cost measure mode v pieces (next_component mode v at) ≤ rest
+  pub here : s + cost measure mode v xs k + rest ≤ n + cost measure mode v xs (next_component mode v k)
+  pub back : s + cost measure mode v pieces at + stretch measure mode xs + move measure * next_component mode v at + rest
+      ≤ n + stretch measure mode pieces + cost measure mode v pieces (next_component mode v at) + move measure * at
 
-abbrev pub WithinRest : Kind → Mode → List ℕ → List ℕ → List Piece → ℕ → ℕ → ℕ → ℕ → Option Mark → Type 0
-WithinRest kind mode p v xs j rest s n None = Unit {0}
-WithinRest kind mode p v xs j rest s n (Some m) = LocalRest kind mode p v xs j rest s n m.place m.at
+abbrev pub WithinRest : Measure → Mode → List ℕ → List ℕ → List Piece → ℕ → ℕ → ℕ → ℕ → Option Mark → Type 0
+WithinRest measure mode p v xs k rest s n None = Unit {0}
+WithinRest measure mode p v xs k rest s n (Some m) = LocalRest measure mode p v xs k rest s n m.place m.at
 
 -- After a count of s the engine stands here, and it will count no more than n in all.
-pub record Owes (kind : Kind) (mode : Mode) (p v : List ℕ) (i j : ℕ) (c : Crossing) (l : Option Mark) (s n : ℕ) : Type 0 where
+pub record Owes (measure : Measure) (mode : Mode) (p v : List ℕ) (i k : ℕ) (c : Crossing) (l : Option Mark) (s n : ℕ) : Type 0 where
   pub pieces : List Piece
   pub read : PiecesFrom mode p i pieces
   pub rest : ℕ
-  pub crossing : CrossingRest kind mode p v c rest
-  pub later : cost kind mode v pieces (next_component mode v j) ≤ rest
-  pub here : s + cost kind mode v pieces j + rest ≤ n + cost kind mode v pieces (hop mode v pieces j)
-  pub local : WithinRest kind mode p v pieces j rest s n l
+  pub crossing : CrossingRest measure mode p v c rest
+  pub later : cost measure mode v pieces (next_component mode v k) ≤ rest
+  pub here : s + cost measure mode v pieces k + rest ≤ n + cost measure mode v pieces (hop mode v pieces k)
+  pub local : WithinRest measure mode p v pieces k rest s n l
 
-pub record Allows (kind : Kind) (mode : Mode) (p v : List ℕ) (i j : ℕ) (c : Crossing) (l : Option Mark) (s n : ℕ) : Type 0 where
-  pub all : (xs : List Piece) → PiecesFrom mode p 0 xs → Owes kind mode p v i j c l s n
+pub record Allows (measure : Measure) (mode : Mode) (p v : List ℕ) (i k : ℕ) (c : Crossing) (l : Option Mark) (s n : ℕ) : Type 0 where
+  pub all : (xs : List Piece) → PiecesFrom mode p 0 xs → Owes measure mode p v i k c l s n
 
-abbrev pub AllowsAt : Kind → Mode → List ℕ → List ℕ → State → ℕ → ℕ → Type 0
-AllowsAt kind mode p v state s n = Allows kind mode p v state.place state.at state.crossing state.local s n
+abbrev pub AllowsAt : Measure → Mode → List ℕ → List ℕ → State → ℕ → ℕ → Type 0
+AllowsAt measure mode p v state s n = Allows measure mode p v state.place state.at state.crossing state.local s n
 
 -- After a count of s the crossing mark alone is left, and n are enough.
-pub record OwesLeft (kind : Kind) (mode : Mode) (p v : List ℕ) (c : Crossing) (s n : ℕ) : Type 0 where
+pub record OwesLeft (measure : Measure) (mode : Mode) (p v : List ℕ) (c : Crossing) (s n : ℕ) : Type 0 where
   pub rest : ℕ
-  pub crossing : CrossingRest kind mode p v c rest
+  pub crossing : CrossingRest measure mode p v c rest
   pub enough : s + rest ≤ n
 
-pub record AllowsLeft (kind : Kind) (mode : Mode) (p v : List ℕ) (c : Crossing) (s n : ℕ) : Type 0 where
-  pub all : (xs : List Piece) → PiecesFrom mode p 0 xs → OwesLeft kind mode p v c s n
+pub record AllowsLeft (measure : Measure) (mode : Mode) (p v : List ℕ) (c : Crossing) (s n : ℕ) : Type 0 where
+  pub all : (xs : List Piece) → PiecesFrom mode p 0 xs → OwesLeft measure mode p v c s n
 
 -- A test at place i of the pattern, or at its end, took the count from s to r at most.
-pub record Tested (kind : Kind) (mode : Mode) (p : List ℕ) (i s r : ℕ) : Type 0 where
-  pub high : (xs : List Piece) → PiecesFrom mode p i xs → r ≤ s + trial kind xs
+pub record Tested (measure : Measure) (mode : Mode) (p : List ℕ) (i s r : ℕ) : Type 0 where
+  pub high : (xs : List Piece) → PiecesFrom mode p i xs → r ≤ s + trial measure xs
 
 -- One test ago the engine stood here, and n are enough.
-pub record Missed (kind : Kind) (mode : Mode) (p v : List ℕ) (i j : ℕ) (c : Crossing) (l : Option Mark) (s n : ℕ) : Type 0 where
+pub record Missed (measure : Measure) (mode : Mode) (p v : List ℕ) (i k : ℕ) (c : Crossing) (l : Option Mark) (s n : ℕ) : Type 0 where
   pub before : ℕ
-  pub tested : Tested kind mode p i before s
-  pub allows : Allows kind mode p v i j c l before n
+  pub tested : Tested measure mode p i before s
+  pub allows : Allows measure mode p v i k c l before n
 
-abbrev pub AllowsMissed : Kind → Mode → List ℕ → List ℕ → State → ℕ → ℕ → Type 0
-AllowsMissed kind mode p v state s n = Missed kind mode p v state.place state.at state.crossing state.local s n
+abbrev pub AllowsMissed : Measure → Mode → List ℕ → List ℕ → State → ℕ → ℕ → Type 0
+AllowsMissed measure mode p v state s n = Missed measure mode p v state.place state.at state.crossing state.local s n
 
 -- What a turn, and going back to a mark, leave of the budget.
-abbrev pub AllowsOutcome : Kind → Mode → List ℕ → List ℕ → Turn → ℕ → ℕ → Type 0
-AllowsOutcome kind mode p v turn.Match s n = s ≤ n
-AllowsOutcome kind mode p v turn.NoMatch s n = s ≤ n
-AllowsOutcome kind mode p v (turn.Miss state) s n = AllowsMissed kind mode p v state s n
-AllowsOutcome kind mode p v (turn.On next) s n = AllowsAt kind mode p v next s n
+abbrev pub AllowsOutcome : Measure → Mode → List ℕ → List ℕ → Turn → ℕ → ℕ → Type 0
+AllowsOutcome measure mode p v turn.Match s n = s ≤ n
+AllowsOutcome measure mode p v turn.NoMatch s n = s ≤ n
+AllowsOutcome measure mode p v (turn.Miss state) s n = AllowsMissed measure mode p v state s n
+AllowsOutcome measure mode p v (turn.On next) s n = AllowsAt measure mode p v next s n
 
 abbrev pub CountsOutcome : Turn → ℕ → ℕ → Type 0
 CountsOutcome turn.Match before after = Unit {0}
@@ -97,10 +97,10 @@ CountsOutcome turn.NoMatch before after = Unit {0}
 CountsOutcome (turn.Miss state) before after = before < after
 CountsOutcome (turn.On next) before after = before < after
 
-abbrev pub AllowsResumed : Kind → Mode → List ℕ → List ℕ → Option State → ℕ → ℕ → Type 0
-AllowsResumed kind mode p v None s n = s ≤ n
-AllowsResumed kind mode p v (Some next) s n = AllowsAt kind mode p v next s n
+abbrev pub AllowsResumed : Measure → Mode → List ℕ → List ℕ → Option State → ℕ → ℕ → Type 0
+AllowsResumed measure mode p v None s n = s ≤ n
+AllowsResumed measure mode p v (Some next) s n = AllowsAt measure mode p v next s n
 
-abbrev pub AllowsWithin : Kind → Mode → List ℕ → List ℕ → Crossing → Option State → ℕ → ℕ → Type 0
-AllowsWithin kind mode p v c None s n = AllowsLeft kind mode p v c s n
-AllowsWithin kind mode p v c (Some next) s n = AllowsAt kind mode p v next s n
+abbrev pub AllowsWithin : Measure → Mode → List ℕ → List ℕ → Crossing → Option State → ℕ → ℕ → Type 0
+AllowsWithin measure mode p v c None s n = AllowsLeft measure mode p v c s n
+AllowsWithin measure mode p v c (Some next) s n = AllowsAt measure mode p v next s n

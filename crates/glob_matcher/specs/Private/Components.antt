@@ -30,4 +30,4 @@ reach mode (b ∷ bs) = if ends mode b then 1 else suc (reach mode bs)
 
 -- the place where the next component begins, or the place past the value's end
 unfoldable pub next_component : Mode → List ℕ → ℕ → ℕ
-next_component mode v x = x + reach mode (drop x v)
+next_component mode v k = k + reach mode (drop k v)

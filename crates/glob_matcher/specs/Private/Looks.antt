@@ -22,12 +22,12 @@ pub record IsSetPaid (s : ℕ) (before after : Counts) (i j : ℕ) : Type 0 wher
 -- what is known of a closing bracket: where it isn't passed yet, it is the first from place i on
 abbrev pub IsKnown : List ℕ → ℕ → Option ℕ → Type 0
 IsKnown text i None = Unit {0}
-IsKnown text i (Some k) = i ≤ k → IsFirstFrom text i close_bracket k
+IsKnown text i (Some m) = i ≤ m → IsFirstFrom text i close_bracket m
 
 -- how far the closing bracket was looked for, from place i on
 abbrev pub searched : Option ℕ → ℕ → ℕ
 searched None i = i
-searched (Some k) i = max k i
+searched (Some m) i = max m i
 
 -- An item is spelled from place i on, after the member `low` or none, and what is known of the closing bracket behind it.
 pub record IsSpelled (text : List ℕ) (low : Option ℕ) (i : ℕ) (s : Spelled) : Type 0 where

@@ -4,65 +4,65 @@ use Rattle.std.specs.Prelude.{ℕ, ◌+◌, ◌-◌, ◌*◌, Bool, List, [], �
 use Rattle.glob_matcher.specs.declared.wildmatch.mode.Mode.{Mode}
 use Rattle.glob_matcher.specs.Steps.{Counts}
 use Rattle.glob_matcher.specs.Tokens.{Token}
-use Rattle.glob_matcher.specs.Private.Reader.{shape_of, is_star}
+use Rattle.glob_matcher.specs.Private.Reader.{kind_of, is_star}
 use Rattle.glob_matcher.specs.Private.Components.{separates, next_component}
 use Rattle.glob_matcher.specs.Private.Pieces.{Piece}
 
 -- what is counted
-pub data Kind : Type 0 where
-  Steps : Kind
-  Looks : Kind
+pub data Measure : Type 0 where
+  Steps : Measure
+  Looks : Measure
 
 -- so many steps, or so many looks
-unfoldable pub amount : Kind → ℕ → ℕ → ℕ
+unfoldable pub amount : Measure → ℕ → ℕ → ℕ
 amount Steps steps looks = steps
 amount Looks steps looks = looks
 
-unfoldable pub counted : Kind → Counts → ℕ
-counted kind counts = amount kind counts.steps counts.looks
+unfoldable pub counted : Measure → Counts → ℕ
+counted measure counts = amount measure counts.steps counts.looks
 
 -- a number, for a star token alone
 unfoldable pub for_star : Token → ℕ → ℕ
-for_star t n = if is_star (shape_of t) then n else 0
+for_star t n = if is_star (kind_of t) then n else 0
 
 -- The move of a mark by one byte: the look at that byte, and the looks at the byte after the star, which are none where the
 -- mark doesn't move.
-unfoldable pub move : Kind → ℕ
-move kind = amount kind 1 4
+unfoldable pub move : Measure → ℕ
+move measure = amount measure 1 4
 
 -- The test of a piece at one place of the value: the looks that read the piece, and those at the byte of the value and at the
 -- byte after the piece.
-unfoldable pub test : Kind → Piece → ℕ
-test kind x = amount kind 1 (8 * x.width - for_star x.token 4)
+unfoldable pub test : Measure → Piece → ℕ
+test measure x = amount measure 1 (8 * x.width - for_star x.token 4)
 
 -- all that a piece may take at one place: its test and, of a star, a move of its mark
-unfoldable pub each : Kind → Piece → ℕ
-each kind x = test kind x + for_star x.token (move kind)
+unfoldable pub each : Measure → Piece → ℕ
+each measure x = test measure x + for_star x.token (move measure)
 
 -- the test of the first of the pieces, or of the pattern's end
-unfoldable pub trial : Kind → List Piece → ℕ
-trial kind [] = 1
-trial kind (x ∷ xs) = test kind x
+unfoldable pub trial : Measure → List Piece → ℕ
+trial measure [] = 1
+trial measure (x ∷ xs) = test measure x
 
 -- where the token after one begins its look
 unfoldable pub onward : Mode → List ℕ → Bool → ℕ → ℕ
-onward mode v apart j = if apart then next_component mode v j else j
+onward mode v apart k = if apart then next_component mode v k else k
 
--- the places from j on, the value's end included
+-- the places from k on, the value's end included
 unfoldable pub left : List ℕ → ℕ → ℕ
-left v j = length v + 1 - j
+left v k = length v + 1 - k
 
--- what the pieces may take from place j of the value on, over all the later places of the mark before them
-unfoldable pub cost : Kind → Mode → List ℕ → List Piece → ℕ → ℕ
-cost kind mode v [] j = left v j
-cost kind mode v (x ∷ xs) j = each kind x * left v j + cost kind mode v xs (onward mode v (separates mode x.token) j)
+-- what the pieces may take from place k of the value on, over all the later places of the mark before them
+unfoldable pub cost : Measure → Mode → List ℕ → List Piece → ℕ → ℕ
+cost measure mode v [] k = left v k
+cost measure mode v (x ∷ xs) k = each measure x * left v k + cost measure mode v xs (onward mode v (separates mode x.token) k)
 
 -- the place where the next look at these pieces may begin
 unfoldable pub hop : Mode → List ℕ → List Piece → ℕ → ℕ
-hop mode v [] j = next_component mode v j
-hop mode v (x ∷ xs) j = if separates mode x.token then j + 1 else next_component mode v j
+hop mode v [] k = next_component mode v k
+hop mode v (x ∷ xs) k = if separates mode x.token then k + 1 else next_component mode v k
 
 -- what the pieces up to the first that ends a component, or the pattern's end, may take at one place
-unfoldable pub stretch : Kind → Mode → List Piece → ℕ
-stretch kind mode [] = 1
-stretch kind mode (x ∷ xs) = each kind x + (if separates mode x.token then 0 else stretch kind mode xs)
+unfoldable pub stretch : Measure → Mode → List Piece → ℕ
+stretch measure mode [] = 1
+stretch measure mode (x ∷ xs) = each measure x + (if separates mode x.token then 0 else stretch measure mode xs)

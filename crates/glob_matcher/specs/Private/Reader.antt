@@ -6,8 +6,8 @@ use Rattle.glob_matcher.specs.declared.wildmatch.sets.Spelled.{Spelled}
 use Rattle.glob_matcher.specs.declared.wildmatch.sets.Entry.{Entry}
 use Rattle.glob_matcher.specs.declared.wildmatch.sets.Entry.TheVariants as entry
 use Rattle.glob_matcher.specs.declared.wildmatch.mode.Mode.{Mode}
-use Rattle.glob_matcher.specs.declared.wildmatch.tokens.Shape.{Shape}
-use Rattle.glob_matcher.specs.declared.wildmatch.tokens.Shape.TheVariants as shape
+use Rattle.glob_matcher.specs.declared.wildmatch.tokens.TokenKind.{TokenKind}
+use Rattle.glob_matcher.specs.declared.wildmatch.tokens.TokenKind.TheVariants as kind
 use Rattle.glob_matcher.specs.Bytes.{HasByte, NoSlash, close_bracket, fold, is_path, slash}
 use Rattle.glob_matcher.specs.Sets.{ItemsAt, Set, SetAt, member_of, set_holds}
 use Rattle.glob_matcher.specs.Steps.{Counts}
@@ -33,41 +33,41 @@ abbrev pub after_item : Spelled → Cursor
 after_item s = record { place = s.next; is_first = false; low = member_of s.item; close = s.close }
 
 -- what the code keeps of a token: of a set its place alone
-abbrev pub shape_of : Token → Shape
-shape_of (Byte b) = shape.Byte b
-shape_of Any = shape.Any
-shape_of (OneOf set) = shape.Set
-shape_of Free = shape.Free
-shape_of Local = shape.Local
-shape_of Dirs = shape.Dirs
-shape_of Nothing = shape.Nothing
+abbrev pub kind_of : Token → TokenKind
+kind_of (Byte b) = kind.Byte b
+kind_of Any = kind.Any
+kind_of (OneOf set) = kind.Set
+kind_of Free = kind.Free
+kind_of Local = kind.Local
+kind_of Dirs = kind.Dirs
+kind_of Nothing = kind.Nothing
 
--- whether a shape is that of a star token
-abbrev pub is_star : Shape → Bool
-is_star shape.Free = true
-is_star shape.Local = true
-is_star shape.Dirs = true
+-- whether a kind is that of a star token
+abbrev pub is_star : TokenKind → Bool
+is_star kind.Free = true
+is_star kind.Local = true
+is_star kind.Dirs = true
 is_star _ = false
 
--- A token of this shape is spelled from place i up to place j, past i and inside the pattern.
-pub record IsToken (mode : Mode) (pattern : List ℕ) (i : ℕ) (shape : Shape) (j : ℕ) : Type 0 where
+-- A token of this kind is spelled from place i up to place j, past i and inside the pattern.
+pub record IsToken (mode : Mode) (pattern : List ℕ) (i : ℕ) (kind : TokenKind) (j : ℕ) : Type 0 where
   pub token : Token
   pub here : TokenAt mode pattern i token j
-  pub shown : shape ≡ shape_of token
+  pub same_kind : kind ≡ kind_of token
   pub past : i < j
   pub inside : j ≤ length pattern
 
 -- Reading a run of stars from place i up to place j takes at most five looks a byte, less four.
-pub record IsRunRead (before after : Counts) (i : ℕ) (shape : Shape) (j : ℕ) : Type 0 where
-  pub run : is_star shape ≡ true
+pub record IsRunRead (before after : Counts) (i : ℕ) (kind : TokenKind) (j : ℕ) : Type 0 where
+  pub run : is_star kind ≡ true
   pub steps : after.steps ≡ before.steps
   pub looks : after.looks + 5 * i + 4 ≤ before.looks + 5 * j
 
 -- Reading a token from place i up to place j takes at most five looks a byte, less three, if it is a star token, else six.
-pub record IsTokenRead (before after : Counts) (i : ℕ) (shape : Shape) (j : ℕ) : Type 0 where
+pub record IsTokenRead (before after : Counts) (i : ℕ) (kind : TokenKind) (j : ℕ) : Type 0 where
   pub steps : after.steps ≡ before.steps
-  pub run : is_star shape ≡ true → after.looks + 5 * i + 3 ≤ before.looks + 5 * j
-  pub other : is_star shape ≡ false → after.looks + 6 * i ≤ before.looks + 6 * j
+  pub run : is_star kind ≡ true → after.looks + 5 * i + 3 ≤ before.looks + 5 * j
+  pub other : is_star kind ≡ false → after.looks + 6 * i ≤ before.looks + 6 * j
 
 -- place e lies past k and comes directly after a slash
 pub record AfterSlash (value : List ℕ) (k e : ℕ) : Type 0 where
@@ -82,11 +82,11 @@ Fits mode Any c = IsTrue (is_path mode) → c ≢ slash
 Fits mode (OneOf set) c = IsTrue (set_holds mode set c)
 Fits mode _ c = ⊥
 
--- a star token of this shape takes the value's bytes from place k up to place e
-abbrev pub Spans : Shape → List ℕ → ℕ → ℕ → Type 0
-Spans shape.Free value k e = ⊤
-Spans shape.Local value k e = NoSlash value k e
-Spans shape.Dirs value k e = (e ≡ k) ⊎ AfterSlash value k e
+-- a star token of this kind takes the value's bytes from place k up to place e
+abbrev pub Spans : TokenKind → List ℕ → ℕ → ℕ → Type 0
+Spans kind.Free value k e = ⊤
+Spans kind.Local value k e = NoSlash value k e
+Spans kind.Dirs value k e = (e ≡ k) ⊎ AfterSlash value k e
 Spans _ value k e = ⊥
 
 -- The set from place i up to place j is tested at place k of the value: whether the value has a byte there that it holds.

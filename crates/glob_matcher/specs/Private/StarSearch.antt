@@ -3,52 +3,52 @@ use Rattle.std.specs.Prelude.{◌≡◌, ◌≢◌, ℕ, ◌+◌, ◌-◌, ◌<�
 use Rattle.glob_matcher.specs.declared.wildmatch.mode.Mode.{Mode}
 use Rattle.glob_matcher.specs.declared.wildmatch.pruned.Answer.{Answer}
 use Rattle.glob_matcher.specs.declared.wildmatch.pruned.Answer.TheVariants.{Match, NoMatch, AbortAll, AbortToStarStar, RecursionLimitReached}
-use Rattle.glob_matcher.specs.declared.wildmatch.tokens.Shape.{Shape}
-use Rattle.glob_matcher.specs.declared.wildmatch.tokens.Shape.TheVariants as shape
+use Rattle.glob_matcher.specs.declared.wildmatch.tokens.TokenKind.{TokenKind}
+use Rattle.glob_matcher.specs.declared.wildmatch.tokens.TokenKind.TheVariants as kind
 use Rattle.glob_matcher.specs.Bytes.{NoSlash, fold, slash}
 use Rattle.glob_matcher.specs.Matching.{SplitsFrom}
 use Rattle.glob_matcher.specs.Pruning.{HasRoom}
 
--- the byte that a token of this shape asks for, where it asks for one
-abbrev pub literal_of : Shape → Option ℕ
-literal_of (shape.Byte b) = Some b
+-- the byte that a token of this kind asks for, where it asks for one
+abbrev pub literal_of : TokenKind → Option ℕ
+literal_of (kind.Byte b) = Some b
 literal_of _ = None
 
--- From place i up to place j the value has no byte that is the wanted one after folding. With none wanted, none is passed over.
-pub record Skips (mode : Mode) (value : List ℕ) (wanted : Option ℕ) (i j : ℕ) : Type 0 where
-  pub low : i ≤ j
-  pub inside : j ≤ length value
-  pub differs : (k : ℕ) → i ≤ k → k < j → IsSomeAnd wanted (λ b. fold mode (slice_index value k) ≢ fold mode b)
+-- From place k up to place e the value has no byte that is the wanted one after folding. With none wanted, none is passed over.
+pub record Skips (mode : Mode) (value : List ℕ) (wanted : Option ℕ) (k e : ℕ) : Type 0 where
+  pub low : k ≤ e
+  pub inside : e ≤ length value
+  pub differs : (m : ℕ) → k ≤ m → m < e → IsSomeAnd wanted (λ b. fold mode (slice_index value m) ≢ fold mode b)
 
--- the value's component from place i on ends at place j: the first slash, or the value's end
-pub record IsComponentEnd (value : List ℕ) (i j : ℕ) : Type 0 where
-  pub low : i ≤ j
-  pub inside : j ≤ length value
-  pub none : NoSlash value i j
-  pub ends : j < length value → slice_index value j ≡ slash
+-- the value's component from place k on ends at place e: the first slash, or the value's end
+pub record IsComponentEnd (value : List ℕ) (k e : ℕ) : Type 0 where
+  pub low : k ≤ e
+  pub inside : e ≤ length value
+  pub none : NoSlash value k e
+  pub ends : e < length value → slice_index value e ≡ slash
 
 -- What a search over all places of the value answers, for the tokens from place i of the pattern on.
-pub record IsCrossing (answer : Answer) (pattern : List ℕ) (i : ℕ) (value : List ℕ) (at : ℕ) (mode : Mode) (depth : ℕ) : Type 0 where
-  pub found : answer ≡ Match → (k : ℕ) × (at ≤ k) × (k ≤ length value) × SplitsFrom value k pattern i mode
-  pub lost : HasRoom pattern i mode (depth + 1) → answer ≢ Match → (k : ℕ) → at ≤ k → k ≤ length value → ¬ SplitsFrom value k pattern i mode
+pub record IsCrossing (answer : Answer) (pattern : List ℕ) (i : ℕ) (value : List ℕ) (k : ℕ) (mode : Mode) (depth : ℕ) : Type 0 where
+  pub found : answer ≡ Match → (e : ℕ) × (k ≤ e) × (e ≤ length value) × SplitsFrom value e pattern i mode
+  pub lost : HasRoom pattern i mode (depth + 1) → answer ≢ Match → (e : ℕ) → k ≤ e → e ≤ length value → ¬ SplitsFrom value e pattern i mode
   pub limit : HasRoom pattern i mode (depth + 1) → answer ≢ RecursionLimitReached
   pub not_here_alone : answer ≢ NoMatch
   pub not_component_alone : answer ≢ AbortToStarStar
 
 -- What a search within a component of the value answers, for the tokens from place i of the pattern on.
-pub record IsWithin (answer : Answer) (pattern : List ℕ) (i : ℕ) (value : List ℕ) (at : ℕ) (mode : Mode) (depth : ℕ) : Type 0 where
-  pub found : answer ≡ Match → (k : ℕ) × (at ≤ k) × (k ≤ length value) × NoSlash value at k × SplitsFrom value k pattern i mode
+pub record IsWithin (answer : Answer) (pattern : List ℕ) (i : ℕ) (value : List ℕ) (k : ℕ) (mode : Mode) (depth : ℕ) : Type 0 where
+  pub found : answer ≡ Match → (e : ℕ) × (k ≤ e) × (e ≤ length value) × NoSlash value k e × SplitsFrom value e pattern i mode
   pub lost : HasRoom pattern i mode (depth + 1) → answer ≢ Match
-      → (k : ℕ) → at ≤ k → k ≤ length value → NoSlash value at k → ¬ SplitsFrom value k pattern i mode
+      → (e : ℕ) → k ≤ e → e ≤ length value → NoSlash value k e → ¬ SplitsFrom value e pattern i mode
   pub everywhere : HasRoom pattern i mode (depth + 1) → answer ≡ AbortAll
-      → (k : ℕ) → at ≤ k → k ≤ length value → ¬ SplitsFrom value k pattern i mode
+      → (e : ℕ) → k ≤ e → e ≤ length value → ¬ SplitsFrom value e pattern i mode
   pub limit : HasRoom pattern i mode (depth + 1) → answer ≢ RecursionLimitReached
 
 -- What a search for the directory of a double star with its slash answers, the token lying from place i up to place j.
-pub record IsDescent (answer : Answer) (pattern : List ℕ) (i j : ℕ) (value : List ℕ) (at : ℕ) (mode : Mode) (depth : ℕ) : Type 0 where
-  pub found : answer ≡ Match → SplitsFrom value at pattern i mode
+pub record IsDescent (answer : Answer) (pattern : List ℕ) (i j : ℕ) (value : List ℕ) (k : ℕ) (mode : Mode) (depth : ℕ) : Type 0 where
+  pub found : answer ≡ Match → SplitsFrom value k pattern i mode
   pub lost : HasRoom pattern j mode (depth + 1) → answer ≢ Match
-      → (k : ℕ) → at ≤ k → k ≤ length value → (k ≢ at → slice_index value (k - 1) ≡ slash) → ¬ SplitsFrom value k pattern i mode
+      → (e : ℕ) → k ≤ e → e ≤ length value → (e ≢ k → slice_index value (e - 1) ≡ slash) → ¬ SplitsFrom value e pattern i mode
   pub limit : HasRoom pattern j mode (depth + 1) → answer ≢ RecursionLimitReached
   pub not_here_alone : answer ≢ NoMatch
   pub not_component_alone : answer ≢ AbortToStarStar

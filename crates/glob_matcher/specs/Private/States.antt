@@ -48,34 +48,34 @@ LaterWithin mode p v None = ⊥
 LaterWithin mode p v (Some m) = LaterLocal mode p v m.place m.at
 
 -- A later success of the crossing mark lies ahead of this place: past it, and past its component where no slash is wanted.
-pub record Ahead (mode : Mode) (p v : List ℕ) (i j : ℕ) : Type 0 where
+pub record Ahead (mode : Mode) (p v : List ℕ) (i k : ℕ) : Type 0 where
   pub e : ℕ
-  pub past : j < e
+  pub past : k < e
   pub inside : e ≤ length v
-  pub far : (t : Token) (k : ℕ) → TokenAt mode p i t k → separates mode t ≡ false → next_component mode v j ≤ e
+  pub far : (t : Token) (j : ℕ) → TokenAt mode p i t j → separates mode t ≡ false → next_component mode v k ≤ e
   pub after : IsAfterSlash p i → slice_index v (e - 1) ≡ slash
   pub splits : SplitsFrom v e p i mode
 
 -- It lies in a later component.
-pub record Far (mode : Mode) (p v : List ℕ) (i j : ℕ) : Type 0 where
+pub record Far (mode : Mode) (p v : List ℕ) (i k : ℕ) : Type 0 where
   pub e : ℕ
-  pub far : next_component mode v j ≤ e
+  pub far : next_component mode v k ≤ e
   pub inside : e ≤ length v
   pub splits : SplitsFrom v e p i mode
 
 -- A later success of the local mark lies here or ahead in this component.
-pub record Near (mode : Mode) (p v : List ℕ) (i j : ℕ) : Type 0 where
+pub record Near (mode : Mode) (p v : List ℕ) (i k : ℕ) : Type 0 where
   pub e : ℕ
-  pub low : j ≤ e
+  pub low : k ≤ e
   pub inside : e ≤ length v
-  pub bare : NoSlash v j e
+  pub bare : NoSlash v k e
   pub splits : SplitsFrom v e p i mode
 
 -- what is known of a run of stars that crosses slashes: in path mode a slash follows
 pub record FreeKnown (mode : Mode) (p v : List ℕ) (place : ℕ) : Type 0 where
   pub low : place ≤ length p
   pub start : ¬ IsAfterSlash p place
-  pub far : (x e : ℕ) → x < e → (t : Token) (k : ℕ) → TokenAt mode p place t k → separates mode t ≡ false → next_component mode v x ≤ e
+  pub far : (k e : ℕ) → k < e → (t : Token) (j : ℕ) → TokenAt mode p place t j → separates mode t ≡ false → next_component mode v k ≤ e
 
 abbrev pub CrossingKnown : Mode → List ℕ → List ℕ → Crossing → Type 0
 CrossingKnown mode p v crossing.Unmet = Unit {0}
@@ -83,29 +83,29 @@ CrossingKnown mode p v (crossing.Free m) = FreeKnown mode p v m.place
 CrossingKnown mode p v (crossing.Dirs m) = m.place ≤ length p
 
 -- what is known of the local mark: since it was met no slash was passed
-pub record LocalKnown (mode : Mode) (p v : List ℕ) (i j : ℕ) (c : Crossing) (place at : ℕ) : Type 0 where
+pub record LocalKnown (mode : Mode) (p v : List ℕ) (i k : ℕ) (c : Crossing) (place at : ℕ) : Type 0 where
   pub path : IsTrue (is_path mode)
   pub low : place ≤ length p
   pub here : ¬ IsAfterSlash p i
   pub start : ¬ IsAfterSlash p place
-  pub near : LaterLocal mode p v place at → Near mode p v i j
+  pub near : LaterLocal mode p v place at → Near mode p v i k
   pub far : LaterCrossing mode p v c → Far mode p v place at
 
 abbrev pub WithinKnown : Mode → List ℕ → List ℕ → ℕ → ℕ → Crossing → Option Mark → Type 0
-WithinKnown mode p v i j c None = Unit {0}
-WithinKnown mode p v i j c (Some m) = LocalKnown mode p v i j c m.place m.at
+WithinKnown mode p v i k c None = Unit {0}
+WithinKnown mode p v i k c (Some m) = LocalKnown mode p v i k c m.place m.at
 
 -- What holds at each turn: a success from here or of a mark is a match, and a match is one of these.
-pub record Stands (mode : Mode) (p v : List ℕ) (i j : ℕ) (c : Crossing) (l : Option Mark) : Type 0 where
+pub record Stands (mode : Mode) (p v : List ℕ) (i k : ℕ) (c : Crossing) (l : Option Mark) : Type 0 where
   pub low : i ≤ length p
-  pub inside : j ≤ length v
-  pub sound : SplitsFrom v j p i mode → Splits v p mode
+  pub inside : k ≤ length v
+  pub sound : SplitsFrom v k p i mode → Splits v p mode
   pub sound_local : LaterWithin mode p v l → Splits v p mode
   pub sound_crossing : LaterCrossing mode p v c → Splits v p mode
-  pub complete : Splits v p mode → SplitsFrom v j p i mode ⊎ (LaterWithin mode p v l ⊎ LaterCrossing mode p v c)
-  pub ahead : LaterCrossing mode p v c → Ahead mode p v i j
+  pub complete : Splits v p mode → SplitsFrom v k p i mode ⊎ (LaterWithin mode p v l ⊎ LaterCrossing mode p v c)
+  pub ahead : LaterCrossing mode p v c → Ahead mode p v i k
   pub crossing : CrossingKnown mode p v c
-  pub local : WithinKnown mode p v i j c l
+  pub local : WithinKnown mode p v i k c l
 
 abbrev pub StandsAt : Mode → List ℕ → List ℕ → State → Type 0
 StandsAt mode p v s = Stands mode p v s.place s.at s.crossing s.local

@@ -10,21 +10,21 @@ ghost use Rattle.glob_matcher.specs.Private.Turns.{IsTurn};
 use super::engine::{Engine, Match};
 use super::needle::stands_for_itself;
 use super::state::{Crossing, State, Turn};
-use super::tokens::Shape;
+use super::tokens::TokenKind;
 use std::sync::ledger::Ledger;
 
 impl<'c, 'a, S: Ledger, L: Ledger, M: Match> Engine<'c, 'a, S, L, M> {
     /// A turn at a question mark or an escaped byte.
     #[inline(always)]
-    fn single_turn(&mut self, state: State, shape: Shape, after: usize) -> Turn
+    fn single_turn(&mut self, state: State, kind: TokenKind, after: usize) -> Turn
         requires stands { StandsAt M.mode M.pattern M.value state }
-        requires token { IsToken M.mode M.pattern state.place shape after }
-        requires single { is_star shape ≡ false }
-        requires other { shape ≢ Shape.Set }
+        requires token { IsToken M.mode M.pattern state.place kind after }
+        requires single { is_star kind ≡ false }
+        requires other { kind ≢ TokenKind.Set }
         requires place { state.place < length M.pattern }
         ensures { IsTurn M.mode M.pattern M.value state (8 * (after - state.place) - 1) result self.old self.new }
     {
-        if !self.takes(shape, state.at) {
+        if !self.takes(kind, state.at) {
             return Turn::Miss(state);
         }
         let next = State {
@@ -32,7 +32,7 @@ impl<'c, 'a, S: Ledger, L: Ledger, M: Match> Engine<'c, 'a, S, L, M> {
             at: state.at + 1,
             ..state
         };
-        if shape.is_slash() {
+        if kind.is_slash() {
             return Turn::On(State {
                 local: None,
                 ..next
@@ -123,13 +123,15 @@ impl<'c, 'a, S: Ledger, L: Ledger, M: Match> Engine<'c, 'a, S, L, M> {
         requires other { slice_index M.pattern state.place ≢ open_bracket }
         ensures { IsTurn M.mode M.pattern M.value state 1 result self.old self.new }
     {
-        let (shape, after) = self.token_at(state.place);
-        match shape {
-            Shape::Free => self.free_turn(state, after),
-            Shape::Dirs => self.dirs_turn(state, after),
-            Shape::Local => self.local_turn(state, after),
-            Shape::Nothing => Turn::NoMatch,
-            Shape::Byte(_) | Shape::Any | Shape::Set => self.single_turn(state, shape, after),
+        let (kind, after) = self.token_at(state.place);
+        match kind {
+            TokenKind::Free => self.free_turn(state, after),
+            TokenKind::Dirs => self.dirs_turn(state, after),
+            TokenKind::Local => self.local_turn(state, after),
+            TokenKind::Nothing => Turn::NoMatch,
+            TokenKind::Byte(_) | TokenKind::Any | TokenKind::Set => {
+                self.single_turn(state, kind, after)
+            }
         }
     }
 

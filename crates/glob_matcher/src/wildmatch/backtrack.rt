@@ -69,7 +69,7 @@ impl<'c, 'a, S: Ledger, L: Ledger, M: Match> Engine<'c, 'a, S, L, M> {
     #[inline(always)]
     fn back_to_free(&mut self, mark: Mark) -> Option<State>
         requires { IsLeft M.mode M.pattern M.value (Crossing.Free mark) }
-        ensures { IsBacktrack M.mode M.pattern M.value (λ kind. AllowsLeft kind M.mode M.pattern M.value (Crossing.Free mark) (counted kind self.old)) result self.old self.new }
+        ensures { IsBacktrack M.mode M.pattern M.value (λ measure. AllowsLeft measure M.mode M.pattern M.value (Crossing.Free mark) (counted measure self.old)) result self.old self.new }
     {
         let Some((moved, _)) = self.pass(mark) else {
             return None;
@@ -95,7 +95,7 @@ impl<'c, 'a, S: Ledger, L: Ledger, M: Match> Engine<'c, 'a, S, L, M> {
     #[inline(always)]
     fn back_to_crossing(&mut self, crossing: Crossing) -> Option<State>
         requires { IsLeft M.mode M.pattern M.value crossing }
-        ensures { IsBacktrack M.mode M.pattern M.value (λ kind. AllowsLeft kind M.mode M.pattern M.value crossing (counted kind self.old)) result self.old self.new }
+        ensures { IsBacktrack M.mode M.pattern M.value (λ measure. AllowsLeft measure M.mode M.pattern M.value crossing (counted measure self.old)) result self.old self.new }
     {
         match crossing {
             Crossing::Unmet => None,
@@ -116,8 +116,8 @@ impl<'c, 'a, S: Ledger, L: Ledger, M: Match> Engine<'c, 'a, S, L, M> {
     #[inline(always)]
     fn local_past(&mut self, mark: Mark) -> Option<Mark>
         requires { mark.place < length M.pattern }
-        ensures forgotten { slice_index M.pattern mark.place ≡ slash → result ≡ None }
-        ensures kept { slice_index M.pattern mark.place ≢ slash → result ≡ Some mark }
+        ensures at_slash { slice_index M.pattern mark.place ≡ slash → result ≡ None }
+        ensures at_other { slice_index M.pattern mark.place ≢ slash → result ≡ Some mark }
         ensures count { Took self.old self.new 0 1 }
     {
         if self.pattern_byte(mark.place()) == b'/' {
@@ -160,7 +160,7 @@ impl<'c, 'a, S: Ledger, L: Ledger, M: Match> Engine<'c, 'a, S, L, M> {
     #[inline(always)]
     pub fn backtrack(&mut self, state: State) -> Option<State>
         requires { IsMissed M.mode M.pattern M.value state }
-        ensures { IsBacktrack M.mode M.pattern M.value (λ kind. AllowsMissed kind M.mode M.pattern M.value state (counted kind self.old)) result self.old self.new }
+        ensures { IsBacktrack M.mode M.pattern M.value (λ measure. AllowsMissed measure M.mode M.pattern M.value state (counted measure self.old)) result self.old self.new }
     {
         match self.back_to_local(state) {
             Some(next) => Some(next),

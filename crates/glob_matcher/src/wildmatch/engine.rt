@@ -9,7 +9,7 @@ ghost use Rattle.glob_matcher.specs.declared.wildmatch.sets.Class.{Class};
 ghost use Rattle.glob_matcher.specs.Bytes.{HasByte, folds, is_path, open_bracket, slash};
 ghost use Rattle.glob_matcher.specs.Sets.{Set, SetAt, name_of, set_holds};
 ghost use Rattle.glob_matcher.specs.Tokens.{Token, Byte};
-ghost use Rattle.glob_matcher.specs.Private.Reader.{shape_of, Fits, IsSetTested, IsToken};
+ghost use Rattle.glob_matcher.specs.Private.Reader.{kind_of, Fits, IsSetTested, IsToken};
 ghost use Rattle.glob_matcher.specs.Matching.{Splits};
 ghost use Rattle.glob_matcher.specs.Private.Looks.{LookedOver, IsSetPaid};
 ghost use Rattle.glob_matcher.specs.Private.Took.{Took};
@@ -19,7 +19,7 @@ use super::counts::Counts;
 use super::mode::Mode;
 use super::needle::Needle;
 use super::sets::Class;
-use super::tokens::Shape;
+use super::tokens::TokenKind;
 use std::marker::{Brand, Model, PhantomData};
 use std::sync::ledger::Ledger;
 
@@ -214,15 +214,15 @@ impl<'c, 'a, S: Ledger, L: Ledger, M: Match> Engine<'c, 'a, S, L, M> {
 
     /// Tests a token of this kind, which is no set.
     #[inline(always)]
-    pub fn takes(&mut self, shape: Shape, at: usize) -> bool
-        requires { shape ≢ Shape.Set }
-        ensures answer { (token : Token) → shape ≡ shape_of token
+    pub fn takes(&mut self, kind: TokenKind, at: usize) -> bool
+        requires { kind ≢ TokenKind.Set }
+        ensures answer { (token : Token) → kind ≡ kind_of token
             → IsTrue result ↔ ((at < length M.value) × Fits M.mode token (slice_index M.value at)) }
         ensures count { Took self.old self.new 1 1 }
         ensures look { self.new.looks ≡ self.old.looks + 1 }
     {
         self.counts.step_with_look();
-        at < self.value.len() && shape.fits(self.value[at], self.mode)
+        at < self.value.len() && kind.fits(self.value[at], self.mode)
     }
 
     /// Looks at the byte at a place of the value, which the caller counts as a step; `None` where the value ends.
@@ -463,7 +463,7 @@ pub fn read_token<'c, 'a, S: Ledger, L: Ledger, M: Match>(
     place: usize,
     mode: Mode,
     counts: &'c mut Counts<S, L>,
-) -> ((Shape, usize), &'c mut Counts<S, L>)
+) -> ((TokenKind, usize), &'c mut Counts<S, L>)
     requires pattern { pattern.now ≡ M.pattern }
     requires value { pattern.now ≡ M.value }
     requires mode { mode ≡ M.mode }

@@ -6,7 +6,7 @@ ghost use Rattle.glob_matcher.specs.Bytes.{NoSlash};
 
 use super::mode::Mode;
 use super::slices::token_at;
-use super::tokens::Shape;
+use super::tokens::TokenKind;
 
 /// Whether no place from one up to another has a slash.
 fn has_no_slash(value: &[u8], at: usize, end: usize) -> bool
@@ -22,16 +22,16 @@ fn has_no_slash(value: &[u8], at: usize, end: usize) -> bool
 }
 
 /// Whether a star token takes the bytes from one place of the value up to another.
-fn spans(shape: Shape, value: &[u8], at: usize, end: usize) -> bool
+fn spans(kind: TokenKind, value: &[u8], at: usize, end: usize) -> bool
     requires order { at ≤ end }
     requires inside { end ≤ length value.now }
-    ensures { IsTrue result ↔ Spans shape value.now at end }
+    ensures { IsTrue result ↔ Spans kind value.now at end }
 {
-    match shape {
-        Shape::Free => true,
-        Shape::Local => has_no_slash(value, at, end),
-        Shape::Dirs => end == at || value[end - 1] == b'/',
-        Shape::Byte(_) | Shape::Any | Shape::Set | Shape::Nothing => false,
+    match kind {
+        TokenKind::Free => true,
+        TokenKind::Local => has_no_slash(value, at, end),
+        TokenKind::Dirs => end == at || value[end - 1] == b'/',
+        TokenKind::Byte(_) | TokenKind::Any | TokenKind::Set | TokenKind::Nothing => false,
     }
 }
 
@@ -44,10 +44,10 @@ pub fn splits_from(pattern: &[u8], place: usize, value: &[u8], at: usize, mode: 
     if place == pattern.len() {
         return at == value.len();
     }
-    let (shape, next) = token_at(pattern, place, mode);
-    if shape.is_star() {
+    let (kind, next) = token_at(pattern, place, mode);
+    if kind.is_star() {
         'ends: for end in at..value.len() + 1 {
-            if spans(shape, value, at, end) && splits_from(pattern, next, value, end, mode) {
+            if spans(kind, value, at, end) && splits_from(pattern, next, value, end, mode) {
                 return true;
             }
         }
@@ -56,7 +56,7 @@ pub fn splits_from(pattern: &[u8], place: usize, value: &[u8], at: usize, mode: 
     if at == value.len() {
         return false;
     }
-    if !shape.takes(pattern, place, value[at], mode) {
+    if !kind.takes(pattern, place, value[at], mode) {
         return false;
     }
     splits_from(pattern, next, value, at + 1, mode)

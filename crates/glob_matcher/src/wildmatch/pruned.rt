@@ -11,7 +11,7 @@ mod tests;
 
 use super::mode::Mode;
 use super::slices::token_at;
-use super::tokens::Shape;
+use super::tokens::TokenKind;
 use memchr::{memchr, memchr2};
 
 /// How many star tokens an attempt may stand below.
@@ -39,12 +39,12 @@ pub enum Answer {
     RecursionLimitReached,
 }
 
-/// Whether a token of this shape, spelled up to a place, is a double star whose slash stands at another.
-fn ends_at_slash(shape: Shape, next: usize, slash: usize) -> bool
+/// Whether a token of this kind, spelled up to a place, is a double star whose slash stands at another.
+fn ends_at_slash(kind: TokenKind, next: usize, slash: usize) -> bool
     requires { 0 < next }
-    ensures { IsTrue result ↔ ((shape ≡ Shape.Dirs) × (next ≡ slash + 1)) }
+    ensures { IsTrue result ↔ ((kind ≡ TokenKind.Dirs) × (next ≡ slash + 1)) }
 {
-    shape == Shape::Dirs && next - 1 == slash
+    kind == TokenKind::Dirs && next - 1 == slash
 }
 
 /// Whether an attempt may begin at a place of the pattern, counted in bytes from 0: where a token starts, at the slash that
@@ -54,8 +54,8 @@ pub fn is_start(pattern: &[u8], place: usize, mode: Mode) -> bool
 {
     let mut start = 0;
     'tokens: while start < pattern.len() && start < place {
-        let (shape, next) = token_at(pattern, start, mode);
-        if ends_at_slash(shape, next, place) {
+        let (kind, next) = token_at(pattern, start, mode);
+        if ends_at_slash(kind, next, place) {
             return true;
         }
         start = next;
@@ -63,13 +63,13 @@ pub fn is_start(pattern: &[u8], place: usize, mode: Mode) -> bool
     start == place
 }
 
-impl Shape {
-    /// The byte that a token of this shape asks for, where it asks for one.
+impl TokenKind {
+    /// The byte that a token of this kind asks for, where it asks for one.
     fn literal(self) -> Option<u8>
         ensures { result ≡ literal_of self }
     {
         match self {
-            Shape::Byte(byte) => Some(byte),
+            TokenKind::Byte(byte) => Some(byte),
             _ => None,
         }
     }
@@ -157,17 +157,17 @@ pub fn attempt(
         return Answer::RecursionLimitReached;
     }
     'tokens: while place < pattern.len() {
-        let (shape, next) = token_at(pattern, place, mode);
-        match shape {
-            Shape::Free => return cross(pattern, next, value, at, mode, depth),
-            Shape::Local => return stay(pattern, next, value, at, mode, depth),
-            Shape::Dirs => return descend(pattern, next, value, at, mode, depth),
-            Shape::Nothing => return Answer::AbortAll,
-            Shape::Byte(_) | Shape::Any | Shape::Set => {
+        let (kind, next) = token_at(pattern, place, mode);
+        match kind {
+            TokenKind::Free => return cross(pattern, next, value, at, mode, depth),
+            TokenKind::Local => return stay(pattern, next, value, at, mode, depth),
+            TokenKind::Dirs => return descend(pattern, next, value, at, mode, depth),
+            TokenKind::Nothing => return Answer::AbortAll,
+            TokenKind::Byte(_) | TokenKind::Any | TokenKind::Set => {
                 if at == value.len() {
                     return Answer::AbortAll;
                 }
-                if !shape.takes(pattern, place, value[at], mode) {
+                if !kind.takes(pattern, place, value[at], mode) {
                     return Answer::NoMatch;
                 }
                 place = next;
@@ -197,8 +197,8 @@ fn cross(
     if place == pattern.len() {
         return Answer::Match;
     }
-    let (shape, _) = token_at(pattern, place, mode);
-    let wanted = shape.literal();
+    let (kind, _) = token_at(pattern, place, mode);
+    let wanted = kind.literal();
     'places: while let Some(found) = next_place(value, at, value.len(), wanted, mode) {
         match attempt(pattern, place, value, found, mode, depth + 1) {
             Answer::NoMatch | Answer::AbortToStarStar => at = found + 1,
@@ -231,8 +231,8 @@ fn stay(
         }
         return Answer::Match;
     }
-    let (shape, _) = token_at(pattern, place, mode);
-    let wanted = shape.literal();
+    let (kind, _) = token_at(pattern, place, mode);
+    let wanted = kind.literal();
     let until = value.len().min(end + 1);
     'places: while let Some(found) = next_place(value, at, until, wanted, mode) {
         match attempt(pattern, place, value, found, mode, depth + 1) {

@@ -257,7 +257,7 @@ impl<'c, 'a, S: Ledger, L: Ledger, M: Match> Engine<'c, 'a, S, L, M> {
     fn first_close(&mut self, from: usize) -> Option<usize>
         requires { from ≤ length M.pattern }
         ensures found { IfSome result (λ close. IsFirstFrom M.pattern from close_bracket close) }
-        ensures none { IfNone result ((k : ℕ) → from ≤ k → ¬ HasByte M.pattern k close_bracket) }
+        ensures none { IfNone result ((j : ℕ) → from ≤ j → ¬ HasByte M.pattern j close_bracket) }
         ensures count { IfSome result (λ close. LookedOver 1 self.old self.new from (close + 1)) }
         ensures broken { IfNone result (LookedOver 1 self.old self.new from (length M.pattern)) }
     {
@@ -275,10 +275,10 @@ impl<'c, 'a, S: Ledger, L: Ledger, M: Match> Engine<'c, 'a, S, L, M> {
     fn class_close(&mut self, place: usize, close: Option<usize>) -> Option<usize>
         requires begins { BeginsClass M.pattern place }
         requires known { IsKnown M.pattern place close }
-        ensures found { IfSome result (λ k. IsFirstFrom M.pattern (place + 2) close_bracket k) }
-        ensures none { IfNone result ((k : ℕ) → place + 2 ≤ k → ¬ HasByte M.pattern k close_bracket) }
+        ensures found { IfSome result (λ j. IsFirstFrom M.pattern (place + 2) close_bracket j) }
+        ensures none { IfNone result ((j : ℕ) → place + 2 ≤ j → ¬ HasByte M.pattern j close_bracket) }
         ensures steps { self.new.steps ≡ self.old.steps }
-        ensures looks { IfSome result (λ k. self.new.looks + searched close place ≤ self.old.looks + k) }
+        ensures looks { IfSome result (λ j. self.new.looks + searched close place ≤ self.old.looks + j) }
         ensures broken { IfNone result (LookedOver 1 self.old self.new (place + 2) (length M.pattern)) }
     {
         let Some(known) = close else {

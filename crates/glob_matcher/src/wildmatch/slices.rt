@@ -3,17 +3,17 @@ ghost use Rattle.std.specs.Prelude.{◌≡◌, ◌↔◌, ℕ, ◌<◌, IsTrue, 
 ghost use Rattle.glob_matcher.specs.Bytes.{HasByte, open_bracket};
 ghost use Rattle.glob_matcher.specs.Sets.{Set, SetAt, set_holds};
 ghost use Rattle.glob_matcher.specs.Tokens.{Token, TokenAt};
-ghost use Rattle.glob_matcher.specs.Private.Reader.{IsToken, shape_of, Fits};
+ghost use Rattle.glob_matcher.specs.Private.Reader.{IsToken, kind_of, Fits};
 
 use super::counts::Counts;
 use super::engine::{is_short, read_set, read_token};
 use super::mode::Mode;
-use super::tokens::Shape;
+use super::tokens::TokenKind;
 use std::marker::Brand;
 use std::sync::ledger::{Blank, Ledger};
 
 /// The token at this place, and the place after it.
-pub fn token_at(pattern: &[u8], place: usize, mode: Mode) -> (Shape, usize)
+pub fn token_at(pattern: &[u8], place: usize, mode: Mode) -> (TokenKind, usize)
     requires { place < length pattern.now }
     ensures { IsToken mode pattern.now place result.0 result.1 }
 {
@@ -28,7 +28,7 @@ fn token_with_counts<S: Ledger, L: Ledger>(
     mode: Mode,
     steps: Blank,
     looks: Blank,
-) -> (Shape, usize)
+) -> (TokenKind, usize)
     requires steps_name { steps.name ≡ S.name }
     requires steps_parts { steps.parts ≡ S.parts }
     requires steps_some { 0 < steps.parts }
@@ -75,13 +75,13 @@ fn set_with_counts<S: Ledger, L: Ledger>(
     read_set::<S, L, Brand>(pattern, place, byte, mode, &mut Counts::new(steps, looks)).0
 }
 
-impl Shape {
+impl TokenKind {
     /// Whether the token of this kind at a place of the pattern is one of a single byte and takes that byte.
     pub fn takes(self, pattern: &[u8], place: usize, byte: u8, mode: Mode) -> bool
         requires { place < length pattern.now }
-        ensures { (token : Token) (end : ℕ) → TokenAt mode pattern.now place token end → self ≡ shape_of token → IsTrue result ↔ Fits mode token byte }
+        ensures { (token : Token) (end : ℕ) → TokenAt mode pattern.now place token end → self ≡ kind_of token → IsTrue result ↔ Fits mode token byte }
     {
-        let Shape::Set = self else {
+        let TokenKind::Set = self else {
             return self.fits(byte, mode);
         };
         if pattern[place] != b'[' {

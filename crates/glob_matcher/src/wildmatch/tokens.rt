@@ -1,11 +1,11 @@
 //! The reader of tokens: what stands at a place of the pattern, and the place after it.
 ghost use Rattle.std.specs.Prelude.{◌≡◌, ◌≢◌, ◌↔◌, ◌+◌, ◌<◌, ◌≤◌, IsTrue, length};
-ghost use Rattle.glob_matcher.specs.declared.wildmatch.tokens.Shape.TheVariants as shape;
+ghost use Rattle.glob_matcher.specs.declared.wildmatch.tokens.TokenKind.TheVariants as kind;
 ghost use Rattle.glob_matcher.specs.Tokens.{Token, IsRun, IsBounded, IsAfterSlash, IsBeforeSlash};
 ghost use Rattle.glob_matcher.specs.Bytes.{HasByte, slash, star};
 ghost use Rattle.glob_matcher.specs.Private.Took.{Took};
 ghost use Rattle.glob_matcher.specs.Private.Looks.{LookedOver};
-ghost use Rattle.glob_matcher.specs.Private.Reader.{IsToken, IsTokenRead, IsRunRead, is_star, shape_of, Fits};
+ghost use Rattle.glob_matcher.specs.Private.Reader.{IsToken, IsTokenRead, IsRunRead, is_star, kind_of, Fits};
 
 use super::engine::{Engine, Match};
 use super::mode::Mode;
@@ -13,7 +13,7 @@ use std::sync::ledger::Ledger;
 
 /// What kind of token stands at a place.
 #[derive(Debug, Copy, Clone, Eq, PartialEq)]
-pub enum Shape {
+pub enum TokenKind {
     /// This byte, bare or escaped.
     Byte(u8),
     /// The question mark.
@@ -30,31 +30,35 @@ pub enum Shape {
     Nothing,
 }
 
-impl Shape {
+impl TokenKind {
     /// Whether the token is a star token.
     pub fn is_star(self) -> bool
         ensures { result ≡ is_star self }
     {
-        matches!(self, Shape::Free | Shape::Local | Shape::Dirs)
+        matches!(self, TokenKind::Free | TokenKind::Local | TokenKind::Dirs)
     }
 
     /// Whether the token is a slash, bare or escaped.
     pub fn is_slash(self) -> bool
-        ensures { IsTrue result ↔ (self ≡ Shape.Byte slash) }
+        ensures { IsTrue result ↔ (self ≡ TokenKind.Byte slash) }
     {
-        matches!(self, Shape::Byte(b'/'))
+        matches!(self, TokenKind::Byte(b'/'))
     }
 
     /// Whether a token of this kind, which is no set, is one of a single byte and takes that byte.
     #[inline(always)]
     pub fn fits(self, byte: u8, mode: Mode) -> bool
-        requires { self ≢ shape.Set }
-        ensures { (token : Token) → self ≡ shape_of token → IsTrue result ↔ Fits mode token byte }
+        requires { self ≢ kind.Set }
+        ensures { (token : Token) → self ≡ kind_of token → IsTrue result ↔ Fits mode token byte }
     {
         match self {
-            Shape::Byte(wanted) => mode.fold(byte) == mode.fold(wanted),
-            Shape::Any => !(mode.is_path() && byte == b'/'),
-            Shape::Set | Shape::Free | Shape::Local | Shape::Dirs | Shape::Nothing => false,
+            TokenKind::Byte(wanted) => mode.fold(byte) == mode.fold(wanted),
+            TokenKind::Any => !(mode.is_path() && byte == b'/'),
+            TokenKind::Set
+            | TokenKind::Free
+            | TokenKind::Local
+            | TokenKind::Dirs
+            | TokenKind::Nothing => false,
         }
     }
 }
@@ -126,42 +130,42 @@ impl<'c, 'a, S: Ledger, L: Ledger, M: Match> Engine<'c, 'a, S, L, M> {
     }
 
     /// The run of stars at this place, and the place after it, or after its slash.
-    fn run_at(&mut self, place: usize) -> (Shape, usize)
+    fn run_at(&mut self, place: usize) -> (TokenKind, usize)
         requires { HasByte M.pattern place star }
         ensures token { IsToken M.mode M.pattern place result.0 result.1 }
         ensures count { IsRunRead self.old self.new place result.0 result.1 }
     {
         let end = self.run_end(place);
         if !self.is_path() {
-            return (Shape::Free, end);
+            return (TokenKind::Free, end);
         }
         if !self.is_bounded(place, end) {
-            return (Shape::Local, end);
+            return (TokenKind::Local, end);
         }
         if self.has_byte(end, b'/') {
-            return (Shape::Dirs, end + 1);
+            return (TokenKind::Dirs, end + 1);
         }
-        (Shape::Free, end)
+        (TokenKind::Free, end)
     }
 
     /// The token at this place, and the place after it.
-    pub fn token_at(&mut self, place: usize) -> (Shape, usize)
+    pub fn token_at(&mut self, place: usize) -> (TokenKind, usize)
         requires { place < length M.pattern }
         ensures token { IsToken M.mode M.pattern place result.0 result.1 }
         ensures count { IsTokenRead self.old self.new place result.0 result.1 }
     {
         match self.pattern_byte(place) {
             b'\\' => match self.escaped_at(place) {
-                Some(byte) => (Shape::Byte(byte), place + 2),
-                None => (Shape::Nothing, self.pattern_len()),
+                Some(byte) => (TokenKind::Byte(byte), place + 2),
+                None => (TokenKind::Nothing, self.pattern_len()),
             },
-            b'?' => (Shape::Any, place + 1),
+            b'?' => (TokenKind::Any, place + 1),
             b'[' => match self.set_at(place, 0) {
-                Some((end, _)) => (Shape::Set, end),
-                None => (Shape::Nothing, self.pattern_len()),
+                Some((end, _)) => (TokenKind::Set, end),
+                None => (TokenKind::Nothing, self.pattern_len()),
             },
             b'*' => self.run_at(place),
-            byte => (Shape::Byte(byte), place + 1),
+            byte => (TokenKind::Byte(byte), place + 1),
         }
     }
 }

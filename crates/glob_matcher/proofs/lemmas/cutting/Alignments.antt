@@ -9,36 +9,36 @@ use Rattle.glob_matcher.specs.Private.Reader.{Fits}
 use Rattle.glob_matcher.specs.Pruning.{IsStart, TakeOneByte, EndsShort, star_count}
 use Rattle.glob_matcher.proofs.lemmas.reading.TokenLemmas.{TokenAt-unique, TokenAt-inside}
 use Rattle.glob_matcher.proofs.lemmas.cutting.CutLemmas.{IsOne, one_byte_in, one_byte_out, lang_is_one, one_is_lang, one_in, one_out}
-use Rattle.glob_matcher.proofs.lemmas.cutting.SplitLemmas.{IsStarToken, IsOtherToken, kind_of}
+use Rattle.glob_matcher.proofs.lemmas.cutting.SplitLemmas.{IsStarToken, IsOtherToken, star_or_other}
 use Rattle.glob_matcher.proofs.lemmas.cutting.SlashLemmas.{fold_slash, only_slash, ends_in_slash_byte}
 use Rattle.glob_matcher.proofs.lemmas.reading.Starts.{start_next}
 
 -- Place m of the value, where the alignment may begin too, leads to place n.
-pub record Moved (mode : Mode) (p v : List ℕ) (from at place k m n : ℕ) : Type 0 where
+pub record Moved (mode : Mode) (p v : List ℕ) (i k j e m n : ℕ) : Type 0 where
   pub inside : n ≤ length v
-  pub here : SplitsFrom v n p place mode
-  pub behind : from < place → HasByte p (place - 1) slash → get_or v (n - 1) 0 ≡ slash
-  pub level : IsTrue (is_path mode) → NoSlash v at m → NoSlash v k n
+  pub here : SplitsFrom v n p j mode
+  pub behind : i < j → HasByte p (j - 1) slash → get_or v (n - 1) 0 ≡ slash
+  pub level : IsTrue (is_path mode) → NoSlash v k m → NoSlash v e n
 
 -- What the list of tokens from the start on says of the list from here on.
-pub record ListMoved (mode : Mode) (p : List ℕ) (place : ℕ) (ts : List Token) : Type 0 where
+pub record ListMoved (mode : Mode) (p : List ℕ) (j : ℕ) (ts : List Token) : Type 0 where
   pub tokens : List Token
-  pub read : From mode p place tokens
+  pub read : From mode p j tokens
   pub counted : star_count tokens ≡ star_count ts
   pub single : TakeOneByte ts → TakeOneByte tokens
 
--- The alignment began at `from` and `at`, and stands at `place` and `k`.
-pub record Aligned (mode : Mode) (p v : List ℕ) (from at place k : ℕ) : Type 0 where
-  pub start : IsStart p place mode
-  pub low : from ≤ place
-  pub value_low : at ≤ k
-  pub value_high : k ≤ length v
-  pub no_star : from < place → ¬ HasByte p from star
-  pub back : SplitsFrom v k p place mode → SplitsFrom v at p from mode
-  pub forth : (m : ℕ) → at ≤ m → m ≤ length v → SplitsFrom v m p from mode → Moved mode p v from at place k m (m + (k - at))
-  pub list : (ts : List Token) → From mode p from ts → ListMoved mode p place ts
-  pub short_back : EndsShort v k p place mode → EndsShort v at p from mode
-  pub short_forth : EndsShort v at p from mode → EndsShort v k p place mode
+-- The alignment began at places i and k, and stands at places j and e.
+pub record Aligned (mode : Mode) (p v : List ℕ) (i k j e : ℕ) : Type 0 where
+  pub start : IsStart p j mode
+  pub low : i ≤ j
+  pub value_low : k ≤ e
+  pub value_high : e ≤ length v
+  pub no_star : i < j → ¬ HasByte p i star
+  pub back : SplitsFrom v e p j mode → SplitsFrom v k p i mode
+  pub forth : (m : ℕ) → k ≤ m → m ≤ length v → SplitsFrom v m p i mode → Moved mode p v i k j e m (m + (e - k))
+  pub list : (ts : List Token) → From mode p i ts → ListMoved mode p j ts
+  pub short_back : EndsShort v e p j mode → EndsShort v k p i mode
+  pub short_forth : EndsShort v k p i mode → EndsShort v e p j mode
 
 one_count : (t : Token) (ts : List Token) → IsOne t → star_count (t ∷ ts) ≡ star_count ts
 one_count (Byte b) ts one = refl
@@ -51,7 +51,7 @@ one_count Nothing ts one = absurd one
 
 -- a token of one byte doesn't begin with a star
 pub one_no_star : (mode : Mode) (p : List ℕ) (i : ℕ) (t : Token) (j : ℕ) → IsOne t → TokenAt mode p i t j → ¬ HasByte p i star
-one_no_star mode p i t j one here h = by (kind_of mode p i t j here) where
+one_no_star mode p i t j one here h = by (star_or_other mode p i t j here) where
   by : IsStarToken p i t j ⊎ IsOtherToken p i t j → ⊥
   by (inl x) =
       let more : star_count (t ∷ []) ≡ star_count [] + 1 = x.counts [] in
@@ -132,59 +132,59 @@ module _ {mode : Mode} {p v : List ℕ} {i k : ℕ} (t : Token) (j : ℕ) where
           },
         )
 
-module _ {mode : Mode} {p v : List ℕ} {from at place k : ℕ} (t : Token) (next : ℕ) where
+module _ {mode : Mode} {p v : List ℕ} {i k j e : ℕ} (t : Token) (next : ℕ) where
   -- what a byte taken moves
-  moved_next : {m n : ℕ} → Moved mode p v from at place k m n → k ≤ n
-      → IsOne t → TokenAt mode p place t next → Fits mode t (get_or v k 0) → Moved mode p v from at next (k + 1) m (n + 1)
+  moved_next : {m n : ℕ} → Moved mode p v i k j e m n → e ≤ n
+      → IsOne t → TokenAt mode p j t next → Fits mode t (get_or v e 0) → Moved mode p v i k next (e + 1) m (n + 1)
   moved_next {m} {n} x low one here fits =
-      let out = one_out mode p v place next n t one here x.here in
+      let out = one_out mode p v j next n t one here x.here in
       let inside : n < length v = out.0 in record {
         inside = omega arith;
         here = out.2;
         behind = λ past is.
-            let same : t ≡ Byte slash = ends_in_slash_byte mode p place t next one here is in
+            let same : t ≡ Byte slash = ends_in_slash_byte mode p j t next one here is in
             let back : n + 1 - 1 ≡ n = omega arith in
             let taken : Fits mode (Byte slash) (get_or v n 0) = subst (λ (u : Token). Fits mode u (get_or v n 0)) same out.1 in
             subst (λ (q : ℕ). get_or v q 0 ≡ slash) (sym back) (fold_slash mode (get_or v n 0) taken);
         level = λ path none. record {
           at = λ q above below is.
-              let before : NoSlash v k n = x.level path none in
+              let before : NoSlash v e n = x.level path none in
               at_last q path before above is (cases_lt q n) (omega arith) out.1;
         };
       } where
-        at_last : (q : ℕ) → IsTrue (is_path mode) → NoSlash v k n → k + 1 ≤ q → get_or v q 0 ≡ slash → (q < n) ⊎ (n ≤ q) → q ≤ n
+        at_last : (q : ℕ) → IsTrue (is_path mode) → NoSlash v e n → e + 1 ≤ q → get_or v q 0 ≡ slash → (q < n) ⊎ (n ≤ q) → q ≤ n
             → Fits mode t (get_or v n 0) → ⊥
         at_last q path before above is (inl less) most taken = before.at q (omega arith) less is
         at_last q path before above is (inr more) most taken =
             let same : q ≡ n = omega arith in
             let byte : get_or v n 0 ≡ slash = subst (λ (r : ℕ). get_or v r 0 ≡ slash) same is in
-            let first : get_or v k 0 ≡ slash =
-            only_slash mode t (get_or v k 0) path (subst (λ (c : ℕ). Fits mode t c) byte taken) fits in
-            before.at k (omega arith) (omega arith) first
+            let first : get_or v e 0 ≡ slash =
+            only_slash mode t (get_or v e 0) path (subst (λ (c : ℕ). Fits mode t c) byte taken) fits in
+            before.at e (omega arith) (omega arith) first
 
-  pub aligned_next : Aligned mode p v from at place k
-      → IsOne t → TokenAt mode p place t next → place < next → k < length v → Fits mode t (get_or v k 0)
-      → Aligned mode p v from at next (k + 1)
+  pub aligned_next : Aligned mode p v i k j e
+      → IsOne t → TokenAt mode p j t next → j < next → e < length v → Fits mode t (get_or v e 0)
+      → Aligned mode p v i k next (e + 1)
   aligned_next x one here past inside fits =
-      let low : from ≤ place = x.low in
-      let value_low : at ≤ k = x.value_low in record {
+      let low : i ≤ j = x.low in
+      let value_low : k ≤ e = x.value_low in record {
         start = record { place = inl (start_next t next x.start here) };
         low = omega arith;
         value_low = omega arith;
         value_high = omega arith;
-        no_star = λ more h. first h (cases_lt from place);
-        back = λ s. x.back (one_in mode p v place next k t here inside fits s);
+        no_star = λ more h. first h (cases_lt i j);
+        back = λ s. x.back (one_in mode p v j next e t here inside fits s);
         forth = λ m low high s.
-            let same : m + (k + 1 - at) ≡ m + (k - at) + 1 = omega arith in
-            subst (λ (n : ℕ). Moved mode p v from at next (k + 1) m n) (sym same)
+            let same : m + (e + 1 - k) ≡ m + (e - k) + 1 = omega arith in
+            subst (λ (n : ℕ). Moved mode p v i k next (e + 1) m n) (sym same)
             (moved_next (x.forth m low high s) (omega arith) one here fits);
-        list = λ ts read. list_then (x.list ts read) (λ us. list_next place t next us one here);
+        list = λ ts read. list_then (x.list ts read) (λ us. list_next j t next us one here);
         short_back = λ s. x.short_back (short_in t next here inside fits s);
         short_forth = λ s. (short_out t next one here inside (x.short_forth s)).1;
       } where
-        first : HasByte p from star → (from < place) ⊎ (place ≤ from) → ⊥
+        first : HasByte p i star → (i < j) ⊎ (j ≤ i) → ⊥
         first h (inl more) = x.no_star more h
         first h (inr same) =
-            let low : from ≤ place = x.low in
-            let is : from ≡ place = omega arith in
-            one_no_star mode p place t next one here (subst (λ (n : ℕ). HasByte p n star) is h)
+            let low : i ≤ j = x.low in
+            let is : i ≡ j = omega arith in
+            one_no_star mode p j t next one here (subst (λ (n : ℕ). HasByte p n star) is h)

@@ -41,36 +41,36 @@ abbrev pub EndsInLast : Mode → List ℕ → List ℕ → Type 0
 EndsInLast mode p v = (0 < length v) × Fits mode (Byte (last p)) (get_or v (length v - 1) 0)
 
 module _ (mode : Mode) (p v : List ℕ) (alone : IsAlone (last p)) where
-  ends_here : (i j : ℕ) (t : Token) (k : ℕ) → TokenAt mode p i t k → k ≡ length p → j ≤ length v
-      → SplitsFrom v j p i mode → EndsInLast mode p v
-  ends_here i j t k here end inside all = elim (last_token mode p i t k here end alone) [
+  ends_here : (i k : ℕ) (t : Token) (j : ℕ) → TokenAt mode p i t j → j ≡ length p → k ≤ length v
+      → SplitsFrom v k p i mode → EndsInLast mode p v
+  ends_here i k t j here end inside all = elim (last_token mode p i t j here end alone) [
     | inl is ↦
-        let byte : TokenAt mode p i (Byte (last p)) k = subst (λ (x : Token). TokenAt mode p i x k) is here in
-        let one = one_out mode p v i k j (Byte (last p)) tt byte all in
-        let past : length v ≤ j + 1 = end_out mode p v k (j + 1) end one.2 in
-        let place : j ≡ length v - 1 = omega (arith, one.0) in
+        let byte : TokenAt mode p i (Byte (last p)) j = subst (λ (x : Token). TokenAt mode p i x j) is here in
+        let one = one_out mode p v i j k (Byte (last p)) tt byte all in
+        let past : length v ≤ k + 1 = end_out mode p v j (k + 1) end one.2 in
+        let place : k ≡ length v - 1 = omega (arith, one.0) in
         (omega (arith, one.0), subst (λ (n : ℕ). Fits mode (Byte (last p)) (get_or v n 0)) place one.1)
-    | inr is ↦ absurd (nothing_out mode p v i k j (subst (λ (x : Token). TokenAt mode p i x k) is here) inside all)
+    | inr is ↦ absurd (nothing_out mode p v i j k (subst (λ (x : Token). TokenAt mode p i x j) is here) inside all)
   ]
 
-  ends_later : (i j : ℕ) (ts : List Token) → From mode p i ts → i < length p → j ≤ length v
-      → ((k e : ℕ) → i < k → k < length p → e ≤ length v → SplitsFrom v e p k mode → EndsInLast mode p v)
-      → SplitsFrom v j p i mode → EndsInLast mode p v
-  ends_later i j [] read low inside later all = absurd (omega (arith, read))
-  ends_later i j (t ∷ ts) read low inside later all =
-      let out = step_out mode p v i read.0 j t read.1 inside all in
+  ends_later : (i k : ℕ) (ts : List Token) → From mode p i ts → i < length p → k ≤ length v
+      → ((j e : ℕ) → i < j → j < length p → e ≤ length v → SplitsFrom v e p j mode → EndsInLast mode p v)
+      → SplitsFrom v k p i mode → EndsInLast mode p v
+  ends_later i k [] read low inside later all = absurd (omega (arith, read))
+  ends_later i k (t ∷ ts) read low inside later all =
+      let out = step_out mode p v i read.0 k t read.1 inside all in
       let past : i < read.0 = TokenAt-past mode p i t read.0 read.1 in
       let short : read.0 + length ts ≤ length p = From-short mode p read.0 ts read.2 in
       elim (cases_lt read.0 (length p)) [
         | inl more ↦ later read.0 out.0 past more out.2.high out.4
-        | inr end ↦ ends_here i j t read.0 read.1 (omega arith) inside all
+        | inr end ↦ ends_here i k t read.0 read.1 (omega arith) inside all
       ]
 
-  ends_from : (d i j : ℕ) → length p ≤ i + d → i < length p → j ≤ length v → SplitsFrom v j p i mode → EndsInLast mode p v
-  ends_from zero i j enough low inside all = absurd (omega arith)
-  ends_from (suc d) i j enough low inside all =
-      ends_later i j all.tokens all.read low inside
-      (λ k e past more in_value rest. ends_from d k e (omega arith) more in_value rest) all
+  ends_from : (d i k : ℕ) → length p ≤ i + d → i < length p → k ≤ length v → SplitsFrom v k p i mode → EndsInLast mode p v
+  ends_from zero i k enough low inside all = absurd (omega arith)
+  ends_from (suc d) i k enough low inside all =
+      ends_later i k all.tokens all.read low inside
+      (λ j e past more in_value rest. ends_from d j e (omega arith) more in_value rest) all
 
 -- A value that is split ends in the pattern's last byte.
 pub ends_in_last : (mode : Mode) (p v : List ℕ) → 0 < length p → IsAlone (last p) → Splits v p mode → EndsInLast mode p v

@@ -11,7 +11,7 @@ use Rattle.glob_matcher.specs.Pruning.{HasStars, IsBoundary, star_count}
 use Rattle.glob_matcher.proofs.lemmas.reading.SetLemmas.{HasByte-unique}
 use Rattle.glob_matcher.proofs.lemmas.reading.TokenLemmas.{TokenAt-unique, TokenAt-inside, run_lead}
 use Rattle.glob_matcher.proofs.lemmas.reading.Existence.{From-short}
-use Rattle.glob_matcher.proofs.lemmas.cutting.SplitLemmas.{IsStarToken, IsOtherToken, kind_of, slash_token}
+use Rattle.glob_matcher.proofs.lemmas.cutting.SplitLemmas.{IsStarToken, IsOtherToken, star_or_other, slash_token}
 use Rattle.glob_matcher.proofs.lemmas.reading.ForwardReading.{Alike, alike_flip, from_alike, spells_alike}
 
 -- ---- the bytes
@@ -38,8 +38,8 @@ module _ (p : List ℕ) (i : ℕ) (lead : HasByte p i star) where
         record { inside = omega arith; is = get_or-insert_below p i star 0 x less (omega arith) ∙ h.is }
     | inr last ↦
         let at : i ≡ x = omega arith in
-        let same : star ≡ c = HasByte-unique p x star c (subst (λ (k : ℕ). HasByte p k star) at lead) h in
-        subst (λ (d : ℕ). HasByte q x d) same (subst (λ (k : ℕ). HasByte q k star) at star_at)
+        let same : star ≡ c = HasByte-unique p x star c (subst (λ (m : ℕ). HasByte p m star) at lead) h in
+        subst (λ (d : ℕ). HasByte q x d) same (subst (λ (m : ℕ). HasByte q m star) at star_at)
   ]
 
   before_back : (x c : ℕ) → x < i + 1 → HasByte q x c → HasByte p x c
@@ -49,8 +49,8 @@ module _ (p : List ℕ) (i : ℕ) (lead : HasByte p i star) where
         record { inside = omega arith; is = sym (get_or-insert_below p i star 0 x less (omega arith)) ∙ h.is }
     | inr last ↦
         let at : i ≡ x = omega arith in
-        let same : star ≡ c = HasByte-unique q x star c (subst (λ (k : ℕ). HasByte q k star) at star_at) h in
-        subst (λ (d : ℕ). HasByte p x d) same (subst (λ (k : ℕ). HasByte p k star) at lead)
+        let same : star ≡ c = HasByte-unique q x star c (subst (λ (m : ℕ). HasByte q m star) at star_at) h in
+        subst (λ (d : ℕ). HasByte p x d) same (subst (λ (m : ℕ). HasByte p m star) at lead)
   ]
 
   alike_before : Alike p 0 q 0 (i + 1)
@@ -59,12 +59,12 @@ module _ (p : List ℕ) (i : ℕ) (lead : HasByte p i star) where
         let below : x < 0 + (i + 1) = f.below in
         let sum : x + 0 ≡ y + 0 = f.same in
         let at : x ≡ y = omega arith in
-        subst (λ (k : ℕ). HasByte q k c) at (before x c (omega arith) h);
+        subst (λ (m : ℕ). HasByte q m c) at (before x c (omega arith) h);
     back = λ x y c f h.
         let below : x < 0 + (i + 1) = f.below in
         let sum : x + 0 ≡ y + 0 = f.same in
         let at : y ≡ x = omega arith in
-        before_back x c (omega arith) (subst (λ (k : ℕ). HasByte q k c) at h);
+        before_back x c (omega arith) (subst (λ (m : ℕ). HasByte q m c) at h);
   }
 
   -- from that star on, the bytes stand one place further
@@ -87,26 +87,26 @@ module _ (p : List ℕ) (i : ℕ) (lead : HasByte p i star) where
     there = λ x y c f h.
         let sum : x + (i + 1) ≡ y + i = f.same in
         let at : x + 1 ≡ y = omega arith in
-        subst (λ (k : ℕ). HasByte q k c) at (after x c f.low h);
+        subst (λ (m : ℕ). HasByte q m c) at (after x c f.low h);
     back = λ x y c f h.
         let sum : x + (i + 1) ≡ y + i = f.same in
         let at : y ≡ x + 1 = omega arith in
-        after_back x c f.low (subst (λ (k : ℕ). HasByte q k c) at h);
+        after_back x c f.low (subst (λ (m : ℕ). HasByte q m c) at h);
   }
 
   longer_run : (j : ℕ) → IsRun p i j → IsRun q i (j + 1)
   longer_run j run =
       let some : i < j = run.some in record {
         some = omega arith;
-        stars = λ k low below. by k low below (cases_lt i k);
+        stars = λ m low below. by m low below (cases_lt i m);
         whole = λ h. run.whole (after_back j star (omega arith) h);
       } where
-        by : (k : ℕ) → i ≤ k → k < j + 1 → (i < k) ⊎ (k ≤ i) → HasByte q k star
-        by k low below (inl past) =
-            let at : (k - 1) + 1 ≡ k = omega arith in
-            subst (λ (m : ℕ). HasByte q m star) at (after (k - 1) star (omega arith) (run.stars (k - 1) (omega arith) (omega arith)))
-        by k low below (inr first) =
-            let at : i ≡ k = omega arith in
+        by : (m : ℕ) → i ≤ m → m < j + 1 → (i < m) ⊎ (m ≤ i) → HasByte q m star
+        by m low below (inl past) =
+            let at : (m - 1) + 1 ≡ m = omega arith in
+            subst (λ (m : ℕ). HasByte q m star) at (after (m - 1) star (omega arith) (run.stars (m - 1) (omega arith) (omega arith)))
+        by m low below (inr first) =
+            let at : i ≡ m = omega arith in
             subst (λ (m : ℕ). HasByte q m star) at star_at
 
   -- the tokens after the run
@@ -180,7 +180,7 @@ record PlainReading (mode : Mode) (p : List ℕ) (i n : ℕ) : Type 0 where
 plain_reading : (m mode : Mode) (p : List ℕ) (i : ℕ) (ts : List Token) → is_path mode ≡ false → From m p i ts
     → PlainReading mode p i (star_count ts)
 plain_reading m mode p i [] plain e = record { tokens = []; read = e; counted = refl }
-plain_reading m mode p i (t ∷ ts) plain e = by (plain_reading m mode p e.0 ts plain e.2) (kind_of m p i t e.0 e.1) where
+plain_reading m mode p i (t ∷ ts) plain e = by (plain_reading m mode p e.0 ts plain e.2) (star_or_other m p i t e.0 e.1) where
   free : (stop : ℕ) → IsRun p i stop → TokenAt mode p i Free stop
   free stop run = record { run = run; bounded = λ path. cc }
 
@@ -188,17 +188,17 @@ plain_reading m mode p i (t ∷ ts) plain e = by (plain_reading m mode p e.0 ts 
       → (e.0 ≡ x.stop) ⊎ (HasByte p x.stop slash × (e.0 ≡ x.stop + 1)) → PlainReading mode p i (star_count (t ∷ ts))
   star r x (inl here) = record {
     tokens = Free ∷ r.tokens;
-    read = (x.stop, free x.stop x.run, subst (λ (k : ℕ). From mode p k r.tokens) here r.read);
-    counted = ap (λ (k : ℕ). k + 1) r.counted ∙ sym (x.counts ts);
+    read = (x.stop, free x.stop x.run, subst (λ (n : ℕ). From mode p n r.tokens) here r.read);
+    counted = ap (λ (n : ℕ). n + 1) r.counted ∙ sym (x.counts ts);
   }
   star r x (inr here) = record {
     tokens = Free ∷ Byte slash ∷ r.tokens;
     read = (
       x.stop,
       free x.stop x.run,
-      (x.stop + 1, slash_token mode p x.stop here.0, subst (λ (k : ℕ). From mode p k r.tokens) here.1 r.read),
+      (x.stop + 1, slash_token mode p x.stop here.0, subst (λ (n : ℕ). From mode p n r.tokens) here.1 r.read),
     );
-    counted = ap (λ (k : ℕ). k + 1) r.counted ∙ sym (x.counts ts);
+    counted = ap (λ (n : ℕ). n + 1) r.counted ∙ sym (x.counts ts);
   }
 
   by : PlainReading mode p e.0 (star_count ts) → IsStarToken p i t e.0 ⊎ IsOtherToken p i t e.0

@@ -66,17 +66,17 @@ broken_no_star : (p : List ℕ) (i : ℕ) → IsBroken p i → ¬ HasByte p i st
 broken_no_star p i (inl e) h = two_bytes p i backslash star e.0 h (λ is. omega arith)
 broken_no_star p i (inr e) h = two_bytes p i open_bracket star e.0 h (λ is. omega arith)
 
-pub kind_of : (mode : Mode) (p : List ℕ) (i : ℕ) (t : Token) (j : ℕ) → TokenAt mode p i t j
+pub star_or_other : (mode : Mode) (p : List ℕ) (i : ℕ) (t : Token) (j : ℕ) → TokenAt mode p i t j
     → IsStarToken p i t j ⊎ IsOtherToken p i t j
-kind_of mode p i (Byte b) j e = inr (record { alike = λ m. e; counts = λ ts. refl; no_star = byte_no_star p i b j e })
-kind_of mode p i Any j e =
+star_or_other mode p i (Byte b) j e = inr (record { alike = λ m. e; counts = λ ts. refl; no_star = byte_no_star p i b j e })
+star_or_other mode p i Any j e =
     inr (record { alike = λ m. e; counts = λ ts. refl; no_star = λ h. two_bytes p i question_mark star e.0 h (λ is. omega arith) })
-kind_of mode p i (OneOf s) j e =
+star_or_other mode p i (OneOf s) j e =
     inr (record { alike = λ m. e; counts = λ ts. refl; no_star = λ h. two_bytes p i open_bracket star e.bracket h (λ is. omega arith) })
-kind_of mode p i Free j e = inl (record { stop = j; run = e.run; after = inl refl; counts = λ ts. refl })
-kind_of mode p i Local j e = inl (record { stop = j; run = e.run; after = inl refl; counts = λ ts. refl })
-kind_of mode p i Dirs j e = inl (record { stop = e.at; run = e.run; after = inr (e.slash, e.after); counts = λ ts. refl })
-kind_of mode p i Nothing j e =
+star_or_other mode p i Free j e = inl (record { stop = j; run = e.run; after = inl refl; counts = λ ts. refl })
+star_or_other mode p i Local j e = inl (record { stop = j; run = e.run; after = inl refl; counts = λ ts. refl })
+star_or_other mode p i Dirs j e = inl (record { stop = e.at; run = e.run; after = inr (e.slash, e.after); counts = λ ts. refl })
+star_or_other mode p i Nothing j e =
     inr (record { alike = λ m. e; counts = λ ts. refl; no_star = broken_no_star p i e.0 })
 
 -- a bare slash is a token of its own
@@ -97,35 +97,35 @@ module _ (m n : Mode) (p : List ℕ) where
   Agree : ℕ → Type 0
   Agree bound = (i : ℕ) (ts us : List Token) → length ts ≤ bound → From m p i ts → From n p i us → star_count ts ≡ star_count us
 
-  after_stars : (bound i j k : ℕ) (ts us : List Token) → Agree bound → length ts ≤ bound
-      → (stop : ℕ) → (j ≡ stop) ⊎ (HasByte p stop slash × (j ≡ stop + 1)) → (k ≡ stop) ⊎ (HasByte p stop slash × (k ≡ stop + 1))
-      → From m p j ts → From n p k us → star_count ts ≡ star_count us
+  after_stars : (bound i j end : ℕ) (ts us : List Token) → Agree bound → length ts ≤ bound
+      → (stop : ℕ) → (j ≡ stop) ⊎ (HasByte p stop slash × (j ≡ stop + 1)) → (end ≡ stop) ⊎ (HasByte p stop slash × (end ≡ stop + 1))
+      → From m p j ts → From n p end us → star_count ts ≡ star_count us
   unfolding Agree
-  after_stars bound i j k ts us later few stop (inl a) (inl b) x y =
+  after_stars bound i j end ts us later few stop (inl a) (inl b) x y =
       later stop ts us few (subst (λ (q : ℕ). From m p q ts) a x) (subst (λ (q : ℕ). From n p q us) b y)
-  after_stars bound i j k ts us later few stop (inl a) (inr b) x y =
+  after_stars bound i j end ts us later few stop (inl a) (inr b) x y =
       let past = after_slash_token m p stop ts b.0 (subst (λ (q : ℕ). From m p q ts) a x) in
       past.3 ∙ later (stop + 1) past.0 us (omega (arith, past.2)) past.1 (subst (λ (q : ℕ). From n p q us) b.1 y)
-  after_stars bound i j k ts us later few stop (inr a) (inl b) x y =
+  after_stars bound i j end ts us later few stop (inr a) (inl b) x y =
       let past = after_slash_token n p stop us a.0 (subst (λ (q : ℕ). From n p q us) b y) in
       later (stop + 1) ts past.0 few (subst (λ (q : ℕ). From m p q ts) a.1 x) past.1 ∙ sym past.3
-  after_stars bound i j k ts us later few stop (inr a) (inr b) x y =
+  after_stars bound i j end ts us later few stop (inr a) (inr b) x y =
       later (stop + 1) ts us few (subst (λ (q : ℕ). From m p q ts) a.1 x) (subst (λ (q : ℕ). From n p q us) b.1 y)
 
-  step : (bound i j k : ℕ) (t u : Token) (ts us : List Token) → Agree bound → length ts ≤ bound
-      → IsStarToken p i t j ⊎ IsOtherToken p i t j → IsStarToken p i u k ⊎ IsOtherToken p i u k
-      → TokenAt n p i u k → From m p j ts → From n p k us → star_count (t ∷ ts) ≡ star_count (u ∷ us)
+  step : (bound i j end : ℕ) (t u : Token) (ts us : List Token) → Agree bound → length ts ≤ bound
+      → IsStarToken p i t j ⊎ IsOtherToken p i t j → IsStarToken p i u end ⊎ IsOtherToken p i u end
+      → TokenAt n p i u end → From m p j ts → From n p end us → star_count (t ∷ ts) ≡ star_count (u ∷ us)
   unfolding Agree
-  step bound i j k t u ts us later few (inl a) (inl b) here x y =
+  step bound i j end t u ts us later few (inl a) (inl b) here x y =
       let same = IsRun-unique p i a.stop b.stop a.run b.run in
-      let again = after_stars bound i j k ts us later few b.stop
+      let again = after_stars bound i j end ts us later few b.stop
       (subst (λ (q : ℕ). (j ≡ q) ⊎ (HasByte p q slash × (j ≡ q + 1))) same a.after) b.after x y in
       a.counts ts ∙ (ap (λ (q : ℕ). q + 1) again ∙ sym (b.counts us))
-  step bound i j k t u ts us later few (inl a) (inr b) here x y = absurd (b.no_star (run_lead p i a.stop a.run))
-  step bound i j k t u ts us later few (inr a) (inl b) here x y = absurd (a.no_star (run_lead p i b.stop b.run))
-  step bound i j k t u ts us later few (inr a) (inr b) here x y =
-      let same = TokenAt-unique n p i t u j k (a.alike n) here in
-      a.counts ts ∙ (later k ts us few (subst (λ (q : ℕ). From m p q ts) same.1 x) y ∙ sym (b.counts us))
+  step bound i j end t u ts us later few (inl a) (inr b) here x y = absurd (b.no_star (run_lead p i a.stop a.run))
+  step bound i j end t u ts us later few (inr a) (inl b) here x y = absurd (a.no_star (run_lead p i b.stop b.run))
+  step bound i j end t u ts us later few (inr a) (inr b) here x y =
+      let same = TokenAt-unique n p i t u j end (a.alike n) here in
+      a.counts ts ∙ (later end ts us few (subst (λ (q : ℕ). From m p q ts) same.1 x) y ∙ sym (b.counts us))
 
   agree : (bound : ℕ) → Agree bound
   unfolding Agree
@@ -134,7 +134,7 @@ module _ (m n : Mode) (p : List ℕ) where
   agree bound i (t ∷ ts) [] few x y = let inside = TokenAt-inside m p i t x.0 x.1 in absurd (omega arith)
   agree zero i (t ∷ ts) (u ∷ us) few x y = absurd (omega arith)
   agree (suc bound) i (t ∷ ts) (u ∷ us) few x y =
-      step bound i x.0 y.0 t u ts us (agree bound) (omega arith) (kind_of m p i t x.0 x.1) (kind_of n p i u y.0 y.1) y.1 x.2 y.2
+      step bound i x.0 y.0 t u ts us (agree bound) (omega arith) (star_or_other m p i t x.0 x.1) (star_or_other n p i u y.0 y.1) y.1 x.2 y.2
 
 pub star_count_alike : (m n : Mode) (p : List ℕ) (i : ℕ) (ts us : List Token) → From m p i ts → From n p i us
     → star_count ts ≡ star_count us

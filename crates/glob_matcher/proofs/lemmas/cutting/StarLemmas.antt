@@ -5,11 +5,11 @@ use Rattle.std.proofs.lemmas.Bool.{cases_lt}
 use Rattle.glob_matcher.specs.declared.wildmatch.mode.Mode.{Mode}
 use Rattle.glob_matcher.specs.declared.wildmatch.pruned.Answer.{Answer}
 use Rattle.glob_matcher.specs.declared.wildmatch.pruned.Answer.TheVariants.{Match, NoMatch, AbortAll, AbortToStarStar, RecursionLimitReached}
-use Rattle.glob_matcher.specs.declared.wildmatch.tokens.Shape.{Shape}
+use Rattle.glob_matcher.specs.declared.wildmatch.tokens.TokenKind.{TokenKind}
 use Rattle.glob_matcher.specs.Bytes.{HasByte, NoSlash, fold, is_path, slash, star}
 use Rattle.glob_matcher.specs.Tokens.{Token, Byte, Any, OneOf, Free, Local, Dirs, Nothing, TokenAt, DirsAt, From}
 use Rattle.glob_matcher.specs.Matching.{SplitsFrom}
-use Rattle.glob_matcher.specs.Private.Reader.{IsToken, AfterSlash, shape_of}
+use Rattle.glob_matcher.specs.Private.Reader.{IsToken, AfterSlash, kind_of}
 use Rattle.glob_matcher.specs.Pruning.{HasRoom, BeginsCrossing, IsAttempt, star_count}
 use Rattle.glob_matcher.specs.Private.StarSearch.{literal_of, Skips, IsComponentEnd, IsCrossing, IsWithin, IsDescent}
 use Rattle.glob_matcher.proofs.lemmas.reading.TokenLemmas.{TokenAt-unique, TokenAt-inside, run_lead}
@@ -46,137 +46,137 @@ pub record FirstToken (mode : Mode) (p : List ℕ) (i : ℕ) (wanted : Option �
   pub token : Token
   pub after : ℕ
   pub here : TokenAt mode p i token after
-  pub kind : IsOne token ⊎ (token ≡ Nothing)
+  pub one_or_nothing : IsOne token ⊎ (token ≡ Nothing)
   pub asks : (b : ℕ) → wanted ≡ Some b → token ≡ Byte b
 
 first_token_by : (mode : Mode) (p : List ℕ) (i : ℕ) (wanted : Option ℕ) (t : Token) (j : ℕ) → ¬ HasByte p i star → TokenAt mode p i t j
-    → wanted ≡ literal_of (shape_of t) → FirstToken mode p i wanted
+    → wanted ≡ literal_of (kind_of t) → FirstToken mode p i wanted
 first_token_by mode p i wanted (Byte b) j bare here is =
-    record { token = Byte b; after = j; here = here; kind = inl tt; asks = λ c e. let same : Some b ≡ Some c = sym is ∙ e in cc }
+    record { token = Byte b; after = j; here = here; one_or_nothing = inl tt; asks = λ c so. let same : Some b ≡ Some c = sym is ∙ so in cc }
 first_token_by mode p i wanted Any j bare here is =
-    record { token = Any; after = j; here = here; kind = inl tt; asks = λ c e. let same : None ≡ Some c = sym is ∙ e in cc }
+    record { token = Any; after = j; here = here; one_or_nothing = inl tt; asks = λ c so. let same : None ≡ Some c = sym is ∙ so in cc }
 first_token_by mode p i wanted (OneOf s) j bare here is =
-    record { token = OneOf s; after = j; here = here; kind = inl tt; asks = λ c e. let same : None ≡ Some c = sym is ∙ e in cc }
+    record { token = OneOf s; after = j; here = here; one_or_nothing = inl tt; asks = λ c so. let same : None ≡ Some c = sym is ∙ so in cc }
 first_token_by mode p i wanted Free j bare here is = absurd (bare (run_lead p i j here.run))
 first_token_by mode p i wanted Local j bare here is = absurd (bare (run_lead p i j here.run))
 first_token_by mode p i wanted Dirs j bare here is = absurd (bare (run_lead p i here.at here.run))
 first_token_by mode p i wanted Nothing j bare here is =
-    record { token = Nothing; after = j; here = here; kind = inr refl; asks = λ c e. let same : None ≡ Some c = sym is ∙ e in cc }
+    record { token = Nothing; after = j; here = here; one_or_nothing = inr refl; asks = λ c so. let same : None ≡ Some c = sym is ∙ so in cc }
 
-pub first_token : {mode : Mode} {p : List ℕ} {i j : ℕ} {wanted : Option ℕ} {s : Shape} → ¬ HasByte p i star → IsToken mode p i s j
+pub first_token : {mode : Mode} {p : List ℕ} {i j : ℕ} {wanted : Option ℕ} {s : TokenKind} → ¬ HasByte p i star → IsToken mode p i s j
     → wanted ≡ literal_of s → FirstToken mode p i wanted
 first_token {mode} {p} {i} {j} {wanted} bare x is =
-    first_token_by mode p i wanted x.token j bare x.here (is ∙ ap literal_of x.shown)
+    first_token_by mode p i wanted x.token j bare x.here (is ∙ ap literal_of x.same_kind)
 
 module _ {mode : Mode} {p v : List ℕ} {i : ℕ} {wanted : Option ℕ} where
   -- no split begins at a place that a search passes over
-  pub passed_over : {a b : ℕ} (k : ℕ) → FirstToken mode p i wanted
-      → Skips mode v wanted a b → a ≤ k → k < b → ¬ SplitsFrom v k p i mode
-  passed_over k x skips low below s = by wanted (skips.differs k low below) x.asks where
-    by : (w : Option ℕ) → IsSomeAnd w (λ c. fold mode (get_or v k 0) ≢ fold mode c) → ((c : ℕ) → w ≡ Some c → x.token ≡ Byte c) → ⊥
+  pub passed_over : {a b : ℕ} (m : ℕ) → FirstToken mode p i wanted
+      → Skips mode v wanted a b → a ≤ m → m < b → ¬ SplitsFrom v m p i mode
+  passed_over m x skips low below s = by wanted (skips.differs m low below) x.asks where
+    by : (w : Option ℕ) → IsSomeAnd w (λ c. fold mode (get_or v m 0) ≢ fold mode c) → ((c : ℕ) → w ≡ Some c → x.token ≡ Byte c) → ⊥
     by None differs asks = differs
     by (Some c) differs asks =
         let here : TokenAt mode p i (Byte c) x.after = subst (λ (t : Token). TokenAt mode p i t x.after) (asks c refl) x.here in
-        differs (one_out mode p v i x.after k (Byte c) tt here s).1
+        differs (one_out mode p v i x.after m (Byte c) tt here s).1
 
   -- no split begins at the value's end
-  pub not_at_end : (k : ℕ) → FirstToken mode p i wanted → k ≡ length v
-      → ¬ SplitsFrom v k p i mode
-  not_at_end k x all s = by x.kind where
+  pub not_at_end : (m : ℕ) → FirstToken mode p i wanted → m ≡ length v
+      → ¬ SplitsFrom v m p i mode
+  not_at_end m x all s = by x.one_or_nothing where
     by : IsOne x.token ⊎ (x.token ≡ Nothing) → ⊥
     by (inl one) =
-        let out = one_out mode p v i x.after k x.token one x.here s in
-        let inside : k < length v = out.0 in
+        let out = one_out mode p v i x.after m x.token one x.here s in
+        let inside : m < length v = out.0 in
         omega arith
     by (inr same) =
-        nothing_out mode p v i x.after k (subst (λ (t : Token). TokenAt mode p i t x.after) same x.here) (omega arith) s
+        nothing_out mode p v i x.after m (subst (λ (t : Token). TokenAt mode p i t x.after) same x.here) (omega arith) s
 
 -- ---- the searches
 
 -- Where there is room, no split begins from one place up to another.
-pub record Tried (mode : Mode) (p v : List ℕ) (i depth at place until : ℕ) : Type 0 where
-  pub low : at ≤ place
-  pub high : place ≤ until
-  pub none : HasRoom p i mode depth → (k : ℕ) → at ≤ k → k < place → ¬ SplitsFrom v k p i mode
+pub record Tried (mode : Mode) (p v : List ℕ) (i depth k e until : ℕ) : Type 0 where
+  pub low : k ≤ e
+  pub high : e ≤ until
+  pub none : HasRoom p i mode depth → (m : ℕ) → k ≤ m → m < e → ¬ SplitsFrom v m p i mode
 
-module _ {mode : Mode} {p v : List ℕ} {i depth at place until found : ℕ} {wanted : Option ℕ} where
+module _ {mode : Mode} {p v : List ℕ} {i depth k e until found : ℕ} {wanted : Option ℕ} where
   -- the places passed over are tried too
-  tried_to : Tried mode p v i depth at place until
-      → FirstToken mode p i wanted → Skips mode v wanted place found → HasRoom p i mode depth
-      → (k : ℕ) → at ≤ k → k < found → ¬ SplitsFrom v k p i mode
-  tried_to x first skips room k low below = by (cases_lt k place) where
-    by : (k < place) ⊎ (place ≤ k) → ¬ SplitsFrom v k p i mode
-    by (inl before) = x.none room k low before
-    by (inr after) = passed_over k first skips after below
+  tried_to : Tried mode p v i depth k e until
+      → FirstToken mode p i wanted → Skips mode v wanted e found → HasRoom p i mode depth
+      → (m : ℕ) → k ≤ m → m < found → ¬ SplitsFrom v m p i mode
+  tried_to x first skips room m low below = by (cases_lt m e) where
+    by : (m < e) ⊎ (e ≤ m) → ¬ SplitsFrom v m p i mode
+    by (inl before) = x.none room m low before
+    by (inr after) = passed_over m first skips after below
 
-  pub tried_next : {answer : Answer} → Tried mode p v i depth at place until → FirstToken mode p i wanted → Skips mode v wanted place found → found < until
-      → IsAttempt answer p i v found mode depth → answer ≢ Match → Tried mode p v i depth at (found + 1) until
+  pub tried_next : {answer : Answer} → Tried mode p v i depth k e until → FirstToken mode p i wanted → Skips mode v wanted e found → found < until
+      → IsAttempt answer p i v found mode depth → answer ≢ Match → Tried mode p v i depth k (found + 1) until
   tried_next x first skips inside attempt lost =
-      let low : at ≤ place = x.low in
-      let past : place ≤ found = skips.low in record {
+      let low : k ≤ e = x.low in
+      let past : e ≤ found = skips.low in record {
         low = omega arith;
         high = omega arith;
-        none = λ room k above below. by room k above below (cases_lt k found);
+        none = λ room m above below. by room m above below (cases_lt m found);
       } where
-        by : HasRoom p i mode depth → (k : ℕ) → at ≤ k → k < found + 1 → (k < found) ⊎ (found ≤ k) → ¬ SplitsFrom v k p i mode
-        by room k above below (inl before) = tried_to x first skips room k above before
-        by room k above below (inr after) =
-            let same : found ≡ k = omega arith in
+        by : HasRoom p i mode depth → (m : ℕ) → k ≤ m → m < found + 1 → (m < found) ⊎ (found ≤ m) → ¬ SplitsFrom v m p i mode
+        by room m above below (inl before) = tried_to x first skips room m above before
+        by room m above below (inr after) =
+            let same : found ≡ m = omega arith in
             subst (λ (n : ℕ). ¬ SplitsFrom v n p i mode) same ((attempt.excludes room).here lost)
 
   -- all places from the one found on are lost, and so all from the start on
   all_lost : ¬ HasByte p i star
-      → Tried mode p v i depth at place until → FirstToken mode p i wanted → Skips mode v wanted place found
+      → Tried mode p v i depth k e until → FirstToken mode p i wanted → Skips mode v wanted e found
       → IsAttempt AbortAll p i v found mode depth → HasRoom p i mode depth
-      → (k : ℕ) → at ≤ k → k ≤ length v → ¬ SplitsFrom v k p i mode
-  all_lost bare x first skips attempt room k low high = by (cases_lt k found) where
-    by : (k < found) ⊎ (found ≤ k) → ¬ SplitsFrom v k p i mode
-    by (inl before) = tried_to x first skips room k low before
-    by (inr after) = (attempt.excludes room).everywhere refl bare k after high
+      → (m : ℕ) → k ≤ m → m ≤ length v → ¬ SplitsFrom v m p i mode
+  all_lost bare x first skips attempt room m low high = by (cases_lt m found) where
+    by : (m < found) ⊎ (found ≤ m) → ¬ SplitsFrom v m p i mode
+    by (inl before) = tried_to x first skips room m low before
+    by (inr after) = (attempt.excludes room).everywhere refl bare m after high
 
-module _ {mode : Mode} {p v : List ℕ} {i at place depth : ℕ} {wanted : Option ℕ} where
+module _ {mode : Mode} {p v : List ℕ} {i k e depth : ℕ} {wanted : Option ℕ} where
   -- no further place
-  pub cross_none : Tried mode p v i (depth + 1) at place (length v) → FirstToken mode p i wanted → Skips mode v wanted place (length v)
-      → IsCrossing AbortAll p i v at mode depth
+  pub cross_none : Tried mode p v i (depth + 1) k e (length v) → FirstToken mode p i wanted → Skips mode v wanted e (length v)
+      → IsCrossing AbortAll p i v k mode depth
   cross_none x first skips = record {
-    found = λ e. cc;
-    lost = λ room ne k low high. by room k low high (cases_lt k (length v));
-    limit = λ room e. cc;
-    not_here_alone = λ e. cc;
-    not_component_alone = λ e. cc;
+    found = λ so. cc;
+    lost = λ room ne m low high. by room m low high (cases_lt m (length v));
+    limit = λ room so. cc;
+    not_here_alone = λ so. cc;
+    not_component_alone = λ so. cc;
   } where
-    by : HasRoom p i mode (depth + 1) → (k : ℕ) → at ≤ k → k ≤ length v → (k < length v) ⊎ (length v ≤ k) → ¬ SplitsFrom v k p i mode
-    by room k low high (inl below) =
-        tried_to x first skips room k low below
-    by room k low high (inr all) = not_at_end k first (omega arith)
+    by : HasRoom p i mode (depth + 1) → (m : ℕ) → k ≤ m → m ≤ length v → (m < length v) ⊎ (length v ≤ m) → ¬ SplitsFrom v m p i mode
+    by room m low high (inl below) =
+        tried_to x first skips room m low below
+    by room m low high (inr all) = not_at_end m first (omega arith)
 
   -- an answer that ends the search
   pub cross_answer : {found : ℕ} (answer : Answer) → ¬ HasByte p i star
-      → Tried mode p v i (depth + 1) at place (length v) → FirstToken mode p i wanted → Skips mode v wanted place found → found < length v
+      → Tried mode p v i (depth + 1) k e (length v) → FirstToken mode p i wanted → Skips mode v wanted e found → found < length v
       → IsAttempt answer p i v found mode (depth + 1) → answer ≢ NoMatch → answer ≢ AbortToStarStar
-      → IsCrossing answer p i v at mode depth
+      → IsCrossing answer p i v k mode depth
   cross_answer {found} Match bare x first skips inside attempt n1 n2 =
-      let low : at ≤ place = x.low in
-      let past : place ≤ found = skips.low in record {
-        found = λ e. (found, omega arith, omega arith, attempt.split refl);
+      let low : k ≤ e = x.low in
+      let past : e ≤ found = skips.low in record {
+        found = λ so. (found, omega arith, omega arith, attempt.split refl);
         lost = λ room ne. absurd (ne refl);
-        limit = λ room e. cc;
+        limit = λ room so. cc;
         not_here_alone = n1;
         not_component_alone = n2;
       }
   cross_answer NoMatch bare x first skips inside attempt n1 n2 = absurd (n1 refl)
   cross_answer AbortAll bare x first skips inside attempt n1 n2 = record {
-    found = λ e. cc;
+    found = λ so. cc;
     lost = λ room ne. all_lost bare x first skips attempt room;
-    limit = λ room e. cc;
+    limit = λ room so. cc;
     not_here_alone = n1;
     not_component_alone = n2;
   }
   cross_answer AbortToStarStar bare x first skips inside attempt n1 n2 = absurd (n2 refl)
   cross_answer RecursionLimitReached bare x first skips inside attempt n1 n2 = record {
-    found = λ e. cc;
+    found = λ so. cc;
     lost = λ room ne. absurd ((attempt.excludes room).limit refl);
-    limit = λ room e. (attempt.excludes room).limit refl;
+    limit = λ room so. (attempt.excludes room).limit refl;
     not_here_alone = n1;
     not_component_alone = n2;
   }
@@ -184,168 +184,168 @@ module _ {mode : Mode} {p v : List ℕ} {i at place depth : ℕ} {wanted : Optio
 -- ---- within a component
 
 -- what lies within a component ends before its slash
-within_end : {v : List ℕ} {at end : ℕ} (k : ℕ) → IsComponentEnd v at end → at ≤ k → k ≤ length v → NoSlash v at k → end < k → ⊥
-within_end {v} {at} {end} k x low high none past =
-    let first : at ≤ end = x.low in none.at end first past (x.ends (omega arith))
+within_end : {v : List ℕ} {k end : ℕ} (m : ℕ) → IsComponentEnd v k end → k ≤ m → m ≤ length v → NoSlash v k m → end < m → ⊥
+within_end {v} {k} {end} m x low high none past =
+    let first : k ≤ end = x.low in none.at end first past (x.ends (omega arith))
 
-pub stay_more : {mode : Mode} {p v : List ℕ} {i at end depth : ℕ} → i ≡ length p → at ≤ length v → IsComponentEnd v at end
-    → end ≢ length v → IsWithin AbortToStarStar p i v at mode depth
-stay_more {mode} {p} {v} {i} {at} {end} at_end inside x more = record {
-  found = λ e. cc;
-  lost = λ room ne k low high none s.
-      let all : length v ≤ k = end_out mode p v i k at_end s in
+pub stay_more : {mode : Mode} {p v : List ℕ} {i k end depth : ℕ} → i ≡ length p → k ≤ length v → IsComponentEnd v k end
+    → end ≢ length v → IsWithin AbortToStarStar p i v k mode depth
+stay_more {mode} {p} {v} {i} {k} {end} at_end inside x more = record {
+  found = λ so. cc;
+  lost = λ room ne m low high none s.
+      let all : length v ≤ m = end_out mode p v i m at_end s in
       let before : end ≤ length v = x.inside in
-      let strict : end < length v → ⊥ = λ past. within_end k x low high none (omega arith) in
+      let strict : end < length v → ⊥ = λ past. within_end m x low high none (omega arith) in
       more (omega arith);
-  everywhere = λ room e. cc;
-  limit = λ room e. cc;
+  everywhere = λ room so. cc;
+  limit = λ room so. cc;
 }
 
-module _ {mode : Mode} {p v : List ℕ} {i at place end until depth : ℕ} {wanted : Option ℕ} where
-  pub stay_none : IsComponentEnd v at end
+module _ {mode : Mode} {p v : List ℕ} {i k e end until depth : ℕ} {wanted : Option ℕ} where
+  pub stay_none : IsComponentEnd v k end
       → until ≡ min (length v) (end + 1)
-      → Tried mode p v i (depth + 1) at place until → FirstToken mode p i wanted → Skips mode v wanted place until
-      → IsWithin AbortToStarStar p i v at mode depth
+      → Tried mode p v i (depth + 1) k e until → FirstToken mode p i wanted → Skips mode v wanted e until
+      → IsWithin AbortToStarStar p i v k mode depth
   stay_none x reach tried first skips = record {
-    found = λ e. cc;
-    lost = λ room ne k low high none. by room k low high none (cases_lt k until);
-    everywhere = λ room e. cc;
-    limit = λ room e. cc;
+    found = λ so. cc;
+    lost = λ room ne m low high none. by room m low high none (cases_lt m until);
+    everywhere = λ room so. cc;
+    limit = λ room so. cc;
   } where
-    last : (k : ℕ) → at ≤ k → k ≤ length v → NoSlash v at k → until ≤ k → k ≡ length v
-    last k low high none past =
-        let before : end < k → ⊥ = within_end k x low high none in
+    last : (m : ℕ) → k ≤ m → m ≤ length v → NoSlash v k m → until ≤ m → m ≡ length v
+    last m low high none past =
+        let before : end < m → ⊥ = within_end m x low high none in
         let least : until ≡ min (length v) (end + 1) = reach in
         omega arith
 
-    by : HasRoom p i mode (depth + 1) → (k : ℕ) → at ≤ k → k ≤ length v → NoSlash v at k → (k < until) ⊎ (until ≤ k)
-        → ¬ SplitsFrom v k p i mode
-    by room k low high none (inl below) =
-        tried_to tried first skips room k low below
-    by room k low high none (inr past) = not_at_end k first (last k low high none past)
+    by : HasRoom p i mode (depth + 1) → (m : ℕ) → k ≤ m → m ≤ length v → NoSlash v k m → (m < until) ⊎ (until ≤ m)
+        → ¬ SplitsFrom v m p i mode
+    by room m low high none (inl below) =
+        tried_to tried first skips room m low below
+    by room m low high none (inr past) = not_at_end m first (last m low high none past)
 
-  pub stay_answer : {found : ℕ} (answer : Answer) → ¬ HasByte p i star → IsComponentEnd v at end → until ≡ min (length v) (end + 1)
-      → Tried mode p v i (depth + 1) at place until → FirstToken mode p i wanted → Skips mode v wanted place found → found < until
-      → IsAttempt answer p i v found mode (depth + 1) → answer ≢ NoMatch → IsWithin answer p i v at mode depth
+  pub stay_answer : {found : ℕ} (answer : Answer) → ¬ HasByte p i star → IsComponentEnd v k end → until ≡ min (length v) (end + 1)
+      → Tried mode p v i (depth + 1) k e until → FirstToken mode p i wanted → Skips mode v wanted e found → found < until
+      → IsAttempt answer p i v found mode (depth + 1) → answer ≢ NoMatch → IsWithin answer p i v k mode depth
   stay_answer {found} Match bare x reach tried first skips inside attempt n1 =
-      let low : at ≤ place = tried.low in
-      let past : place ≤ found = skips.low in
+      let low : k ≤ e = tried.low in
+      let past : e ≤ found = skips.low in
       let least : until ≡ min (length v) (end + 1) = reach in record {
-        found = λ e. (found, omega arith, omega arith, record { at = λ k above below. x.none.at k above (omega arith) }, attempt.split refl);
+        found = λ so. (found, omega arith, omega arith, record { at = λ m above below. x.none.at m above (omega arith) }, attempt.split refl);
         lost = λ room ne. absurd (ne refl);
-        everywhere = λ room e. cc;
-        limit = λ room e. cc;
+        everywhere = λ room so. cc;
+        limit = λ room so. cc;
       }
   stay_answer NoMatch bare x reach tried first skips inside attempt n1 = absurd (n1 refl)
   stay_answer AbortAll bare x reach tried first skips inside attempt n1 = record {
-    found = λ e. cc;
-    lost = λ room ne k low high none.
-        all_lost bare tried first skips attempt room k low high;
-    everywhere = λ room e. all_lost bare tried first skips attempt room;
-    limit = λ room e. cc;
+    found = λ so. cc;
+    lost = λ room ne m low high none.
+        all_lost bare tried first skips attempt room m low high;
+    everywhere = λ room so. all_lost bare tried first skips attempt room;
+    limit = λ room so. cc;
   }
   stay_answer {found} AbortToStarStar bare x reach tried first skips inside attempt n1 = record {
-    found = λ e. cc;
-    lost = λ room ne k low high none. by room k low high none (cases_lt k found);
-    everywhere = λ room e. cc;
-    limit = λ room e. cc;
+    found = λ so. cc;
+    lost = λ room ne m low high none. by room m low high none (cases_lt m found);
+    everywhere = λ room so. cc;
+    limit = λ room so. cc;
   } where
-    by : HasRoom p i mode (depth + 1) → (k : ℕ) → at ≤ k → k ≤ length v → NoSlash v at k → (k < found) ⊎ (found ≤ k)
-        → ¬ SplitsFrom v k p i mode
-    by room k low high none (inl before) =
-        tried_to tried first skips room k low before
-    by room k low high none (inr after) =
-        let from : at ≤ place = tried.low in
-        let past : place ≤ found = skips.low in
-        (attempt.excludes room).component refl bare k after high (record { at = λ q above below. none.at q (omega arith) below })
+    by : HasRoom p i mode (depth + 1) → (m : ℕ) → k ≤ m → m ≤ length v → NoSlash v k m → (m < found) ⊎ (found ≤ m)
+        → ¬ SplitsFrom v m p i mode
+    by room m low high none (inl before) =
+        tried_to tried first skips room m low before
+    by room m low high none (inr after) =
+        let from : k ≤ e = tried.low in
+        let past : e ≤ found = skips.low in
+        (attempt.excludes room).component refl bare m after high (record { at = λ q above below. none.at q (omega arith) below })
   stay_answer RecursionLimitReached bare x reach tried first skips inside attempt n1 = record {
-    found = λ e. cc;
+    found = λ so. cc;
     lost = λ room ne. absurd ((attempt.excludes room).limit refl);
-    everywhere = λ room e. cc;
-    limit = λ room e. (attempt.excludes room).limit refl;
+    everywhere = λ room so. cc;
+    limit = λ room so. (attempt.excludes room).limit refl;
   }
 
 -- ---- at the star token
 
 -- What an answer says at a star token: what it says of further places, it says of those that the bytes before it allow.
-pub record AtStar (answer : Answer) (p : List ℕ) (i : ℕ) (v : List ℕ) (at : ℕ) (mode : Mode) (depth : ℕ) : Type 0 where
+pub record AtStar (answer : Answer) (p : List ℕ) (i : ℕ) (v : List ℕ) (k : ℕ) (mode : Mode) (depth : ℕ) : Type 0 where
   pub token : Token
   pub after : ℕ
   pub here : TokenAt mode p i token after
   pub is_star : IsStarToken p i token after
-  pub found : answer ≡ Match → SplitsFrom v at p i mode
+  pub found : answer ≡ Match → SplitsFrom v k p i mode
   pub path : answer ≡ AbortToStarStar → IsTrue (is_path mode)
-  pub lost : HasRoom p i mode depth → answer ≢ Match → ¬ SplitsFrom v at p i mode
-  pub everywhere : HasRoom p i mode depth → answer ≡ AbortAll → 0 < i → (k : ℕ) → at ≤ k → k ≤ length v
-      → (HasByte p (i - 1) slash → get_or v (k - 1) 0 ≡ slash) → ¬ SplitsFrom v k p i mode
-  pub component : HasRoom p i mode depth → answer ≡ AbortToStarStar → (k : ℕ) → at ≤ k → k ≤ length v → NoSlash v at k
-      → ¬ SplitsFrom v k p i mode
+  pub lost : HasRoom p i mode depth → answer ≢ Match → ¬ SplitsFrom v k p i mode
+  pub everywhere : HasRoom p i mode depth → answer ≡ AbortAll → 0 < i → (e : ℕ) → k ≤ e → e ≤ length v
+      → (HasByte p (i - 1) slash → get_or v (e - 1) 0 ≡ slash) → ¬ SplitsFrom v e p i mode
+  pub component : HasRoom p i mode depth → answer ≡ AbortToStarStar → (e : ℕ) → k ≤ e → e ≤ length v → NoSlash v k e
+      → ¬ SplitsFrom v e p i mode
   pub limit : HasRoom p i mode depth → answer ≢ RecursionLimitReached
   pub crossing : BeginsCrossing p i mode → answer ≢ NoMatch
 
 abort_no_match : (answer : Answer) → answer ≡ AbortAll → answer ≢ Match
-abort_no_match answer e f = cc
+abort_no_match answer so f = cc
 
 component_no_match : (answer : Answer) → answer ≡ AbortToStarStar → answer ≢ Match
-component_no_match answer e f = cc
+component_no_match answer so f = cc
 
 local_not_crossing : {mode : Mode} {p : List ℕ} {i j : ℕ} → TokenAt mode p i Local j → BeginsCrossing p i mode → ⊥
 local_not_crossing {mode} {p} {i} {j} here b = by b.token where
   by : TokenAt mode p i Free b.after ⊎ TokenAt mode p i Dirs b.after → ⊥
-  by (inl e) = let same : Local ≡ Free = (TokenAt-unique mode p i Local Free j b.after here e).0 in cc
-  by (inr e) = let same : Local ≡ Dirs = (TokenAt-unique mode p i Local Dirs j b.after here e).0 in cc
+  by (inl so) = let same : Local ≡ Free = (TokenAt-unique mode p i Local Free j b.after here so).0 in cc
+  by (inr so) = let same : Local ≡ Dirs = (TokenAt-unique mode p i Local Dirs j b.after here so).0 in cc
 
-module _ {mode : Mode} {p v : List ℕ} {i j at depth : ℕ} {answer : Answer} where
-  pub free_star : TokenAt mode p i Free j → at ≤ length v
-      → IsCrossing answer p j v at mode depth → AtStar answer p i v at mode depth
+module _ {mode : Mode} {p v : List ℕ} {i j k depth : ℕ} {answer : Answer} where
+  pub free_star : TokenAt mode p i Free j → k ≤ length v
+      → IsCrossing answer p j v k mode depth → AtStar answer p i v k mode depth
   free_star here inside x =
       let is_star : IsStarToken p i Free j = record { stop = j; run = here.run; after = inl refl; counts = λ ts. refl } in record {
         token = Free;
         after = j;
         here = here;
         is_star = is_star;
-        found = λ e. let f = x.found e in free_in mode p v i j at f.0 here f.1 f.2 f.3;
-        path = λ e. absurd (x.not_component_alone e);
+        found = λ so. let there = x.found so in free_in mode p v i j k there.0 here there.1 there.2 there.3;
+        path = λ so. absurd (x.not_component_alone so);
         lost = λ room ne s.
-            let out = free_out mode p v i j at here inside s in
+            let out = free_out mode p v i j k here inside s in
             x.lost (room_after here is_star room) ne out.0 out.1 out.2 out.3;
-        everywhere = λ room e past k low high behind s.
-            let out = free_out mode p v i j k here high s in
-            let later : k ≤ out.0 = out.1 in
-            x.lost (room_after here is_star room) (abort_no_match answer e) out.0 (omega arith) out.2 out.3;
-        component = λ room e. absurd (x.not_component_alone e);
+        everywhere = λ room so past m low high behind s.
+            let out = free_out mode p v i j m here high s in
+            let later : m ≤ out.0 = out.1 in
+            x.lost (room_after here is_star room) (abort_no_match answer so) out.0 (omega arith) out.2 out.3;
+        component = λ room so. absurd (x.not_component_alone so);
         limit = λ room. x.limit (room_after here is_star room);
         crossing = λ b. x.not_here_alone;
       }
 
-  pub local_star : TokenAt mode p i Local j → at ≤ length v
-      → IsWithin answer p j v at mode depth → AtStar answer p i v at mode depth
+  pub local_star : TokenAt mode p i Local j → k ≤ length v
+      → IsWithin answer p j v k mode depth → AtStar answer p i v k mode depth
   local_star here inside x =
       let is_star : IsStarToken p i Local j = record { stop = j; run = here.run; after = inl refl; counts = λ ts. refl } in record {
         token = Local;
         after = j;
         here = here;
         is_star = is_star;
-        found = λ e. let f = x.found e in local_in mode p v i j at f.0 here f.1 f.2 f.3 f.4;
-        path = λ e. here.path;
+        found = λ so. let there = x.found so in local_in mode p v i j k there.0 here there.1 there.2 there.3 there.4;
+        path = λ so. here.path;
         lost = λ room ne s.
-            let out = local_out mode p v i j at here inside s in
+            let out = local_out mode p v i j k here inside s in
             x.lost (room_after here is_star room) ne out.0 out.1 out.2 out.3 out.4;
-        everywhere = λ room e past k low high behind s.
-            let out = local_out mode p v i j k here high s in
-            let later : k ≤ out.0 = out.1 in
-            x.everywhere (room_after here is_star room) e out.0 (omega arith) out.2 out.4;
-        component = λ room e k low high none s.
-            let out = local_out mode p v i j k here high s in
-            let later : k ≤ out.0 = out.1 in
-            let all : NoSlash v at out.0 = no_slash_join v at k out.0 none out.3 in
-            x.lost (room_after here is_star room) (component_no_match answer e) out.0 (omega arith) out.2 all out.4;
+        everywhere = λ room so past m low high behind s.
+            let out = local_out mode p v i j m here high s in
+            let later : m ≤ out.0 = out.1 in
+            x.everywhere (room_after here is_star room) so out.0 (omega arith) out.2 out.4;
+        component = λ room so m low high none s.
+            let out = local_out mode p v i j m here high s in
+            let later : m ≤ out.0 = out.1 in
+            let all : NoSlash v k out.0 = no_slash_join v k m out.0 none out.3 in
+            x.lost (room_after here is_star room) (component_no_match answer so) out.0 (omega arith) out.2 all out.4;
         limit = λ room. x.limit (room_after here is_star room);
         crossing = λ b. absurd (local_not_crossing here b);
       }
 
-  pub dirs_star : TokenAt mode p i Dirs j → at ≤ length v
-      → IsDescent answer p i j v at mode depth → AtStar answer p i v at mode depth
+  pub dirs_star : TokenAt mode p i Dirs j → k ≤ length v
+      → IsDescent answer p i j v k mode depth → AtStar answer p i v k mode depth
   dirs_star here inside x =
       let is_star : IsStarToken p i Dirs j =
       record { stop = here.at; run = here.run; after = inr (here.slash, here.after); counts = λ ts. refl } in record {
@@ -354,12 +354,12 @@ module _ {mode : Mode} {p v : List ℕ} {i j at depth : ℕ} {answer : Answer} w
         here = here;
         is_star = is_star;
         found = x.found;
-        path = λ e. absurd (x.not_component_alone e);
-        lost = λ room ne. x.lost (room_after here is_star room) ne at (omega arith) inside (λ no. absurd (no refl));
-        everywhere = λ room e past k low high behind.
-            x.lost (room_after here is_star room) (abort_no_match answer e) k low high
+        path = λ so. absurd (x.not_component_alone so);
+        lost = λ room ne. x.lost (room_after here is_star room) ne k (omega arith) inside (λ no. absurd (no refl));
+        everywhere = λ room so past m low high behind.
+            x.lost (room_after here is_star room) (abort_no_match answer so) m low high
             (λ no. behind (after_slash past here.bounded.before));
-        component = λ room e. absurd (x.not_component_alone e);
+        component = λ room so. absurd (x.not_component_alone so);
         limit = λ room. x.limit (room_after here is_star room);
         crossing = λ b. x.not_here_alone;
       } where
@@ -369,25 +369,25 @@ module _ {mode : Mode} {p v : List ℕ} {i j at depth : ℕ} {answer : Answer} w
 
 -- ---- a double star with its slash
 
-module _ {mode : Mode} {p v : List ℕ} {i j at depth : ℕ} where
-  pub descent_here : DirsAt mode p i j → at ≤ length v
-      → SplitsFrom v at p j mode → IsDescent Match p i j v at mode depth
+module _ {mode : Mode} {p v : List ℕ} {i j k depth : ℕ} where
+  pub descent_here : DirsAt mode p i j → k ≤ length v
+      → SplitsFrom v k p j mode → IsDescent Match p i j v k mode depth
   descent_here here inside s = record {
-    found = λ e. dirs_in_empty mode p v i j at here inside s;
+    found = λ so. dirs_in_empty mode p v i j k here inside s;
     lost = λ room ne. absurd (ne refl);
-    limit = λ room e. cc;
-    not_here_alone = λ e. cc;
-    not_component_alone = λ e. cc;
+    limit = λ room so. cc;
+    not_here_alone = λ so. cc;
+    not_component_alone = λ so. cc;
   }
 
   pub descent_later : {s : ℕ} {first answer : Answer} → DirsAt mode p i j → j ≡ s + 1
-      → at ≤ length v → IsAttempt first p j v at mode (depth + 1) → first ≢ Match → IsCrossing answer p s v at mode depth
-      → IsDescent answer p i j v at mode depth
+      → k ≤ length v → IsAttempt first p j v k mode (depth + 1) → first ≢ Match → IsCrossing answer p s v k mode depth
+      → IsDescent answer p i j v k mode depth
   descent_later {s} {first} {answer} here next inside empty none x = record {
-    found = λ e. let f = x.found e in found f.0 f.1 f.2 f.3;
-    lost = λ room ne k low high behind whole.
-        let out = dirs_out mode p v i j k here high whole in
-        later room ne k low high behind out.0 out.1 out.2;
+    found = λ so. let there = x.found so in found there.0 there.1 there.2 there.3;
+    lost = λ room ne m low high behind whole.
+        let out = dirs_out mode p v i j m here high whole in
+        later room ne m low high behind out.0 out.1 out.2;
     limit = λ room. x.limit (room_here room);
     not_here_alone = x.not_here_alone;
     not_component_alone = x.not_component_alone;
@@ -401,17 +401,17 @@ module _ {mode : Mode} {p v : List ℕ} {i j at depth : ℕ} where
     token : TokenAt mode p s (Byte slash) j
     token = subst (λ (n : ℕ). TokenAt mode p s (Byte slash) n) (sym next) (slash_token mode p s at_slash)
 
-    found : (e : ℕ) → at ≤ e → e ≤ length v → SplitsFrom v e p s mode → SplitsFrom v at p i mode
+    found : (e : ℕ) → k ≤ e → e ≤ length v → SplitsFrom v e p s mode → SplitsFrom v k p i mode
     found e low high whole =
         let out = one_out mode p v s j e (Byte slash) tt token whole in
         let below : e < length v = out.0 in
         let back : e + 1 - 1 ≡ e = omega arith in
         let is : get_or v (e + 1 - 1) 0 ≡ slash =
         subst (λ (n : ℕ). get_or v n 0 ≡ slash) (sym back) (fold_slash mode (get_or v e 0) out.1) in
-        dirs_in mode p v i j at (e + 1) here (record { past = omega arith; inside = omega arith; slash = is }) out.2
+        dirs_in mode p v i j k (e + 1) here (record { past = omega arith; inside = omega arith; slash = is }) out.2
 
     -- a slash, and after it what the rest splits
-    slash_then : HasRoom p j mode (depth + 1) → answer ≢ Match → (e : ℕ) → at < e → e ≤ length v → get_or v (e - 1) 0 ≡ slash
+    slash_then : HasRoom p j mode (depth + 1) → answer ≢ Match → (e : ℕ) → k < e → e ≤ length v → get_or v (e - 1) 0 ≡ slash
         → ¬ SplitsFrom v e p j mode
     slash_then room ne e past high is rest =
         let forth : e - 1 + 1 ≡ e = omega arith in
@@ -420,14 +420,14 @@ module _ {mode : Mode} {p v : List ℕ} {i j at depth : ℕ} where
         (one_in mode p v s j (e - 1) (Byte slash) token (omega arith) taken
         (subst (λ (n : ℕ). SplitsFrom v n p j mode) (sym forth) rest))
 
-    later : HasRoom p j mode (depth + 1) → answer ≢ Match → (k : ℕ) → at ≤ k → k ≤ length v
-        → (k ≢ at → get_or v (k - 1) 0 ≡ slash) → (e : ℕ) → (e ≡ k) ⊎ AfterSlash v k e → SplitsFrom v e p j mode → ⊥
-    later room ne k low high behind e (inl same) rest = by (cases_lt at k) where
-      by : (at < k) ⊎ (k ≤ at) → ⊥
+    later : HasRoom p j mode (depth + 1) → answer ≢ Match → (m : ℕ) → k ≤ m → m ≤ length v
+        → (m ≢ k → get_or v (m - 1) 0 ≡ slash) → (e : ℕ) → (e ≡ m) ⊎ AfterSlash v m e → SplitsFrom v e p j mode → ⊥
+    later room ne m low high behind e (inl same) rest = by (cases_lt k m) where
+      by : (k < m) ⊎ (m ≤ k) → ⊥
       by (inl past) =
-          slash_then room ne k past high (behind (λ is. omega arith)) (subst (λ (n : ℕ). SplitsFrom v n p j mode) same rest)
+          slash_then room ne m past high (behind (λ is. omega arith)) (subst (λ (n : ℕ). SplitsFrom v n p j mode) same rest)
       by (inr only) =
-          let is : e ≡ at = omega arith in
+          let is : e ≡ k = omega arith in
           (empty.excludes room).here none (subst (λ (n : ℕ). SplitsFrom v n p j mode) is rest)
-    later room ne k low high behind e (inr after) rest =
-        let past : k < e = after.past in slash_then room ne e (omega arith) after.inside after.slash rest
+    later room ne m low high behind e (inr after) rest =
+        let past : m < e = after.past in slash_then room ne e (omega arith) after.inside after.slash rest

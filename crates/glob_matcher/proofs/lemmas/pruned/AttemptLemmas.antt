@@ -21,182 +21,182 @@ use Rattle.glob_matcher.proofs.lemmas.cutting.Alignments.{Aligned, Moved, short_
 crossing_star : (mode : Mode) (p : List ℕ) (i : ℕ) → BeginsCrossing p i mode → HasByte p i star
 crossing_star mode p i x = by x.token where
   by : TokenAt mode p i Free x.after ⊎ TokenAt mode p i Dirs x.after → HasByte p i star
-  by (inl e) = run_lead p i x.after e.run
-  by (inr e) = run_lead p i e.at e.run
+  by (inl so) = run_lead p i x.after so.run
+  by (inr so) = run_lead p i so.at so.run
 
-module _ {mode : Mode} {p v : List ℕ} {from at place k : ℕ} (x : Aligned mode p v from at place k) where
+module _ {mode : Mode} {p v : List ℕ} {i k j e : ℕ} (x : Aligned mode p v i k j e) where
   -- the start itself leads here
-  moved_here : SplitsFrom v at p from mode → SplitsFrom v k p place mode
+  moved_here : SplitsFrom v k p i mode → SplitsFrom v e p j mode
   moved_here s =
-      let low : at ≤ k = x.value_low in
-      let high : k ≤ length v = x.value_high in
-      let same : at + (k - at) ≡ k = omega arith in
-      let m : Moved mode p v from at place k at (at + (k - at)) = x.forth at (omega arith) (omega arith) s in
-      subst (λ (n : ℕ). SplitsFrom v n p place mode) same m.here
+      let low : k ≤ e = x.value_low in
+      let high : e ≤ length v = x.value_high in
+      let same : k + (e - k) ≡ e = omega arith in
+      let m : Moved mode p v i k j e k (k + (e - k)) = x.forth k (omega arith) (omega arith) s in
+      subst (λ (n : ℕ). SplitsFrom v n p j mode) same m.here
 
   -- where a star begins at the start, the alignment hasn't moved
-  star_at_start : HasByte p from star → from ≡ place
-  star_at_start h = by (cases_lt from place) where
-    by : (from < place) ⊎ (place ≤ from) → from ≡ place
+  star_at_start : HasByte p i star → i ≡ j
+  star_at_start h = by (cases_lt i j) where
+    by : (i < j) ⊎ (j ≤ i) → i ≡ j
     by (inl past) = absurd (x.no_star past h)
-    by (inr same) = let low : from ≤ place = x.low in omega arith
+    by (inr same) = let low : i ≤ j = x.low in omega arith
 
-  crossing_here : BeginsCrossing p from mode → BeginsCrossing p place mode
-  crossing_here b = subst (λ (n : ℕ). BeginsCrossing p n mode) (star_at_start (crossing_star mode p from b)) b
+  crossing_here : BeginsCrossing p i mode → BeginsCrossing p j mode
+  crossing_here b = subst (λ (n : ℕ). BeginsCrossing p n mode) (star_at_start (crossing_star mode p i b)) b
 
-  flat_here : IsFlat p from mode → IsFlat p place mode
+  flat_here : IsFlat p i mode → IsFlat p j mode
   flat_here f =
       let moved = x.list f.tokens f.read in record { tokens = moved.tokens; read = moved.read; single = moved.single f.single }
 
   -- at the pattern's end
-  no_short_end : place ≡ length p → ¬ EndsShort v k p place mode
-  no_short_end at_end e = by e.beginning e.read where
-    by : (ts : List Token) → From mode p place (ts ++ e.next ∷ e.rest) → ⊥
-    by [] read = let inside = TokenAt-inside mode p place e.next read.0 read.1 in omega arith
-    by (t ∷ ts) read = let inside = TokenAt-inside mode p place t read.0 read.1 in omega arith
+  no_short_end : j ≡ length p → ¬ EndsShort v e p j mode
+  no_short_end at_end so = by so.beginning so.read where
+    by : (ts : List Token) → From mode p j (ts ++ so.next ∷ so.rest) → ⊥
+    by [] read = let inside = TokenAt-inside mode p j so.next read.0 read.1 in omega arith
+    by (t ∷ ts) read = let inside = TokenAt-inside mode p j t read.0 read.1 in omega arith
 
-  end_match : {depth : ℕ} → depth ≢ 64 → place ≡ length p → k ≡ length v → IsAttempt Match p from v at mode depth
+  end_match : {depth : ℕ} → depth ≢ 64 → j ≡ length p → e ≡ length v → IsAttempt Match p i v k mode depth
   end_match shallow at_end all = record {
-    split = λ e. x.back (end_in mode p v place k at_end (omega arith));
+    split = λ so. x.back (end_in mode p v j e at_end (omega arith));
     excludes = λ room. record {
       here = λ ne. absurd (ne refl);
-      everywhere = λ e. cc;
-      component = λ e. cc;
-      limit = λ e. cc;
+      everywhere = λ so. cc;
+      component = λ so. cc;
+      limit = λ so. cc;
     };
     aborts = λ room. record {
-      short = λ flat. ((λ e. cc), λ e. absurd (no_short_end at_end (x.short_forth e)));
+      short = λ flat. ((λ so. cc), λ so. absurd (no_short_end at_end (x.short_forth so)));
       long = λ flat. inr (inl refl);
-      crossing = λ b e. cc;
+      crossing = λ b so. cc;
     };
-    path = λ e. cc;
+    path = λ so. cc;
     limit = λ deep. absurd (shallow deep);
   }
 
-  end_more : {depth : ℕ} → depth ≢ 64 → place ≡ length p → k ≢ length v → IsAttempt NoMatch p from v at mode depth
+  end_more : {depth : ℕ} → depth ≢ 64 → j ≡ length p → e ≢ length v → IsAttempt NoMatch p i v k mode depth
   end_more shallow at_end more = record {
-    split = λ e. cc;
+    split = λ so. cc;
     excludes = λ room. record {
       here = λ ne s.
-          let all : length v ≤ k = end_out mode p v place k at_end (moved_here s) in
-          let high : k ≤ length v = x.value_high in
+          let all : length v ≤ e = end_out mode p v j e at_end (moved_here s) in
+          let high : e ≤ length v = x.value_high in
           more (omega arith);
-      everywhere = λ e. cc;
-      component = λ e. cc;
-      limit = λ e. cc;
+      everywhere = λ so. cc;
+      component = λ so. cc;
+      limit = λ so. cc;
     };
     aborts = λ room. record {
-      short = λ flat. ((λ e. cc), λ e. absurd (no_short_end at_end (x.short_forth e)));
+      short = λ flat. ((λ so. cc), λ so. absurd (no_short_end at_end (x.short_forth so)));
       long = λ flat. inr (inr refl);
-      crossing = λ b e.
-          let inside = HasByte.inside (crossing_star mode p place (crossing_here b)) in omega arith;
+      crossing = λ b so.
+          let inside = HasByte.inside (crossing_star mode p j (crossing_here b)) in omega arith;
     };
-    path = λ e. cc;
+    path = λ so. cc;
     limit = λ deep. absurd (shallow deep);
   }
 
-  pub end_here : {depth : ℕ} {answer : Answer} → depth ≢ 64 → place ≡ length p → (k ≡ length v → answer ≡ Match)
-      → (k ≢ length v → answer ≡ NoMatch) → IsAttempt answer p from v at mode depth
-  end_here {depth} shallow at_end ends more = elim (cases_eq k (length v)) [
-    | inl all ↦ subst (λ (a : Answer). IsAttempt a p from v at mode depth) (sym (ends all)) (end_match shallow at_end all)
-    | inr left ↦ subst (λ (a : Answer). IsAttempt a p from v at mode depth) (sym (more left)) (end_more shallow at_end left)
+  pub end_here : {depth : ℕ} {answer : Answer} → depth ≢ 64 → j ≡ length p → (e ≡ length v → answer ≡ Match)
+      → (e ≢ length v → answer ≡ NoMatch) → IsAttempt answer p i v k mode depth
+  end_here {depth} shallow at_end ends more = elim (cases_eq e (length v)) [
+    | inl all ↦ subst (λ (a : Answer). IsAttempt a p i v k mode depth) (sym (ends all)) (end_match shallow at_end all)
+    | inr left ↦ subst (λ (a : Answer). IsAttempt a p i v k mode depth) (sym (more left)) (end_more shallow at_end left)
   ]
 
   -- at a token that nothing of the value from here on splits
-  lost : ((n : ℕ) → k ≤ n → n ≤ length v → ¬ SplitsFrom v n p place mode) → Excludes AbortAll p from v at mode
+  lost : ((n : ℕ) → e ≤ n → n ≤ length v → ¬ SplitsFrom v n p j mode) → Excludes AbortAll p i v k mode
   lost never = record {
-    here = λ ne s. never k (omega arith) x.value_high (moved_here s);
-    everywhere = λ e bare m low high s.
+    here = λ ne s. never e (omega arith) x.value_high (moved_here s);
+    everywhere = λ so bare m low high s.
         let moved = x.forth m low high s in
-        let value_low : at ≤ k = x.value_low in
-        never (m + (k - at)) (omega arith) moved.inside moved.here;
-    component = λ e. cc;
-    limit = λ e. cc;
+        let value_low : k ≤ e = x.value_low in
+        never (m + (e - k)) (omega arith) moved.inside moved.here;
+    component = λ so. cc;
+    limit = λ so. cc;
   }
 
-  one_lost : (t : Token) (next : ℕ) → IsOne t → TokenAt mode p place t next → k ≡ length v
-      → (n : ℕ) → k ≤ n → n ≤ length v → ¬ SplitsFrom v n p place mode
+  one_lost : (t : Token) (next : ℕ) → IsOne t → TokenAt mode p j t next → e ≡ length v
+      → (n : ℕ) → e ≤ n → n ≤ length v → ¬ SplitsFrom v n p j mode
   one_lost t next one here all n low high s =
-      let out = one_out mode p v place next n t one here s in
+      let out = one_out mode p v j next n t one here s in
       let inside : n < length v = out.0 in
       omega arith
 
   -- the value ends before the list does
-  short_now : (t : Token) (next : ℕ) → TokenAt mode p place t next → k ≡ length v → IsFlat p place mode → EndsShort v k p place mode
+  short_now : (t : Token) (next : ℕ) → TokenAt mode p j t next → e ≡ length v → IsFlat p j mode → EndsShort v e p j mode
   short_now t next here all f = by f.tokens f.read where
-    by : (ts : List Token) → From mode p place ts → EndsShort v k p place mode
-    by [] read = let inside = TokenAt-inside mode p place t next here in absurd (omega arith)
+    by : (ts : List Token) → From mode p j ts → EndsShort v e p j mode
+    by [] read = let inside = TokenAt-inside mode p j t next here in absurd (omega arith)
     by (u ∷ us) read = record { beginning = []; next = u; rest = us; read = read; cut = drop_of_length-le v (omega arith) }
 
-  pub value_ends : {depth : ℕ} → depth ≢ 64 → (t : Token) (next : ℕ) → IsOne t → TokenAt mode p place t next → k ≡ length v
-      → IsAttempt AbortAll p from v at mode depth
+  pub value_ends : {depth : ℕ} → depth ≢ 64 → (t : Token) (next : ℕ) → IsOne t → TokenAt mode p j t next → e ≡ length v
+      → IsAttempt AbortAll p i v k mode depth
   value_ends shallow t next one here all = record {
-    split = λ e. cc;
+    split = λ so. cc;
     excludes = λ room. lost (one_lost t next one here all);
     aborts = λ room. record {
-      short = λ flat. ((λ e. x.short_back (short_now t next here all (flat_here flat))), λ e. refl);
+      short = λ flat. ((λ so. x.short_back (short_now t next here all (flat_here flat))), λ so. refl);
       long = λ flat. inl refl;
-      crossing = λ b e. cc;
+      crossing = λ b so. cc;
     };
-    path = λ e. cc;
+    path = λ so. cc;
     limit = λ deep. absurd (shallow deep);
   }
 
   -- the first token of a list whose tokens take one byte each
-  flat_one : (t : Token) (next : ℕ) → TokenAt mode p place t next → IsFlat p place mode → IsOne t
+  flat_one : (t : Token) (next : ℕ) → TokenAt mode p j t next → IsFlat p j mode → IsOne t
   flat_one t next here f = by f.tokens f.read f.single where
-    by : (ts : List Token) → From mode p place ts → TakeOneByte ts → IsOne t
-    by [] read single = let inside = TokenAt-inside mode p place t next here in absurd (omega arith)
+    by : (ts : List Token) → From mode p j ts → TakeOneByte ts → IsOne t
+    by [] read single = let inside = TokenAt-inside mode p j t next here in absurd (omega arith)
     by (u ∷ us) read single =
-        let same = TokenAt-unique mode p place u t read.0 next read.1 here in
+        let same = TokenAt-unique mode p j u t read.0 next read.1 here in
         subst IsOne same.0 (single_one u us single)
 
-  pub nothing_here : {depth : ℕ} → depth ≢ 64 → (next : ℕ) → TokenAt mode p place Nothing next → IsAttempt AbortAll p from v at mode depth
+  pub nothing_here : {depth : ℕ} → depth ≢ 64 → (next : ℕ) → TokenAt mode p j Nothing next → IsAttempt AbortAll p i v k mode depth
   nothing_here shallow next here = record {
-    split = λ e. cc;
-    excludes = λ room. lost (λ n low high s. nothing_out mode p v place next n here high s);
+    split = λ so. cc;
+    excludes = λ room. lost (λ n low high s. nothing_out mode p v j next n here high s);
     aborts = λ room. record {
       short = λ flat. absurd (flat_one Nothing next here (flat_here flat));
       long = λ flat. inl refl;
-      crossing = λ b e. cc;
+      crossing = λ b so. cc;
     };
-    path = λ e. cc;
+    path = λ so. cc;
     limit = λ deep. absurd (shallow deep);
   }
 
-  pub misses : {depth : ℕ} → depth ≢ 64 → (t : Token) (next : ℕ) → IsOne t → TokenAt mode p place t next → k < length v
-      → ¬ Fits mode t (get_or v k 0) → IsAttempt NoMatch p from v at mode depth
+  pub misses : {depth : ℕ} → depth ≢ 64 → (t : Token) (next : ℕ) → IsOne t → TokenAt mode p j t next → e < length v
+      → ¬ Fits mode t (get_or v e 0) → IsAttempt NoMatch p i v k mode depth
   misses shallow t next one here inside unfit = record {
-    split = λ e. cc;
+    split = λ so. cc;
     excludes = λ room. record {
-      here = λ ne s. unfit (one_out mode p v place next k t one here (moved_here s)).1;
-      everywhere = λ e. cc;
-      component = λ e. cc;
-      limit = λ e. cc;
+      here = λ ne s. unfit (one_out mode p v j next e t one here (moved_here s)).1;
+      everywhere = λ so. cc;
+      component = λ so. cc;
+      limit = λ so. cc;
     };
     aborts = λ room. record {
-      short = λ flat. ((λ e. cc), λ e. absurd (unfit (short_out t next one here inside (x.short_forth e)).0));
+      short = λ flat. ((λ so. cc), λ so. absurd (unfit (short_out t next one here inside (x.short_forth so)).0));
       long = λ flat. inr (inr refl);
-      crossing = λ b e. absurd (one_no_star mode p place t next one here (crossing_star mode p place (crossing_here b)));
+      crossing = λ b so. absurd (one_no_star mode p j t next one here (crossing_star mode p j (crossing_here b)));
     };
-    path = λ e. cc;
+    path = λ so. cc;
     limit = λ deep. absurd (shallow deep);
   }
 
   -- at a star token
-  pub star_here : {depth : ℕ} {answer : Answer} → depth ≢ 64 → AtStar answer p place v k mode depth → IsAttempt answer p from v at mode depth
+  pub star_here : {depth : ℕ} {answer : Answer} → depth ≢ 64 → AtStar answer p j v e mode depth → IsAttempt answer p i v k mode depth
   star_here {depth} shallow s = record {
-    split = λ e. x.back (s.found e);
+    split = λ so. x.back (s.found so);
     excludes = λ room. record {
       here = λ ne whole. s.lost (room_here room) ne (moved_here whole);
-      everywhere = λ e bare m low high whole.
+      everywhere = λ so bare m low high whole.
           let moved = x.forth m low high whole in
-          let value_low : at ≤ k = x.value_low in
-          s.everywhere (room_here room) e (omega (arith, past bare)) (m + (k - at)) (omega arith) moved.inside (moved.behind (past bare)) moved.here;
-      component = λ e bare m low high none whole.
+          let value_low : k ≤ e = x.value_low in
+          s.everywhere (room_here room) so (omega (arith, past bare)) (m + (e - k)) (omega arith) moved.inside (moved.behind (past bare)) moved.here;
+      component = λ so bare m low high none whole.
           let moved = x.forth m low high whole in
-          let value_low : at ≤ k = x.value_low in
-          s.component (room_here room) e (m + (k - at)) (omega arith) moved.inside (moved.level (s.path e) none) moved.here;
+          let value_low : k ≤ e = x.value_low in
+          s.component (room_here room) so (m + (e - k)) (omega arith) moved.inside (moved.level (s.path so) none) moved.here;
       limit = s.limit (room_here room);
     };
     aborts = λ room. record {
@@ -207,41 +207,41 @@ module _ {mode : Mode} {p v : List ℕ} {from at place k : ℕ} (x : Aligned mod
     path = s.path;
     limit = λ deep. absurd (shallow deep);
   } where
-    room_here : HasRoom p from mode depth → HasRoom p place mode depth
+    room_here : HasRoom p i mode depth → HasRoom p j mode depth
     room_here room =
         let moved = x.list room.tokens room.read in
         let few : depth + star_count room.tokens ≤ 63 = room.few in
         let counted : star_count moved.tokens ≡ star_count room.tokens = moved.counted in
         record { tokens = moved.tokens; read = moved.read; few = omega arith }
 
-    at_star : HasByte p place star
-    at_star = run_lead p place s.is_star.stop s.is_star.run
+    at_star : HasByte p j star
+    at_star = run_lead p j s.is_star.stop s.is_star.run
 
-    past : ¬ HasByte p from star → from < place
-    past bare = by (cases_lt from place) where
-      by : (from < place) ⊎ (place ≤ from) → from < place
+    past : ¬ HasByte p i star → i < j
+    past bare = by (cases_lt i j) where
+      by : (i < j) ⊎ (j ≤ i) → i < j
       by (inl more) = more
       by (inr less) =
-          let low : from ≤ place = x.low in
-          let same : place ≡ from = omega arith in
+          let low : i ≤ j = x.low in
+          let same : j ≡ i = omega arith in
           absurd (bare (subst (λ (n : ℕ). HasByte p n star) same at_star))
 
-    not_flat : IsFlat p from mode → ⊥
+    not_flat : IsFlat p i mode → ⊥
     not_flat flat =
-        one_no_star mode p place s.token s.after (flat_one s.token s.after s.here (flat_here flat)) s.here at_star
+        one_no_star mode p j s.token s.after (flat_one s.token s.after s.here (flat_here flat)) s.here at_star
 
 -- ---- whole patterns
 
 pub whole_match : {mode : Mode} {p v : List ℕ} → Splits v p mode → Holds true (Splits v p mode) p
 whole_match s = record {
-  yes = λ e. s;
+  yes = λ so. s;
   excludes = λ n stars few all. refl;
 }
 
 pub whole_no_match : {mode : Mode} {p v : List ℕ} {answer : Answer} → IsAttempt answer p 0 v 0 mode 0 → answer ≢ Match
     → Holds false (Splits v p mode) p
 whole_no_match {mode} {p} x no_match = record {
-  yes = λ e. cc;
+  yes = λ so. cc;
   excludes = λ n stars few all.
       let counted : star_count all.tokens ≡ star_count stars.tokens =
       star_count_alike mode stars.mode p 0 all.tokens stars.tokens all.read stars.read in

@@ -72,21 +72,21 @@ From-short mode p i (t ∷ ts) e =
     omega arith
 
 -- a run of stars has an end
-run_from : (p : List ℕ) (i n k : ℕ) → length p ≤ k + n → i < k → k ≤ length p → ((m : ℕ) → i ≤ m → m < k → HasByte p m star)
+run_from : (p : List ℕ) (i n place : ℕ) → length p ≤ place + n → i < place → place ≤ length p → ((m : ℕ) → i ≤ m → m < place → HasByte p m star)
     → (j : ℕ) × IsRun p i j × (j ≤ length p)
-run_from p i zero k fuel past inside stars =
-    (k, record { some = past; stars = stars; whole = λ h. let wrong : k < length p = h.inside in omega arith }, inside)
-run_from p i (suc n) k fuel past inside stars = elim (cases_lt k (length p)) [
-  | inr at_end ↦ (k, record { some = past; stars = stars; whole = λ h. let wrong : k < length p = h.inside in omega arith }, inside)
-  | inl more ↦ elim (eqb_tells (get_or p k 0) star) [
-    | inr other ↦ (k, record { some = past; stars = stars; whole = λ h. other.1 h.is }, inside)
-    | inl same ↦ run_from p i n (k + 1) (omega arith) (omega arith) (omega arith) (longer same.1 more)
+run_from p i zero place fuel past inside stars =
+    (place, record { some = past; stars = stars; whole = λ h. let wrong : place < length p = h.inside in omega arith }, inside)
+run_from p i (suc n) place fuel past inside stars = elim (cases_lt place (length p)) [
+  | inr at_end ↦ (place, record { some = past; stars = stars; whole = λ h. let wrong : place < length p = h.inside in omega arith }, inside)
+  | inl more ↦ elim (eqb_tells (get_or p place 0) star) [
+    | inr other ↦ (place, record { some = past; stars = stars; whole = λ h. other.1 h.is }, inside)
+    | inl same ↦ run_from p i n (place + 1) (omega arith) (omega arith) (omega arith) (longer same.1 more)
   ]
 ] where
-  longer : get_or p k 0 ≡ star → k < length p → (m : ℕ) → i ≤ m → m < k + 1 → HasByte p m star
-  longer is more m from below = elim (cases_lt m k) [
+  longer : get_or p place 0 ≡ star → place < length p → (m : ℕ) → i ≤ m → m < place + 1 → HasByte p m star
+  longer is more m from below = elim (cases_lt m place) [
     | inl before ↦ stars m from before
-    | inr last ↦ let at : k ≡ m = omega arith in subst (λ (x : ℕ). HasByte p x star) at (record { inside = more; is = is })
+    | inr last ↦ let at : place ≡ m = omega arith in subst (λ (x : ℕ). HasByte p x star) at (record { inside = more; is = is })
   ]
 
 run_exists : (p : List ℕ) (i : ℕ) → HasByte p i star → (j : ℕ) × IsRun p i j × (j ≤ length p)
@@ -97,7 +97,7 @@ run_exists p i h =
 
 -- no place inside is without a token
 star_token : (mode : Mode) (p : List ℕ) (i j : ℕ) → IsRun p i j → j ≤ length p
-    → ((t : Token) (k : ℕ) → TokenAt mode p i t k → k ≤ length p → ⊥) → ⊥
+    → ((t : Token) (m : ℕ) → TokenAt mode p i t m → m ≤ length p → ⊥) → ⊥
 star_token mode p i j run inside none = by_mode (is_path mode) refl where
   bounded : is_path mode ≡ true → IsBounded p i j → ⊥
   bounded path both =

@@ -14,46 +14,46 @@ use Rattle.glob_matcher.proofs.lemmas.reading.Walks.{IsUnderway, underway_first,
 
 pub searched_on : (known : Option ℕ) (i j : ℕ) → i ≤ j → searched known i ≤ searched known j
 searched_on None i j low = low
-searched_on (Some k) i j low = omega arith
+searched_on (Some m) i j low = omega arith
 
 -- it was looked for from this place on
 pub searched_low : (known : Option ℕ) (i : ℕ) → i ≤ searched known i
 searched_low None i = omega arith
-searched_low (Some k) i = omega arith
+searched_low (Some m) i = omega arith
 
 -- what is known lies inside the text
 pub searched_inside : (text : List ℕ) (i : ℕ) (known : Option ℕ) → IsKnown text i known → i ≤ length text
     → searched known i ≤ length text
 searched_inside text i None is low = low
-searched_inside text i (Some k) is low =
-    elim (cases_lt k i) [ inl passed ↦ omega arith | inr ahead ↦ omega (arith, (is ahead).here.inside) ]
+searched_inside text i (Some m) is low =
+    elim (cases_lt m i) [ inl passed ↦ omega arith | inr ahead ↦ omega (arith, (is ahead).here.inside) ]
 
 -- where a closing bracket stands, none further ahead is known
 pub searched_here : (text : List ℕ) (i : ℕ) (known : Option ℕ) → IsKnown text i known → HasByte text i close_bracket
     → searched known i ≤ i
 searched_here text i None is here = omega arith
-searched_here text i (Some k) is here =
-    elim (cases_lt k i) [ inl passed ↦ omega arith | inr ahead ↦ omega (arith, (is ahead).before i (omega arith) here) ]
+searched_here text i (Some m) is here =
+    elim (cases_lt m i) [ inl passed ↦ omega arith | inr ahead ↦ omega (arith, (is ahead).before i (omega arith) here) ]
 
 -- it is no further than a closing bracket that is known and ahead
-pub searched_known : (known : Option ℕ) (k i : ℕ) → known ≡ Some k → i ≤ k → searched known i ≤ k
-searched_known known k i is ahead = subst (λ (x : Option ℕ). searched x i ≤ k) (sym is) (omega arith)
+pub searched_known : (known : Option ℕ) (m i : ℕ) → known ≡ Some m → i ≤ m → searched known i ≤ m
+searched_known known m i is ahead = subst (λ (x : Option ℕ). searched x i ≤ m) (sym is) (omega arith)
 
 -- where none is known, it begins here
-pub searched_unknown : (known : Option ℕ) (i : ℕ) → ((k : ℕ) → known ≡ Some k → ⊥) → searched known i ≤ i
+pub searched_unknown : (known : Option ℕ) (i : ℕ) → ((m : ℕ) → known ≡ Some m → ⊥) → searched known i ≤ i
 searched_unknown None i none = omega arith
-searched_unknown (Some k) i none = absurd (none k refl)
+searched_unknown (Some m) i none = absurd (none m refl)
 
 -- a known one that is too near is passed
-pub searched_passed : (known : Option ℕ) (k i : ℕ) → known ≡ Some k → k < i + 2 → searched known i ≤ i + 1
-searched_passed known k i is near = subst (λ (x : Option ℕ). searched x i ≤ i + 1) (sym is) (omega arith)
+pub searched_passed : (known : Option ℕ) (m i : ℕ) → known ≡ Some m → m < i + 2 → searched known i ≤ i + 1
+searched_passed known m i is near = subst (λ (x : Option ℕ). searched x i ≤ i + 1) (sym is) (omega arith)
 
 -- the looks of a new search, behind the two bytes of a `[:`
 pub searched_anew : (result known : Option ℕ) (before after : Counts) (i : ℕ) → searched known i ≤ i + 1
-    → IfSome result (λ k. LookedOver 1 before after (i + 2) (k + 1))
-    → IfSome result (λ k. after.looks + searched known i ≤ before.looks + k)
+    → IfSome result (λ m. LookedOver 1 before after (i + 2) (m + 1))
+    → IfSome result (λ m. after.looks + searched known i ≤ before.looks + m)
 searched_anew None known before after i near over = tt
-searched_anew (Some k) known before after i near over = omega (arith, near, over.looks)
+searched_anew (Some m) known before after i near over = omega (arith, near, over.looks)
 
 -- what is known of the closing bracket is as before
 pub paid_same : {before after : Counts} {i : ℕ} {s : Spelled} (spare : ℕ) → after.steps ≡ before.steps → i ≤ s.next

@@ -1,35 +1,35 @@
 -- What the reader of tokens answers, token by token.
 use Rattle.std.proofs.Common.{◌≡◌, ◌≢◌, inl, inr, ℕ, ◌+◌, ◌<◌, ◌≤◌, false, IsTrue, List, length, refl, arith}
 use Rattle.glob_matcher.specs.declared.wildmatch.mode.Mode.{Mode}
-use Rattle.glob_matcher.specs.declared.wildmatch.tokens.Shape.TheVariants as shape
+use Rattle.glob_matcher.specs.declared.wildmatch.tokens.TokenKind.TheVariants as kind
 use Rattle.glob_matcher.specs.Bytes.{HasByte, IsEscaped, is_path, star, question_mark, open_bracket, backslash, slash}
 use Rattle.glob_matcher.specs.Sets.{Set, SetAt}
 use Rattle.glob_matcher.specs.Tokens.{Byte, Any, OneOf, Free, Local, Dirs, Nothing, IsRun, IsBounded, IsBroken}
 use Rattle.glob_matcher.specs.Private.Reader.{IsToken}
 use Rattle.glob_matcher.proofs.lemmas.reading.TokenLemmas.{stands_for_itself}
 
-pub escaped_token : (mode : Mode) (p : List ℕ) (i b : ℕ) → IsEscaped p i b → IsToken mode p i (shape.Byte b) (i + 2)
+pub escaped_token : (mode : Mode) (p : List ℕ) (i b : ℕ) → IsEscaped p i b → IsToken mode p i (kind.Byte b) (i + 2)
 escaped_token mode p i b e =
     let inside : i + 1 < length p = e.byte.inside in
-    record { token = Byte b; here = inl (e, refl); shown = refl; past = omega arith; inside = omega arith }
+    record { token = Byte b; here = inl (e, refl); same_kind = refl; past = omega arith; inside = omega arith }
 
 pub bare_token : (mode : Mode) (p : List ℕ) (i b : ℕ) → HasByte p i b → b ≢ star → b ≢ question_mark → b ≢ open_bracket
-    → b ≢ backslash → IsToken mode p i (shape.Byte b) (i + 1)
+    → b ≢ backslash → IsToken mode p i (kind.Byte b) (i + 1)
 bare_token mode p i b e s q o t =
     let inside : i < length p = e.inside in
-    record { token = Byte b; here = inr (e, stands_for_itself b s q o t, refl); shown = refl; past = omega arith; inside = omega arith }
+    record { token = Byte b; here = inr (e, stands_for_itself b s q o t, refl); same_kind = refl; past = omega arith; inside = omega arith }
 
-pub any_token : (mode : Mode) (p : List ℕ) (i : ℕ) → HasByte p i question_mark → IsToken mode p i shape.Any (i + 1)
+pub any_token : (mode : Mode) (p : List ℕ) (i : ℕ) → HasByte p i question_mark → IsToken mode p i kind.Any (i + 1)
 any_token mode p i e =
     let inside : i < length p = e.inside in
-    record { token = Any; here = (e, refl); shown = refl; past = omega arith; inside = omega arith }
+    record { token = Any; here = (e, refl); same_kind = refl; past = omega arith; inside = omega arith }
 
 pub set_token : (mode : Mode) (p : List ℕ) (i : ℕ) (s : Set) (j : ℕ) → SetAt p i s j → i < j → j ≤ length p
-    → IsToken mode p i shape.Set j
-set_token mode p i s j e past inside = record { token = OneOf s; here = e; shown = refl; past = past; inside = inside }
+    → IsToken mode p i kind.Set j
+set_token mode p i s j e past inside = record { token = OneOf s; here = e; same_kind = refl; past = past; inside = inside }
 
-pub broken_token : (mode : Mode) (p : List ℕ) (i : ℕ) → i < length p → IsBroken p i → IsToken mode p i shape.Nothing (length p)
-broken_token mode p i inside e = record { token = Nothing; here = (e, refl); shown = refl; past = inside; inside = omega arith }
+pub broken_token : (mode : Mode) (p : List ℕ) (i : ℕ) → i < length p → IsBroken p i → IsToken mode p i kind.Nothing (length p)
+broken_token mode p i inside e = record { token = Nothing; here = (e, refl); same_kind = refl; past = inside; inside = omega arith }
 
 -- a backslash that escapes nothing is the pattern's last byte
 pub lone_backslash : (p : List ℕ) (i : ℕ) → HasByte p i backslash → ((b : ℕ) → ¬ IsEscaped p i b) → IsBroken p i
@@ -39,32 +39,32 @@ lone_backslash p i here none =
     inl (here, omega arith)
 
 pub plain_run : (mode : Mode) (p : List ℕ) (i j : ℕ) → is_path mode ≡ false → IsRun p i j → j ≤ length p
-    → IsToken mode p i shape.Free j
+    → IsToken mode p i kind.Free j
 plain_run mode p i j plain run inside =
     let some : i < j = run.some in
-    record { token = Free; here = record { run = run; bounded = λ path. cc }; shown = refl; past = some; inside = inside }
+    record { token = Free; here = record { run = run; bounded = λ path. cc }; same_kind = refl; past = some; inside = inside }
 
 pub free_run : (mode : Mode) (p : List ℕ) (i j : ℕ) → IsRun p i j → IsBounded p i j → ¬ HasByte p j slash → j ≤ length p
-    → IsToken mode p i shape.Free j
+    → IsToken mode p i kind.Free j
 free_run mode p i j run bounded bare inside =
     let some : i < j = run.some in
-    record { token = Free; here = record { run = run; bounded = λ path. (bounded, bare) }; shown = refl; past = some; inside = inside }
+    record { token = Free; here = record { run = run; bounded = λ path. (bounded, bare) }; same_kind = refl; past = some; inside = inside }
 
 pub local_run : (mode : Mode) (p : List ℕ) (i j : ℕ) → IsTrue (is_path mode) → IsRun p i j → ¬ IsBounded p i j → j ≤ length p
-    → IsToken mode p i shape.Local j
+    → IsToken mode p i kind.Local j
 local_run mode p i j path run unbounded inside =
     let some : i < j = run.some in
-    record { token = Local; here = record { path = path; run = run; unbounded = unbounded }; shown = refl; past = some; inside = inside }
+    record { token = Local; here = record { path = path; run = run; unbounded = unbounded }; same_kind = refl; past = some; inside = inside }
 
 pub dirs_run : (mode : Mode) (p : List ℕ) (i j : ℕ) → IsTrue (is_path mode) → IsRun p i j → IsBounded p i j → HasByte p j slash
-    → IsToken mode p i shape.Dirs (j + 1)
+    → IsToken mode p i kind.Dirs (j + 1)
 dirs_run mode p i j path run bounded at_slash =
     let some : i < j = run.some in
     let inside : j < length p = at_slash.inside in
     record {
       token = Dirs;
       here = record { path = path; at = j; run = run; bounded = bounded; slash = at_slash; after = refl };
-      shown = refl;
+      same_kind = refl;
       past = omega arith;
       inside = omega arith;
     }

@@ -15,10 +15,10 @@ pub IsEscaped-unique : (text : List ℕ) (i a b : ℕ) → IsEscaped text i a �
 IsEscaped-unique text i a b x y = HasByte-unique text (i + 1) a b x.byte y.byte
 
 -- there is one first place
-pub IsFirstFrom-unique : (text : List ℕ) (i b j k : ℕ) → IsFirstFrom text i b j → IsFirstFrom text i b k → j ≡ k
-IsFirstFrom-unique text i b j k x y =
-    let up : j ≤ k = x.before k y.low y.here in
-    let down : k ≤ j = y.before j x.low x.here in
+pub IsFirstFrom-unique : (text : List ℕ) (i b j m : ℕ) → IsFirstFrom text i b j → IsFirstFrom text i b m → j ≡ m
+IsFirstFrom-unique text i b j m x y =
+    let up : j ≤ m = x.before m y.low y.here in
+    let down : m ≤ j = y.before j x.low x.here in
     omega arith
 
 -- two bytes at one place are one byte
@@ -26,13 +26,13 @@ pub two_bytes : (text : List ℕ) (i a b : ℕ) → HasByte text i a → HasByte
 two_bytes text i a b x y differ = differ (HasByte-unique text i a b x y)
 
 -- an upper end is one byte, and ends in one place
-pub IsUpperEnd-unique : (text : List ℕ) (i a b j k : ℕ) → IsUpperEnd text i a j → IsUpperEnd text i b k → (a ≡ b) × (j ≡ k)
-IsUpperEnd-unique text i a b j k (inl x) (inl y) = (HasByte-unique text i a b x.0 y.0, x.2 ∙ sym y.2)
-IsUpperEnd-unique text i a b j k (inl x) (inr y) =
+pub IsUpperEnd-unique : (text : List ℕ) (i a b j m : ℕ) → IsUpperEnd text i a j → IsUpperEnd text i b m → (a ≡ b) × (j ≡ m)
+IsUpperEnd-unique text i a b j m (inl x) (inl y) = (HasByte-unique text i a b x.0 y.0, x.2 ∙ sym y.2)
+IsUpperEnd-unique text i a b j m (inl x) (inr y) =
     absurd (x.1 (HasByte-unique text i a backslash x.0 y.0.escape))
-IsUpperEnd-unique text i a b j k (inr x) (inl y) =
+IsUpperEnd-unique text i a b j m (inr x) (inl y) =
     absurd (y.1 (HasByte-unique text i b backslash y.0 x.0.escape))
-IsUpperEnd-unique text i a b j k (inr x) (inr y) = (IsEscaped-unique text i a b x.0 y.0, x.1 ∙ sym y.1)
+IsUpperEnd-unique text i a b j m (inr x) (inr y) = (IsEscaped-unique text i a b x.0 y.0, x.1 ∙ sym y.1)
 
 -- the second and third byte of a class name, which tell it from the others
 abbrev key_of : List ℕ → ℕ
@@ -72,9 +72,9 @@ name_of-injective c d e =
     sym (class_of_key-name_of c) ∙ (ap (λ (name : List ℕ). class_of_key (key_of name)) e ∙ class_of_key-name_of d)
 
 -- the bytes after a `[:` name a class or none
-class_or_none : (text : List ℕ) (i k : ℕ) → NamesClass text i k → NamesNoClass text i → ⊥
-class_or_none text i k named none =
-    let same : k ≡ none.some.0 = IsFirstFrom-unique text (i + 2) close_bracket k none.some.0 named.first none.some.1 in
+class_or_none : (text : List ℕ) (i m : ℕ) → NamesClass text i m → NamesNoClass text i → ⊥
+class_or_none text i m named none =
+    let same : m ≡ none.some.0 = IsFirstFrom-unique text (i + 2) close_bracket m none.some.0 named.first none.some.1 in
     none.some.2 (subst (λ (n : ℕ). NamesClass text i n) same named)
 
 abbrev set_of : Bool → List Item → Set
@@ -86,57 +86,57 @@ set_eq s t e f =
     ap (λ (b : Bool). set_of b s.items) e ∙ ap (λ (xs : List Item). set_of t.negated xs) f
 
 -- an item's place decides what it is and where it ends
-pub ItemAt-unique : (text : List ℕ) (low : Option ℕ) (i : ℕ) (x y : Item) (j k : ℕ)
-    → ItemAt text low i x j → ItemAt text low i y k → (x ≡ y) × (j ≡ k)
-ItemAt-unique text low i (item.Member a) (item.Member b) j k (inl e) (inl f) =
+pub ItemAt-unique : (text : List ℕ) (low : Option ℕ) (i : ℕ) (x y : Item) (j m : ℕ)
+    → ItemAt text low i x j → ItemAt text low i y m → (x ≡ y) × (j ≡ m)
+ItemAt-unique text low i (item.Member a) (item.Member b) j m (inl e) (inl f) =
     (ap item.Member (IsEscaped-unique text i a b e.0 f.0), e.1 ∙ sym f.1)
-ItemAt-unique text low i (item.Member a) (item.Member b) j k (inl e) (inr f) =
+ItemAt-unique text low i (item.Member a) (item.Member b) j m (inl e) (inr f) =
     absurd (f.0.unescaped (HasByte-unique text i b backslash f.0.here e.0.escape))
-ItemAt-unique text low i (item.Member a) (item.Member b) j k (inr e) (inl f) =
+ItemAt-unique text low i (item.Member a) (item.Member b) j m (inr e) (inl f) =
     absurd (e.0.unescaped (HasByte-unique text i a backslash e.0.here f.0.escape))
-ItemAt-unique text low i (item.Member a) (item.Member b) j k (inr e) (inr f) =
+ItemAt-unique text low i (item.Member a) (item.Member b) j m (inr e) (inr f) =
     (ap item.Member (HasByte-unique text i a b e.0.here f.0.here), e.1 ∙ sym f.1)
-ItemAt-unique text low i (item.Member a) (item.Range c d) j k (inl e) f =
+ItemAt-unique text low i (item.Member a) (item.Range c d) j m (inl e) f =
     absurd (two_bytes text i backslash dash e.0.escape f.0.dash (λ h. omega arith))
-ItemAt-unique text low i (item.Member a) (item.Range c d) j k (inr e) f = absurd (e.0.no_range f.0)
-ItemAt-unique text low i (item.Range c d) (item.Member a) j k e (inl f) =
+ItemAt-unique text low i (item.Member a) (item.Range c d) j m (inr e) f = absurd (e.0.no_range f.0)
+ItemAt-unique text low i (item.Range c d) (item.Member a) j m e (inl f) =
     absurd (two_bytes text i dash backslash e.0.dash f.0.escape (λ h. omega arith))
-ItemAt-unique text low i (item.Range c d) (item.Member a) j k e (inr f) = absurd (f.0.no_range e.0)
-ItemAt-unique text low i (item.Range a b) (item.Range c d) j k e f =
+ItemAt-unique text low i (item.Range c d) (item.Member a) j m e (inr f) = absurd (f.0.no_range e.0)
+ItemAt-unique text low i (item.Range a b) (item.Range c d) j m e f =
     let from : Some a ≡ Some c = sym e.1 ∙ f.1 in
-    let end = IsUpperEnd-unique text (i + 1) b d j k e.2 f.2 in
+    let end = IsUpperEnd-unique text (i + 1) b d j m e.2 f.2 in
     let to : b ≡ d = end.0 in
     (cc, end.1)
-ItemAt-unique text low i (item.Member a) (item.Class c) j k (inl e) f =
+ItemAt-unique text low i (item.Member a) (item.Class c) j m (inl e) f =
     absurd (two_bytes text i backslash open_bracket e.0.escape f.1.begins.bracket (λ h. omega arith))
-ItemAt-unique text low i (item.Member a) (item.Class c) j k (inr e) f =
+ItemAt-unique text low i (item.Member a) (item.Class c) j m (inr e) f =
     absurd (class_or_none text i f.0 f.1 (e.0.no_class f.1.begins))
-ItemAt-unique text low i (item.Class c) (item.Member a) j k e (inl f) =
+ItemAt-unique text low i (item.Class c) (item.Member a) j m e (inl f) =
     absurd (two_bytes text i open_bracket backslash e.1.begins.bracket f.0.escape (λ h. omega arith))
-ItemAt-unique text low i (item.Class c) (item.Member a) j k e (inr f) =
+ItemAt-unique text low i (item.Class c) (item.Member a) j m e (inr f) =
     absurd (class_or_none text i e.0 e.1 (f.0.no_class e.1.begins))
-ItemAt-unique text low i (item.Range a b) (item.Class c) j k e f =
+ItemAt-unique text low i (item.Range a b) (item.Class c) j m e f =
     absurd (two_bytes text i dash open_bracket e.0.dash f.1.begins.bracket (λ h. omega arith))
-ItemAt-unique text low i (item.Class c) (item.Range a b) j k e f =
+ItemAt-unique text low i (item.Class c) (item.Range a b) j m e f =
     absurd (two_bytes text i open_bracket dash e.1.begins.bracket f.0.dash (λ h. omega arith))
-ItemAt-unique text low i (item.Class c) (item.Class d) j k e f =
+ItemAt-unique text low i (item.Class c) (item.Class d) j m e f =
     let same : e.0 ≡ f.0 = IsFirstFrom-unique text (i + 2) close_bracket e.0 f.0 e.1.first f.1.first in
     let names : name_of c ≡ name_of d =
     sym e.2 ∙ (ap (λ (n : ℕ). slice_range text (i + 2) (n - 1)) same ∙ f.2) in
     (ap item.Class (name_of-injective c d names), e.3 ∙ (ap (λ (n : ℕ). n + 1) same ∙ sym f.3))
 
 -- The items from a place decide themselves and where they end.
-pub ItemsAt-unique : (text : List ℕ) (first : Bool) (low : Option ℕ) (i : ℕ) (xs ys : List Item) (j k : ℕ)
-    → ItemsAt text first low i xs j → ItemsAt text first low i ys k → (xs ≡ ys) × (j ≡ k)
-ItemsAt-unique text first low i [] [] j k e f = (refl, sym e.2 ∙ f.2)
-ItemsAt-unique text first low i [] (y ∷ ys) j k e f = absurd (f.0 e.0 e.1)
-ItemsAt-unique text first low i (x ∷ xs) [] j k e f = absurd (e.0 f.0 f.1)
-ItemsAt-unique text first low i (x ∷ xs) (y ∷ ys) j k e f =
+pub ItemsAt-unique : (text : List ℕ) (first : Bool) (low : Option ℕ) (i : ℕ) (xs ys : List Item) (j m : ℕ)
+    → ItemsAt text first low i xs j → ItemsAt text first low i ys m → (xs ≡ ys) × (j ≡ m)
+ItemsAt-unique text first low i [] [] j m e f = (refl, sym e.2 ∙ f.2)
+ItemsAt-unique text first low i [] (y ∷ ys) j m e f = absurd (f.0 e.0 e.1)
+ItemsAt-unique text first low i (x ∷ xs) [] j m e f = absurd (e.0 f.0 f.1)
+ItemsAt-unique text first low i (x ∷ xs) (y ∷ ys) j m e f =
     let here = ItemAt-unique text low i x y e.1 f.1 e.2 f.2 in
     let rest : ItemsAt text false (member_of y) f.1 xs j =
     subst (λ (z : Item). ItemsAt text false (member_of z) f.1 xs j) here.0
     (subst (λ (n : ℕ). ItemsAt text false (member_of x) n xs j) here.1 e.3) in
-    let later = ItemsAt-unique text false (member_of y) f.1 xs ys j k rest f.3 in
+    let later = ItemsAt-unique text false (member_of y) f.1 xs ys j m rest f.3 in
     let head : x ≡ y = here.0 in
     let tail : xs ≡ ys = later.0 in
     (cc, later.1)
@@ -148,9 +148,9 @@ negated-unique false true P e f = e.1 (f.0 refl)
 negated-unique false false P e f = refl
 
 -- A set's text decides the set and where it ends.
-pub SetAt-unique : (text : List ℕ) (i : ℕ) (s t : Set) (j k : ℕ)
-    → SetAt text i s j → SetAt text i t k → (s ≡ t) × (j ≡ k)
-SetAt-unique text i s t j k e f =
+pub SetAt-unique : (text : List ℕ) (i : ℕ) (s t : Set) (j m : ℕ)
+    → SetAt text i s j → SetAt text i t m → (s ≡ t) × (j ≡ m)
+SetAt-unique text i s t j m e f =
     let sign : s.negated ≡ t.negated = negated-unique s.negated t.negated (IsSign text (i + 1)) e.sign f.sign in
     let moved : ItemsAt text true None (if t.negated then i + 2 else i + 1) s.items e.close =
     subst (λ (b : Bool). ItemsAt text true None (if b then i + 2 else i + 1) s.items e.close) sign e.items in

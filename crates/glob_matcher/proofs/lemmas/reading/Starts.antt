@@ -38,10 +38,10 @@ spells_inside mode p i [] j inside e = omega arith
 spells_inside mode p i (t ∷ ts) j inside e = spells_inside mode p e.0 ts j (token_end mode p i t e.0 e.1) e.2
 
 -- one more token
-spells_more : (mode : Mode) (p : List ℕ) (i : ℕ) (ts : List Token) (j : ℕ) (t : Token) (k : ℕ) → Spells mode p i ts j
-    → TokenAt mode p j t k → Spells mode p i (ts ++ t ∷ []) k
-spells_more mode p i [] j t k e here = (k, subst (λ (n : ℕ). TokenAt mode p n t k) (sym e) here, refl)
-spells_more mode p i (u ∷ ts) j t k e here = (e.0, e.1, spells_more mode p e.0 ts j t k e.2 here)
+spells_more : (mode : Mode) (p : List ℕ) (i : ℕ) (ts : List Token) (j : ℕ) (t : Token) (m : ℕ) → Spells mode p i ts j
+    → TokenAt mode p j t m → Spells mode p i (ts ++ t ∷ []) m
+spells_more mode p i [] j t m e here = (m, subst (λ (n : ℕ). TokenAt mode p n t m) (sym e) here, refl)
+spells_more mode p i (u ∷ ts) j t m e here = (e.0, e.1, spells_more mode p e.0 ts j t m e.2 here)
 
 pub boundary_next : {mode : Mode} {p : List ℕ} {i : ℕ} (t : Token) (j : ℕ) → IsBoundary p i mode → TokenAt mode p i t j → IsBoundary p j mode
 boundary_next {mode} {p} {i} t j x here =

@@ -8,13 +8,13 @@ use Rattle.glob_matcher.specs.Tokens.{Token, Byte, Any, OneOf, Free, Local, Dirs
 use Rattle.glob_matcher.proofs.lemmas.reading.SetLemmas.{HasByte-unique, IsEscaped-unique, two_bytes, SetAt-unique}
 
 -- a run of stars ends in one place
-run_not_longer : (p : List ℕ) (i j k : ℕ) → IsRun p i j → IsRun p i k → j < k → ⊥
-run_not_longer p i j k x y longer = let some : i < j = x.some in x.whole (y.stars j (omega arith) longer)
+run_not_longer : (p : List ℕ) (i j m : ℕ) → IsRun p i j → IsRun p i m → j < m → ⊥
+run_not_longer p i j m x y longer = let some : i < j = x.some in x.whole (y.stars j (omega arith) longer)
 
-pub IsRun-unique : (p : List ℕ) (i j k : ℕ) → IsRun p i j → IsRun p i k → j ≡ k
-IsRun-unique p i j k x y =
-    let above : j < k → ⊥ = run_not_longer p i j k x y in
-    let below : k < j → ⊥ = run_not_longer p i k j y x in
+pub IsRun-unique : (p : List ℕ) (i j m : ℕ) → IsRun p i j → IsRun p i m → j ≡ m
+IsRun-unique p i j m x y =
+    let above : j < m → ⊥ = run_not_longer p i j m x y in
+    let below : m < j → ⊥ = run_not_longer p i m j y x in
     omega arith
 
 -- a run begins with a star
@@ -63,79 +63,79 @@ set_or_broken : (p : List ℕ) (i : ℕ) (s : Set) (j : ℕ) → SetAt p i s j �
 set_or_broken p i s j e (inl f) = two_bytes p i open_bracket backslash e.bracket f.0 (λ h. omega arith)
 set_or_broken p i s j e (inr f) = f.1 s j e
 
-bytes_unique : (p : List ℕ) (i a b j k : ℕ) → ByteAt p i a j → ByteAt p i b k → (a ≡ b) × (j ≡ k)
-bytes_unique p i a b j k (inl e) (inl f) = (IsEscaped-unique p i a b e.0 f.0, e.1 ∙ sym f.1)
-bytes_unique p i a b j k (inl e) (inr f) = absurd (not_special b backslash f.1 refl (HasByte-unique p i b backslash f.0 e.0.escape))
-bytes_unique p i a b j k (inr e) (inl f) = absurd (not_special a backslash e.1 refl (HasByte-unique p i a backslash e.0 f.0.escape))
-bytes_unique p i a b j k (inr e) (inr f) = (HasByte-unique p i a b e.0 f.0, e.2 ∙ sym f.2)
+bytes_unique : (p : List ℕ) (i a b j m : ℕ) → ByteAt p i a j → ByteAt p i b m → (a ≡ b) × (j ≡ m)
+bytes_unique p i a b j m (inl e) (inl f) = (IsEscaped-unique p i a b e.0 f.0, e.1 ∙ sym f.1)
+bytes_unique p i a b j m (inl e) (inr f) = absurd (not_special b backslash f.1 refl (HasByte-unique p i b backslash f.0 e.0.escape))
+bytes_unique p i a b j m (inr e) (inl f) = absurd (not_special a backslash e.1 refl (HasByte-unique p i a backslash e.0 f.0.escape))
+bytes_unique p i a b j m (inr e) (inr f) = (HasByte-unique p i a b e.0 f.0, e.2 ∙ sym f.2)
 
-free_or_local : (mode : Mode) (p : List ℕ) (i j k : ℕ) → FreeAt mode p i j → LocalAt mode p i k → ⊥
-free_or_local mode p i j k e f =
-    let same : j ≡ k = IsRun-unique p i j k e.run f.run in
+free_or_local : (mode : Mode) (p : List ℕ) (i j m : ℕ) → FreeAt mode p i j → LocalAt mode p i m → ⊥
+free_or_local mode p i j m e f =
+    let same : j ≡ m = IsRun-unique p i j m e.run f.run in
     f.unbounded (subst (λ (n : ℕ). IsBounded p i n) same (e.bounded f.path).0)
 
-free_or_dirs : (mode : Mode) (p : List ℕ) (i j k : ℕ) → FreeAt mode p i j → DirsAt mode p i k → ⊥
-free_or_dirs mode p i j k e f =
+free_or_dirs : (mode : Mode) (p : List ℕ) (i j m : ℕ) → FreeAt mode p i j → DirsAt mode p i m → ⊥
+free_or_dirs mode p i j m e f =
     let same : f.at ≡ j = IsRun-unique p i f.at j f.run e.run in
     (e.bounded f.path).1 (subst (λ (n : ℕ). HasByte p n slash) same f.slash)
 
-local_or_dirs : (mode : Mode) (p : List ℕ) (i j k : ℕ) → LocalAt mode p i j → DirsAt mode p i k → ⊥
-local_or_dirs mode p i j k e f =
+local_or_dirs : (mode : Mode) (p : List ℕ) (i j m : ℕ) → LocalAt mode p i j → DirsAt mode p i m → ⊥
+local_or_dirs mode p i j m e f =
     let same : f.at ≡ j = IsRun-unique p i f.at j f.run e.run in
     e.unbounded (subst (λ (n : ℕ). IsBounded p i n) same f.bounded)
 
 -- A place decides its token, and where that ends.
-pub TokenAt-unique : (mode : Mode) (p : List ℕ) (i : ℕ) (t u : Token) (j k : ℕ)
-    → TokenAt mode p i t j → TokenAt mode p i u k → (t ≡ u) × (j ≡ k)
-TokenAt-unique mode p i (Byte b) (Byte c) j k e f = let same = bytes_unique p i b c j k e f in (ap Byte same.0, same.1)
-TokenAt-unique mode p i (Byte b) Any j k e f = absurd (byte_lead p i b j question_mark e f.0 (inr (inl refl)))
-TokenAt-unique mode p i (Byte b) (OneOf t) j k e f = absurd (byte_lead p i b j open_bracket e f.bracket (inr (inr refl)))
-TokenAt-unique mode p i (Byte b) Free j k e f = absurd (byte_lead p i b j star e (run_lead p i k f.run) (inl refl))
-TokenAt-unique mode p i (Byte b) Local j k e f = absurd (byte_lead p i b j star e (run_lead p i k f.run) (inl refl))
-TokenAt-unique mode p i (Byte b) Dirs j k e f = absurd (byte_lead p i b j star e (run_lead p i f.at f.run) (inl refl))
-TokenAt-unique mode p i (Byte b) Nothing j k e f = absurd (byte_or_broken p i b j e f.0)
-TokenAt-unique mode p i Any (Byte c) j k e f = absurd (byte_lead p i c k question_mark f e.0 (inr (inl refl)))
-TokenAt-unique mode p i Any Any j k e f = (refl, e.1 ∙ sym f.1)
-TokenAt-unique mode p i Any (OneOf t) j k e f = absurd (two_bytes p i question_mark open_bracket e.0 f.bracket (λ h. omega arith))
-TokenAt-unique mode p i Any Free j k e f = absurd (two_bytes p i question_mark star e.0 (run_lead p i k f.run) (λ h. omega arith))
-TokenAt-unique mode p i Any Local j k e f = absurd (two_bytes p i question_mark star e.0 (run_lead p i k f.run) (λ h. omega arith))
-TokenAt-unique mode p i Any Dirs j k e f = absurd (two_bytes p i question_mark star e.0 (run_lead p i f.at f.run) (λ h. omega arith))
-TokenAt-unique mode p i Any Nothing j k e f = absurd (broken_lead p i question_mark f.0 e.0 (inr refl))
-TokenAt-unique mode p i (OneOf s) (Byte c) j k e f = absurd (byte_lead p i c k open_bracket f e.bracket (inr (inr refl)))
-TokenAt-unique mode p i (OneOf s) Any j k e f = absurd (two_bytes p i open_bracket question_mark e.bracket f.0 (λ h. omega arith))
-TokenAt-unique mode p i (OneOf s) (OneOf t) j k e f = let same = SetAt-unique p i s t j k e f in (ap OneOf same.0, same.1)
-TokenAt-unique mode p i (OneOf s) Free j k e f = absurd (two_bytes p i open_bracket star e.bracket (run_lead p i k f.run) (λ h. omega arith))
-TokenAt-unique mode p i (OneOf s) Local j k e f = absurd (two_bytes p i open_bracket star e.bracket (run_lead p i k f.run) (λ h. omega arith))
-TokenAt-unique mode p i (OneOf s) Dirs j k e f = absurd (two_bytes p i open_bracket star e.bracket (run_lead p i f.at f.run) (λ h. omega arith))
-TokenAt-unique mode p i (OneOf s) Nothing j k e f = absurd (set_or_broken p i s j e f.0)
-TokenAt-unique mode p i Free (Byte c) j k e f = absurd (byte_lead p i c k star f (run_lead p i j e.run) (inl refl))
-TokenAt-unique mode p i Free Any j k e f = absurd (two_bytes p i star question_mark (run_lead p i j e.run) f.0 (λ h. omega arith))
-TokenAt-unique mode p i Free (OneOf t) j k e f = absurd (two_bytes p i star open_bracket (run_lead p i j e.run) f.bracket (λ h. omega arith))
-TokenAt-unique mode p i Free Free j k e f = (refl, IsRun-unique p i j k e.run f.run)
-TokenAt-unique mode p i Free Local j k e f = absurd (free_or_local mode p i j k e f)
-TokenAt-unique mode p i Free Dirs j k e f = absurd (free_or_dirs mode p i j k e f)
-TokenAt-unique mode p i Free Nothing j k e f = absurd (broken_lead p i star f.0 (run_lead p i j e.run) (inl refl))
-TokenAt-unique mode p i Local (Byte c) j k e f = absurd (byte_lead p i c k star f (run_lead p i j e.run) (inl refl))
-TokenAt-unique mode p i Local Any j k e f = absurd (two_bytes p i star question_mark (run_lead p i j e.run) f.0 (λ h. omega arith))
-TokenAt-unique mode p i Local (OneOf t) j k e f = absurd (two_bytes p i star open_bracket (run_lead p i j e.run) f.bracket (λ h. omega arith))
-TokenAt-unique mode p i Local Free j k e f = absurd (free_or_local mode p i k j f e)
-TokenAt-unique mode p i Local Local j k e f = (refl, IsRun-unique p i j k e.run f.run)
-TokenAt-unique mode p i Local Dirs j k e f = absurd (local_or_dirs mode p i j k e f)
-TokenAt-unique mode p i Local Nothing j k e f = absurd (broken_lead p i star f.0 (run_lead p i j e.run) (inl refl))
-TokenAt-unique mode p i Dirs (Byte c) j k e f = absurd (byte_lead p i c k star f (run_lead p i e.at e.run) (inl refl))
-TokenAt-unique mode p i Dirs Any j k e f = absurd (two_bytes p i star question_mark (run_lead p i e.at e.run) f.0 (λ h. omega arith))
-TokenAt-unique mode p i Dirs (OneOf t) j k e f = absurd (two_bytes p i star open_bracket (run_lead p i e.at e.run) f.bracket (λ h. omega arith))
-TokenAt-unique mode p i Dirs Free j k e f = absurd (free_or_dirs mode p i k j f e)
-TokenAt-unique mode p i Dirs Local j k e f = absurd (local_or_dirs mode p i k j f e)
-TokenAt-unique mode p i Dirs Dirs j k e f = (refl, e.after ∙ (ap (λ (n : ℕ). n + 1) (IsRun-unique p i e.at f.at e.run f.run) ∙ sym f.after))
-TokenAt-unique mode p i Dirs Nothing j k e f = absurd (broken_lead p i star f.0 (run_lead p i e.at e.run) (inl refl))
-TokenAt-unique mode p i Nothing (Byte c) j k e f = absurd (byte_or_broken p i c k f e.0)
-TokenAt-unique mode p i Nothing Any j k e f = absurd (broken_lead p i question_mark e.0 f.0 (inr refl))
-TokenAt-unique mode p i Nothing (OneOf t) j k e f = absurd (set_or_broken p i t k f e.0)
-TokenAt-unique mode p i Nothing Free j k e f = absurd (broken_lead p i star e.0 (run_lead p i k f.run) (inl refl))
-TokenAt-unique mode p i Nothing Local j k e f = absurd (broken_lead p i star e.0 (run_lead p i k f.run) (inl refl))
-TokenAt-unique mode p i Nothing Dirs j k e f = absurd (broken_lead p i star e.0 (run_lead p i f.at f.run) (inl refl))
-TokenAt-unique mode p i Nothing Nothing j k e f = (refl, e.1 ∙ sym f.1)
+pub TokenAt-unique : (mode : Mode) (p : List ℕ) (i : ℕ) (t u : Token) (j m : ℕ)
+    → TokenAt mode p i t j → TokenAt mode p i u m → (t ≡ u) × (j ≡ m)
+TokenAt-unique mode p i (Byte b) (Byte c) j m e f = let same = bytes_unique p i b c j m e f in (ap Byte same.0, same.1)
+TokenAt-unique mode p i (Byte b) Any j m e f = absurd (byte_lead p i b j question_mark e f.0 (inr (inl refl)))
+TokenAt-unique mode p i (Byte b) (OneOf t) j m e f = absurd (byte_lead p i b j open_bracket e f.bracket (inr (inr refl)))
+TokenAt-unique mode p i (Byte b) Free j m e f = absurd (byte_lead p i b j star e (run_lead p i m f.run) (inl refl))
+TokenAt-unique mode p i (Byte b) Local j m e f = absurd (byte_lead p i b j star e (run_lead p i m f.run) (inl refl))
+TokenAt-unique mode p i (Byte b) Dirs j m e f = absurd (byte_lead p i b j star e (run_lead p i f.at f.run) (inl refl))
+TokenAt-unique mode p i (Byte b) Nothing j m e f = absurd (byte_or_broken p i b j e f.0)
+TokenAt-unique mode p i Any (Byte c) j m e f = absurd (byte_lead p i c m question_mark f e.0 (inr (inl refl)))
+TokenAt-unique mode p i Any Any j m e f = (refl, e.1 ∙ sym f.1)
+TokenAt-unique mode p i Any (OneOf t) j m e f = absurd (two_bytes p i question_mark open_bracket e.0 f.bracket (λ h. omega arith))
+TokenAt-unique mode p i Any Free j m e f = absurd (two_bytes p i question_mark star e.0 (run_lead p i m f.run) (λ h. omega arith))
+TokenAt-unique mode p i Any Local j m e f = absurd (two_bytes p i question_mark star e.0 (run_lead p i m f.run) (λ h. omega arith))
+TokenAt-unique mode p i Any Dirs j m e f = absurd (two_bytes p i question_mark star e.0 (run_lead p i f.at f.run) (λ h. omega arith))
+TokenAt-unique mode p i Any Nothing j m e f = absurd (broken_lead p i question_mark f.0 e.0 (inr refl))
+TokenAt-unique mode p i (OneOf s) (Byte c) j m e f = absurd (byte_lead p i c m open_bracket f e.bracket (inr (inr refl)))
+TokenAt-unique mode p i (OneOf s) Any j m e f = absurd (two_bytes p i open_bracket question_mark e.bracket f.0 (λ h. omega arith))
+TokenAt-unique mode p i (OneOf s) (OneOf t) j m e f = let same = SetAt-unique p i s t j m e f in (ap OneOf same.0, same.1)
+TokenAt-unique mode p i (OneOf s) Free j m e f = absurd (two_bytes p i open_bracket star e.bracket (run_lead p i m f.run) (λ h. omega arith))
+TokenAt-unique mode p i (OneOf s) Local j m e f = absurd (two_bytes p i open_bracket star e.bracket (run_lead p i m f.run) (λ h. omega arith))
+TokenAt-unique mode p i (OneOf s) Dirs j m e f = absurd (two_bytes p i open_bracket star e.bracket (run_lead p i f.at f.run) (λ h. omega arith))
+TokenAt-unique mode p i (OneOf s) Nothing j m e f = absurd (set_or_broken p i s j e f.0)
+TokenAt-unique mode p i Free (Byte c) j m e f = absurd (byte_lead p i c m star f (run_lead p i j e.run) (inl refl))
+TokenAt-unique mode p i Free Any j m e f = absurd (two_bytes p i star question_mark (run_lead p i j e.run) f.0 (λ h. omega arith))
+TokenAt-unique mode p i Free (OneOf t) j m e f = absurd (two_bytes p i star open_bracket (run_lead p i j e.run) f.bracket (λ h. omega arith))
+TokenAt-unique mode p i Free Free j m e f = (refl, IsRun-unique p i j m e.run f.run)
+TokenAt-unique mode p i Free Local j m e f = absurd (free_or_local mode p i j m e f)
+TokenAt-unique mode p i Free Dirs j m e f = absurd (free_or_dirs mode p i j m e f)
+TokenAt-unique mode p i Free Nothing j m e f = absurd (broken_lead p i star f.0 (run_lead p i j e.run) (inl refl))
+TokenAt-unique mode p i Local (Byte c) j m e f = absurd (byte_lead p i c m star f (run_lead p i j e.run) (inl refl))
+TokenAt-unique mode p i Local Any j m e f = absurd (two_bytes p i star question_mark (run_lead p i j e.run) f.0 (λ h. omega arith))
+TokenAt-unique mode p i Local (OneOf t) j m e f = absurd (two_bytes p i star open_bracket (run_lead p i j e.run) f.bracket (λ h. omega arith))
+TokenAt-unique mode p i Local Free j m e f = absurd (free_or_local mode p i m j f e)
+TokenAt-unique mode p i Local Local j m e f = (refl, IsRun-unique p i j m e.run f.run)
+TokenAt-unique mode p i Local Dirs j m e f = absurd (local_or_dirs mode p i j m e f)
+TokenAt-unique mode p i Local Nothing j m e f = absurd (broken_lead p i star f.0 (run_lead p i j e.run) (inl refl))
+TokenAt-unique mode p i Dirs (Byte c) j m e f = absurd (byte_lead p i c m star f (run_lead p i e.at e.run) (inl refl))
+TokenAt-unique mode p i Dirs Any j m e f = absurd (two_bytes p i star question_mark (run_lead p i e.at e.run) f.0 (λ h. omega arith))
+TokenAt-unique mode p i Dirs (OneOf t) j m e f = absurd (two_bytes p i star open_bracket (run_lead p i e.at e.run) f.bracket (λ h. omega arith))
+TokenAt-unique mode p i Dirs Free j m e f = absurd (free_or_dirs mode p i m j f e)
+TokenAt-unique mode p i Dirs Local j m e f = absurd (local_or_dirs mode p i m j f e)
+TokenAt-unique mode p i Dirs Dirs j m e f = (refl, e.after ∙ (ap (λ (n : ℕ). n + 1) (IsRun-unique p i e.at f.at e.run f.run) ∙ sym f.after))
+TokenAt-unique mode p i Dirs Nothing j m e f = absurd (broken_lead p i star f.0 (run_lead p i e.at e.run) (inl refl))
+TokenAt-unique mode p i Nothing (Byte c) j m e f = absurd (byte_or_broken p i c m f e.0)
+TokenAt-unique mode p i Nothing Any j m e f = absurd (broken_lead p i question_mark e.0 f.0 (inr refl))
+TokenAt-unique mode p i Nothing (OneOf t) j m e f = absurd (set_or_broken p i t m f e.0)
+TokenAt-unique mode p i Nothing Free j m e f = absurd (broken_lead p i star e.0 (run_lead p i m f.run) (inl refl))
+TokenAt-unique mode p i Nothing Local j m e f = absurd (broken_lead p i star e.0 (run_lead p i m f.run) (inl refl))
+TokenAt-unique mode p i Nothing Dirs j m e f = absurd (broken_lead p i star e.0 (run_lead p i f.at f.run) (inl refl))
+TokenAt-unique mode p i Nothing Nothing j m e f = (refl, e.1 ∙ sym f.1)
 
 -- a token begins inside the pattern
 pub TokenAt-inside : (mode : Mode) (p : List ℕ) (i : ℕ) (t : Token) (j : ℕ) → TokenAt mode p i t j → i < length p

@@ -13,8 +13,8 @@ use Rattle.glob_matcher.specs.Private.Components.{ends_by, ends, separates_by, s
 
 -- with a local mark: the byte here ends no component
 abbrev pub IsInner : Mode → List ℕ → ℕ → Option Mark → Type 0
-IsInner mode v j None = Unit {0}
-IsInner mode v j (Some m) = ends mode (get_or v j 0) ≡ false
+IsInner mode v k None = Unit {0}
+IsInner mode v k (Some m) = ends mode (get_or v k 0) ≡ false
 
 ends_plain_by : (path : Bool) (b : ℕ) → path ≡ false → ends_by path b ≡ true
 ends_plain_by true b plain = cc
@@ -93,31 +93,31 @@ separates_slash_by path Nothing is apart = cc
 pub separates-slash : (mode : Mode) (t : Token) → IsTrue (is_path mode) → separates mode t ≡ true → t ≡ Byte slash
 separates-slash mode t path apart = separates_slash_by (is_path mode) t path apart
 
-next_at : (mode : Mode) (v : List ℕ) (x : ℕ) → x < length v
-    → next_component mode v x ≡ x + (if ends mode (get_or v x 0) then 1 else suc (reach mode (drop (suc x) v)))
+next_at : (mode : Mode) (v : List ℕ) (k : ℕ) → k < length v
+    → next_component mode v k ≡ k + (if ends mode (get_or v k 0) then 1 else suc (reach mode (drop (suc k) v)))
 unfolding next_component reach
-next_at mode v x inside = ap (λ (bs : List ℕ). x + reach mode bs) (drop-cons v x 0 inside)
+next_at mode v k inside = ap (λ (bs : List ℕ). k + reach mode bs) (drop-cons v k 0 inside)
 
-pub next-end : (mode : Mode) (v : List ℕ) (x : ℕ) → x < length v → ends mode (get_or v x 0) ≡ true → next_component mode v x ≡ x + 1
-next-end mode v x inside end =
-    next_at mode v x inside ∙ ap (λ (b : Bool). x + (if b then 1 else suc (reach mode (drop (suc x) v)))) end
+pub next-end : (mode : Mode) (v : List ℕ) (k : ℕ) → k < length v → ends mode (get_or v k 0) ≡ true → next_component mode v k ≡ k + 1
+next-end mode v k inside end =
+    next_at mode v k inside ∙ ap (λ (b : Bool). k + (if b then 1 else suc (reach mode (drop (suc k) v)))) end
 
-pub next-past : (mode : Mode) (v : List ℕ) (x : ℕ) → length v ≤ x → next_component mode v x ≡ x + 1
+pub next-past : (mode : Mode) (v : List ℕ) (k : ℕ) → length v ≤ k → next_component mode v k ≡ k + 1
 unfolding next_component reach
-next-past mode v x past = ap (λ (bs : List ℕ). x + reach mode bs) (drop_of_length-le v past)
+next-past mode v k past = ap (λ (bs : List ℕ). k + reach mode bs) (drop_of_length-le v past)
 
-next-inner_suc : (mode : Mode) (v : List ℕ) (x : ℕ) → x < length v → ends mode (get_or v x 0) ≡ false
-    → next_component mode v (suc x) ≡ next_component mode v x
+next-inner_suc : (mode : Mode) (v : List ℕ) (k : ℕ) → k < length v → ends mode (get_or v k 0) ≡ false
+    → next_component mode v (suc k) ≡ next_component mode v k
 unfolding next_component
-next-inner_suc mode v x inside within =
-    let here : next_component mode v x ≡ x + suc (reach mode (drop (suc x) v)) =
-    next_at mode v x inside ∙ ap (λ (b : Bool). x + (if b then 1 else suc (reach mode (drop (suc x) v)))) within in
-    let there : next_component mode v (suc x) ≡ suc x + reach mode (drop (suc x) v) = refl in
+next-inner_suc mode v k inside within =
+    let here : next_component mode v k ≡ k + suc (reach mode (drop (suc k) v)) =
+    next_at mode v k inside ∙ ap (λ (b : Bool). k + (if b then 1 else suc (reach mode (drop (suc k) v)))) within in
+    let there : next_component mode v (suc k) ≡ suc k + reach mode (drop (suc k) v) = refl in
     omega arith
 
-pub next-inner : (mode : Mode) (v : List ℕ) (x : ℕ) → x < length v → ends mode (get_or v x 0) ≡ false
-    → next_component mode v (x + 1) ≡ next_component mode v x
-next-inner mode v x inside within = rw add-one (next-inner_suc mode v x inside within)
+pub next-inner : (mode : Mode) (v : List ℕ) (k : ℕ) → k < length v → ends mode (get_or v k 0) ≡ false
+    → next_component mode v (k + 1) ≡ next_component mode v k
+next-inner mode v k inside within = rw add-one (next-inner_suc mode v k inside within)
 
 reach_some : (mode : Mode) (bs : List ℕ) → 1 ≤ reach mode bs
 unfolding reach
@@ -127,9 +127,9 @@ reach_some mode (b ∷ bs) = cases (ends mode b) where
   cases true = omega arith
   cases false = omega arith
 
-pub next_past : (mode : Mode) (v : List ℕ) (x : ℕ) → x < next_component mode v x
+pub next_past : (mode : Mode) (v : List ℕ) (k : ℕ) → k < next_component mode v k
 unfolding next_component
-next_past mode v x = let some : 1 ≤ reach mode (drop x v) = reach_some mode (drop x v) in omega arith
+next_past mode v k = let some : 1 ≤ reach mode (drop k v) = reach_some mode (drop k v) in omega arith
 
 reach_high : (mode : Mode) (bs : List ℕ) → reach mode bs ≤ suc (length bs)
 unfolding reach
@@ -139,54 +139,54 @@ reach_high mode (b ∷ bs) = cases (ends mode b) (reach_high mode bs) where
   cases true h = omega arith
   cases false h = omega arith
 
-pub next_high : (mode : Mode) (v : List ℕ) (x : ℕ) → x ≤ length v → next_component mode v x ≤ length v + 1
+pub next_high : (mode : Mode) (v : List ℕ) (k : ℕ) → k ≤ length v → next_component mode v k ≤ length v + 1
 unfolding next_component
-next_high mode v x inside =
-    let high : reach mode (drop x v) ≤ suc (length (drop x v)) = reach_high mode (drop x v) in
-    let long : length (drop x v) ≡ length v - x = length-drop x v in
+next_high mode v k inside =
+    let high : reach mode (drop k v) ≤ suc (length (drop k v)) = reach_high mode (drop k v) in
+    let long : length (drop k v) ≡ length v - k = length-drop k v in
     omega arith
 
-next_mono_one : (mode : Mode) (v : List ℕ) (x : ℕ) → next_component mode v x ≤ next_component mode v (x + 1)
-next_mono_one mode v x = elim (cases_lt x (length v)) [
-  | inl inside ↦ elim (ends_or_not mode (get_or v x 0)) [
+next_mono_one : (mode : Mode) (v : List ℕ) (k : ℕ) → next_component mode v k ≤ next_component mode v (k + 1)
+next_mono_one mode v k = elim (cases_lt k (length v)) [
+  | inl inside ↦ elim (ends_or_not mode (get_or v k 0)) [
     | inl end ↦
-        let here : next_component mode v x ≡ x + 1 = next-end mode v x inside end in
-        let past : x + 1 < next_component mode v (x + 1) = next_past mode v (x + 1) in omega arith
-    | inr within ↦ let same : next_component mode v (x + 1) ≡ next_component mode v x = next-inner mode v x inside within in omega arith
+        let here : next_component mode v k ≡ k + 1 = next-end mode v k inside end in
+        let past : k + 1 < next_component mode v (k + 1) = next_past mode v (k + 1) in omega arith
+    | inr within ↦ let same : next_component mode v (k + 1) ≡ next_component mode v k = next-inner mode v k inside within in omega arith
   ]
   | inr outside ↦
-      let here : next_component mode v x ≡ x + 1 = next-past mode v x outside in
-      let past : x + 1 < next_component mode v (x + 1) = next_past mode v (x + 1) in omega arith
+      let here : next_component mode v k ≡ k + 1 = next-past mode v k outside in
+      let past : k + 1 < next_component mode v (k + 1) = next_past mode v (k + 1) in omega arith
 ]
 
-next_mono_by : (mode : Mode) (v : List ℕ) (x d : ℕ) → next_component mode v x ≤ next_component mode v (x + d)
-next_mono_by mode v x zero = let same : next_component mode v x ≡ next_component mode v (x + 0) = ap (next_component mode v) (sym (add-zero x)) in omega arith
-next_mono_by mode v x (suc d) =
-    let so_far : next_component mode v x ≤ next_component mode v (x + d) = next_mono_by mode v x d in
-    let one : next_component mode v (x + d) ≤ next_component mode v (x + d + 1) = next_mono_one mode v (x + d) in
-    let place : x + d + 1 ≡ x + suc d = omega arith in
-    let same : next_component mode v (x + d + 1) ≡ next_component mode v (x + suc d) = ap (next_component mode v) place in
+next_mono_by : (mode : Mode) (v : List ℕ) (k d : ℕ) → next_component mode v k ≤ next_component mode v (k + d)
+next_mono_by mode v k zero = let same : next_component mode v k ≡ next_component mode v (k + 0) = ap (next_component mode v) (sym (add-zero k)) in omega arith
+next_mono_by mode v k (suc d) =
+    let so_far : next_component mode v k ≤ next_component mode v (k + d) = next_mono_by mode v k d in
+    let one : next_component mode v (k + d) ≤ next_component mode v (k + d + 1) = next_mono_one mode v (k + d) in
+    let place : k + d + 1 ≡ k + suc d = omega arith in
+    let same : next_component mode v (k + d + 1) ≡ next_component mode v (k + suc d) = ap (next_component mode v) place in
     omega arith
 
 -- A later place is before no earlier component.
-pub next_mono : (mode : Mode) (v : List ℕ) (x y : ℕ) → x ≤ y → next_component mode v x ≤ next_component mode v y
-next_mono mode v x y low =
-    let so_far : next_component mode v x ≤ next_component mode v (x + (y - x)) = next_mono_by mode v x (y - x) in
-    let place : x + (y - x) ≡ y = omega arith in
-    let same : next_component mode v (x + (y - x)) ≡ next_component mode v y = ap (next_component mode v) place in
+pub next_mono : (mode : Mode) (v : List ℕ) (k e : ℕ) → k ≤ e → next_component mode v k ≤ next_component mode v e
+next_mono mode v k e low =
+    let so_far : next_component mode v k ≤ next_component mode v (k + (e - k)) = next_mono_by mode v k (e - k) in
+    let place : k + (e - k) ≡ e = omega arith in
+    let same : next_component mode v (k + (e - k)) ≡ next_component mode v e = ap (next_component mode v) place in
     omega arith
 
 -- What ends a component at a later place ends this one or a later one.
-pub next_before_end : (mode : Mode) (v : List ℕ) (x y : ℕ) → x ≤ y → y < length v → ends mode (get_or v y 0) ≡ true
-    → next_component mode v x ≤ y + 1
-next_before_end mode v x y low inside end =
-    let so_far : next_component mode v x ≤ next_component mode v y = next_mono mode v x y low in
-    let here : next_component mode v y ≡ y + 1 = next-end mode v y inside end in
+pub next_before_end : (mode : Mode) (v : List ℕ) (k e : ℕ) → k ≤ e → e < length v → ends mode (get_or v e 0) ≡ true
+    → next_component mode v k ≤ e + 1
+next_before_end mode v k e low inside end =
+    let so_far : next_component mode v k ≤ next_component mode v e = next_mono mode v k e low in
+    let here : next_component mode v e ≡ e + 1 = next-end mode v e inside end in
     omega arith
 
 -- in plain mode each byte is a component
-pub next_plain : (mode : Mode) (v : List ℕ) (x : ℕ) → is_path mode ≡ false → next_component mode v x ≡ x + 1
-next_plain mode v x plain = elim (cases_lt x (length v)) [
-  | inl inside ↦ next-end mode v x inside (ends_plain mode (get_or v x 0) plain)
-  | inr outside ↦ next-past mode v x outside
+pub next_plain : (mode : Mode) (v : List ℕ) (k : ℕ) → is_path mode ≡ false → next_component mode v k ≡ k + 1
+next_plain mode v k plain = elim (cases_lt k (length v)) [
+  | inl inside ↦ next-end mode v k inside (ends_plain mode (get_or v k 0) plain)
+  | inr outside ↦ next-past mode v k outside
 ]

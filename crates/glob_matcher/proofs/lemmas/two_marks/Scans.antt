@@ -20,7 +20,7 @@ use Rattle.glob_matcher.specs.Private.Scans.{Follows, IsScan, Passed, reached_by
 use Rattle.glob_matcher.specs.Private.States.{IsMet, IsScanFor, Stands}
 use Rattle.glob_matcher.specs.Steps.{Counts}
 use Rattle.glob_matcher.specs.Private.Took.{Took}
-use Rattle.glob_matcher.specs.Private.Prices.{Kind, amount, move}
+use Rattle.glob_matcher.specs.Private.Prices.{Measure, amount, move}
 use Rattle.glob_matcher.specs.Private.Budget.{Allows, Missed}
 use Rattle.glob_matcher.proofs.lemmas.two_marks.Components.{inner}
 use Rattle.glob_matcher.proofs.lemmas.two_marks.States.{end_missed, free_moved, inner_of, left_without, literal_token, local_moved, mark_of, mark_eq, misses_byte, stands_on, stands_past_slash}
@@ -64,18 +64,18 @@ suited mode p i (follow.Folded b) c is suits = (
 suited mode p i follow.End c is suits = absurd suits
 
 -- where the value has not what follows, the token there takes no byte
-pub unsuited : (mode : Mode) (p v : List ℕ) (i j : ℕ) (f : Follow) → Follows mode p i f → j < length v → ¬ Suits f (get_or v j 0)
-    → ¬ SplitsFrom v j p i mode
-unsuited mode p v i j (follow.Byte b) is inside other =
-    misses_byte v j (literal_token mode p i is.0.inside (subst StandsForItself (sym is.0.is) is.1)) refl (omega arith)
-    (λ fits. other (sym (fold_exact mode (get_or v j 0) is.2) ∙ (fits.1 ∙ (fold_exact mode (get_or p i 0) is.2 ∙ is.0.is))))
-unsuited mode p v i j (follow.Folded b) is inside other =
-    misses_byte v j (literal_token mode p i is.0.inside (subst StandsForItself (sym is.0.is) is.1)) refl (omega arith)
+pub unsuited : (mode : Mode) (p v : List ℕ) (i k : ℕ) (f : Follow) → Follows mode p i f → k < length v → ¬ Suits f (get_or v k 0)
+    → ¬ SplitsFrom v k p i mode
+unsuited mode p v i k (follow.Byte b) is inside other =
+    misses_byte v k (literal_token mode p i is.0.inside (subst StandsForItself (sym is.0.is) is.1)) refl (omega arith)
+    (λ fits. other (sym (fold_exact mode (get_or v k 0) is.2) ∙ (fits.1 ∙ (fold_exact mode (get_or p i 0) is.2 ∙ is.0.is))))
+unsuited mode p v i k (follow.Folded b) is inside other =
+    misses_byte v k (literal_token mode p i is.0.inside (subst StandsForItself (sym is.0.is) is.1)) refl (omega arith)
     (λ fits.
     other
-    (sym (fold_lower mode (get_or v j 0) is.2)
+    (sym (fold_lower mode (get_or v k 0) is.2)
     ∙ (fits.1 ∙ (fold_lower mode (get_or p i 0) is.2 ∙ ap to_ascii_lowercase is.0.is))))
-unsuited mode p v i j follow.End is inside other = end_missed mode p v i j is (λ past. omega arith)
+unsuited mode p v i k follow.End is inside other = end_missed mode p v i k is (λ past. omega arith)
 
 -- A scan for what follows is a scan for the rest of the pattern, after the look at what follows.
 pub scan_for : (mode : Mode) (p : List ℕ) {v : List ℕ} (f : Follow) {from : Mark} {s : Scan} {before between after : Counts}
@@ -134,22 +134,22 @@ pub stands_free_skipped : {mode : Mode} {p v : List ℕ} {m : Mark} (x : Mark) �
 stands_free_skipped {m} x st same low inside missed =
     free_skips (x.at - m.at) x st same (omega arith) inside missed
 
-free_skips_counts : (d : ℕ) {kind : Kind} {mode : Mode} {p v : List ℕ} {m : Mark} (x : Mark) {s n : ℕ}
-    → Allows kind mode p v m.place m.at (crossing.Free m) None s n → x.place ≡ m.place → x.at ≡ m.at + d → x.at ≤ length v
-    → Allows kind mode p v x.place x.at (crossing.Free x) None (s + 2 * d) n
-free_skips_counts zero {kind} {mode} {p} {v} {m} x {s} {n} a same far inside =
+free_skips_counts : (d : ℕ) {measure : Measure} {mode : Mode} {p v : List ℕ} {m : Mark} (x : Mark) {s n : ℕ}
+    → Allows measure mode p v m.place m.at (crossing.Free m) None s n → x.place ≡ m.place → x.at ≡ m.at + d → x.at ≤ length v
+    → Allows measure mode p v x.place x.at (crossing.Free x) None (s + 2 * d) n
+free_skips_counts zero {measure} {mode} {p} {v} {m} x {s} {n} a same far inside =
     let at : x.at ≡ m.at = omega arith in
     allows_less (omega arith)
-    (subst (λ (y : Mark). Allows kind mode p v y.place y.at (crossing.Free y) None s n) (mark_eq x m.place m.at same at) a)
-free_skips_counts (suc d) {kind} {m = m} x a same far inside =
+    (subst (λ (y : Mark). Allows measure mode p v y.place y.at (crossing.Free y) None s n) (mark_eq x m.place m.at same at) a)
+free_skips_counts (suc d) {measure} {m = m} x a same far inside =
     let next : Mark = mark_of m.place (m.at + 1) in
     let left = left_missed (omega arith) (allows_missed a) in
-    allows_less (omega (arith, move_some kind))
+    allows_less (omega (arith, move_some measure))
     (free_skips_counts d x (allows_free_moved next (omega arith) refl refl left) same (omega arith) inside)
 
-pub allows_free_skipped : {kind : Kind} {mode : Mode} {p v : List ℕ} {m : Mark} (x : Mark) {s n : ℕ}
-    → Allows kind mode p v m.place m.at (crossing.Free m) None s n → x.place ≡ m.place → m.at ≤ x.at → x.at ≤ length v
-    → Allows kind mode p v x.place x.at (crossing.Free x) None (s + 2 * (x.at - m.at)) n
+pub allows_free_skipped : {measure : Measure} {mode : Mode} {p v : List ℕ} {m : Mark} (x : Mark) {s n : ℕ}
+    → Allows measure mode p v m.place m.at (crossing.Free m) None s n → x.place ≡ m.place → m.at ≤ x.at → x.at ≤ length v
+    → Allows measure mode p v x.place x.at (crossing.Free x) None (s + 2 * (x.at - m.at)) n
 allows_free_skipped {m = m} x a same low inside = free_skips_counts (x.at - m.at) x a same (omega arith) inside
 
 -- The local mark moves on within its component, over places from which the rest of the pattern splits nothing.
@@ -173,24 +173,24 @@ pub stands_local_skipped : {mode : Mode} {p v : List ℕ} {c : Crossing} {m : Ma
 stands_local_skipped {m} x st same low inside bare missed =
     local_skips (x.at - m.at) x st same (omega arith) inside bare missed
 
-local_skips_counts : (d : ℕ) {kind : Kind} {mode : Mode} {p v : List ℕ} {c : Crossing} {m : Mark} (x : Mark) {s n : ℕ}
-    → IsTrue (is_path mode) → Allows kind mode p v m.place m.at c (Some m) s n → x.place ≡ m.place → x.at ≡ m.at + d
-    → x.at ≤ length v → NoSlash v m.at x.at → Allows kind mode p v x.place x.at c (Some x) (s + 2 * d) n
-local_skips_counts zero {kind} {mode} {p} {v} {c} {m} x {s} {n} path a same far inside bare =
+local_skips_counts : (d : ℕ) {measure : Measure} {mode : Mode} {p v : List ℕ} {c : Crossing} {m : Mark} (x : Mark) {s n : ℕ}
+    → IsTrue (is_path mode) → Allows measure mode p v m.place m.at c (Some m) s n → x.place ≡ m.place → x.at ≡ m.at + d
+    → x.at ≤ length v → NoSlash v m.at x.at → Allows measure mode p v x.place x.at c (Some x) (s + 2 * d) n
+local_skips_counts zero {measure} {mode} {p} {v} {c} {m} x {s} {n} path a same far inside bare =
     let at : x.at ≡ m.at = omega arith in
     allows_less (omega arith)
-    (subst (λ (y : Mark). Allows kind mode p v y.place y.at c (Some y) s n) (mark_eq x m.place m.at same at) a)
-local_skips_counts (suc d) {kind} {mode} {v = v} {m = m} x path a same far inside bare =
+    (subst (λ (y : Mark). Allows measure mode p v y.place y.at c (Some y) s n) (mark_eq x m.place m.at same at) a)
+local_skips_counts (suc d) {measure} {mode} {v = v} {m = m} x path a same far inside bare =
     let next : Mark = mark_of m.place (m.at + 1) in
     let within = inner mode (get_or v m.at 0) path (bare.at m.at (omega arith) (omega arith)) in
-    allows_less (omega (arith, move_some kind))
+    allows_less (omega (arith, move_some measure))
     (local_skips_counts d x path
     (allows_local_moved next (omega arith) within refl refl (allows_missed a)) same (omega arith) inside
     (record { at = λ k low below. bare.at k (omega arith) below }))
 
-pub allows_local_skipped : {kind : Kind} {mode : Mode} {p v : List ℕ} {c : Crossing} {m : Mark} (x : Mark) {s n : ℕ}
-    → IsTrue (is_path mode) → Allows kind mode p v m.place m.at c (Some m) s n → x.place ≡ m.place → m.at ≤ x.at
-    → x.at ≤ length v → NoSlash v m.at x.at → Allows kind mode p v x.place x.at c (Some x) (s + 2 * (x.at - m.at)) n
+pub allows_local_skipped : {measure : Measure} {mode : Mode} {p v : List ℕ} {c : Crossing} {m : Mark} (x : Mark) {s n : ℕ}
+    → IsTrue (is_path mode) → Allows measure mode p v m.place m.at c (Some m) s n → x.place ≡ m.place → m.at ≤ x.at
+    → x.at ≤ length v → NoSlash v m.at x.at → Allows measure mode p v x.place x.at c (Some x) (s + 2 * (x.at - m.at)) n
 allows_local_skipped {m = m} x path a same low inside bare =
     local_skips_counts (x.at - m.at) x path a same (omega arith) inside bare
 
@@ -210,47 +210,47 @@ free_found {mode} {p} {m} st met =
           stands_on st token refl met.2 met.3 (λ is. other (byte_of is))
     ]
 
-byte_price : (kind : Kind) (i s : ℕ) → s + amount kind 1 8 ≤ s + amount kind 1 (8 * (i + 1 - i))
-byte_price kind i s = let more : amount kind 1 8 ≤ amount kind 1 (8 * (i + 1 - i)) = amount_mono kind (omega arith) (omega arith) in omega arith
+byte_price : (measure : Measure) (i s : ℕ) → s + amount measure 1 8 ≤ s + amount measure 1 (8 * (i + 1 - i))
+byte_price measure i s = let more : amount measure 1 8 ≤ amount measure 1 (8 * (i + 1 - i)) = amount_mono measure (omega arith) (omega arith) in omega arith
 
-pub free_found_counts : {kind : Kind} {mode : Mode} {p v : List ℕ} {m : Mark} {s n : ℕ}
-    → Allows kind mode p v m.place m.at (crossing.Free m) None s n → IsMet mode p v (scan.Found m)
-    → Allows kind mode p v (m.place + 1) (m.at + 1) (crossing.Free m) None (s + amount kind 1 8) n
-free_found_counts {kind} {mode} {p} {m = m} {s} a met =
+pub free_found_counts : {measure : Measure} {mode : Mode} {p v : List ℕ} {m : Mark} {s n : ℕ}
+    → Allows measure mode p v m.place m.at (crossing.Free m) None s n → IsMet mode p v (scan.Found m)
+    → Allows measure mode p v (m.place + 1) (m.at + 1) (crossing.Free m) None (s + amount measure 1 8) n
+free_found_counts {measure} {mode} {p} {m = m} {s} a met =
     let token = literal_token mode p m.place met.0 met.1 in
-    allows_past_slash token refl (byte_price kind m.place s) met.2 met.3 a
+    allows_past_slash token refl (byte_price measure m.place s) met.2 met.3 a
 
 -- what the local mark is past the byte after it
-pub record IsKept (p : List ℕ) (m : Mark) (l : Option Mark) : Type 0 where
-  pub forgotten : get_or p m.place 0 ≡ slash → l ≡ None
-  pub kept : get_or p m.place 0 ≢ slash → l ≡ Some m
+pub record IsLocalPast (p : List ℕ) (m : Mark) (l : Option Mark) : Type 0 where
+  pub at_slash : get_or p m.place 0 ≡ slash → l ≡ None
+  pub at_other : get_or p m.place 0 ≢ slash → l ≡ Some m
 
 -- The byte after a run of stars within a component is found.
 pub local_found : {mode : Mode} {p v : List ℕ} {c : Crossing} {m : Mark} {l : Option Mark} → Stands mode p v m.place m.at c (Some m)
-    → IsMet mode p v (scan.Found m) → IsKept p m l → Stands mode p v (m.place + 1) (m.at + 1) c l
-local_found {mode} {p} {v} {c} {m} st met k =
+    → IsMet mode p v (scan.Found m) → IsLocalPast p m l → Stands mode p v (m.place + 1) (m.at + 1) c l
+local_found {mode} {p} {v} {c} {m} st met mark =
     let token = literal_token mode p m.place met.0 met.1 in
     elim (same_or_not (get_or p m.place 0) slash) [
       | inl is ↦
-          subst (λ (x : Option Mark). Stands mode p v (m.place + 1) (m.at + 1) c x) (sym (k.forgotten is))
+          subst (λ (x : Option Mark). Stands mode p v (m.place + 1) (m.at + 1) c x) (sym (mark.at_slash is))
           (stands_past_slash st token refl met.2 met.3 (ap Byte is))
       | inr other ↦
-          subst (λ (x : Option Mark). Stands mode p v (m.place + 1) (m.at + 1) c x) (sym (k.kept other))
+          subst (λ (x : Option Mark). Stands mode p v (m.place + 1) (m.at + 1) c x) (sym (mark.at_other other))
           (stands_on st token refl met.2 met.3 (λ is. other (byte_of is)))
     ]
 
-pub local_found_counts : {kind : Kind} {mode : Mode} {p v : List ℕ} {c : Crossing} {m : Mark} {l : Option Mark} {s n : ℕ}
-    → Stands mode p v m.place m.at c (Some m) → Allows kind mode p v m.place m.at c (Some m) s n → IsMet mode p v (scan.Found m)
-    → IsKept p m l → Allows kind mode p v (m.place + 1) (m.at + 1) c l (s + amount kind 1 8) n
-local_found_counts {kind} {mode} {p} {v} {c} {m} {l} {s} {n} st a met k =
+pub local_found_counts : {measure : Measure} {mode : Mode} {p v : List ℕ} {c : Crossing} {m : Mark} {l : Option Mark} {s n : ℕ}
+    → Stands mode p v m.place m.at c (Some m) → Allows measure mode p v m.place m.at c (Some m) s n → IsMet mode p v (scan.Found m)
+    → IsLocalPast p m l → Allows measure mode p v (m.place + 1) (m.at + 1) c l (s + amount measure 1 8) n
+local_found_counts {measure} {mode} {p} {v} {c} {m} {l} {s} {n} st a met mark =
     let token = literal_token mode p m.place met.0 met.1 in
     elim (same_or_not (get_or p m.place 0) slash) [
       | inl is ↦
-          subst (λ (x : Option Mark). Allows kind mode p v (m.place + 1) (m.at + 1) c x (s + amount kind 1 8) n) (sym (k.forgotten is))
-          (allows_past_slash token refl (byte_price kind m.place s) met.2 met.3 a)
+          subst (λ (x : Option Mark). Allows measure mode p v (m.place + 1) (m.at + 1) c x (s + amount measure 1 8) n) (sym (mark.at_slash is))
+          (allows_past_slash token refl (byte_price measure m.place s) met.2 met.3 a)
       | inr other ↦
-          subst (λ (x : Option Mark). Allows kind mode p v (m.place + 1) (m.at + 1) c x (s + amount kind 1 8) n) (sym (k.kept other))
-          (allows_on token refl (byte_price kind m.place s) met.2 met.3
+          subst (λ (x : Option Mark). Allows measure mode p v (m.place + 1) (m.at + 1) c x (s + amount measure 1 8) n) (sym (mark.at_other other))
+          (allows_on token refl (byte_price measure m.place s) met.2 met.3
           (inner_of mode p v m.place m.at c (Some m) token.token st.local met.3 (λ is. other (byte_of is))) a)
     ]
 
@@ -288,19 +288,19 @@ none_of None other = refl
 none_of (Some m) other = absurd (other m refl)
 
 -- A scan from the local mark, once it has moved: the engine stands where the scan has come to.
-pub local_scanned : {mode : Mode} {p v : List ℕ} {i j : ℕ} {c : Crossing} {m x : Mark} {s : Scan} {before after : Counts}
-    → Stands mode p v i j c (Some m) → ¬ SplitsFrom v j p i mode → m.at < length v → get_or v m.at 0 ≢ slash → x.place ≡ m.place
+pub local_scanned : {mode : Mode} {p v : List ℕ} {i k : ℕ} {c : Crossing} {m x : Mark} {s : Scan} {before after : Counts}
+    → Stands mode p v i k c (Some m) → ¬ SplitsFrom v k p i mode → m.at < length v → get_or v m.at 0 ≢ slash → x.place ≡ m.place
     → x.at ≡ m.at + 1 → IsScanFor mode p v x s before after → NoSlash v x.at (reached_by s).at
     → Stands mode p v (reached_by s).place (reached_by s).at c (Some (reached_by s))
 local_scanned {x = x} {s} st miss inside other same at so bare =
     stands_local_skipped (reached_by s) (local_moved x st miss inside other same at) so.same so.low
     so.inside bare so.missed
 
-pub local_scanned_counts : {kind : Kind} {mode : Mode} {p v : List ℕ} {i j : ℕ} {c : Crossing} {m x : Mark} {s : Scan} {before after : Counts} {w n : ℕ}
-    → Stands mode p v i j c (Some m) → m.at < length v → get_or v m.at 0 ≢ slash → x.place ≡ m.place → x.at ≡ m.at + 1
-    → IsScanFor mode p v x s before after → NoSlash v x.at (reached_by s).at → Missed kind mode p v i j c (Some m) w n
-    → Allows kind mode p v (reached_by s).place (reached_by s).at c (Some (reached_by s))
-    (w + move kind + 2 * ((reached_by s).at - x.at)) n
+pub local_scanned_counts : {measure : Measure} {mode : Mode} {p v : List ℕ} {i k : ℕ} {c : Crossing} {m x : Mark} {s : Scan} {before after : Counts} {w n : ℕ}
+    → Stands mode p v i k c (Some m) → m.at < length v → get_or v m.at 0 ≢ slash → x.place ≡ m.place → x.at ≡ m.at + 1
+    → IsScanFor mode p v x s before after → NoSlash v x.at (reached_by s).at → Missed measure mode p v i k c (Some m) w n
+    → Allows measure mode p v (reached_by s).place (reached_by s).at c (Some (reached_by s))
+    (w + move measure + 2 * ((reached_by s).at - x.at)) n
 local_scanned_counts {mode = mode} {v = v} {m = m} {x} {s} st inside other same at so bare a =
     let within = inner mode (get_or v m.at 0) st.local.path other in
     allows_local_skipped (reached_by s) st.local.path (allows_local_moved x inside within same at a) so.same so.low so.inside bare

@@ -6,7 +6,7 @@ use Rattle.glob_matcher.specs.declared.wildmatch.state.Turn.{Turn}
 use Rattle.glob_matcher.specs.declared.wildmatch.state.Turn.TheVariants as turn
 use Rattle.glob_matcher.specs.Steps.{Counts}
 use Rattle.glob_matcher.specs.Private.Took.{Took}
-use Rattle.glob_matcher.specs.declared.wildmatch.tokens.Shape.{Shape}
+use Rattle.glob_matcher.specs.declared.wildmatch.tokens.TokenKind.{TokenKind}
 use Rattle.glob_matcher.specs.Private.Looks.{IsSetPaid}
 use Rattle.glob_matcher.specs.Private.Reader.{IsTokenRead, is_star}
 use Rattle.glob_matcher.specs.Private.Budget.{CountsOutcome}
@@ -24,19 +24,19 @@ pub turn_on : {mode : Mode} {p v : List ℕ} {state : State} {t : Turn} {before 
     → IsTurn mode p v state looked t before after
 turn_on {t = t} {before} {between} {after} {looked = looked} taken enough so = record {
   meaning = so.meaning;
-  allows = λ kind s n low a. so.allows kind s n (took_within kind s 0 looked low taken (omega arith) enough) a;
+  allows = λ measure s n low a. so.allows measure s n (took_within measure s 0 looked low taken (omega arith) enough) a;
   progress = counts_on t before.steps between.steps after.steps (omega (arith, taken.steps)) so.progress;
 }
 
 -- the looks of the readers
-pub token_looks : {before after : Counts} {i : ℕ} {shape : Shape} {j : ℕ} → i < j → IsTokenRead before after i shape j
+pub token_looks : {before after : Counts} {i : ℕ} {kind : TokenKind} {j : ℕ} → i < j → IsTokenRead before after i kind j
     → Took before after 0 (6 * (j - i))
-token_looks {before} {after} {i} {shape} {j} past read = cases (is_star shape) refl where
-  cases : (star : Bool) → is_star shape ≡ star → Took before after 0 (6 * (j - i))
+token_looks {before} {after} {i} {kind} {j} past read = cases (is_star kind) refl where
+  cases : (star : Bool) → is_star kind ≡ star → Took before after 0 (6 * (j - i))
   cases true star = record { steps = omega (arith, read.steps); looks = omega (arith, read.run star) }
   cases false one = record { steps = omega (arith, read.steps); looks = omega (arith, read.other one) }
 
-pub star_looks : {before after : Counts} {i : ℕ} {shape : Shape} {j : ℕ} → i < j → is_star shape ≡ true → IsTokenRead before after i shape j
+pub star_looks : {before after : Counts} {i : ℕ} {kind : TokenKind} {j : ℕ} → i < j → is_star kind ≡ true → IsTokenRead before after i kind j
     → Took before after 0 (5 * (j - i) - 3)
 star_looks {i = i} {j = j} past star read = record { steps = omega (arith, read.steps); looks = omega (arith, read.run star) }
 

@@ -3,4 +3,4 @@ use Rattle.std.proofs.Common.{◌≡◌, ℕ, ◌<◌, ◌≤◌, get_or}
 use Rattle.glob_matcher.proofs.wildmatch.plain.has_no_slash.Given as goal
 
 abbrev pub invariant-loop-reached : goal.invariant-loop-reached
-invariant-loop-reached l = (k : ℕ) → l.at ≤ k → k < l.reached → get_or l.value k 0 ≡ 47 → ⊥
+invariant-loop-reached l = (m : ℕ) → l.at ≤ m → m < l.reached → get_or l.value m 0 ≡ 47 → ⊥

@@ -4,7 +4,7 @@ use Rattle.glob_matcher.specs.declared.wildmatch.pruned.Answer.TheVariants.{Matc
 use Rattle.glob_matcher.specs.Pruning.{IsStart}
 use Rattle.glob_matcher.specs.Tokens.{Free, Local, Dirs, TokenAt}
 use Rattle.glob_matcher.proofs.lemmas.reading.Starts.{start_next, start_inside, boundary_next}
-use Rattle.glob_matcher.proofs.lemmas.reading.Shapes.{is_free, is_local, is_dirs, is_nothing, is_one, dirs_boundary}
+use Rattle.glob_matcher.proofs.lemmas.reading.TokenKinds.{is_free, is_local, is_dirs, is_nothing, is_one, dirs_boundary}
 use Rattle.glob_matcher.proofs.lemmas.cutting.Alignments.{aligned_next}
 use Rattle.glob_matcher.proofs.lemmas.pruned.AttemptLemmas.{end_here, value_ends, nothing_here, misses, star_here}
 use Rattle.glob_matcher.proofs.lemmas.cutting.StarLemmas.{first_token, tried_next, cross_none, cross_answer, stay_more, stay_none, stay_answer, free_star, local_star, dirs_star, descent_here, descent_later}
@@ -17,51 +17,51 @@ not_match answer (inr is) e = cc
 
 pub attempt-returns-in-Free : goal.attempt-returns-in-Free
 attempt-returns-in-Free t c =
-    let here = is_free c.token_at-shape.ensures c.in-Free.is in
+    let here = is_free c.token_at-kind.ensures c.in-Free.is in
     star_here c.tokens.invariant (λ deep. omega arith)
     (free_star here c.tokens.invariant.value_high c.cross.ensures)
 
 pub attempt-returns-in-Local : goal.attempt-returns-in-Local
 attempt-returns-in-Local t c =
-    let here = is_local c.token_at-shape.ensures c.in-Local.is in
+    let here = is_local c.token_at-kind.ensures c.in-Local.is in
     star_here c.tokens.invariant (λ deep. omega arith)
     (local_star here c.tokens.invariant.value_high c.stay.ensures)
 
 pub attempt-returns-in-Dirs : goal.attempt-returns-in-Dirs
 attempt-returns-in-Dirs t c =
-    let here = is_dirs c.token_at-shape.ensures c.in-Dirs.is in
+    let here = is_dirs c.token_at-kind.ensures c.in-Dirs.is in
     star_here c.tokens.invariant (λ deep. omega arith)
     (dirs_star here c.tokens.invariant.value_high (c.descend.ensures c.tokens.place here))
 
 pub attempt-returns-in-Nothing : goal.attempt-returns-in-Nothing
 attempt-returns-in-Nothing t c =
-    let here = is_nothing c.token_at-shape.ensures c.in-Nothing.is in
+    let here = is_nothing c.token_at-kind.ensures c.in-Nothing.is in
     nothing_here c.tokens.invariant (λ deep. omega arith)
-    c.token_at-shape.result.1 here
+    c.token_at-kind.result.1 here
 
 pub attempt-returns-then-at-value : goal.attempt-returns-then-at-value
 attempt-returns-then-at-value t c =
-    let s = c.token_at-shape in
+    let s = c.token_at-kind in
     let one = is_one s.ensures c.in-Byte.is in
     value_ends c.tokens.invariant (λ deep. omega arith)
     s.ensures.token s.result.1 one s.ensures.here c.if-at-value.true
 
 pub attempt-returns-then-not-takes : goal.attempt-returns-then-not-takes
 attempt-returns-then-not-takes t c =
-    let s = c.token_at-shape in
+    let s = c.token_at-kind in
     let one = is_one s.ensures c.in-Byte.is in
     let high : c.tokens.at ≤ length c.args.value.now = c.tokens.invariant.value_high in
-    let fits = c.if-not-takes.ensures s.ensures.token s.result.1 s.ensures.here s.ensures.shown in
+    let fits = c.if-not-takes.ensures s.ensures.token s.result.1 s.ensures.here s.ensures.same_kind in
     misses c.tokens.invariant (λ deep. omega arith)
     s.ensures.token s.result.1 one s.ensures.here (omega arith) (λ f. let never = fits.1 f in cc)
 
 pub attempt-tokens-preserved : goal.attempt-tokens-preserved
 attempt-tokens-preserved t c =
     let p = c.args.pattern.now in
-    let s = c.token_at-shape in
+    let s = c.token_at-kind in
     let one = is_one s.ensures c.in-Byte.is in
     let high : c.tokens.at ≤ length c.args.value.now = c.tokens.invariant.value_high in
-    let fits = c.if-not-takes.ensures s.ensures.token s.result.1 s.ensures.here s.ensures.shown in
+    let fits = c.if-not-takes.ensures s.ensures.token s.result.1 s.ensures.here s.ensures.same_kind in
     aligned_next s.ensures.token s.result.1 c.tokens.invariant one s.ensures.here s.ensures.past (omega arith) (fits.0 refl)
 
 pub attempt-returns : goal.attempt-returns
@@ -70,33 +70,33 @@ attempt-returns t c =
     let inside : c.tokens.place ≤ length p = start_inside c.tokens.invariant.start in
     end_here c.tokens.invariant (λ deep. omega arith) (omega arith) c.end_answer.ensures.ends c.end_answer.ensures.more
 
-pub cross-token_at-shape-requires : goal.cross-token_at-shape-requires
-cross-token_at-shape-requires t c =
+pub cross-token_at-kind-requires : goal.cross-token_at-kind-requires
+cross-token_at-kind-requires t c =
     let inside : c.args.place ≤ length c.args.pattern.now = start_inside c.requires.start in
     omega arith
 
-pub stay-token_at-shape-requires : goal.stay-token_at-shape-requires
-stay-token_at-shape-requires t c =
+pub stay-token_at-kind-requires : goal.stay-token_at-kind-requires
+stay-token_at-kind-requires t c =
     let inside : c.args.place ≤ length c.args.pattern.now = start_inside c.requires.start in
     omega arith
 
 pub cross-returns-in_default-attempt : goal.cross-returns-in_default-attempt
 cross-returns-in_default-attempt t c =
-    let s = c.token_at-shape in
+    let s = c.token_at-kind in
     let first = first_token c.requires.no_star s.ensures c.literal-wanted.ensures in
     cross_answer c.attempt.result c.requires.no_star c.places.invariant first c.in-Some.ensures.found c.in-Some.ensures.inside c.attempt.ensures
     c.in_default-attempt.not-NoMatch c.in_default-attempt.not-AbortToStarStar
 
 pub cross-places-preserved : goal.cross-places-preserved
 cross-places-preserved t c =
-    let s = c.token_at-shape in
+    let s = c.token_at-kind in
     let first = first_token c.requires.no_star s.ensures c.literal-wanted.ensures in
     tried_next c.places.invariant first c.in-Some.ensures.found c.in-Some.ensures.inside c.attempt.ensures
     (not_match c.attempt.result c.in-NoMatch.is)
 
 pub cross-returns : goal.cross-returns
 cross-returns t c =
-    let s = c.token_at-shape in
+    let s = c.token_at-kind in
     let first = first_token c.requires.no_star s.ensures c.literal-wanted.ensures in
     cross_none c.places.invariant first c.in_default.ensures.none
 
@@ -114,28 +114,28 @@ stay-returns-then-end-value t c =
 
 pub stay-places-preserved : goal.stay-places-preserved
 stay-places-preserved t c =
-    let s = c.token_at-shape in
+    let s = c.token_at-kind in
     let first = first_token c.requires.no_star s.ensures c.literal-wanted.ensures in
     tried_next c.places.invariant first c.in-Some.ensures.found c.in-Some.ensures.inside c.attempt.ensures
     (λ e. let same = c.in-NoMatch.is in cc)
 
 pub stay-returns-in_default-attempt : goal.stay-returns-in_default-attempt
 stay-returns-in_default-attempt t c =
-    let s = c.token_at-shape in
+    let s = c.token_at-kind in
     let first = first_token c.requires.no_star s.ensures c.literal-wanted.ensures in
     stay_answer c.attempt.result c.requires.no_star c.component_end-end.ensures c.min-until.ensures c.places.invariant first
     c.in-Some.ensures.found c.in-Some.ensures.inside c.attempt.ensures c.in_default-attempt.not-NoMatch
 
 pub stay-returns : goal.stay-returns
 stay-returns t c =
-    let s = c.token_at-shape in
+    let s = c.token_at-kind in
     let first = first_token c.requires.no_star s.ensures c.literal-wanted.ensures in
     stay_none c.component_end-end.ensures c.min-until.ensures c.places.invariant first c.in_default.ensures.none
 
 pub attempt-cross-requires : goal.attempt-cross-requires
 attempt-cross-requires t c =
     let p = c.args.pattern.now in
-    let s = c.token_at-shape in
+    let s = c.token_at-kind in
     let here : TokenAt c.args.mode p c.tokens.place Free s.result.1 = is_free s.ensures c.in-Free.is in
     let start : IsStart p s.result.1 c.args.mode = record { place = inl (start_next Free s.result.1 c.tokens.invariant.start here) } in
     (search rules, (start, (here.run.whole, (c.tokens.invariant.value_high, omega arith))))
@@ -143,7 +143,7 @@ attempt-cross-requires t c =
 pub attempt-stay-requires : goal.attempt-stay-requires
 attempt-stay-requires t c =
     let p = c.args.pattern.now in
-    let s = c.token_at-shape in
+    let s = c.token_at-kind in
     let here : TokenAt c.args.mode p c.tokens.place Local s.result.1 = is_local s.ensures c.in-Local.is in
     let start : IsStart p s.result.1 c.args.mode = record { place = inl (start_next Local s.result.1 c.tokens.invariant.start here) } in
     (search rules, (start, (here.run.whole, (c.tokens.invariant.value_high, omega arith))))
@@ -151,7 +151,7 @@ attempt-stay-requires t c =
 pub attempt-descend-requires : goal.attempt-descend-requires
 attempt-descend-requires t c =
     let p = c.args.pattern.now in
-    let s = c.token_at-shape in
+    let s = c.token_at-kind in
     let here : TokenAt c.args.mode p c.tokens.place Dirs s.result.1 = is_dirs s.ensures c.in-Dirs.is in (
       search rules,
       (

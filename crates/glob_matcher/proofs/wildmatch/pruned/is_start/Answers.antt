@@ -1,5 +1,5 @@
 use Rattle.std.proofs.Common.{◌≡◌, ℕ, ◌<◌, ◌≤◌, inl, length, ◌∙◌, ap, subst, arith, eq-eqb, eqb-true}
-use Rattle.glob_matcher.specs.Private.Reader.{shape_of}
+use Rattle.glob_matcher.specs.Private.Reader.{kind_of}
 use Rattle.glob_matcher.proofs.lemmas.reading.Starts.{scan_next, scan_end}
 use Rattle.glob_matcher.specs.Pruning.{IsBoundary}
 use Rattle.glob_matcher.proofs.wildmatch.pruned.is_start.Goals as goal
@@ -7,9 +7,9 @@ use Rattle.glob_matcher.proofs.wildmatch.pruned.is_start.Goals.{then-tokens-test
 
 pub tokens-preserved : goal.tokens-preserved
 tokens-preserved c =
-    let s = c.token_at-shape in
+    let s = c.token_at-kind in
     scan_next s.ensures.token s.result.1 c.tokens.invariant s.ensures.here
-    (omega arith) (λ is next. let yes = c.if-ends_at_slash.ensures.1 (s.ensures.shown ∙ ap shape_of is, next) in cc)
+    (omega arith) (λ is next. let yes = c.if-ends_at_slash.ensures.1 (s.ensures.same_kind ∙ ap kind_of is, next) in cc)
 
 pub returns : goal.returns
 returns c = (

@@ -13,14 +13,14 @@ pub returns-in-Unmet : goal.returns-in-Unmet
 returns-in-Unmet g c =
     record {
       meaning = unmet_left (known_crossing c.in-Unmet.is c.requires);
-      allows = λ kind n a. allows_left a;
+      allows = λ measure n a. allows_left a;
       progress = tt;
     }
 
 pub returns-in-Free : goal.returns-in-Free
 returns-in-Free g c =
     let m = g.M.Match in
-    subst (λ (x : Crossing). IsBacktrack m.mode m.pattern m.value (λ kind. AllowsLeft kind m.mode m.pattern m.value x (counted kind c.args.self.now))
+    subst (λ (x : Crossing). IsBacktrack m.mode m.pattern m.value (λ measure. AllowsLeft measure m.mode m.pattern m.value x (counted measure c.args.self.now))
     c.back_to_free.result c.args.self.now c.back_to_free.new.self) (sym c.in-Free.is) c.back_to_free.ensures
 
 pub returns-in-None : goal.returns-in-None
@@ -28,8 +28,8 @@ returns-in-None g c =
     let left = known_crossing c.in-Dirs.is c.requires in
     record {
       meaning = dirs_stuck left c.in-None.ensures.unable;
-      allows = λ kind n a.
-          dirs_stuck_counts (λ inside. moves_price kind (c.in-None.ensures.count inside)) (budget.known_crossing c.in-Dirs.is a);
+      allows = λ measure n a.
+          dirs_stuck_counts (λ inside. moves_price measure (c.in-None.ensures.count inside)) (budget.known_crossing c.in-Dirs.is a);
       progress = tt;
     }
 
@@ -40,8 +40,8 @@ returns-in-Some g c =
     let moves = c.in-Some.ensures.moves in
     record {
       meaning = known_places c.place.ensures c.at.ensures (dirs_moved left moved);
-      allows = λ kind n a.
+      allows = λ measure n a.
           budget.known_places c.place.ensures c.at.ensures
-          (allows_less (moves_price kind moves) (allows_dirs_moved moved (budget.known_crossing c.in-Dirs.is a)));
+          (allows_less (moves_price measure moves) (allows_dirs_moved moved (budget.known_crossing c.in-Dirs.is a)));
       progress = omega (arith, moved.after.past, moves.steps);
     }

@@ -10,7 +10,7 @@ pub returns-in_default : goal.returns-in_default
 returns-in_default g c =
     record {
       meaning = free_stuck c.requires c.in_default.ensures.unable;
-      allows = λ kind n a. omega (arith, free_stuck_counts a, move_price kind c.pass.ensures.count (omega arith) (omega arith));
+      allows = λ measure n a. omega (arith, free_stuck_counts a, move_price measure c.pass.ensures.count (omega arith) (omega arith));
       progress = tt;
     }
 
@@ -25,9 +25,9 @@ returns-in-Undecided g c =
       meaning =
           known_places c.place.ensures c.at.ensures
           (stands_free_skipped to (free_moved x c.requires moved.2 moved.0 moved.1) so.same so.low so.inside so.missed);
-      allows = λ kind n a.
+      allows = λ measure n a.
           budget.known_places c.place.ensures c.at.ensures
-          (allows_less (omega (arith, amount_same kind 0, scan_price kind passed 0 0 (took_both c.pass.ensures.count so.took) (omega arith) (omega arith)))
+          (allows_less (omega (arith, amount_same measure 0, scan_price measure passed 0 0 (took_both c.pass.ensures.count so.took) (omega arith) (omega arith)))
           (allows_free_skipped to (allows_free_moved x moved.2 moved.0 moved.1 a) so.same so.low so.inside));
       progress = omega (arith, so.took.steps, c.pass.ensures.count.steps);
     }
@@ -43,9 +43,9 @@ returns-in-Found g c =
       meaning =
           known_places (ap (λ (n : ℕ). n + 1) c.place-in-Found.ensures) (ap (λ (n : ℕ). n + 1) c.at-in-Found.ensures)
           (free_found (stands_free_skipped to (free_moved x c.requires moved.2 moved.0 moved.1) so.same so.low so.inside so.missed) so.met);
-      allows = λ kind n a.
+      allows = λ measure n a.
           budget.known_places (ap (λ (n : ℕ). n + 1) c.place-in-Found.ensures) (ap (λ (n : ℕ). n + 1) c.at-in-Found.ensures)
-          (allows_less (scan_price kind passed 1 8 (took_both c.pass.ensures.count so.took) (omega arith) (omega arith))
+          (allows_less (scan_price measure passed 1 8 (took_both c.pass.ensures.count so.took) (omega arith) (omega arith))
           (free_found_counts (allows_free_skipped to (allows_free_moved x moved.2 moved.0 moved.1 a) so.same so.low so.inside) so.met));
       progress = omega (arith, so.took.steps, c.pass.ensures.count.steps);
     }

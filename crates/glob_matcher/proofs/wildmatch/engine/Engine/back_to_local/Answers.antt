@@ -3,7 +3,7 @@ use Rattle.glob_matcher.proofs.lemmas.two_marks.States.{known_local, known_place
 use Rattle.glob_matcher.proofs.lemmas.two_marks.Prices.{amount_same, move_over, move_price, scan_price, took_both}
 use Rattle.glob_matcher.proofs.lemmas.two_marks.Budget as budget
 use Rattle.glob_matcher.proofs.lemmas.two_marks.Budget.{allows_less, allows_missed, left_less, left_missed, left_stuck_counts}
-use Rattle.glob_matcher.proofs.lemmas.two_marks.Scans.{IsKept, local_found, local_found_counts, local_scanned, local_scanned_counts, none_of}
+use Rattle.glob_matcher.proofs.lemmas.two_marks.Scans.{IsLocalPast, local_found, local_found_counts, local_scanned, local_scanned_counts, none_of}
 use Rattle.glob_matcher.proofs.wildmatch.engine.Engine.back_to_local.Goals as goal
 
 pub returns-in_default : goal.returns-in_default
@@ -11,7 +11,7 @@ returns-in_default g c =
     let none = none_of c.args.state.local c.in_default.not-Some in
     record {
       meaning = left_without (known_local none c.requires.stands) c.requires.missed;
-      allows = λ kind n a. left_missed c.requires.stands.inside (budget.known_local none a);
+      allows = λ measure n a. left_missed c.requires.stands.inside (budget.known_local none a);
       progress = tt;
       low = omega arith;
     }
@@ -23,8 +23,8 @@ returns-in_default-pass_within_or_end g c =
     let pass = c.pass_within_or_end.ensures.count in
     record {
       meaning = left_stuck here c.requires.missed stuck;
-      allows = λ kind n a.
-          left_less (move_price kind pass (omega arith) (omega arith)) (left_stuck_counts stuck (budget.known_local c.in-Some.is a));
+      allows = λ measure n a.
+          left_less (move_price measure pass (omega arith) (omega arith)) (left_stuck_counts stuck (budget.known_local c.in-Some.is a));
       progress = tt;
       low = omega (arith, pass.steps);
     }
@@ -40,8 +40,8 @@ returns-in-Blocked g c =
     let reached = local_scanned here c.requires.missed moved.2 moved.3 moved.0 moved.1 so bare in
     record {
       meaning = left_stuck reached so.met.2 (inr so.met.1);
-      allows = λ kind n a.
-          left_less (omega (arith, move_over kind, scan_price kind passed 2 5 (took_both pass so.took) (omega arith) (omega arith)))
+      allows = λ measure n a.
+          left_less (omega (arith, move_over measure, scan_price measure passed 2 5 (took_both pass so.took) (omega arith) (omega arith)))
           (left_stuck_counts (inr so.met.1)
           (allows_missed (local_scanned_counts here moved.2 moved.3 moved.0 moved.1 so bare (budget.known_local c.in-Some.is a))));
       progress = tt;
@@ -58,9 +58,9 @@ returns-in-Undecided g c =
     let pass = c.pass_within_or_end.ensures.count in
     record {
       meaning = known_places c.place.ensures c.at.ensures (local_scanned here c.requires.missed moved.2 moved.3 moved.0 moved.1 so bare);
-      allows = λ kind n a.
+      allows = λ measure n a.
           budget.known_places c.place.ensures c.at.ensures
-          (allows_less (omega (arith, amount_same kind 0, scan_price kind passed 0 0 (took_both pass so.took) (omega arith) (omega arith)))
+          (allows_less (omega (arith, amount_same measure 0, scan_price measure passed 0 0 (took_both pass so.took) (omega arith) (omega arith)))
           (local_scanned_counts here moved.2 moved.3 moved.0 moved.1 so bare (budget.known_local c.in-Some.is a)));
       progress = omega (arith, so.took.steps, pass.steps);
       low = omega (arith, so.took.steps, pass.steps);
@@ -74,18 +74,18 @@ returns-in-Found g c =
     let bare = c.in-Found.ensures.bare in
     let passed = 2 * (c.in-Found.found.at - c.in-Some-pass_within_or_end.moved.at) in
     let pass = c.pass_within_or_end.ensures.count in
-    let kept : IsKept g.M.Match.pattern c.in-Found.found c.local_past.result = record { forgotten = c.local_past.ensures.forgotten; kept = c.local_past.ensures.kept } in
+    let local : IsLocalPast g.M.Match.pattern c.in-Found.found c.local_past.result = record { at_slash = c.local_past.ensures.at_slash; at_other = c.local_past.ensures.at_other } in
     let all = took_both (took_both pass so.took) c.local_past.ensures.count in
     let reached = local_scanned here c.requires.missed moved.2 moved.3 moved.0 moved.1 so bare in
     record {
       meaning =
           known_places (ap (λ (x : ℕ). x + 1) c.place-in-Found.ensures) (ap (λ (x : ℕ). x + 1) c.at-in-Found.ensures)
-          (local_found reached so.met kept);
-      allows = λ kind n a.
+          (local_found reached so.met local);
+      allows = λ measure n a.
           budget.known_places (ap (λ (x : ℕ). x + 1) c.place-in-Found.ensures) (ap (λ (x : ℕ). x + 1) c.at-in-Found.ensures)
-          (allows_less (scan_price kind passed 1 8 all (omega arith) (omega arith))
+          (allows_less (scan_price measure passed 1 8 all (omega arith) (omega arith))
           (local_found_counts reached
-          (local_scanned_counts here moved.2 moved.3 moved.0 moved.1 so bare (budget.known_local c.in-Some.is a)) so.met kept));
+          (local_scanned_counts here moved.2 moved.3 moved.0 moved.1 so bare (budget.known_local c.in-Some.is a)) so.met local));
       progress = omega (arith, so.took.steps, pass.steps, c.local_past.ensures.count.steps);
       low = omega (arith, so.took.steps, pass.steps, c.local_past.ensures.count.steps);
     }

@@ -6,7 +6,7 @@ abbrev pub invariant-bytes : goal.invariant-bytes
 invariant-bytes g l = record {
   low : l.from ≤ l.place;
   inside : l.place ≤ length g.M.Match.pattern;
-  none : (k : ℕ) → l.from ≤ k → k < l.place → get_or g.M.Match.pattern k 0 ≡ 93 → ⊥;
+  none : (m : ℕ) → l.from ≤ m → m < l.place → get_or g.M.Match.pattern m 0 ≡ 93 → ⊥;
   steps : l.self.steps ≡ l.fn.self.steps;
   looks : l.self.looks + l.from ≤ l.fn.self.looks + l.place;
 }

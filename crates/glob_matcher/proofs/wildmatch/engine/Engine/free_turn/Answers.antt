@@ -10,9 +10,9 @@ returns-then-after-pattern_len g c =
     let last : c.args.after ≡ length m.pattern = omega (arith, c.if-after-pattern_len.true, c.pattern_len.ensures) in
     record {
       meaning = free_last c.requires.stands c.requires.token last;
-      allows = λ kind s n low a.
+      allows = λ measure s n low a.
           free_last_counts c.requires.token c.requires.stands.inside
-          (took_within kind s 0 _ low took_none (omega arith) (omega arith)) a;
+          (took_within measure s 0 _ low took_none (omega arith) (omega arith)) a;
       progress = tt;
     }
 
@@ -24,8 +24,8 @@ returns g c =
     record {
       meaning =
           free_met c.set_mark-mark.result c.requires.stands c.requires.token c.requires.inside more mark.place mark.at;
-      allows = λ kind s n low a.
+      allows = λ measure s n low a.
           allows_free c.set_mark-mark.result c.requires.token more (free_known m.value c.requires.token c.requires.inside more)
-          c.requires.stands.inside mark.place mark.at (took_within kind s 0 _ low mark.count (omega arith) (omega arith)) a;
+          c.requires.stands.inside mark.place mark.at (took_within measure s 0 _ low mark.count (omega arith) (omega arith)) a;
       progress = omega (arith, mark.count.steps);
     }

@@ -27,17 +27,17 @@ returns-then-not-has g c =
             (subst (λ (b : ℕ). (c.bytes.at < length m.value) × Fits m.mode (Byte b) (get_or m.value c.bytes.at 0)) (sym same) fits) in
             cc);
       };
-      allows = λ kind s n low a.
+      allows = λ measure s n low a.
           let passed = c.bytes.place - c.args.state.place in
           let one = took_both c.pattern_byte-byte.ensures.count c.has.ensures.count in
-          let all : counted kind c.has.new.self ≤ s + amount kind (passed + 1) (2 * passed + 3) =
-          took_within kind s 0 1 low (took_both c.bytes.invariant.count one) (omega arith) (omega arith) in
-          let price : amount kind (passed + 1) (2 * passed + 3)
-          ≤ amount kind passed (8 * passed) + amount kind 1 (8 * (c.bytes.place + 1 - c.bytes.place)) = amount_sum kind passed (8 * passed) 1 (8 * (c.bytes.place + 1 - c.bytes.place)) (omega arith) (omega arith) in
+          let all : counted measure c.has.new.self ≤ s + amount measure (passed + 1) (2 * passed + 3) =
+          took_within measure s 0 1 low (took_both c.bytes.invariant.count one) (omega arith) (omega arith) in
+          let price : amount measure (passed + 1) (2 * passed + 3)
+          ≤ amount measure passed (8 * passed) + amount measure 1 (8 * (c.bytes.place + 1 - c.bytes.place)) = amount_sum measure passed (8 * passed) 1 (8 * (c.bytes.place + 1 - c.bytes.place)) (omega arith) (omega arith) in
           record {
-            before = s + amount kind passed (8 * passed);
+            before = s + amount measure passed (8 * passed);
             tested = tested (literal_token m.mode m.pattern c.bytes.place inside own) refl (omega arith);
-            allows = c.bytes.invariant.allows kind s n a;
+            allows = c.bytes.invariant.allows measure s n a;
           };
       progress = omega (arith, c.has.ensures.count.steps, c.pattern_byte-byte.ensures.count.steps, c.bytes.invariant.count.steps);
     }
@@ -53,15 +53,15 @@ bytes-preserved g c =
     (c.if-not-has.ensures.answer.0 refl) in
     record {
       stands = stands_on c.bytes.invariant.stands token refl fits.0 fits.1 (λ is. c.if-byte-eq47.false (same ∙ byte_of is));
-      allows = λ kind s n a.
+      allows = λ measure s n a.
           let passed = c.bytes.place - c.args.state.place in
           let now = c.bytes.place + 1 - c.args.state.place in
-          let price : amount kind now (8 * now) ≤ amount kind passed (8 * passed) + amount kind 1 (8 * (c.bytes.place + 1 - c.bytes.place)) =
-          amount_sum kind passed (8 * passed) 1 (8 * (c.bytes.place + 1 - c.bytes.place)) (omega (arith, c.bytes.invariant.low)) (omega (arith, c.bytes.invariant.low)) in
-          allows_on {r = s + amount kind now (8 * now)} token refl (omega arith) fits.0 fits.1
+          let price : amount measure now (8 * now) ≤ amount measure passed (8 * passed) + amount measure 1 (8 * (c.bytes.place + 1 - c.bytes.place)) =
+          amount_sum measure passed (8 * passed) 1 (8 * (c.bytes.place + 1 - c.bytes.place)) (omega (arith, c.bytes.invariant.low)) (omega (arith, c.bytes.invariant.low)) in
+          allows_on {r = s + amount measure now (8 * now)} token refl (omega arith) fits.0 fits.1
           (inner_of m.mode m.pattern m.value c.bytes.place c.bytes.at c.args.state.crossing c.args.state.local
           token.token c.bytes.invariant.stands.local fits.1 (λ is. c.if-byte-eq47.false (same ∙ byte_of is)))
-          (c.bytes.invariant.allows kind s n a);
+          (c.bytes.invariant.allows measure s n a);
       low = omega (arith, c.bytes.invariant.low);
       count =
           took_on c.bytes.invariant.count (took_both c.pattern_byte-byte.ensures.count c.has.ensures.count)
@@ -73,9 +73,9 @@ bytes-init g c =
     let start = c.args.state.place in
     record {
       stands = c.requires.stands;
-      allows = λ kind s n a.
-          let none : amount kind (start - start) (8 * (start - start)) ≤ amount kind 0 0 = amount_mono kind (omega arith) (omega arith) in
-          allows_less (omega (arith, none, amount_same kind 0)) a;
+      allows = λ measure s n a.
+          let none : amount measure (start - start) (8 * (start - start)) ≤ amount measure 0 0 = amount_mono measure (omega arith) (omega arith) in
+          allows_less (omega (arith, none, amount_same measure 0)) a;
       low = omega arith;
       count = record { steps = omega arith; looks = omega arith };
     }
@@ -85,8 +85,8 @@ returns-after-bytes g c =
     let moved : c.args.state.place < c.bytes.place = omega (arith, c.bytes-test.false, c.pattern_len.ensures, c.requires.place) in
     record {
       meaning = c.bytes.invariant.stands;
-      allows = λ kind s n low a.
-          allows_less (took_within kind s 0 1 low c.bytes.invariant.count (omega arith) (omega arith)) (c.bytes.invariant.allows kind s n a);
+      allows = λ measure s n low a.
+          allows_less (took_within measure s 0 1 low c.bytes.invariant.count (omega arith) (omega arith)) (c.bytes.invariant.allows measure s n a);
       progress = omega (arith, c.bytes.invariant.count.steps);
     }
 
@@ -107,9 +107,9 @@ returns-then-byte-eq47 g c =
     ] in
     record {
       meaning = c.bytes.invariant.stands;
-      allows = λ kind s n low a.
+      allows = λ measure s n low a.
           allows_less
-          (took_within kind s 0 1 low (took_both c.bytes.invariant.count c.pattern_byte-byte.ensures.count) (omega arith) (omega arith))
-          (c.bytes.invariant.allows kind s n a);
+          (took_within measure s 0 1 low (took_both c.bytes.invariant.count c.pattern_byte-byte.ensures.count) (omega arith) (omega arith))
+          (c.bytes.invariant.allows measure s n a);
       progress = omega (arith, c.bytes.invariant.count.steps, c.pattern_byte-byte.ensures.count.steps);
     }

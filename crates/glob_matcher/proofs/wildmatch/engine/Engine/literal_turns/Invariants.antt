@@ -2,16 +2,16 @@
 use Rattle.std.proofs.Common.{ℕ, ◌+◌, ◌-◌, ◌*◌, ◌≤◌, length}
 use Rattle.glob_matcher.specs.Private.Took.{Took}
 use Rattle.glob_matcher.specs.Private.States.{Stands}
-use Rattle.glob_matcher.specs.Private.Prices.{Kind, amount}
+use Rattle.glob_matcher.specs.Private.Prices.{Measure, amount}
 use Rattle.glob_matcher.specs.Private.Budget.{Allows, AllowsAt}
 use Rattle.glob_matcher.proofs.wildmatch.engine.Engine.literal_turns.Given as goal
 
 abbrev pub invariant-bytes : goal.invariant-bytes
 invariant-bytes g l = record {
   stands : Stands g.M.Match.mode g.M.Match.pattern g.M.Match.value l.place l.at l.state.crossing l.state.local;
-  allows : (kind : Kind) (s n : ℕ) → AllowsAt kind g.M.Match.mode g.M.Match.pattern g.M.Match.value l.state s n
-      → Allows kind g.M.Match.mode g.M.Match.pattern g.M.Match.value l.place l.at l.state.crossing l.state.local
-      (s + amount kind (l.place - l.fn.state.place) (8 * (l.place - l.fn.state.place))) n;
+  allows : (measure : Measure) (s n : ℕ) → AllowsAt measure g.M.Match.mode g.M.Match.pattern g.M.Match.value l.state s n
+      → Allows measure g.M.Match.mode g.M.Match.pattern g.M.Match.value l.place l.at l.state.crossing l.state.local
+      (s + amount measure (l.place - l.fn.state.place) (8 * (l.place - l.fn.state.place))) n;
   low : l.fn.state.place ≤ l.place;
   count : Took l.fn.self l.self (l.place - l.fn.state.place) (2 * (l.place - l.fn.state.place));
 }

@@ -9,8 +9,8 @@ returns g c =
     let mark = c.set_mark-mark.ensures in
     record {
       meaning = local_met c.set_mark-mark.result c.requires.stands c.requires.token c.requires.inside mark.place mark.at;
-      allows = λ kind s n low a.
+      allows = λ measure s n low a.
           allows_local c.set_mark-mark.result c.requires.token c.requires.stands.inside mark.place mark.at
-          (took_within kind s 0 _ low mark.count (omega arith) (omega arith)) a;
+          (took_within measure s 0 _ low mark.count (omega arith) (omega arith)) a;
       progress = omega (arith, mark.count.steps);
     }

@@ -5,7 +5,7 @@ use Rattle.glob_matcher.proofs.wildmatch.engine.Engine.run_end.Given as goal
 
 abbrev pub invariant-stars : goal.invariant-stars
 invariant-stars g l = record {
-  stars : (k : ℕ) → l.place ≤ k → k < l.end → HasByte g.M.Match.pattern k star;
+  stars : (m : ℕ) → l.place ≤ m → m < l.end → HasByte g.M.Match.pattern m star;
   past : l.place < l.end;
   inside : l.end ≤ length g.M.Match.pattern;
   steps : l.self.steps ≡ l.fn.self.steps;

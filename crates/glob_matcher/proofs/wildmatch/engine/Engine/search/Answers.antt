@@ -11,12 +11,12 @@ turns-init g c =
     let m = g.M.Match in
     record {
       stands = stands_start m.mode m.pattern m.value;
-      allows = λ kind.
+      allows = λ measure.
           let steps = step_limit (length m.pattern) (length m.value) in
           let looks = look_limit (length m.pattern) (length m.value) in
-          allows_start kind m.mode m.pattern m.value (counted kind c.args.self.now)
-          (counted kind c.args.self.now + amount kind (steps - 1) (looks - 2))
-          (omega (arith, amount_sum kind (steps - 1) (looks - 2) 1 2 {e = steps} {f = looks} (omega arith) (omega arith)));
+          allows_start measure m.mode m.pattern m.value (counted measure c.args.self.now)
+          (counted measure c.args.self.now + amount measure (steps - 1) (looks - 2))
+          (omega (arith, amount_sum measure (steps - 1) (looks - 2) 1 2 {e = steps} {f = looks} (omega arith) (omega arith)));
     }
 
 pub turns-smaller-in-On : goal.turns-smaller-in-On

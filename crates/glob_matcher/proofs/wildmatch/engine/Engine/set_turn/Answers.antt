@@ -1,5 +1,5 @@
 use Rattle.std.proofs.Common.{◌≡◌, true, inr, length, refl, arith}
-use Rattle.glob_matcher.specs.declared.wildmatch.tokens.Shape.TheVariants as shape
+use Rattle.glob_matcher.specs.declared.wildmatch.tokens.TokenKind.TheVariants as kind
 use Rattle.glob_matcher.specs.Tokens.{OneOf, Nothing}
 use Rattle.glob_matcher.specs.Private.Reader.{IsToken}
 use Rattle.glob_matcher.proofs.lemmas.two_marks.States.{inner_of, misses_byte, nothing_met, stands_on}
@@ -12,19 +12,19 @@ pub returns-in_default : goal.returns-in_default
 returns-in_default g c =
     let m = g.M.Match in
     let inside = c.requires.bracket.inside in
-    let x : IsToken m.mode m.pattern c.args.state.place shape.Nothing (length m.pattern) = record {
+    let x : IsToken m.mode m.pattern c.args.state.place kind.Nothing (length m.pattern) = record {
       token = Nothing;
       here = (inr (c.requires.bracket, c.in_default.ensures.none), refl);
-      shown = refl;
+      same_kind = refl;
       past = inside;
       inside = omega arith;
     } in
     record {
       meaning = nothing_met _ c.requires.stands x.here;
-      allows = λ kind s n low a.
+      allows = λ measure s n low a.
           allows_test c.requires.stands.inside
           (tested x refl
-          (took_within kind s 0 1 low (set_looks (omega arith) c.in_default.ensures.broken) (omega arith) (omega (arith, inside)))) a;
+          (took_within measure s 0 1 low (set_looks (omega arith) c.in_default.ensures.broken) (omega arith) (omega (arith, inside)))) a;
       progress = tt;
     }
 
@@ -33,8 +33,8 @@ returns-then-not-takes g c =
     let m = g.M.Match in
     let found = c.in-Some.ensures.found in
     let paid = c.in-Some.ensures.count in
-    let x : IsToken m.mode m.pattern c.args.state.place shape.Set c.in-Some.after =
-    record { token = OneOf found.set; here = found.here; shown = refl; past = found.past; inside = found.inside } in
+    let x : IsToken m.mode m.pattern c.args.state.place kind.Set c.in-Some.after =
+    record { token = OneOf found.set; here = found.here; same_kind = refl; past = found.past; inside = found.inside } in
     record {
       meaning = record {
         stands = c.requires.stands;
@@ -42,11 +42,11 @@ returns-then-not-takes g c =
             misses_byte m.value c.args.state.at x refl c.requires.stands.inside
             (λ fits. let held : c.in-Some.takes ≡ true = found.answer.1 fits in let other = c.if-not-takes.true in cc);
       };
-      allows = λ kind s n low a. record {
+      allows = λ measure s n low a. record {
         before = s;
         tested =
             tested x refl
-            (took_within kind s 0 1 low (set_looks (omega (arith, found.past)) paid) (omega arith) (omega (arith, found.past)));
+            (took_within measure s 0 1 low (set_looks (omega (arith, found.past)) paid) (omega arith) (omega (arith, found.past)));
         allows = a;
       };
       progress = omega (arith, paid.steps);
@@ -57,14 +57,14 @@ returns g c =
     let m = g.M.Match in
     let found = c.in-Some.ensures.found in
     let paid = c.in-Some.ensures.count in
-    let x : IsToken m.mode m.pattern c.args.state.place shape.Set c.in-Some.after =
-    record { token = OneOf found.set; here = found.here; shown = refl; past = found.past; inside = found.inside } in
+    let x : IsToken m.mode m.pattern c.args.state.place kind.Set c.in-Some.after =
+    record { token = OneOf found.set; here = found.here; same_kind = refl; past = found.past; inside = found.inside } in
     let fits = found.answer.0 c.if-not-takes.false in
     record {
       meaning = stands_on c.requires.stands x refl fits.0 fits.1 (λ is. cc);
-      allows = λ kind s n low a.
+      allows = λ measure s n low a.
           allows_on x refl
-          (took_within kind s 0 1 low (set_looks (omega (arith, found.past)) paid) (omega arith) (omega (arith, found.past))) fits.0 fits.1
+          (took_within measure s 0 1 low (set_looks (omega (arith, found.past)) paid) (omega arith) (omega (arith, found.past))) fits.0 fits.1
           (inner_of m.mode m.pattern m.value c.args.state.place c.args.state.at c.args.state.crossing c.args.state.local x.token
           c.requires.stands.local fits.1 (λ is. cc)) a;
       progress = omega (arith, paid.steps);

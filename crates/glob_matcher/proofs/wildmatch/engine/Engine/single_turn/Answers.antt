@@ -1,6 +1,6 @@
 use Rattle.std.proofs.Common.{◌≡◌, ◌∙◌, false, true, ap, refl, sym, arith}
-use Rattle.glob_matcher.specs.Private.Reader.{shape_of}
-use Rattle.glob_matcher.proofs.lemmas.reading.Shapes.{token_is}
+use Rattle.glob_matcher.specs.Private.Reader.{kind_of}
+use Rattle.glob_matcher.proofs.lemmas.reading.TokenKinds.{token_is}
 use Rattle.glob_matcher.proofs.lemmas.two_marks.States.{stands_on, stands_past_slash, misses_byte, inner_of}
 use Rattle.glob_matcher.proofs.lemmas.two_marks.Prices.{took_within}
 use Rattle.glob_matcher.proofs.lemmas.two_marks.Budget.{allows_on, allows_past_slash, tested}
@@ -15,13 +15,13 @@ returns-then-not-takes g c =
         stands = c.requires.stands;
         missed =
             misses_byte m.value c.args.state.at x c.requires.single c.requires.stands.inside
-            (λ fits. let wrong : false ≡ true = (c.if-not-takes.ensures.answer x.token x.shown).1 fits in cc);
+            (λ fits. let wrong : false ≡ true = (c.if-not-takes.ensures.answer x.token x.same_kind).1 fits in cc);
       };
-      allows = λ kind s n low a. record {
+      allows = λ measure s n low a. record {
         before = s;
         tested =
             tested x c.requires.single
-            (took_within kind s 0 _ low c.takes.ensures.count (omega arith) (omega (arith, x.past)));
+            (took_within measure s 0 _ low c.takes.ensures.count (omega arith) (omega (arith, x.past)));
         allows = a;
       };
       progress = omega (arith, c.takes.ensures.count.steps);
@@ -30,14 +30,14 @@ returns-then-not-takes g c =
 pub returns-then-is_slash : goal.returns-then-is_slash
 returns-then-is_slash g c =
     let x = c.requires.token in
-    let fits = (c.if-not-takes.ensures.answer x.token x.shown).0 refl in
+    let fits = (c.if-not-takes.ensures.answer x.token x.same_kind).0 refl in
     record {
       meaning =
           stands_past_slash c.requires.stands x c.requires.single fits.0 fits.1
-          (token_is x.token (sym x.shown ∙ c.if-is_slash.ensures.0 refl));
-      allows = λ kind s n low a.
+          (token_is x.token (sym x.same_kind ∙ c.if-is_slash.ensures.0 refl));
+      allows = λ measure s n low a.
           allows_past_slash x c.requires.single
-          (took_within kind s 0 _ low c.takes.ensures.count (omega arith) (omega (arith, x.past))) fits.0 fits.1 a;
+          (took_within measure s 0 _ low c.takes.ensures.count (omega arith) (omega (arith, x.past))) fits.0 fits.1 a;
       progress = omega (arith, c.takes.ensures.count.steps);
     }
 
@@ -45,16 +45,16 @@ pub returns : goal.returns
 returns g c =
     let m = g.M.Match in
     let x = c.requires.token in
-    let fits = (c.if-not-takes.ensures.answer x.token x.shown).0 refl in
+    let fits = (c.if-not-takes.ensures.answer x.token x.same_kind).0 refl in
     record {
       meaning =
           stands_on c.requires.stands x c.requires.single fits.0 fits.1
-          (λ is. let wrong : false ≡ true = c.if-is_slash.ensures.1 (x.shown ∙ ap shape_of is) in cc);
-      allows = λ kind s n low a.
+          (λ is. let wrong : false ≡ true = c.if-is_slash.ensures.1 (x.same_kind ∙ ap kind_of is) in cc);
+      allows = λ measure s n low a.
           allows_on x c.requires.single
-          (took_within kind s 0 _ low c.takes.ensures.count (omega arith) (omega (arith, x.past))) fits.0 fits.1
+          (took_within measure s 0 _ low c.takes.ensures.count (omega arith) (omega (arith, x.past))) fits.0 fits.1
           (inner_of m.mode m.pattern m.value c.args.state.place c.args.state.at c.args.state.crossing
           c.args.state.local x.token c.requires.stands.local fits.1
-          (λ is. let wrong : false ≡ true = c.if-is_slash.ensures.1 (x.shown ∙ ap shape_of is) in cc)) a;
+          (λ is. let wrong : false ≡ true = c.if-is_slash.ensures.1 (x.same_kind ∙ ap kind_of is) in cc)) a;
       progress = omega (arith, c.takes.ensures.count.steps);
     }

@@ -21,11 +21,11 @@ returns-then-not-has g c =
             (subst (λ (b : ℕ). (c.args.state.at < length m.value) × Fits m.mode (Byte b) (get_or m.value c.args.state.at 0)) c.requires.is fits) in
             cc);
       };
-      allows = λ kind s n low a.
+      allows = λ measure s n low a.
           let token = literal_token m.mode m.pattern c.args.state.place c.requires.place (slash_is_itself _ c.requires.is) in
           record {
             before = s;
-            tested = tested token refl (took_within kind s 0 1 low c.has.ensures.count (omega arith) (omega arith));
+            tested = tested token refl (took_within measure s 0 1 low c.has.ensures.count (omega arith) (omega arith));
             allows = a;
           };
       progress = omega (arith, c.has.ensures.count.steps);
@@ -40,7 +40,7 @@ returns g c =
     (c.if-not-has.ensures.answer.0 refl) in
     record {
       meaning = stands_past_slash c.requires.stands token refl fits.0 fits.1 (ap Byte c.requires.is);
-      allows = λ kind s n low a.
-          allows_past_slash token refl (took_within kind s 0 1 low c.has.ensures.count (omega arith) (omega arith)) fits.0 fits.1 a;
+      allows = λ measure s n low a.
+          allows_past_slash token refl (took_within measure s 0 1 low c.has.ensures.count (omega arith) (omega arith)) fits.0 fits.1 a;
       progress = omega (arith, c.has.ensures.count.steps);
     }

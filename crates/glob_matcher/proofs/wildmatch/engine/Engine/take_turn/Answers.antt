@@ -13,10 +13,10 @@ returns-then-ends_at g c =
     let low : c.args.state.place ≤ length m.pattern = c.requires.low in
     record {
       meaning = end_met c.requires (omega arith) (c.if-ends_at.ensures.answer.0 refl);
-      allows = λ kind s n low a.
-          let one : counted kind c.ends_at.new.self ≤ s + amount kind 1 1 =
-          took_within kind s 0 0 low c.ends_at.ensures.count (omega arith) (omega arith) in
-          allows_test c.requires.inside (tested_one (omega (arith, one, amount_same kind 1))) a;
+      allows = λ measure s n low a.
+          let one : counted measure c.ends_at.new.self ≤ s + amount measure 1 1 =
+          took_within measure s 0 0 low c.ends_at.ensures.count (omega arith) (omega arith) in
+          allows_test c.requires.inside (tested_one (omega (arith, one, amount_same measure 1))) a;
       progress = tt;
     }
 
@@ -32,10 +32,10 @@ returns-then-state-pattern_len g c =
             end_missed m.mode m.pattern m.value c.args.state.place c.args.state.at (omega arith)
             (λ end. let wrong : false ≡ true = c.if-ends_at.ensures.answer.1 end in cc);
       };
-      allows = λ kind s n low a.
-          let one : counted kind c.ends_at.new.self ≤ s + amount kind 1 1 =
-          took_within kind s 0 0 low c.ends_at.ensures.count (omega arith) (omega arith) in
-          record { before = s; tested = tested_one (omega (arith, one, amount_same kind 1)); allows = a };
+      allows = λ measure s n low a.
+          let one : counted measure c.ends_at.new.self ≤ s + amount measure 1 1 =
+          took_within measure s 0 0 low c.ends_at.ensures.count (omega arith) (omega arith) in
+          record { before = s; tested = tested_one (omega (arith, one, amount_same measure 1)); allows = a };
       progress = omega (arith, c.ends_at.ensures.count.steps);
     }
 

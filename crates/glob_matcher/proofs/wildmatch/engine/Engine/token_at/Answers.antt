@@ -1,5 +1,5 @@
 use Rattle.std.proofs.Common.{ℕ, inr, sym, ◌∙◌, subst, arith}
-use Rattle.glob_matcher.specs.declared.wildmatch.tokens.Shape.TheVariants as shape
+use Rattle.glob_matcher.specs.declared.wildmatch.tokens.TokenKind.TheVariants as kind
 use Rattle.glob_matcher.specs.Private.Reader.{IsToken}
 use Rattle.glob_matcher.proofs.lemmas.reading.Reading.{escaped_token, bare_token, any_token, set_token, broken_token, lone_backslash}
 use Rattle.glob_matcher.proofs.wildmatch.engine.Engine.token_at.Goals as goal
@@ -10,7 +10,7 @@ returns-in-Some-clause-token g c =
 
 pub returns-in-None-clause-token : goal.returns-in-None-clause-token
 returns-in-None-clause-token g c =
-    subst (λ (n : ℕ). IsToken g.M.Match.mode g.M.Match.pattern c.args.place shape.Nothing n) (sym c.pattern_len.ensures)
+    subst (λ (n : ℕ). IsToken g.M.Match.mode g.M.Match.pattern c.args.place kind.Nothing n) (sym c.pattern_len.ensures)
     (broken_token g.M.Match.mode g.M.Match.pattern c.args.place c.requires
     (lone_backslash g.M.Match.pattern c.args.place (record { inside = c.requires; is = sym c.pattern_byte.ensures.here ∙ c.in-92.is }) c.in-None.ensures.none))
 
@@ -25,7 +25,7 @@ returns-in-Some-set_at-clause-token g c =
 
 pub returns-in-None-set_at-clause-token : goal.returns-in-None-set_at-clause-token
 returns-in-None-set_at-clause-token g c =
-    subst (λ (n : ℕ). IsToken g.M.Match.mode g.M.Match.pattern c.args.place shape.Nothing n) (sym c.pattern_len-in-None-set_at.ensures)
+    subst (λ (n : ℕ). IsToken g.M.Match.mode g.M.Match.pattern c.args.place kind.Nothing n) (sym c.pattern_len-in-None-set_at.ensures)
     (broken_token g.M.Match.mode g.M.Match.pattern c.args.place c.requires
     (inr (record { inside = c.requires; is = sym c.pattern_byte.ensures.here ∙ c.in-91.is }, c.in-None-set_at.ensures.none)))
 
