@@ -1,5 +1,5 @@
 -- Words that only private clauses cite: what the functions of the crate say to one another.
-pub mod Took
+pub mod Takes
 pub mod Looks
 pub mod Reader
 pub mod StarSearch

@@ -7,7 +7,7 @@ use Rattle.glob_matcher.specs.declared.wildmatch.sets.Entry.TheVariants as entry
 use Rattle.glob_matcher.specs.Bytes.{close_bracket}
 use Rattle.glob_matcher.specs.Sets.{IsFirstFrom, ItemAt}
 use Rattle.glob_matcher.specs.Steps.{Counts}
-use Rattle.glob_matcher.specs.Private.Took.{Took}
+use Rattle.glob_matcher.specs.Private.Takes.{Takes}
 
 -- no step, and at most n looks for each byte from place i up to place j
 pub record LookedOver (n : ℕ) (before after : Counts) (i j : ℕ) : Type 0 where
@@ -50,5 +50,5 @@ pub record IsPaidToEnd (spare : ℕ) (before after : Counts) (text : List ℕ) (
 -- the looks at what stands at place i
 abbrev pub IsPaidFor : Counts → Counts → List ℕ → ℕ → Option ℕ → Entry → Type 0
 IsPaidFor before after text i known (entry.Item s) = IsPaid 0 before after i known s
-IsPaidFor before after text i known entry.Close = Took before after 0 1
+IsPaidFor before after text i known entry.Close = Takes before after 0 1
 IsPaidFor before after text i known entry.Broken = IsPaidToEnd 0 before after text i

@@ -8,7 +8,7 @@ use Rattle.glob_matcher.specs.declared.wildmatch.needle.Follow.TheVariants as fo
 use Rattle.glob_matcher.specs.declared.wildmatch.scan.Scan.{Scan}
 use Rattle.glob_matcher.specs.declared.wildmatch.scan.Scan.TheVariants as scan
 use Rattle.glob_matcher.specs.Steps.{Counts}
-use Rattle.glob_matcher.specs.Private.Took.{Took}
+use Rattle.glob_matcher.specs.Private.Takes.{Takes}
 use Rattle.glob_matcher.specs.Bytes.{HasByte, StandsForItself, folds, slash}
 
 -- this follows at place i of the pattern
@@ -55,7 +55,7 @@ scan_steps from s = 2 * ((reached_by s).at - from.at) + last_steps s
 -- a scan from a mark, and what it takes: each step looks at one byte
 pub record IsScan (v : List ℕ) (P : ℕ → Type 0) (from : Mark) (s : Scan) (before after : Counts) : Type 0 where
   pub meaning : HasScanned v P from s
-  pub took : Took before after (scan_steps from s) (scan_steps from s)
+  pub takes : Takes before after (scan_steps from s) (scan_steps from s)
 
 -- the scan was not stopped by a slash
 abbrev pub IsUnblocked : Scan → Type 0

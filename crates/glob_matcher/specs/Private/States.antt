@@ -16,7 +16,7 @@ use Rattle.glob_matcher.specs.Matching.{Splits, SplitsFrom}
 use Rattle.glob_matcher.specs.Private.Reader.{Fits, AfterSlash}
 use Rattle.glob_matcher.specs.Private.Scans.{reached_by, scan_steps}
 use Rattle.glob_matcher.specs.Private.Components.{separates, next_component}
-use Rattle.glob_matcher.specs.Private.Took.{Took}
+use Rattle.glob_matcher.specs.Private.Takes.{Takes}
 use Rattle.glob_matcher.specs.Steps.{Counts}
 
 -- A later success of a mark: from a place past it, the rest of the pattern splits the rest of the value.
@@ -154,7 +154,7 @@ pub record IsScanFor (mode : Mode) (p v : List ℕ) (from : Mark) (s : Scan) (be
   pub inside : (reached_by s).at ≤ length v
   pub missed : (k : ℕ) → from.at ≤ k → k < (reached_by s).at → ¬ SplitsFrom v k p from.place mode
   pub met : IsMet mode p v s
-  pub took : Took before after (scan_steps from s) (scan_steps from s + 1)
+  pub takes : Takes before after (scan_steps from s) (scan_steps from s + 1)
 
 -- a mark is moved to the next place after a slash
 pub record IsNextDirectory (v : List ℕ) (from to : Mark) : Type 0 where

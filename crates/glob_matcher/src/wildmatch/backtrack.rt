@@ -3,7 +3,7 @@ ghost use Rattle.std.specs.Prelude.{◌≡◌, ◌≢◌, ◌+◌, ◌-◌, ◌<
 ghost use Rattle.glob_matcher.specs.Bytes.{NoSlash, slash};
 ghost use Rattle.glob_matcher.specs.Private.Scans.{IsUnblocked, reached_by};
 ghost use Rattle.glob_matcher.specs.Private.States.{IsLeft, IsMissed, IsNextDirectory, IsScanFor};
-ghost use Rattle.glob_matcher.specs.Private.Took.{Took};
+ghost use Rattle.glob_matcher.specs.Private.Takes.{Takes};
 ghost use Rattle.glob_matcher.specs.Private.Prices.{counted};
 ghost use Rattle.glob_matcher.specs.Private.Budget.{AllowsLeft, AllowsMissed};
 ghost use Rattle.glob_matcher.specs.Private.Turns.{IsBacktrack, IsBacktrackWithin};
@@ -19,9 +19,9 @@ impl<'c, 'a, S: Ledger, L: Ledger, M: Match> Engine<'c, 'a, S, L, M> {
     #[inline(always)]
     fn next_directory(&mut self, mark: Mark) -> Option<Mark>
         ensures moved { IfSome result (λ m. IsNextDirectory M.value mark m) }
-        ensures moves { IfSome result (λ m. Took self.old self.new (m.at - mark.at) (m.at - mark.at)) }
+        ensures moves { IfSome result (λ m. Takes self.old self.new (m.at - mark.at) (m.at - mark.at)) }
         ensures unable { IfNone result (NoSlash M.value mark.at (length M.value)) }
-        ensures count { IfNone result (mark.at ≤ length M.value → Took self.old self.new (length M.value + 1 - mark.at) (length M.value + 1 - mark.at)) }
+        ensures count { IfNone result (mark.at ≤ length M.value → Takes self.old self.new (length M.value + 1 - mark.at) (length M.value + 1 - mark.at)) }
     {
         let mut reached = mark;
         'bytes: while let Some((moved, byte)) = self.pass(reached) {
@@ -118,7 +118,7 @@ impl<'c, 'a, S: Ledger, L: Ledger, M: Match> Engine<'c, 'a, S, L, M> {
         requires { mark.place < length M.pattern }
         ensures at_slash { slice_index M.pattern mark.place ≡ slash → result ≡ None }
         ensures at_other { slice_index M.pattern mark.place ≢ slash → result ≡ Some mark }
-        ensures count { Took self.old self.new 0 1 }
+        ensures count { Takes self.old self.new 0 1 }
     {
         if self.pattern_byte(mark.place()) == b'/' {
             None

@@ -9,7 +9,7 @@ use Rattle.glob_matcher.specs.Steps.{Counts}
 use Rattle.glob_matcher.specs.Bytes.{HasByte, close_bracket}
 use Rattle.glob_matcher.specs.Private.Looks.{IsKnown, IsPaid, LookedOver, searched}
 use Rattle.glob_matcher.specs.Private.Reader.{IsEntry, after_item, at_first}
-use Rattle.glob_matcher.specs.Private.Took.{Took}
+use Rattle.glob_matcher.specs.Private.Takes.{Takes}
 use Rattle.glob_matcher.proofs.lemmas.reading.Walks.{IsUnderway, underway_first, underway_next}
 
 pub searched_on : (known : Option ℕ) (i j : ℕ) → i ≤ j → searched known i ≤ searched known j
@@ -73,17 +73,17 @@ pub record IsReading (text : List ℕ) (place start : ℕ) (test : Item → Bool
 
 module _ {text : List ℕ} {place start : ℕ} {test : Item → Bool} {before now : Counts} where
   pub reading_first : {cursor : Cursor} → cursor ≡ at_first start → place < cursor.place → cursor.place ≤ length text
-      → Took before now 0 1 → IsReading text place start test false cursor before now
-  reading_first {cursor = cursor} is past inside took =
+      → Takes before now 0 1 → IsReading text place start test false cursor before now
+  reading_first {cursor = cursor} is past inside takes =
       subst (λ (x : Cursor). IsReading text place start test false x before now) (sym is) (record {
         underway = underway_first text start test;
         past = subst (λ (x : Cursor). place < x.place) is past;
         inside = subst (λ (x : Cursor). x.place ≤ length text) is inside;
         known = tt;
-        steps = omega (arith, took.steps);
+        steps = omega (arith, takes.steps);
         looks =
             let low : place < start = subst (λ (x : Cursor). place < x.place) is past in
-            omega (arith, took.looks, low);
+            omega (arith, takes.looks, low);
       })
 
   pub reading_next : {held next_held : Bool} {cursor next : Cursor} {after : Counts} (s : Spelled)

@@ -5,7 +5,7 @@ use Rattle.glob_matcher.specs.declared.wildmatch.mode.Mode.{Mode}
 use Rattle.glob_matcher.specs.declared.wildmatch.tokens.TokenKind.{TokenKind}
 use Rattle.glob_matcher.specs.Steps.{Counts, step_limit, look_limit}
 use Rattle.glob_matcher.specs.Tokens.{Token, TokenAt, From}
-use Rattle.glob_matcher.specs.Private.Took.{Took}
+use Rattle.glob_matcher.specs.Private.Takes.{Takes}
 use Rattle.glob_matcher.specs.Private.Reader.{IsToken, kind_of, is_star}
 use Rattle.glob_matcher.specs.Private.Components.{ends, separates, next_component}
 use Rattle.glob_matcher.specs.Private.Pieces.{Piece, piece, PiecesFrom}
@@ -32,21 +32,21 @@ amount_same Steps n = refl
 amount_same Looks n = refl
 
 -- what was taken is within a price
-pub took_within : (measure : Measure) {x y : Counts} (s a b : ℕ) {c d e f : ℕ} → counted measure x ≤ s + amount measure a b → Took x y c d
+pub takes_within : (measure : Measure) {x y : Counts} (s a b : ℕ) {c d e f : ℕ} → counted measure x ≤ s + amount measure a b → Takes x y c d
     → a + c ≤ e → b + d ≤ f → counted measure y ≤ s + amount measure e f
 unfolding counted amount
-took_within Steps s a b low t steps looks = omega (arith, t.steps)
-took_within Looks s a b low t steps looks = omega (arith, t.looks)
+takes_within Steps s a b low t steps looks = omega (arith, t.steps)
+takes_within Looks s a b low t steps looks = omega (arith, t.looks)
 
 -- what was taken, one after the other
-pub took_both : {x y z : Counts} {a b c d : ℕ} → Took x y a b → Took y z c d → Took x z (a + c) (b + d)
-took_both t u = record { steps = omega (arith, t.steps, u.steps); looks = omega (arith, t.looks, u.looks) }
+pub takes_both : {x y z : Counts} {a b c d : ℕ} → Takes x y a b → Takes y z c d → Takes x z (a + c) (b + d)
+takes_both t u = record { steps = omega (arith, t.steps, u.steps); looks = omega (arith, t.looks, u.looks) }
 
-pub took_on : {x y z : Counts} {a b c d e f : ℕ} → Took x y a b → Took y z c d → a + c ≡ e → b + d ≤ f → Took x z e f
-took_on t u steps looks = record { steps = omega (arith, t.steps, u.steps); looks = omega (arith, t.looks, u.looks) }
+pub takes_on : {x y z : Counts} {a b c d e f : ℕ} → Takes x y a b → Takes y z c d → a + c ≡ e → b + d ≤ f → Takes x z e f
+takes_on t u steps looks = record { steps = omega (arith, t.steps, u.steps); looks = omega (arith, t.looks, u.looks) }
 
-pub took_none : {x : Counts} → Took x x 0 0
-took_none = record { steps = omega arith; looks = omega arith }
+pub takes_none : {x : Counts} → Takes x x 0 0
+takes_none = record { steps = omega arith; looks = omega arith }
 
 -- the price of a move, and of a scan after it
 pub move_some : (measure : Measure) → 1 ≤ move measure
@@ -54,17 +54,17 @@ unfolding move amount
 move_some Steps = omega arith
 move_some Looks = omega arith
 
-pub move_price : (measure : Measure) {x y : Counts} {a b : ℕ} → Took x y a b → a ≤ 1 → b ≤ 4 → counted measure y ≤ counted measure x + move measure
+pub move_price : (measure : Measure) {x y : Counts} {a b : ℕ} → Takes x y a b → a ≤ 1 → b ≤ 4 → counted measure y ≤ counted measure x + move measure
 unfolding counted move amount
 move_price Steps t steps looks = omega (arith, t.steps)
 move_price Looks t steps looks = omega (arith, t.looks)
 
-pub moves_price : (measure : Measure) {x y : Counts} {n : ℕ} → Took x y n n → counted measure y ≤ counted measure x + move measure * n
+pub moves_price : (measure : Measure) {x y : Counts} {n : ℕ} → Takes x y n n → counted measure y ≤ counted measure x + move measure * n
 unfolding counted move amount
 moves_price Steps t = omega (arith, t.steps)
 moves_price Looks t = omega (arith, t.looks)
 
-pub scan_price : (measure : Measure) {x y : Counts} {a b : ℕ} (n c d : ℕ) → Took x y a b → a ≤ 1 + n + c → b ≤ 4 + n + d
+pub scan_price : (measure : Measure) {x y : Counts} {a b : ℕ} (n c d : ℕ) → Takes x y a b → a ≤ 1 + n + c → b ≤ 4 + n + d
     → counted measure y ≤ counted measure x + move measure + n + amount measure c d
 unfolding counted move amount
 scan_price Steps n c d t steps looks = omega (arith, t.steps)

@@ -19,13 +19,13 @@ use Rattle.glob_matcher.specs.Private.Reader.{Fits}
 use Rattle.glob_matcher.specs.Private.Scans.{Follows, IsScan, Passed, reached_by}
 use Rattle.glob_matcher.specs.Private.States.{IsMet, IsScanFor, Stands}
 use Rattle.glob_matcher.specs.Steps.{Counts}
-use Rattle.glob_matcher.specs.Private.Took.{Took}
+use Rattle.glob_matcher.specs.Private.Takes.{Takes}
 use Rattle.glob_matcher.specs.Private.Prices.{Measure, amount, move}
 use Rattle.glob_matcher.specs.Private.Budget.{Allows, Missed}
 use Rattle.glob_matcher.proofs.lemmas.two_marks.Components.{inner}
 use Rattle.glob_matcher.proofs.lemmas.two_marks.States.{end_missed, free_moved, inner_of, left_without, literal_token, local_moved, mark_of, mark_eq, misses_byte, stands_on, stands_past_slash}
 use Rattle.glob_matcher.proofs.lemmas.two_marks.Budget.{allows_free_moved, allows_less, allows_local_moved, allows_missed, allows_on, allows_past_slash, left_missed}
-use Rattle.glob_matcher.proofs.lemmas.two_marks.Prices.{amount_mono, move_some, took_on}
+use Rattle.glob_matcher.proofs.lemmas.two_marks.Prices.{amount_mono, move_some, takes_on}
 
 same_or_not : (a b : ℕ) → (a ≡ b) ⊎ (a ≢ b)
 same_or_not a b = elim (cases_lt a b) [
@@ -79,7 +79,7 @@ unsuited mode p v i k follow.End is inside other = end_missed mode p v i k is (�
 
 -- A scan for what follows is a scan for the rest of the pattern, after the look at what follows.
 pub scan_for : (mode : Mode) (p : List ℕ) {v : List ℕ} (f : Follow) {from : Mark} {s : Scan} {before between after : Counts}
-    → Follows mode p from.place f → Took before between 0 1 → IsScan v (Suits f) from s between after
+    → Follows mode p from.place f → Takes before between 0 1 → IsScan v (Suits f) from s between after
     → IsScanFor mode p v from s before after
 scan_for mode p {v} f {from} {s = scan.Found m} is looked found =
     let so = found.meaning in
@@ -91,7 +91,7 @@ scan_for mode p {v} f {from} {s = scan.Found m} is looked found =
       inside = so.0.inside;
       missed = λ k low below. unsuited mode p v from.place k f is (omega (arith, so.0.inside)) (so.0.unsuited k low below);
       met = (fits.0, fits.1, so.1, fits.2);
-      took = took_on looked found.took (omega arith) (omega arith);
+      takes = takes_on looked found.takes (omega arith) (omega arith);
     }
 scan_for mode p {v} f {from} {s = scan.Blocked m} is looked found =
     let so = found.meaning in
@@ -102,7 +102,7 @@ scan_for mode p {v} f {from} {s = scan.Blocked m} is looked found =
       inside = so.0.inside;
       missed = λ k low below. unsuited mode p v from.place k f is (omega (arith, so.0.inside)) (so.0.unsuited k low below);
       met = (so.1, so.3, unsuited mode p v m.place m.at f here so.1 so.2);
-      took = took_on looked found.took (omega arith) (omega arith);
+      takes = takes_on looked found.takes (omega arith) (omega arith);
     }
 scan_for mode p {v} f {from} {s = scan.Undecided m} is looked found =
     let so = found.meaning in
@@ -112,7 +112,7 @@ scan_for mode p {v} f {from} {s = scan.Undecided m} is looked found =
       inside = so.inside;
       missed = λ k low below. unsuited mode p v from.place k f is (omega (arith, so.inside)) (so.unsuited k low below);
       met = tt;
-      took = took_on looked found.took (omega arith) (omega arith);
+      takes = takes_on looked found.takes (omega arith) (omega arith);
     }
 
 -- The crossing mark of a run of stars moves on over places from which the rest of the pattern splits nothing.
@@ -268,18 +268,18 @@ passed_on {b} x y = record {
 
 -- a scan that goes on from where another has come to
 pub scan_on : {v : List ℕ} {P : ℕ → Type 0} {a b : Mark} {s : Scan} {before between after : Counts} → Passed v P a b
-    → Took before between (2 * (b.at - a.at)) (2 * (b.at - a.at)) → IsScan v P b s between after → IsScan v P a s before after
+    → Takes before between (2 * (b.at - a.at)) (2 * (b.at - a.at)) → IsScan v P b s between after → IsScan v P a s before after
 scan_on {s = scan.Found m} x taken y = record {
   meaning = (passed_on x y.meaning.0, y.meaning.1, y.meaning.2);
-  took = took_on taken y.took (omega (arith, x.low, y.meaning.0.low)) (omega (arith, x.low, y.meaning.0.low));
+  takes = takes_on taken y.takes (omega (arith, x.low, y.meaning.0.low)) (omega (arith, x.low, y.meaning.0.low));
 }
 scan_on {s = scan.Blocked m} x taken y = record {
   meaning = (passed_on x y.meaning.0, y.meaning.1, y.meaning.2, y.meaning.3);
-  took = took_on taken y.took (omega (arith, x.low, y.meaning.0.low)) (omega (arith, x.low, y.meaning.0.low));
+  takes = takes_on taken y.takes (omega (arith, x.low, y.meaning.0.low)) (omega (arith, x.low, y.meaning.0.low));
 }
 scan_on {s = scan.Undecided m} x taken y = record {
   meaning = passed_on x y.meaning;
-  took = took_on taken y.took (omega (arith, x.low, y.meaning.low)) (omega (arith, x.low, y.meaning.low));
+  takes = takes_on taken y.takes (omega (arith, x.low, y.meaning.low)) (omega (arith, x.low, y.meaning.low));
 }
 
 -- no mark, where it is none of all

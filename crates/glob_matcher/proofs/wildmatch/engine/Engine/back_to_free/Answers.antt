@@ -1,6 +1,6 @@
 use Rattle.std.proofs.Common.{◌+◌, ◌-◌, ◌*◌, ℕ, ap, arith}
 use Rattle.glob_matcher.proofs.lemmas.two_marks.States.{known_places, free_moved, free_stuck}
-use Rattle.glob_matcher.proofs.lemmas.two_marks.Prices.{amount_same, move_price, scan_price, took_both}
+use Rattle.glob_matcher.proofs.lemmas.two_marks.Prices.{amount_same, move_price, scan_price, takes_both}
 use Rattle.glob_matcher.proofs.lemmas.two_marks.Budget as budget
 use Rattle.glob_matcher.proofs.lemmas.two_marks.Budget.{allows_free_moved, allows_less, free_stuck_counts}
 use Rattle.glob_matcher.proofs.lemmas.two_marks.Scans.{stands_free_skipped, allows_free_skipped, free_found, free_found_counts}
@@ -27,9 +27,9 @@ returns-in-Undecided g c =
           (stands_free_skipped to (free_moved x c.requires moved.2 moved.0 moved.1) so.same so.low so.inside so.missed);
       allows = λ measure n a.
           budget.known_places c.place.ensures c.at.ensures
-          (allows_less (omega (arith, amount_same measure 0, scan_price measure passed 0 0 (took_both c.pass.ensures.count so.took) (omega arith) (omega arith)))
+          (allows_less (omega (arith, amount_same measure 0, scan_price measure passed 0 0 (takes_both c.pass.ensures.count so.takes) (omega arith) (omega arith)))
           (allows_free_skipped to (allows_free_moved x moved.2 moved.0 moved.1 a) so.same so.low so.inside));
-      progress = omega (arith, so.took.steps, c.pass.ensures.count.steps);
+      progress = omega (arith, so.takes.steps, c.pass.ensures.count.steps);
     }
 
 pub returns-in-Found : goal.returns-in-Found
@@ -45,7 +45,7 @@ returns-in-Found g c =
           (free_found (stands_free_skipped to (free_moved x c.requires moved.2 moved.0 moved.1) so.same so.low so.inside so.missed) so.met);
       allows = λ measure n a.
           budget.known_places (ap (λ (n : ℕ). n + 1) c.place-in-Found.ensures) (ap (λ (n : ℕ). n + 1) c.at-in-Found.ensures)
-          (allows_less (scan_price measure passed 1 8 (took_both c.pass.ensures.count so.took) (omega arith) (omega arith))
+          (allows_less (scan_price measure passed 1 8 (takes_both c.pass.ensures.count so.takes) (omega arith) (omega arith))
           (free_found_counts (allows_free_skipped to (allows_free_moved x moved.2 moved.0 moved.1 a) so.same so.low so.inside) so.met));
-      progress = omega (arith, so.took.steps, c.pass.ensures.count.steps);
+      progress = omega (arith, so.takes.steps, c.pass.ensures.count.steps);
     }

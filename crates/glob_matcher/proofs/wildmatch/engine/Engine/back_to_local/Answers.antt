@@ -1,6 +1,6 @@
 use Rattle.std.proofs.Common.{◌+◌, ◌-◌, ◌*◌, ℕ, inr, ap, arith}
 use Rattle.glob_matcher.proofs.lemmas.two_marks.States.{known_local, known_places, left_stuck, left_without}
-use Rattle.glob_matcher.proofs.lemmas.two_marks.Prices.{amount_same, move_over, move_price, scan_price, took_both}
+use Rattle.glob_matcher.proofs.lemmas.two_marks.Prices.{amount_same, move_over, move_price, scan_price, takes_both}
 use Rattle.glob_matcher.proofs.lemmas.two_marks.Budget as budget
 use Rattle.glob_matcher.proofs.lemmas.two_marks.Budget.{allows_less, allows_missed, left_less, left_missed, left_stuck_counts}
 use Rattle.glob_matcher.proofs.lemmas.two_marks.Scans.{IsLocalPast, local_found, local_found_counts, local_scanned, local_scanned_counts, none_of}
@@ -41,11 +41,11 @@ returns-in-Blocked g c =
     record {
       meaning = left_stuck reached so.met.2 (inr so.met.1);
       allows = λ measure n a.
-          left_less (omega (arith, move_over measure, scan_price measure passed 2 5 (took_both pass so.took) (omega arith) (omega arith)))
+          left_less (omega (arith, move_over measure, scan_price measure passed 2 5 (takes_both pass so.takes) (omega arith) (omega arith)))
           (left_stuck_counts (inr so.met.1)
           (allows_missed (local_scanned_counts here moved.2 moved.3 moved.0 moved.1 so bare (budget.known_local c.in-Some.is a))));
       progress = tt;
-      low = omega (arith, so.took.steps, pass.steps);
+      low = omega (arith, so.takes.steps, pass.steps);
     }
 
 pub returns-in-Undecided : goal.returns-in-Undecided
@@ -60,10 +60,10 @@ returns-in-Undecided g c =
       meaning = known_places c.place.ensures c.at.ensures (local_scanned here c.requires.missed moved.2 moved.3 moved.0 moved.1 so bare);
       allows = λ measure n a.
           budget.known_places c.place.ensures c.at.ensures
-          (allows_less (omega (arith, amount_same measure 0, scan_price measure passed 0 0 (took_both pass so.took) (omega arith) (omega arith)))
+          (allows_less (omega (arith, amount_same measure 0, scan_price measure passed 0 0 (takes_both pass so.takes) (omega arith) (omega arith)))
           (local_scanned_counts here moved.2 moved.3 moved.0 moved.1 so bare (budget.known_local c.in-Some.is a)));
-      progress = omega (arith, so.took.steps, pass.steps);
-      low = omega (arith, so.took.steps, pass.steps);
+      progress = omega (arith, so.takes.steps, pass.steps);
+      low = omega (arith, so.takes.steps, pass.steps);
     }
 
 pub returns-in-Found : goal.returns-in-Found
@@ -75,7 +75,7 @@ returns-in-Found g c =
     let passed = 2 * (c.in-Found.found.at - c.in-Some-pass_within_or_end.moved.at) in
     let pass = c.pass_within_or_end.ensures.count in
     let local : IsLocalPast g.M.Match.pattern c.in-Found.found c.local_past.result = record { at_slash = c.local_past.ensures.at_slash; at_other = c.local_past.ensures.at_other } in
-    let all = took_both (took_both pass so.took) c.local_past.ensures.count in
+    let all = takes_both (takes_both pass so.takes) c.local_past.ensures.count in
     let reached = local_scanned here c.requires.missed moved.2 moved.3 moved.0 moved.1 so bare in
     record {
       meaning =
@@ -86,6 +86,6 @@ returns-in-Found g c =
           (allows_less (scan_price measure passed 1 8 all (omega arith) (omega arith))
           (local_found_counts reached
           (local_scanned_counts here moved.2 moved.3 moved.0 moved.1 so bare (budget.known_local c.in-Some.is a)) so.met local));
-      progress = omega (arith, so.took.steps, pass.steps, c.local_past.ensures.count.steps);
-      low = omega (arith, so.took.steps, pass.steps, c.local_past.ensures.count.steps);
+      progress = omega (arith, so.takes.steps, pass.steps, c.local_past.ensures.count.steps);
+      low = omega (arith, so.takes.steps, pass.steps, c.local_past.ensures.count.steps);
     }

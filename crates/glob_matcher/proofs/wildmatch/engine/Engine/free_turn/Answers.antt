@@ -1,6 +1,6 @@
 use Rattle.std.proofs.Common.{◌≡◌, ◌≢◌, arith, length}
 use Rattle.glob_matcher.proofs.lemmas.two_marks.States.{free_last, free_known, free_met}
-use Rattle.glob_matcher.proofs.lemmas.two_marks.Prices.{took_none, took_within}
+use Rattle.glob_matcher.proofs.lemmas.two_marks.Prices.{takes_none, takes_within}
 use Rattle.glob_matcher.proofs.lemmas.two_marks.Budget.{allows_free, free_last_counts}
 use Rattle.glob_matcher.proofs.wildmatch.engine.Engine.free_turn.Goals as goal
 
@@ -12,7 +12,7 @@ returns-then-after-pattern_len g c =
       meaning = free_last c.requires.stands c.requires.token last;
       allows = λ measure s n low a.
           free_last_counts c.requires.token c.requires.stands.inside
-          (took_within measure s 0 _ low took_none (omega arith) (omega arith)) a;
+          (takes_within measure s 0 _ low takes_none (omega arith) (omega arith)) a;
       progress = tt;
     }
 
@@ -26,6 +26,6 @@ returns g c =
           free_met c.set_mark-mark.result c.requires.stands c.requires.token c.requires.inside more mark.place mark.at;
       allows = λ measure s n low a.
           allows_free c.set_mark-mark.result c.requires.token more (free_known m.value c.requires.token c.requires.inside more)
-          c.requires.stands.inside mark.place mark.at (took_within measure s 0 _ low mark.count (omega arith) (omega arith)) a;
+          c.requires.stands.inside mark.place mark.at (takes_within measure s 0 _ low mark.count (omega arith) (omega arith)) a;
       progress = omega (arith, mark.count.steps);
     }

@@ -5,7 +5,7 @@ use Rattle.glob_matcher.specs.Private.Reader.{Fits}
 use Rattle.glob_matcher.specs.Private.Prices.{amount, counted}
 use Rattle.glob_matcher.specs.Bytes.{StandsForItself}
 use Rattle.glob_matcher.proofs.lemmas.two_marks.States.{inner_of, literal_token, misses_byte, stands_on}
-use Rattle.glob_matcher.proofs.lemmas.two_marks.Prices.{amount_mono, amount_same, amount_sum, took_both, took_on, took_within}
+use Rattle.glob_matcher.proofs.lemmas.two_marks.Prices.{amount_mono, amount_same, amount_sum, takes_both, takes_on, takes_within}
 use Rattle.glob_matcher.proofs.lemmas.two_marks.Budget.{allows_less, allows_on, tested}
 use Rattle.glob_matcher.proofs.lemmas.two_marks.Scans.{byte_of}
 use Rattle.glob_matcher.proofs.wildmatch.engine.Engine.literal_turns.Goals as goal
@@ -29,9 +29,9 @@ returns-then-not-has g c =
       };
       allows = λ measure s n low a.
           let passed = c.bytes.place - c.args.state.place in
-          let one = took_both c.pattern_byte-byte.ensures.count c.has.ensures.count in
+          let one = takes_both c.pattern_byte-byte.ensures.count c.has.ensures.count in
           let all : counted measure c.has.new.self ≤ s + amount measure (passed + 1) (2 * passed + 3) =
-          took_within measure s 0 1 low (took_both c.bytes.invariant.count one) (omega arith) (omega arith) in
+          takes_within measure s 0 1 low (takes_both c.bytes.invariant.count one) (omega arith) (omega arith) in
           let price : amount measure (passed + 1) (2 * passed + 3)
           ≤ amount measure passed (8 * passed) + amount measure 1 (8 * (c.bytes.place + 1 - c.bytes.place)) = amount_sum measure passed (8 * passed) 1 (8 * (c.bytes.place + 1 - c.bytes.place)) (omega arith) (omega arith) in
           record {
@@ -64,7 +64,7 @@ bytes-preserved g c =
           (c.bytes.invariant.allows measure s n a);
       low = omega (arith, c.bytes.invariant.low);
       count =
-          took_on c.bytes.invariant.count (took_both c.pattern_byte-byte.ensures.count c.has.ensures.count)
+          takes_on c.bytes.invariant.count (takes_both c.pattern_byte-byte.ensures.count c.has.ensures.count)
           (omega (arith, c.bytes.invariant.low)) (omega (arith, c.bytes.invariant.low));
     }
 
@@ -86,7 +86,7 @@ returns-after-bytes g c =
     record {
       meaning = c.bytes.invariant.stands;
       allows = λ measure s n low a.
-          allows_less (took_within measure s 0 1 low c.bytes.invariant.count (omega arith) (omega arith)) (c.bytes.invariant.allows measure s n a);
+          allows_less (takes_within measure s 0 1 low c.bytes.invariant.count (omega arith) (omega arith)) (c.bytes.invariant.allows measure s n a);
       progress = omega (arith, c.bytes.invariant.count.steps);
     }
 
@@ -109,7 +109,7 @@ returns-then-byte-eq47 g c =
       meaning = c.bytes.invariant.stands;
       allows = λ measure s n low a.
           allows_less
-          (took_within measure s 0 1 low (took_both c.bytes.invariant.count c.pattern_byte-byte.ensures.count) (omega arith) (omega arith))
+          (takes_within measure s 0 1 low (takes_both c.bytes.invariant.count c.pattern_byte-byte.ensures.count) (omega arith) (omega arith))
           (c.bytes.invariant.allows measure s n a);
       progress = omega (arith, c.bytes.invariant.count.steps, c.pattern_byte-byte.ensures.count.steps);
     }

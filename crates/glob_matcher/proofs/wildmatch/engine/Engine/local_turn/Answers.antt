@@ -1,6 +1,6 @@
 use Rattle.std.proofs.Common.{arith}
 use Rattle.glob_matcher.proofs.lemmas.two_marks.States.{local_met}
-use Rattle.glob_matcher.proofs.lemmas.two_marks.Prices.{took_within}
+use Rattle.glob_matcher.proofs.lemmas.two_marks.Prices.{takes_within}
 use Rattle.glob_matcher.proofs.lemmas.two_marks.Budget.{allows_local}
 use Rattle.glob_matcher.proofs.wildmatch.engine.Engine.local_turn.Goals as goal
 
@@ -11,6 +11,6 @@ returns g c =
       meaning = local_met c.set_mark-mark.result c.requires.stands c.requires.token c.requires.inside mark.place mark.at;
       allows = λ measure s n low a.
           allows_local c.set_mark-mark.result c.requires.token c.requires.stands.inside mark.place mark.at
-          (took_within measure s 0 _ low mark.count (omega arith) (omega arith)) a;
+          (takes_within measure s 0 _ low mark.count (omega arith) (omega arith)) a;
       progress = omega (arith, mark.count.steps);
     }

@@ -35,9 +35,9 @@ returns-in-Close-clause-found g c =
 pub returns-in-Close-clause-count : goal.returns-in-Close-clause-count
 returns-in-Close-clause-count g c =
     let so_far = c.items.invariant in
-    let took = c.in-Close.ensures.count in
+    let takes = c.in-Close.ensures.count in
     let ahead = searched_here g.M.Match.pattern c.items.cursor.place c.items.cursor.close so_far.known c.in-Close.ensures.entry.0.1 in
-    record { steps = omega (arith, so_far.steps, took.steps); looks = omega (arith, so_far.looks, took.looks, ahead) }
+    record { steps = omega (arith, so_far.steps, takes.steps); looks = omega (arith, so_far.looks, takes.looks, ahead) }
 
 pub returns-in-Broken-clause-broken : goal.returns-in-Broken-clause-broken
 returns-in-Broken-clause-broken g c =
