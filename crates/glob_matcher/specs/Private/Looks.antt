@@ -25,9 +25,9 @@ IsKnown text i None = Unit {0}
 IsKnown text i (Some m) = i ≤ m → IsFirstFrom text i close_bracket m
 
 -- how far the closing bracket was looked for, from place i on
-abbrev pub searched : Option ℕ → ℕ → ℕ
-searched None i = i
-searched (Some m) i = max m i
+abbrev pub search_front : Option ℕ → ℕ → ℕ
+search_front None i = i
+search_front (Some m) i = max m i
 
 -- An item is spelled from place i on, after the member `low` or none, and what is known of the closing bracket behind it.
 pub record IsSpelled (text : List ℕ) (low : Option ℕ) (i : ℕ) (s : Spelled) : Type 0 where
@@ -40,7 +40,7 @@ pub record IsSpelled (text : List ℕ) (low : Option ℕ) (i : ℕ) (s : Spelled
 -- `spare` are left over.
 pub record IsPaid (spare : ℕ) (before after : Counts) (i : ℕ) (known : Option ℕ) (s : Spelled) : Type 0 where
   pub steps : after.steps ≡ before.steps
-  pub looks : after.looks + spare + 3 * i + searched known i ≤ before.looks + 3 * s.next + searched s.close s.next
+  pub looks : after.looks + spare + 3 * i + search_front known i ≤ before.looks + 3 * s.next + search_front s.close s.next
 
 -- Where no item is spelled, they are paid by the way to the text's end, two a byte.
 pub record IsPaidToEnd (spare : ℕ) (before after : Counts) (text : List ℕ) (i : ℕ) : Type 0 where

@@ -10,7 +10,7 @@ ghost use Rattle.glob_matcher.specs.Sets.{BeginsRange, BeginsClass, IsFirstFrom,
 ghost use Rattle.glob_matcher.specs.Sets.{class_holds, item_holds};
 ghost use Rattle.glob_matcher.specs.Sets.{set_holds as held_by, range_holds as in_range, is_between as between};
 ghost use Rattle.glob_matcher.specs.Private.Takes.{Takes};
-ghost use Rattle.glob_matcher.specs.Private.Looks.{LookedOver, IsKnown, IsSpelled, IsPaid, IsPaidToEnd, IsPaidFor, searched};
+ghost use Rattle.glob_matcher.specs.Private.Looks.{LookedOver, IsKnown, IsSpelled, IsPaid, IsPaidToEnd, IsPaidFor, search_front};
 ghost use Rattle.glob_matcher.specs.Private.Reader.{IsEntry, after_item, at_first, first_item};
 
 use super::engine::{Engine, Match};
@@ -278,7 +278,7 @@ impl<'c, 'a, S: Ledger, L: Ledger, M: Match> Engine<'c, 'a, S, L, M> {
         ensures found { IfSome result (λ j. IsFirstFrom M.pattern (place + 2) close_bracket j) }
         ensures none { IfNone result ((j : ℕ) → place + 2 ≤ j → ¬ HasByte M.pattern j close_bracket) }
         ensures steps { self.new.steps ≡ self.old.steps }
-        ensures looks { IfSome result (λ j. self.new.looks + searched close place ≤ self.old.looks + j) }
+        ensures looks { IfSome result (λ j. self.new.looks + search_front close place ≤ self.old.looks + j) }
         ensures broken { IfNone result (LookedOver 1 self.old self.new (place + 2) (length M.pattern)) }
     {
         let Some(known) = close else {

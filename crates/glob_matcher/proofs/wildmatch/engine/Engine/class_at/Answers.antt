@@ -1,5 +1,5 @@
 use Rattle.std.proofs.Common.{arith}
-use Rattle.glob_matcher.proofs.lemmas.reading.LookLemmas.{searched_low}
+use Rattle.glob_matcher.proofs.lemmas.reading.LookLemmas.{search_front_low}
 use Rattle.glob_matcher.proofs.wildmatch.engine.Engine.class_at.Goals as goal
 
 pub returns-then-not-ends_class-clause-count : goal.returns-then-not-ends_class-clause-count
@@ -15,7 +15,7 @@ pub returns-in_default-class_named-clause-broken : goal.returns-in_default-class
 returns-in_default-class_named-clause-broken g c =
     let takes = c.ends_class.ensures.count in
     let over = c.class_named.ensures.count in
-    let from = searched_low c.args.close c.args.place in
+    let from = search_front_low c.args.close c.args.place in
     let first = c.in-Some.ensures.found in
     record {
       steps = omega (arith, takes.steps, over.steps, c.class_close.ensures.steps);
