@@ -5,7 +5,7 @@ pub mod Reader
 pub mod StarSearch
 pub mod Scans
 pub mod States
-pub mod Pieces
+pub mod SizedTokens
 pub mod Prices
 pub mod Budget
 pub mod Turns

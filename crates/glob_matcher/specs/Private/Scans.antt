@@ -18,7 +18,7 @@ Follows mode p i (follow.Folded b) = HasByte p i b × StandsForItself b × (fold
 Follows mode p i follow.End = i ≡ length p
 
 -- a mark has moved, over bytes of which P doesn't hold
-pub record Passed (v : List ℕ) (P : ℕ → Type 0) (from to : Mark) : Type 0 where
+pub record HasPassed (v : List ℕ) (P : ℕ → Type 0) (from to : Mark) : Type 0 where
   pub same : to.place ≡ from.place
   pub low : from.at ≤ to.at
   pub inside : to.at ≤ length v
@@ -32,9 +32,9 @@ reached_by (scan.Undecided m) = m
 
 -- what a scan from a mark comes to, for a byte of which P holds
 abbrev pub HasScanned : List ℕ → (ℕ → Type 0) → Mark → Scan → Type 0
-HasScanned v P from (scan.Found m) = Passed v P from m × (m.at < length v) × P (slice_index v m.at)
-HasScanned v P from (scan.Blocked m) = Passed v P from m × (m.at < length v) × (¬ P (slice_index v m.at)) × (slice_index v m.at ≡ slash)
-HasScanned v P from (scan.Undecided m) = Passed v P from m
+HasScanned v P from (scan.Found m) = HasPassed v P from m × (m.at < length v) × P (slice_index v m.at)
+HasScanned v P from (scan.Blocked m) = HasPassed v P from m × (m.at < length v) × (¬ P (slice_index v m.at)) × (slice_index v m.at ≡ slash)
+HasScanned v P from (scan.Undecided m) = HasPassed v P from m
 
 -- the steps at the place that a scan has come to: a test, and a mark that can't move
 abbrev pub last_steps : Scan → ℕ

@@ -11,7 +11,7 @@ use Rattle.glob_matcher.specs.Private.Looks.{IsSetPaid}
 use Rattle.glob_matcher.specs.Private.Reader.{IsTokenRead, is_star}
 use Rattle.glob_matcher.specs.Private.Budget.{CountsOutcome}
 use Rattle.glob_matcher.specs.Private.Turns.{IsTurn}
-use Rattle.glob_matcher.proofs.lemmas.two_marks.Prices.{takes_within}
+use Rattle.glob_matcher.proofs.lemmas.two_marks.Prices.{Takes-within}
 
 counts_on : (t : Turn) (a b c : ℕ) → b ≡ a → CountsOutcome t b c → CountsOutcome t a c
 counts_on turn.Match a b c same more = tt
@@ -24,7 +24,7 @@ pub turn_on : {mode : Mode} {p v : List ℕ} {state : State} {t : Turn} {before 
     → IsTurn mode p v state looked t before after
 turn_on {t = t} {before} {between} {after} {looked = looked} taken enough so = record {
   meaning = so.meaning;
-  allows = λ measure s n low a. so.allows measure s n (takes_within measure s 0 looked low taken (omega arith) enough) a;
+  allows = λ measure s n low a. so.allows measure s n (Takes-within measure s 0 looked low taken (omega arith) enough) a;
   progress = counts_on t before.steps between.steps after.steps (omega (arith, taken.steps)) so.progress;
 }
 
