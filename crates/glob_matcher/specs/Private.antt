@@ -1,11 +1,11 @@
 -- Words that only private clauses cite: what the functions of the crate say to one another.
-pub mod Took
+pub mod Takes
 pub mod Looks
 pub mod Reader
 pub mod StarSearch
 pub mod Scans
 pub mod States
-pub mod Pieces
+pub mod SizedTokens
 pub mod Prices
 pub mod Budget
 pub mod Turns

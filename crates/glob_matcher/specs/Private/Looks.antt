@@ -7,7 +7,7 @@ use Rattle.glob_matcher.specs.declared.wildmatch.sets.Entry.TheVariants as entry
 use Rattle.glob_matcher.specs.Bytes.{close_bracket}
 use Rattle.glob_matcher.specs.Sets.{IsFirstFrom, ItemAt}
 use Rattle.glob_matcher.specs.Steps.{Counts}
-use Rattle.glob_matcher.specs.Private.Took.{Took}
+use Rattle.glob_matcher.specs.Private.Takes.{Takes}
 
 -- no step, and at most n looks for each byte from place i up to place j
 pub record LookedOver (n : ℕ) (before after : Counts) (i j : ℕ) : Type 0 where
@@ -25,9 +25,9 @@ IsKnown text i None = Unit {0}
 IsKnown text i (Some m) = i ≤ m → IsFirstFrom text i close_bracket m
 
 -- how far the closing bracket was looked for, from place i on
-abbrev pub searched : Option ℕ → ℕ → ℕ
-searched None i = i
-searched (Some m) i = max m i
+abbrev pub search_front : Option ℕ → ℕ → ℕ
+search_front None i = i
+search_front (Some m) i = max m i
 
 -- An item is spelled from place i on, after the member `low` or none, and what is known of the closing bracket behind it.
 pub record IsSpelled (text : List ℕ) (low : Option ℕ) (i : ℕ) (s : Spelled) : Type 0 where
@@ -40,7 +40,7 @@ pub record IsSpelled (text : List ℕ) (low : Option ℕ) (i : ℕ) (s : Spelled
 -- `spare` are left over.
 pub record IsPaid (spare : ℕ) (before after : Counts) (i : ℕ) (known : Option ℕ) (s : Spelled) : Type 0 where
   pub steps : after.steps ≡ before.steps
-  pub looks : after.looks + spare + 3 * i + searched known i ≤ before.looks + 3 * s.next + searched s.close s.next
+  pub looks : after.looks + spare + 3 * i + search_front known i ≤ before.looks + 3 * s.next + search_front s.close s.next
 
 -- Where no item is spelled, they are paid by the way to the text's end, two a byte.
 pub record IsPaidToEnd (spare : ℕ) (before after : Counts) (text : List ℕ) (i : ℕ) : Type 0 where
@@ -50,5 +50,5 @@ pub record IsPaidToEnd (spare : ℕ) (before after : Counts) (text : List ℕ) (
 -- the looks at what stands at place i
 abbrev pub IsPaidFor : Counts → Counts → List ℕ → ℕ → Option ℕ → Entry → Type 0
 IsPaidFor before after text i known (entry.Item s) = IsPaid 0 before after i known s
-IsPaidFor before after text i known entry.Close = Took before after 0 1
+IsPaidFor before after text i known entry.Close = Takes before after 0 1
 IsPaidFor before after text i known entry.Broken = IsPaidToEnd 0 before after text i

@@ -1,4 +1,4 @@
--- What the engine with two marks may take at the pieces of a pattern, by the place of the value at which it stands. What is
+-- What the engine with two marks may take at the tokens of a pattern, by the place of the value at which it stands. What is
 -- counted is either its steps or its looks. Nothing public cites it.
 use Rattle.std.specs.Prelude.{ℕ, ◌+◌, ◌-◌, ◌*◌, Bool, List, [], ◌∷◌, length, if◌then◌else◌}
 use Rattle.glob_matcher.specs.declared.wildmatch.mode.Mode.{Mode}
@@ -6,7 +6,7 @@ use Rattle.glob_matcher.specs.Steps.{Counts}
 use Rattle.glob_matcher.specs.Tokens.{Token}
 use Rattle.glob_matcher.specs.Private.Reader.{kind_of, is_star}
 use Rattle.glob_matcher.specs.Private.Components.{separates, next_component}
-use Rattle.glob_matcher.specs.Private.Pieces.{Piece}
+use Rattle.glob_matcher.specs.Private.SizedTokens.{SizedToken}
 
 -- what is counted
 pub data Measure : Type 0 where
@@ -18,8 +18,8 @@ unfoldable pub amount : Measure → ℕ → ℕ → ℕ
 amount Steps steps looks = steps
 amount Looks steps looks = looks
 
-unfoldable pub counted : Measure → Counts → ℕ
-counted measure counts = amount measure counts.steps counts.looks
+unfoldable pub amount_of : Measure → Counts → ℕ
+amount_of measure counts = amount measure counts.steps counts.looks
 
 -- a number, for a star token alone
 unfoldable pub for_star : Token → ℕ → ℕ
@@ -30,17 +30,17 @@ for_star t n = if is_star (kind_of t) then n else 0
 unfoldable pub move : Measure → ℕ
 move measure = amount measure 1 4
 
--- The test of a piece at one place of the value: the looks that read the piece, and those at the byte of the value and at the
--- byte after the piece.
-unfoldable pub test : Measure → Piece → ℕ
+-- The test of a token at one place of the value: the looks that read the token, and those at the byte of the value and at the
+-- byte after the token.
+unfoldable pub test : Measure → SizedToken → ℕ
 test measure x = amount measure 1 (8 * x.width - for_star x.token 4)
 
--- all that a piece may take at one place: its test and, of a star, a move of its mark
-unfoldable pub each : Measure → Piece → ℕ
+-- all that a token may take at one place: its test and, of a star, a move of its mark
+unfoldable pub each : Measure → SizedToken → ℕ
 each measure x = test measure x + for_star x.token (move measure)
 
--- the test of the first of the pieces, or of the pattern's end
-unfoldable pub trial : Measure → List Piece → ℕ
+-- the test of the first of the tokens, or of the pattern's end
+unfoldable pub trial : Measure → List SizedToken → ℕ
 trial measure [] = 1
 trial measure (x ∷ xs) = test measure x
 
@@ -52,17 +52,17 @@ onward mode v apart k = if apart then next_component mode v k else k
 unfoldable pub left : List ℕ → ℕ → ℕ
 left v k = length v + 1 - k
 
--- what the pieces may take from place k of the value on, over all the later places of the mark before them
-unfoldable pub cost : Measure → Mode → List ℕ → List Piece → ℕ → ℕ
+-- what the tokens may take from place k of the value on, over all the later places of the mark before them
+unfoldable pub cost : Measure → Mode → List ℕ → List SizedToken → ℕ → ℕ
 cost measure mode v [] k = left v k
 cost measure mode v (x ∷ xs) k = each measure x * left v k + cost measure mode v xs (onward mode v (separates mode x.token) k)
 
--- the place where the next look at these pieces may begin
-unfoldable pub hop : Mode → List ℕ → List Piece → ℕ → ℕ
+-- the place where the next look at these tokens may begin
+unfoldable pub hop : Mode → List ℕ → List SizedToken → ℕ → ℕ
 hop mode v [] k = next_component mode v k
 hop mode v (x ∷ xs) k = if separates mode x.token then k + 1 else next_component mode v k
 
--- what the pieces up to the first that ends a component, or the pattern's end, may take at one place
-unfoldable pub stretch : Measure → Mode → List Piece → ℕ
-stretch measure mode [] = 1
-stretch measure mode (x ∷ xs) = each measure x + (if separates mode x.token then 0 else stretch measure mode xs)
+-- what the tokens up to the first that ends a component, or the pattern's end, may take at one place
+unfoldable pub component_cost : Measure → Mode → List SizedToken → ℕ
+component_cost measure mode [] = 1
+component_cost measure mode (x ∷ xs) = each measure x + (if separates mode x.token then 0 else component_cost measure mode xs)

@@ -8,7 +8,7 @@ use Rattle.glob_matcher.specs.declared.wildmatch.needle.Follow.TheVariants as fo
 use Rattle.glob_matcher.specs.declared.wildmatch.scan.Scan.{Scan}
 use Rattle.glob_matcher.specs.declared.wildmatch.scan.Scan.TheVariants as scan
 use Rattle.glob_matcher.specs.Steps.{Counts}
-use Rattle.glob_matcher.specs.Private.Took.{Took}
+use Rattle.glob_matcher.specs.Private.Takes.{Takes}
 use Rattle.glob_matcher.specs.Bytes.{HasByte, StandsForItself, folds, slash}
 
 -- this follows at place i of the pattern
@@ -18,7 +18,7 @@ Follows mode p i (follow.Folded b) = HasByte p i b × StandsForItself b × (fold
 Follows mode p i follow.End = i ≡ length p
 
 -- a mark has moved, over bytes of which P doesn't hold
-pub record Passed (v : List ℕ) (P : ℕ → Type 0) (from to : Mark) : Type 0 where
+pub record HasPassed (v : List ℕ) (P : ℕ → Type 0) (from to : Mark) : Type 0 where
   pub same : to.place ≡ from.place
   pub low : from.at ≤ to.at
   pub inside : to.at ≤ length v
@@ -32,9 +32,9 @@ reached_by (scan.Undecided m) = m
 
 -- what a scan from a mark comes to, for a byte of which P holds
 abbrev pub HasScanned : List ℕ → (ℕ → Type 0) → Mark → Scan → Type 0
-HasScanned v P from (scan.Found m) = Passed v P from m × (m.at < length v) × P (slice_index v m.at)
-HasScanned v P from (scan.Blocked m) = Passed v P from m × (m.at < length v) × (¬ P (slice_index v m.at)) × (slice_index v m.at ≡ slash)
-HasScanned v P from (scan.Undecided m) = Passed v P from m
+HasScanned v P from (scan.Found m) = HasPassed v P from m × (m.at < length v) × P (slice_index v m.at)
+HasScanned v P from (scan.Blocked m) = HasPassed v P from m × (m.at < length v) × (¬ P (slice_index v m.at)) × (slice_index v m.at ≡ slash)
+HasScanned v P from (scan.Undecided m) = HasPassed v P from m
 
 -- the steps at the place that a scan has come to: a test, and a mark that can't move
 abbrev pub last_steps : Scan → ℕ
@@ -55,7 +55,7 @@ scan_steps from s = 2 * ((reached_by s).at - from.at) + last_steps s
 -- a scan from a mark, and what it takes: each step looks at one byte
 pub record IsScan (v : List ℕ) (P : ℕ → Type 0) (from : Mark) (s : Scan) (before after : Counts) : Type 0 where
   pub meaning : HasScanned v P from s
-  pub took : Took before after (scan_steps from s) (scan_steps from s)
+  pub takes : Takes before after (scan_steps from s) (scan_steps from s)
 
 -- the scan was not stopped by a slash
 abbrev pub IsUnblocked : Scan → Type 0

@@ -16,7 +16,7 @@ use Rattle.glob_matcher.specs.Matching.{Splits, SplitsFrom}
 use Rattle.glob_matcher.specs.Private.Reader.{Fits, AfterSlash}
 use Rattle.glob_matcher.specs.Private.Scans.{reached_by, scan_steps}
 use Rattle.glob_matcher.specs.Private.Components.{separates, next_component}
-use Rattle.glob_matcher.specs.Private.Took.{Took}
+use Rattle.glob_matcher.specs.Private.Takes.{Takes}
 use Rattle.glob_matcher.specs.Steps.{Counts}
 
 -- A later success of a mark: from a place past it, the rest of the pattern splits the rest of the value.
@@ -43,12 +43,13 @@ LaterCrossing mode p v crossing.Unmet = ⊥
 LaterCrossing mode p v (crossing.Free m) = LaterFree mode p v m.place m.at
 LaterCrossing mode p v (crossing.Dirs m) = LaterDirs mode p v m.place m.at
 
-abbrev pub LaterWithin : Mode → List ℕ → List ℕ → Option Mark → Type 0
-LaterWithin mode p v None = ⊥
-LaterWithin mode p v (Some m) = LaterLocal mode p v m.place m.at
+-- the same of the local mark, where one is set
+abbrev pub LaterLocalIfSet : Mode → List ℕ → List ℕ → Option Mark → Type 0
+LaterLocalIfSet mode p v None = ⊥
+LaterLocalIfSet mode p v (Some m) = LaterLocal mode p v m.place m.at
 
 -- A later success of the crossing mark lies ahead of this place: past it, and past its component where no slash is wanted.
-pub record Ahead (mode : Mode) (p v : List ℕ) (i k : ℕ) : Type 0 where
+pub record SuccessAhead (mode : Mode) (p v : List ℕ) (i k : ℕ) : Type 0 where
   pub e : ℕ
   pub past : k < e
   pub inside : e ≤ length v
@@ -57,14 +58,14 @@ pub record Ahead (mode : Mode) (p v : List ℕ) (i k : ℕ) : Type 0 where
   pub splits : SplitsFrom v e p i mode
 
 -- It lies in a later component.
-pub record Far (mode : Mode) (p v : List ℕ) (i k : ℕ) : Type 0 where
+pub record SuccessFar (mode : Mode) (p v : List ℕ) (i k : ℕ) : Type 0 where
   pub e : ℕ
   pub far : next_component mode v k ≤ e
   pub inside : e ≤ length v
   pub splits : SplitsFrom v e p i mode
 
 -- A later success of the local mark lies here or ahead in this component.
-pub record Near (mode : Mode) (p v : List ℕ) (i k : ℕ) : Type 0 where
+pub record SuccessNear (mode : Mode) (p v : List ℕ) (i k : ℕ) : Type 0 where
   pub e : ℕ
   pub low : k ≤ e
   pub inside : e ≤ length v
@@ -88,24 +89,25 @@ pub record LocalKnown (mode : Mode) (p v : List ℕ) (i k : ℕ) (c : Crossing) 
   pub low : place ≤ length p
   pub here : ¬ IsAfterSlash p i
   pub start : ¬ IsAfterSlash p place
-  pub near : LaterLocal mode p v place at → Near mode p v i k
-  pub far : LaterCrossing mode p v c → Far mode p v place at
+  pub near : LaterLocal mode p v place at → SuccessNear mode p v i k
+  pub far : LaterCrossing mode p v c → SuccessFar mode p v place at
 
-abbrev pub WithinKnown : Mode → List ℕ → List ℕ → ℕ → ℕ → Crossing → Option Mark → Type 0
-WithinKnown mode p v i k c None = Unit {0}
-WithinKnown mode p v i k c (Some m) = LocalKnown mode p v i k c m.place m.at
+-- the same, where a local mark is set
+abbrev pub LocalKnownIfSet : Mode → List ℕ → List ℕ → ℕ → ℕ → Crossing → Option Mark → Type 0
+LocalKnownIfSet mode p v i k c None = Unit {0}
+LocalKnownIfSet mode p v i k c (Some m) = LocalKnown mode p v i k c m.place m.at
 
 -- What holds at each turn: a success from here or of a mark is a match, and a match is one of these.
 pub record Stands (mode : Mode) (p v : List ℕ) (i k : ℕ) (c : Crossing) (l : Option Mark) : Type 0 where
   pub low : i ≤ length p
   pub inside : k ≤ length v
   pub sound : SplitsFrom v k p i mode → Splits v p mode
-  pub sound_local : LaterWithin mode p v l → Splits v p mode
+  pub sound_local : LaterLocalIfSet mode p v l → Splits v p mode
   pub sound_crossing : LaterCrossing mode p v c → Splits v p mode
-  pub complete : Splits v p mode → SplitsFrom v k p i mode ⊎ (LaterWithin mode p v l ⊎ LaterCrossing mode p v c)
-  pub ahead : LaterCrossing mode p v c → Ahead mode p v i k
+  pub complete : Splits v p mode → SplitsFrom v k p i mode ⊎ (LaterLocalIfSet mode p v l ⊎ LaterCrossing mode p v c)
+  pub ahead : LaterCrossing mode p v c → SuccessAhead mode p v i k
   pub crossing : CrossingKnown mode p v c
-  pub local : WithinKnown mode p v i k c l
+  pub local : LocalKnownIfSet mode p v i k c l
 
 abbrev pub StandsAt : Mode → List ℕ → List ℕ → State → Type 0
 StandsAt mode p v s = Stands mode p v s.place s.at s.crossing s.local
@@ -117,7 +119,7 @@ pub record IsLeft (mode : Mode) (p v : List ℕ) (c : Crossing) : Type 0 where
   pub crossing : CrossingKnown mode p v c
 
 -- the engine stands here, and the token does not fit
-pub record IsMissed (mode : Mode) (p v : List ℕ) (s : State) : Type 0 where
+pub record IsMiss (mode : Mode) (p v : List ℕ) (s : State) : Type 0 where
   pub stands : StandsAt mode p v s
   pub missed : ¬ SplitsFrom v s.at p s.place mode
 
@@ -125,7 +127,7 @@ pub record IsMissed (mode : Mode) (p v : List ℕ) (s : State) : Type 0 where
 abbrev pub IsOutcome : Mode → List ℕ → List ℕ → Turn → Type 0
 IsOutcome mode p v turn.Match = Splits v p mode
 IsOutcome mode p v turn.NoMatch = ¬ Splits v p mode
-IsOutcome mode p v (turn.Miss s) = IsMissed mode p v s
+IsOutcome mode p v (turn.Miss s) = IsMiss mode p v s
 IsOutcome mode p v (turn.On next) = StandsAt mode p v next
 
 -- where going back to a mark leads: to a state, or nowhere
@@ -134,9 +136,9 @@ Resumes mode p v None = ¬ Splits v p mode
 Resumes mode p v (Some next) = StandsAt mode p v next
 
 -- where going back to the local mark leads: to a state, or to the crossing mark
-abbrev pub ResumesWithin : Mode → List ℕ → List ℕ → Crossing → Option State → Type 0
-ResumesWithin mode p v c None = IsLeft mode p v c
-ResumesWithin mode p v c (Some next) = StandsAt mode p v next
+abbrev pub ResumesLocal : Mode → List ℕ → List ℕ → Crossing → Option State → Type 0
+ResumesLocal mode p v c None = IsLeft mode p v c
+ResumesLocal mode p v c (Some next) = StandsAt mode p v next
 
 -- what was met at the place that a scan has come to
 abbrev pub IsMet : Mode → List ℕ → List ℕ → Scan → Type 0
@@ -154,7 +156,7 @@ pub record IsScanFor (mode : Mode) (p v : List ℕ) (from : Mark) (s : Scan) (be
   pub inside : (reached_by s).at ≤ length v
   pub missed : (k : ℕ) → from.at ≤ k → k < (reached_by s).at → ¬ SplitsFrom v k p from.place mode
   pub met : IsMet mode p v s
-  pub took : Took before after (scan_steps from s) (scan_steps from s + 1)
+  pub takes : Takes before after (scan_steps from s) (scan_steps from s + 1)
 
 -- a mark is moved to the next place after a slash
 pub record IsNextDirectory (v : List ℕ) (from to : Mark) : Type 0 where

@@ -2,11 +2,11 @@
 ghost use Rattle.std.specs.Prelude.{◌≡◌, ◌≢◌, ◌+◌, ◌-◌, ◌<◌, ◌≤◌, IfSome, IfNone, None, Some, length, slice_index};
 ghost use Rattle.glob_matcher.specs.Bytes.{NoSlash, slash};
 ghost use Rattle.glob_matcher.specs.Private.Scans.{IsUnblocked, reached_by};
-ghost use Rattle.glob_matcher.specs.Private.States.{IsLeft, IsMissed, IsNextDirectory, IsScanFor};
-ghost use Rattle.glob_matcher.specs.Private.Took.{Took};
-ghost use Rattle.glob_matcher.specs.Private.Prices.{counted};
-ghost use Rattle.glob_matcher.specs.Private.Budget.{AllowsLeft, AllowsMissed};
-ghost use Rattle.glob_matcher.specs.Private.Turns.{IsBacktrack, IsBacktrackWithin};
+ghost use Rattle.glob_matcher.specs.Private.States.{IsLeft, IsMiss, IsNextDirectory, IsScanFor};
+ghost use Rattle.glob_matcher.specs.Private.Takes.{Takes};
+ghost use Rattle.glob_matcher.specs.Private.Prices.{amount_of};
+ghost use Rattle.glob_matcher.specs.Private.Budget.{AllowsLeft, AllowsMiss};
+ghost use Rattle.glob_matcher.specs.Private.Turns.{IsBacktrack, IsBacktrackLocal};
 
 use super::engine::{Engine, Mark, Match};
 use super::needle::{End, Exact, Folded, Follow};
@@ -19,9 +19,9 @@ impl<'c, 'a, S: Ledger, L: Ledger, M: Match> Engine<'c, 'a, S, L, M> {
     #[inline(always)]
     fn next_directory(&mut self, mark: Mark) -> Option<Mark>
         ensures moved { IfSome result (λ m. IsNextDirectory M.value mark m) }
-        ensures moves { IfSome result (λ m. Took self.old self.new (m.at - mark.at) (m.at - mark.at)) }
+        ensures moves { IfSome result (λ m. Takes self.old self.new (m.at - mark.at) (m.at - mark.at)) }
         ensures unable { IfNone result (NoSlash M.value mark.at (length M.value)) }
-        ensures count { IfNone result (mark.at ≤ length M.value → Took self.old self.new (length M.value + 1 - mark.at) (length M.value + 1 - mark.at)) }
+        ensures count { IfNone result (mark.at ≤ length M.value → Takes self.old self.new (length M.value + 1 - mark.at) (length M.value + 1 - mark.at)) }
     {
         let mut reached = mark;
         'bytes: while let Some((moved, byte)) = self.pass(reached) {
@@ -69,7 +69,7 @@ impl<'c, 'a, S: Ledger, L: Ledger, M: Match> Engine<'c, 'a, S, L, M> {
     #[inline(always)]
     fn back_to_free(&mut self, mark: Mark) -> Option<State>
         requires { IsLeft M.mode M.pattern M.value (Crossing.Free mark) }
-        ensures { IsBacktrack M.mode M.pattern M.value (λ measure. AllowsLeft measure M.mode M.pattern M.value (Crossing.Free mark) (counted measure self.old)) result self.old self.new }
+        ensures { IsBacktrack M.mode M.pattern M.value (λ measure. AllowsLeft measure M.mode M.pattern M.value (Crossing.Free mark) (amount_of measure self.old)) result self.old self.new }
     {
         let Some((moved, _)) = self.pass(mark) else {
             return None;
@@ -95,7 +95,7 @@ impl<'c, 'a, S: Ledger, L: Ledger, M: Match> Engine<'c, 'a, S, L, M> {
     #[inline(always)]
     fn back_to_crossing(&mut self, crossing: Crossing) -> Option<State>
         requires { IsLeft M.mode M.pattern M.value crossing }
-        ensures { IsBacktrack M.mode M.pattern M.value (λ measure. AllowsLeft measure M.mode M.pattern M.value crossing (counted measure self.old)) result self.old self.new }
+        ensures { IsBacktrack M.mode M.pattern M.value (λ measure. AllowsLeft measure M.mode M.pattern M.value crossing (amount_of measure self.old)) result self.old self.new }
     {
         match crossing {
             Crossing::Unmet => None,
@@ -118,7 +118,7 @@ impl<'c, 'a, S: Ledger, L: Ledger, M: Match> Engine<'c, 'a, S, L, M> {
         requires { mark.place < length M.pattern }
         ensures at_slash { slice_index M.pattern mark.place ≡ slash → result ≡ None }
         ensures at_other { slice_index M.pattern mark.place ≢ slash → result ≡ Some mark }
-        ensures count { Took self.old self.new 0 1 }
+        ensures count { Takes self.old self.new 0 1 }
     {
         if self.pattern_byte(mark.place()) == b'/' {
             None
@@ -130,8 +130,8 @@ impl<'c, 'a, S: Ledger, L: Ledger, M: Match> Engine<'c, 'a, S, L, M> {
     /// Goes back to the local mark, at its next place in the component; `None` where there is none.
     #[inline(always)]
     fn back_to_local(&mut self, state: State) -> Option<State>
-        requires { IsMissed M.mode M.pattern M.value state }
-        ensures { IsBacktrackWithin M.mode M.pattern M.value state result self.old self.new }
+        requires { IsMiss M.mode M.pattern M.value state }
+        ensures { IsBacktrackLocal M.mode M.pattern M.value state result self.old self.new }
     {
         let Some(mark) = state.local else {
             return None;
@@ -159,8 +159,8 @@ impl<'c, 'a, S: Ledger, L: Ledger, M: Match> Engine<'c, 'a, S, L, M> {
     /// Goes back to a mark from where a token does not fit.
     #[inline(always)]
     pub fn backtrack(&mut self, state: State) -> Option<State>
-        requires { IsMissed M.mode M.pattern M.value state }
-        ensures { IsBacktrack M.mode M.pattern M.value (λ measure. AllowsMissed measure M.mode M.pattern M.value state (counted measure self.old)) result self.old self.new }
+        requires { IsMiss M.mode M.pattern M.value state }
+        ensures { IsBacktrack M.mode M.pattern M.value (λ measure. AllowsMiss measure M.mode M.pattern M.value state (amount_of measure self.old)) result self.old self.new }
     {
         match self.back_to_local(state) {
             Some(next) => Some(next),

@@ -1,6 +1,6 @@
 //! The counts of what a match takes: contracts see them, and they take no bytes.
 ghost use Rattle.std.specs.Prelude.{◌≡◌, ◌+◌, ◌<◌};
-ghost use Rattle.glob_matcher.specs.Private.Took.{Counted};
+ghost use Rattle.glob_matcher.specs.Private.Takes.{TakesExactly};
 
 use std::marker::Model;
 use std::sync::ledger::{Blank, Book, Ledger, Share};
@@ -83,7 +83,7 @@ impl<S: Ledger, L: Ledger> Counts<S, L> {
     /// Counts one step.
     #[inline(always)]
     pub(super) fn step(&mut self)
-        ensures { Counted self.old self.new 1 0 }
+        ensures { TakesExactly self.old self.new 1 0 }
     {
         self.steps.add(1);
     }
@@ -91,7 +91,7 @@ impl<S: Ledger, L: Ledger> Counts<S, L> {
     /// Counts one step that reads a byte.
     #[inline(always)]
     pub(super) fn step_with_look(&mut self)
-        ensures { Counted self.old self.new 1 1 }
+        ensures { TakesExactly self.old self.new 1 1 }
     {
         self.step();
         self.look();
@@ -100,7 +100,7 @@ impl<S: Ledger, L: Ledger> Counts<S, L> {
     /// Counts one look.
     #[inline(always)]
     pub(super) fn look(&mut self)
-        ensures { Counted self.old self.new 0 1 }
+        ensures { TakesExactly self.old self.new 0 1 }
     {
         self.looks.add(1);
     }

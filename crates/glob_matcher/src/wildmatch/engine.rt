@@ -12,7 +12,7 @@ ghost use Rattle.glob_matcher.specs.Tokens.{Token, Byte};
 ghost use Rattle.glob_matcher.specs.Private.Reader.{kind_of, Fits, IsSetTested, IsToken};
 ghost use Rattle.glob_matcher.specs.Matching.{Splits};
 ghost use Rattle.glob_matcher.specs.Private.Looks.{LookedOver, IsSetPaid};
-ghost use Rattle.glob_matcher.specs.Private.Took.{Took};
+ghost use Rattle.glob_matcher.specs.Private.Takes.{Takes};
 ghost use Rattle.glob_matcher.specs.Steps.{look_limit, step_limit};
 
 use super::counts::Counts;
@@ -143,9 +143,9 @@ impl<'c, 'a, S: Ledger, L: Ledger, M: Match> Engine<'c, 'a, S, L, M> {
     pub fn look_at(&mut self, place: usize) -> Option<u8>
         ensures here { IfSome result (λ byte. HasByte M.pattern place byte) }
         ensures end { IfNone result (length M.pattern ≤ place) }
-        ensures count { Took self.old self.new 0 1 }
+        ensures count { Takes self.old self.new 0 1 }
         ensures look { IfSome result (λ _. self.new.looks ≡ self.old.looks + 1) }
-        ensures free { IfNone result (Took self.old self.new 0 0) }
+        ensures free { IfNone result (Takes self.old self.new 0 0) }
     {
         if place >= self.pattern.len() {
             return None;
@@ -159,7 +159,7 @@ impl<'c, 'a, S: Ledger, L: Ledger, M: Match> Engine<'c, 'a, S, L, M> {
     pub fn pattern_byte(&mut self, place: usize) -> u8
         requires { place < length M.pattern }
         ensures here { result ≡ slice_index M.pattern place }
-        ensures count { Took self.old self.new 0 1 }
+        ensures count { Takes self.old self.new 0 1 }
         ensures look { self.new.looks ≡ self.old.looks + 1 }
     {
         self.counts.look();
@@ -183,7 +183,7 @@ impl<'c, 'a, S: Ledger, L: Ledger, M: Match> Engine<'c, 'a, S, L, M> {
     #[inline(always)]
     pub fn ends_at(&mut self, at: usize) -> bool
         ensures answer { IsTrue result ↔ (length M.value ≤ at) }
-        ensures count { Took self.old self.new 1 0 }
+        ensures count { Takes self.old self.new 1 0 }
     {
         self.counts.step();
         at >= self.value.len()
@@ -193,7 +193,7 @@ impl<'c, 'a, S: Ledger, L: Ledger, M: Match> Engine<'c, 'a, S, L, M> {
     #[inline(always)]
     pub fn has(&mut self, at: usize, wanted: u8) -> bool
         ensures answer { IsTrue result ↔ ((at < length M.value) × Fits M.mode (Byte wanted) (slice_index M.value at)) }
-        ensures count { Took self.old self.new 1 1 }
+        ensures count { Takes self.old self.new 1 1 }
         ensures look { self.new.looks ≡ self.old.looks + 1 }
     {
         self.counts.step_with_look();
@@ -204,7 +204,7 @@ impl<'c, 'a, S: Ledger, L: Ledger, M: Match> Engine<'c, 'a, S, L, M> {
     #[inline(always)]
     pub fn ends_in(&mut self, wanted: u8) -> bool
         ensures answer { IsTrue result ↔ ((0 < length M.value) × Fits M.mode (Byte wanted) (slice_index M.value (length M.value - 1))) }
-        ensures count { Took self.old self.new 1 1 }
+        ensures count { Takes self.old self.new 1 1 }
         ensures look { self.new.looks ≡ self.old.looks + 1 }
     {
         self.counts.step_with_look();
@@ -218,7 +218,7 @@ impl<'c, 'a, S: Ledger, L: Ledger, M: Match> Engine<'c, 'a, S, L, M> {
         requires { kind ≢ TokenKind.Set }
         ensures answer { (token : Token) → kind ≡ kind_of token
             → IsTrue result ↔ ((at < length M.value) × Fits M.mode token (slice_index M.value at)) }
-        ensures count { Took self.old self.new 1 1 }
+        ensures count { Takes self.old self.new 1 1 }
         ensures look { self.new.looks ≡ self.old.looks + 1 }
     {
         self.counts.step_with_look();
@@ -230,7 +230,7 @@ impl<'c, 'a, S: Ledger, L: Ledger, M: Match> Engine<'c, 'a, S, L, M> {
     fn value_at(&mut self, at: usize) -> Option<u8>
         ensures here { IfSome result (λ byte. HasByte M.value at byte) }
         ensures end { IfNone result (length M.value ≤ at) }
-        ensures count { Took self.old self.new 0 1 }
+        ensures count { Takes self.old self.new 0 1 }
         ensures look { IfSome result (λ _. self.new.looks ≡ self.old.looks + 1) }
     {
         if at >= self.value.len() {
@@ -277,7 +277,7 @@ impl<'c, 'a, S: Ledger, L: Ledger, M: Match> Engine<'c, 'a, S, L, M> {
     pub fn set_mark(&mut self, place: usize, at: usize) -> Mark
         ensures place { result.place ≡ place }
         ensures at { result.at ≡ at }
-        ensures count { Took self.old self.new 1 0 }
+        ensures count { Takes self.old self.new 1 0 }
     {
         self.counts.step();
         Mark { place, at }
@@ -288,7 +288,7 @@ impl<'c, 'a, S: Ledger, L: Ledger, M: Match> Engine<'c, 'a, S, L, M> {
     pub fn pass(&mut self, mark: Mark) -> Option<(Mark, u8)>
         ensures moved { IfSome result (λ x. (x.0.place ≡ mark.place) × (x.0.at ≡ mark.at + 1) × (mark.at < length M.value) × (slice_index M.value mark.at ≡ x.1)) }
         ensures unable { IfNone result (length M.value ≤ mark.at) }
-        ensures count { Took self.old self.new 1 1 }
+        ensures count { Takes self.old self.new 1 1 }
         ensures look { self.new.looks ≡ self.old.looks + 1 }
     {
         self.counts.step_with_look();
@@ -308,7 +308,7 @@ impl<'c, 'a, S: Ledger, L: Ledger, M: Match> Engine<'c, 'a, S, L, M> {
         requires { mark.at < length M.value }
         ensures place { result.place ≡ mark.place }
         ensures at { result.at ≡ mark.at + 1 }
-        ensures count { Took self.old self.new 1 0 }
+        ensures count { Takes self.old self.new 1 0 }
     {
         self.counts.step();
         Mark {
@@ -323,7 +323,7 @@ impl<'c, 'a, S: Ledger, L: Ledger, M: Match> Engine<'c, 'a, S, L, M> {
         requires { mark.at < length M.value }
         ensures moved { IfSome result (λ x. (x.place ≡ mark.place) × (x.at ≡ mark.at + 1) × (mark.at < length M.value) × (slice_index M.value mark.at ≢ slash)) }
         ensures unable { IfNone result (slice_index M.value mark.at ≡ slash) }
-        ensures count { Took self.old self.new 1 1 }
+        ensures count { Takes self.old self.new 1 1 }
         ensures look { self.new.looks ≡ self.old.looks + 1 }
     {
         self.counts.step_with_look();
@@ -341,7 +341,7 @@ impl<'c, 'a, S: Ledger, L: Ledger, M: Match> Engine<'c, 'a, S, L, M> {
     pub fn pass_within_or_end(&mut self, mark: Mark) -> Option<Mark>
         ensures moved { IfSome result (λ x. (x.place ≡ mark.place) × (x.at ≡ mark.at + 1) × (mark.at < length M.value) × (slice_index M.value mark.at ≢ slash)) }
         ensures unable { IfNone result ((length M.value ≤ mark.at) ⊎ (slice_index M.value mark.at ≡ slash)) }
-        ensures count { Took self.old self.new 1 1 }
+        ensures count { Takes self.old self.new 1 1 }
         ensures look { self.new.looks ≡ self.old.looks + 1 }
     {
         if mark.at >= self.value.len() {
@@ -365,7 +365,7 @@ impl<'c, 'a, S: Ledger, L: Ledger, M: Match> Engine<'c, 'a, S, L, M> {
     pub fn suits<N: Needle>(&mut self, mark: Mark, needle: N) -> bool
         requires { mark.at < length M.value }
         ensures answer { IsTrue result ↔ N.suits needle (slice_index M.value mark.at) }
-        ensures count { Took self.old self.new 1 1 }
+        ensures count { Takes self.old self.new 1 1 }
         ensures look { self.new.looks ≡ self.old.looks + 1 }
     {
         self.counts.step_with_look();

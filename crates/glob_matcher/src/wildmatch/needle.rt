@@ -3,7 +3,7 @@ ghost use Rattle.std.specs.Prelude.{◌≡◌, ◌↔◌, ◌<◌, ◌≤◌, Is
 ghost use Rattle.std.specs.Char.{to_ascii_lowercase};
 ghost use Rattle.glob_matcher.specs.Bytes.{StandsForItself};
 ghost use Rattle.glob_matcher.specs.Private.Scans.{Follows};
-ghost use Rattle.glob_matcher.specs.Private.Took.{Took};
+ghost use Rattle.glob_matcher.specs.Private.Takes.{Takes};
 
 use super::engine::{Engine, Match};
 use std::sync::ledger::Ledger;
@@ -84,7 +84,7 @@ impl<'c, 'a, S: Ledger, L: Ledger, M: Match> Engine<'c, 'a, S, L, M> {
         requires { place ≤ length M.pattern }
         ensures follows { IfSome result (λ follow. Follows M.mode M.pattern place follow) }
         ensures other { IfNone result ((place < length M.pattern) × ¬ StandsForItself (slice_index M.pattern place)) }
-        ensures count { Took self.old self.new 0 1 }
+        ensures count { Takes self.old self.new 0 1 }
     {
         let Some(byte) = self.look_at(place) else {
             return Some(Follow::End);

@@ -9,8 +9,8 @@ ghost use Rattle.glob_matcher.specs.Bytes.{HasByte, IsEscaped, is_path, open_bra
 ghost use Rattle.glob_matcher.specs.Sets.{BeginsRange, BeginsClass, IsFirstFrom, IsSign, IsUpperEnd, ItemAt, Set, SetAt, member_of, name_of};
 ghost use Rattle.glob_matcher.specs.Sets.{class_holds, item_holds};
 ghost use Rattle.glob_matcher.specs.Sets.{set_holds as held_by, range_holds as in_range, is_between as between};
-ghost use Rattle.glob_matcher.specs.Private.Took.{Took};
-ghost use Rattle.glob_matcher.specs.Private.Looks.{LookedOver, IsKnown, IsSpelled, IsPaid, IsPaidToEnd, IsPaidFor, searched};
+ghost use Rattle.glob_matcher.specs.Private.Takes.{Takes};
+ghost use Rattle.glob_matcher.specs.Private.Looks.{LookedOver, IsKnown, IsSpelled, IsPaid, IsPaidToEnd, IsPaidFor, search_front};
 ghost use Rattle.glob_matcher.specs.Private.Reader.{IsEntry, after_item, at_first, first_item};
 
 use super::engine::{Engine, Match};
@@ -228,8 +228,8 @@ impl<'c, 'a, S: Ledger, L: Ledger, M: Match> Engine<'c, 'a, S, L, M> {
         requires { HasByte M.pattern place backslash }
         ensures found { IfSome result (λ byte. IsEscaped M.pattern place byte) }
         ensures none { IfNone result ((byte : ℕ) → ¬ IsEscaped M.pattern place byte) }
-        ensures count { Took self.old self.new 0 1 }
-        ensures free { IfNone result (Took self.old self.new 0 0) }
+        ensures count { Takes self.old self.new 0 1 }
+        ensures free { IfNone result (Takes self.old self.new 0 0) }
     {
         self.look_at(place + 1)
     }
@@ -241,7 +241,7 @@ impl<'c, 'a, S: Ledger, L: Ledger, M: Match> Engine<'c, 'a, S, L, M> {
         ensures inside { IfSome result (λ end. (place < end.1) × (end.1 ≤ length M.pattern)) }
         ensures none { IfNone result ((high j : ℕ) → ¬ IsUpperEnd M.pattern place high j) }
         ensures count { IfSome result (λ end. LookedOver 1 self.old self.new place end.1) }
-        ensures broken { IfNone result (Took self.old self.new 0 1) }
+        ensures broken { IfNone result (Takes self.old self.new 0 1) }
     {
         let byte = self.pattern_byte(place);
         if byte != b'\\' {
@@ -278,7 +278,7 @@ impl<'c, 'a, S: Ledger, L: Ledger, M: Match> Engine<'c, 'a, S, L, M> {
         ensures found { IfSome result (λ j. IsFirstFrom M.pattern (place + 2) close_bracket j) }
         ensures none { IfNone result ((j : ℕ) → place + 2 ≤ j → ¬ HasByte M.pattern j close_bracket) }
         ensures steps { self.new.steps ≡ self.old.steps }
-        ensures looks { IfSome result (λ j. self.new.looks + searched close place ≤ self.old.looks + j) }
+        ensures looks { IfSome result (λ j. self.new.looks + search_front close place ≤ self.old.looks + j) }
         ensures broken { IfNone result (LookedOver 1 self.old self.new (place + 2) (length M.pattern)) }
     {
         let Some(known) = close else {
@@ -295,7 +295,7 @@ impl<'c, 'a, S: Ledger, L: Ledger, M: Match> Engine<'c, 'a, S, L, M> {
         requires low { place + 2 ≤ end }
         requires inside { end < length M.pattern }
         ensures answer { IsTrue result ↔ ((place + 3 ≤ end) × HasByte M.pattern (end - 1) colon) }
-        ensures count { Took self.old self.new 0 1 }
+        ensures count { Takes self.old self.new 0 1 }
     {
         if end < place + 3 {
             return false;
@@ -339,7 +339,7 @@ impl<'c, 'a, S: Ledger, L: Ledger, M: Match> Engine<'c, 'a, S, L, M> {
         requires { HasByte M.pattern place dash }
         ensures found { IfSome result (λ from. (low ≡ Some from) × BeginsRange M.pattern (Some from) place) }
         ensures none { IfNone result (¬ BeginsRange M.pattern low place) }
-        ensures count { Took self.old self.new 0 1 }
+        ensures count { Takes self.old self.new 0 1 }
     {
         let Some(member) = low else {
             return None;
@@ -395,7 +395,7 @@ impl<'c, 'a, S: Ledger, L: Ledger, M: Match> Engine<'c, 'a, S, L, M> {
     fn begins_class(&mut self, place: usize) -> bool
         requires { HasByte M.pattern place open_bracket }
         ensures answer { IsTrue result ↔ BeginsClass M.pattern place }
-        ensures count { Took self.old self.new 0 1 }
+        ensures count { Takes self.old self.new 0 1 }
     {
         matches!(self.look_at(place + 1), Some(b':'))
     }
@@ -481,7 +481,7 @@ impl<'c, 'a, S: Ledger, L: Ledger, M: Match> Engine<'c, 'a, S, L, M> {
     /// Whether a sign that negates stands at this place.
     fn has_sign(&mut self, place: usize) -> bool
         ensures answer { IsTrue result ↔ IsSign M.pattern place }
-        ensures count { Took self.old self.new 0 1 }
+        ensures count { Takes self.old self.new 0 1 }
     {
         matches!(self.look_at(place), Some(b'!' | b'^'))
     }
@@ -492,7 +492,7 @@ impl<'c, 'a, S: Ledger, L: Ledger, M: Match> Engine<'c, 'a, S, L, M> {
         ensures sign { IsTrue result.0 ↔ IsSign M.pattern (place + 1) }
         ensures begin { result.1 ≡ at_first (first_item result.0 place) }
         ensures inside { (place < result.1.place) × (result.1.place ≤ length M.pattern) }
-        ensures count { Took self.old self.new 0 1 }
+        ensures count { Takes self.old self.new 0 1 }
     {
         if self.has_sign(place + 1) {
             return (true, Cursor::at_first(place + 2));

@@ -3,7 +3,7 @@ ghost use Rattle.std.specs.Prelude.{◌≡◌, ◌≢◌, ◌↔◌, ◌+◌, �
 ghost use Rattle.glob_matcher.specs.declared.wildmatch.tokens.TokenKind.TheVariants as kind;
 ghost use Rattle.glob_matcher.specs.Tokens.{Token, IsRun, IsBounded, IsAfterSlash, IsBeforeSlash};
 ghost use Rattle.glob_matcher.specs.Bytes.{HasByte, slash, star};
-ghost use Rattle.glob_matcher.specs.Private.Took.{Took};
+ghost use Rattle.glob_matcher.specs.Private.Takes.{Takes};
 ghost use Rattle.glob_matcher.specs.Private.Looks.{LookedOver};
 ghost use Rattle.glob_matcher.specs.Private.Reader.{IsToken, IsTokenRead, IsRunRead, is_star, kind_of, Fits};
 
@@ -67,7 +67,7 @@ impl<'c, 'a, S: Ledger, L: Ledger, M: Match> Engine<'c, 'a, S, L, M> {
     /// Whether a place is inside the pattern and has this byte.
     fn has_byte(&mut self, place: usize, byte: u8) -> bool
         ensures answer { IsTrue result ↔ HasByte M.pattern place byte }
-        ensures count { Took self.old self.new 0 1 }
+        ensures count { Takes self.old self.new 0 1 }
     {
         self.look_at(place) == Some(byte)
     }
@@ -90,7 +90,7 @@ impl<'c, 'a, S: Ledger, L: Ledger, M: Match> Engine<'c, 'a, S, L, M> {
     fn follows_slash(&mut self, place: usize) -> bool
         requires { place ≤ length M.pattern }
         ensures answer { IsTrue result ↔ IsAfterSlash M.pattern place }
-        ensures count { Took self.old self.new 0 1 }
+        ensures count { Takes self.old self.new 0 1 }
     {
         if place == 0 {
             return true;
@@ -102,7 +102,7 @@ impl<'c, 'a, S: Ledger, L: Ledger, M: Match> Engine<'c, 'a, S, L, M> {
     fn precedes_slash(&mut self, place: usize) -> bool
         requires { place ≤ length M.pattern }
         ensures answer { IsTrue result ↔ IsBeforeSlash M.pattern place }
-        ensures count { Took self.old self.new 0 2 }
+        ensures count { Takes self.old self.new 0 2 }
     {
         match self.look_at(place) {
             None => true,
@@ -117,8 +117,8 @@ impl<'c, 'a, S: Ledger, L: Ledger, M: Match> Engine<'c, 'a, S, L, M> {
         requires before { place < end }
         requires inside { end ≤ length M.pattern }
         ensures answer { IsTrue result ↔ IsBounded M.pattern place end }
-        ensures count { Took self.old self.new 0 3 }
-        ensures single { end < place + 2 → Took self.old self.new 0 0 }
+        ensures count { Takes self.old self.new 0 3 }
+        ensures single { end < place + 2 → Takes self.old self.new 0 0 }
     {
         if end - place < 2 {
             return false;

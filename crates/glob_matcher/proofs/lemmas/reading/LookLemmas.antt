@@ -7,59 +7,59 @@ use Rattle.glob_matcher.specs.declared.wildmatch.sets.Cursor.{Cursor}
 use Rattle.glob_matcher.specs.declared.wildmatch.sets.Entry.TheVariants as entry
 use Rattle.glob_matcher.specs.Steps.{Counts}
 use Rattle.glob_matcher.specs.Bytes.{HasByte, close_bracket}
-use Rattle.glob_matcher.specs.Private.Looks.{IsKnown, IsPaid, LookedOver, searched}
+use Rattle.glob_matcher.specs.Private.Looks.{IsKnown, IsPaid, LookedOver, search_front}
 use Rattle.glob_matcher.specs.Private.Reader.{IsEntry, after_item, at_first}
-use Rattle.glob_matcher.specs.Private.Took.{Took}
+use Rattle.glob_matcher.specs.Private.Takes.{Takes}
 use Rattle.glob_matcher.proofs.lemmas.reading.Walks.{IsUnderway, underway_first, underway_next}
 
-pub searched_on : (known : Option ℕ) (i j : ℕ) → i ≤ j → searched known i ≤ searched known j
-searched_on None i j low = low
-searched_on (Some m) i j low = omega arith
+pub search_front_on : (known : Option ℕ) (i j : ℕ) → i ≤ j → search_front known i ≤ search_front known j
+search_front_on None i j low = low
+search_front_on (Some m) i j low = omega arith
 
 -- it was looked for from this place on
-pub searched_low : (known : Option ℕ) (i : ℕ) → i ≤ searched known i
-searched_low None i = omega arith
-searched_low (Some m) i = omega arith
+pub search_front_low : (known : Option ℕ) (i : ℕ) → i ≤ search_front known i
+search_front_low None i = omega arith
+search_front_low (Some m) i = omega arith
 
 -- what is known lies inside the text
-pub searched_inside : (text : List ℕ) (i : ℕ) (known : Option ℕ) → IsKnown text i known → i ≤ length text
-    → searched known i ≤ length text
-searched_inside text i None is low = low
-searched_inside text i (Some m) is low =
+pub search_front_inside : (text : List ℕ) (i : ℕ) (known : Option ℕ) → IsKnown text i known → i ≤ length text
+    → search_front known i ≤ length text
+search_front_inside text i None is low = low
+search_front_inside text i (Some m) is low =
     elim (cases_lt m i) [ inl passed ↦ omega arith | inr ahead ↦ omega (arith, (is ahead).here.inside) ]
 
 -- where a closing bracket stands, none further ahead is known
-pub searched_here : (text : List ℕ) (i : ℕ) (known : Option ℕ) → IsKnown text i known → HasByte text i close_bracket
-    → searched known i ≤ i
-searched_here text i None is here = omega arith
-searched_here text i (Some m) is here =
+pub search_front_here : (text : List ℕ) (i : ℕ) (known : Option ℕ) → IsKnown text i known → HasByte text i close_bracket
+    → search_front known i ≤ i
+search_front_here text i None is here = omega arith
+search_front_here text i (Some m) is here =
     elim (cases_lt m i) [ inl passed ↦ omega arith | inr ahead ↦ omega (arith, (is ahead).before i (omega arith) here) ]
 
 -- it is no further than a closing bracket that is known and ahead
-pub searched_known : (known : Option ℕ) (m i : ℕ) → known ≡ Some m → i ≤ m → searched known i ≤ m
-searched_known known m i is ahead = subst (λ (x : Option ℕ). searched x i ≤ m) (sym is) (omega arith)
+pub search_front_known : (known : Option ℕ) (m i : ℕ) → known ≡ Some m → i ≤ m → search_front known i ≤ m
+search_front_known known m i is ahead = subst (λ (x : Option ℕ). search_front x i ≤ m) (sym is) (omega arith)
 
 -- where none is known, it begins here
-pub searched_unknown : (known : Option ℕ) (i : ℕ) → ((m : ℕ) → known ≡ Some m → ⊥) → searched known i ≤ i
-searched_unknown None i none = omega arith
-searched_unknown (Some m) i none = absurd (none m refl)
+pub search_front_unknown : (known : Option ℕ) (i : ℕ) → ((m : ℕ) → known ≡ Some m → ⊥) → search_front known i ≤ i
+search_front_unknown None i none = omega arith
+search_front_unknown (Some m) i none = absurd (none m refl)
 
 -- a known one that is too near is passed
-pub searched_passed : (known : Option ℕ) (m i : ℕ) → known ≡ Some m → m < i + 2 → searched known i ≤ i + 1
-searched_passed known m i is near = subst (λ (x : Option ℕ). searched x i ≤ i + 1) (sym is) (omega arith)
+pub search_front_passed : (known : Option ℕ) (m i : ℕ) → known ≡ Some m → m < i + 2 → search_front known i ≤ i + 1
+search_front_passed known m i is near = subst (λ (x : Option ℕ). search_front x i ≤ i + 1) (sym is) (omega arith)
 
 -- the looks of a new search, behind the two bytes of a `[:`
-pub searched_anew : (result known : Option ℕ) (before after : Counts) (i : ℕ) → searched known i ≤ i + 1
+pub search_front_anew : (result known : Option ℕ) (before after : Counts) (i : ℕ) → search_front known i ≤ i + 1
     → IfSome result (λ m. LookedOver 1 before after (i + 2) (m + 1))
-    → IfSome result (λ m. after.looks + searched known i ≤ before.looks + m)
-searched_anew None known before after i near over = tt
-searched_anew (Some m) known before after i near over = omega (arith, near, over.looks)
+    → IfSome result (λ m. after.looks + search_front known i ≤ before.looks + m)
+search_front_anew None known before after i near over = tt
+search_front_anew (Some m) known before after i near over = omega (arith, near, over.looks)
 
 -- what is known of the closing bracket is as before
 pub paid_same : {before after : Counts} {i : ℕ} {s : Spelled} (spare : ℕ) → after.steps ≡ before.steps → i ≤ s.next
     → after.looks + spare + 3 * i ≤ before.looks + 3 * s.next → IsPaid spare before after i s.close s
 paid_same {i = i} {s = s} spare steps low looks =
-    record { steps = steps; looks = let more = searched_on s.close i s.next low in omega (arith, looks, more) }
+    record { steps = steps; looks = let more = search_front_on s.close i s.next low in omega (arith, looks, more) }
 
 -- The reader of a set stands at this cursor: the items so far, and those from here on, are the set's; what is known of the closing
 -- bracket; and what pays the looks.
@@ -69,21 +69,21 @@ pub record IsReading (text : List ℕ) (place start : ℕ) (test : Item → Bool
   pub inside : cursor.place ≤ length text
   pub known : IsKnown text cursor.place cursor.close
   pub steps : now.steps ≡ before.steps
-  pub looks : now.looks + 4 * place + 3 ≤ before.looks + 3 * cursor.place + searched cursor.close cursor.place
+  pub looks : now.looks + 4 * place + 3 ≤ before.looks + 3 * cursor.place + search_front cursor.close cursor.place
 
 module _ {text : List ℕ} {place start : ℕ} {test : Item → Bool} {before now : Counts} where
   pub reading_first : {cursor : Cursor} → cursor ≡ at_first start → place < cursor.place → cursor.place ≤ length text
-      → Took before now 0 1 → IsReading text place start test false cursor before now
-  reading_first {cursor = cursor} is past inside took =
+      → Takes before now 0 1 → IsReading text place start test false cursor before now
+  reading_first {cursor = cursor} is past inside takes =
       subst (λ (x : Cursor). IsReading text place start test false x before now) (sym is) (record {
         underway = underway_first text start test;
         past = subst (λ (x : Cursor). place < x.place) is past;
         inside = subst (λ (x : Cursor). x.place ≤ length text) is inside;
         known = tt;
-        steps = omega (arith, took.steps);
+        steps = omega (arith, takes.steps);
         looks =
             let low : place < start = subst (λ (x : Cursor). place < x.place) is past in
-            omega (arith, took.looks, low);
+            omega (arith, takes.looks, low);
       })
 
   pub reading_next : {held next_held : Bool} {cursor next : Cursor} {after : Counts} (s : Spelled)

@@ -16,47 +16,47 @@ abbrev pub IsInner : Mode → List ℕ → ℕ → Option Mark → Type 0
 IsInner mode v k None = Unit {0}
 IsInner mode v k (Some m) = ends mode (get_or v k 0) ≡ false
 
-ends_plain_by : (path : Bool) (b : ℕ) → path ≡ false → ends_by path b ≡ true
-ends_plain_by true b plain = cc
-ends_plain_by false b plain = refl
+ends_by-plain : (path : Bool) (b : ℕ) → path ≡ false → ends_by path b ≡ true
+ends_by-plain true b plain = cc
+ends_by-plain false b plain = refl
 
-pub ends_plain : (mode : Mode) (b : ℕ) → is_path mode ≡ false → ends mode b ≡ true
-ends_plain mode b plain = ends_plain_by (is_path mode) b plain
+pub ends-plain : (mode : Mode) (b : ℕ) → is_path mode ≡ false → ends mode b ≡ true
+ends-plain mode b plain = ends_by-plain (is_path mode) b plain
 
-ends_slash_by : (path : Bool) (b : ℕ) → path ≡ true → ends_by path b ≡ true → b ≡ slash
-ends_slash_by true b path end = eqb-true b slash end
-ends_slash_by false b path end = cc
+ends_by-slash : (path : Bool) (b : ℕ) → path ≡ true → ends_by path b ≡ true → b ≡ slash
+ends_by-slash true b path end = eqb-true b slash end
+ends_by-slash false b path end = cc
 
-inner_by : (path : Bool) (b : ℕ) → path ≡ true → b ≢ slash → ends_by path b ≡ false
-inner_by true b path other = ne_eqb b slash other
-inner_by false b path other = cc
+ends_by-inner : (path : Bool) (b : ℕ) → path ≡ true → b ≢ slash → ends_by path b ≡ false
+ends_by-inner true b path other = ne_eqb b slash other
+ends_by-inner false b path other = cc
 
-pub inner : (mode : Mode) (b : ℕ) → IsTrue (is_path mode) → b ≢ slash → ends mode b ≡ false
-inner mode b path other = inner_by (is_path mode) b path other
+pub ends-inner : (mode : Mode) (b : ℕ) → IsTrue (is_path mode) → b ≢ slash → ends mode b ≡ false
+ends-inner mode b path other = ends_by-inner (is_path mode) b path other
 
-slash_ends_by : (path : Bool) (b : ℕ) → b ≡ slash → ends_by path b ≡ true
-slash_ends_by true b is = eq-eqb b slash is
-slash_ends_by false b is = refl
+ends_by-at_slash : (path : Bool) (b : ℕ) → b ≡ slash → ends_by path b ≡ true
+ends_by-at_slash true b is = eq-eqb b slash is
+ends_by-at_slash false b is = refl
 
-pub slash_ends : (mode : Mode) (b : ℕ) → b ≡ slash → ends mode b ≡ true
-slash_ends mode b is = slash_ends_by (is_path mode) b is
+pub ends-at_slash : (mode : Mode) (b : ℕ) → b ≡ slash → ends mode b ≡ true
+ends-at_slash mode b is = ends_by-at_slash (is_path mode) b is
 
-pub ends_or_not : (mode : Mode) (b : ℕ) → (ends mode b ≡ true) ⊎ (ends mode b ≡ false)
-ends_or_not mode b = cases (ends mode b) where
+pub ends-or_not : (mode : Mode) (b : ℕ) → (ends mode b ≡ true) ⊎ (ends mode b ≡ false)
+ends-or_not mode b = cases (ends mode b) where
   cases : (e : Bool) → (e ≡ true) ⊎ (e ≡ false)
   cases true = inl refl
   cases false = inr refl
 
-same_end : (path : Bool) (b c : ℕ) → (b ≡ slash → c ≡ slash) → (c ≡ slash → b ≡ slash) → ends_by path b ≡ ends_by path c
-same_end false b c to from = refl
-same_end true b c to from = elim (eqb_tells b slash) [
+ends_by-same : (path : Bool) (b c : ℕ) → (b ≡ slash → c ≡ slash) → (c ≡ slash → b ≡ slash) → ends_by path b ≡ ends_by path c
+ends_by-same false b c to from = refl
+ends_by-same true b c to from = elim (eqb_tells b slash) [
   | inl is ↦ is.0 ∙ sym (eq-eqb c slash (to is.1))
   | inr other ↦ other.0 ∙ sym (ne_eqb c slash (λ is. other.1 (from is)))
 ]
 
-separates_wild : (path : Bool) (c : ℕ) → (IsTrue path → c ≢ slash) → not path ≡ ends_by path c
-separates_wild true c other = sym (ne_eqb c slash (other refl))
-separates_wild false c other = refl
+ends_by-wild : (path : Bool) (c : ℕ) → (IsTrue path → c ≢ slash) → not path ≡ ends_by path c
+ends_by-wild true c other = sym (ne_eqb c slash (other refl))
+ends_by-wild false c other = refl
 
 set_not_slash : (path : Bool) (c : ℕ) (held : Bool) → IsTrue (not (path && c == slash) && held) → IsTrue path → c ≢ slash
 set_not_slash true c held holds path is =
@@ -68,50 +68,50 @@ set_not_slash false c held holds path is = let wrong : false ≡ true = path in 
 -- Where a token takes a byte, both end a component or neither does.
 pub separates-fits : (mode : Mode) (t : Token) (c : ℕ) → Fits mode t c → separates mode t ≡ ends mode c
 separates-fits mode (Byte b) c fits =
-    same_end (is_path mode) b c
+    ends_by-same (is_path mode) b c
     (λ is. fold_slash mode c (subst (λ (x : ℕ). fold mode c ≡ fold mode x) is fits))
     (λ is. fold_slash mode b (sym (subst (λ (x : ℕ). fold mode x ≡ fold mode b) is fits)))
-separates-fits mode Any c fits = separates_wild (is_path mode) c fits
-separates-fits mode (OneOf s) c fits = separates_wild (is_path mode) c (set_not_slash (is_path mode) c _ fits)
+separates-fits mode Any c fits = ends_by-wild (is_path mode) c fits
+separates-fits mode (OneOf s) c fits = ends_by-wild (is_path mode) c (set_not_slash (is_path mode) c _ fits)
 separates-fits mode Free c fits = absurd fits
 separates-fits mode Local c fits = absurd fits
 separates-fits mode Dirs c fits = absurd fits
 separates-fits mode Nothing c fits = absurd fits
 
-separates_slash_by : (path : Bool) (t : Token) → path ≡ true → separates_by path t ≡ true → t ≡ Byte slash
-separates_slash_by path (Byte b) is apart = ap Byte (ends_slash_by path b is apart)
-separates_slash_by true Any is apart = cc
-separates_slash_by false Any is apart = cc
-separates_slash_by true (OneOf s) is apart = cc
-separates_slash_by false (OneOf s) is apart = cc
-separates_slash_by path Free is apart = cc
-separates_slash_by path Local is apart = cc
-separates_slash_by path Dirs is apart = cc
-separates_slash_by path Nothing is apart = cc
+separates_by-slash : (path : Bool) (t : Token) → path ≡ true → separates_by path t ≡ true → t ≡ Byte slash
+separates_by-slash path (Byte b) is apart = ap Byte (ends_by-slash path b is apart)
+separates_by-slash true Any is apart = cc
+separates_by-slash false Any is apart = cc
+separates_by-slash true (OneOf s) is apart = cc
+separates_by-slash false (OneOf s) is apart = cc
+separates_by-slash path Free is apart = cc
+separates_by-slash path Local is apart = cc
+separates_by-slash path Dirs is apart = cc
+separates_by-slash path Nothing is apart = cc
 
 -- in path mode the slash alone ends a component
 pub separates-slash : (mode : Mode) (t : Token) → IsTrue (is_path mode) → separates mode t ≡ true → t ≡ Byte slash
-separates-slash mode t path apart = separates_slash_by (is_path mode) t path apart
+separates-slash mode t path apart = separates_by-slash (is_path mode) t path apart
 
-next_at : (mode : Mode) (v : List ℕ) (k : ℕ) → k < length v
+next-here : (mode : Mode) (v : List ℕ) (k : ℕ) → k < length v
     → next_component mode v k ≡ k + (if ends mode (get_or v k 0) then 1 else suc (reach mode (drop (suc k) v)))
 unfolding next_component reach
-next_at mode v k inside = ap (λ (bs : List ℕ). k + reach mode bs) (drop-cons v k 0 inside)
+next-here mode v k inside = ap (λ (bs : List ℕ). k + reach mode bs) (drop-cons v k 0 inside)
 
 pub next-end : (mode : Mode) (v : List ℕ) (k : ℕ) → k < length v → ends mode (get_or v k 0) ≡ true → next_component mode v k ≡ k + 1
 next-end mode v k inside end =
-    next_at mode v k inside ∙ ap (λ (b : Bool). k + (if b then 1 else suc (reach mode (drop (suc k) v)))) end
+    next-here mode v k inside ∙ ap (λ (b : Bool). k + (if b then 1 else suc (reach mode (drop (suc k) v)))) end
 
-pub next-past : (mode : Mode) (v : List ℕ) (k : ℕ) → length v ≤ k → next_component mode v k ≡ k + 1
+pub next-outside : (mode : Mode) (v : List ℕ) (k : ℕ) → length v ≤ k → next_component mode v k ≡ k + 1
 unfolding next_component reach
-next-past mode v k past = ap (λ (bs : List ℕ). k + reach mode bs) (drop_of_length-le v past)
+next-outside mode v k past = ap (λ (bs : List ℕ). k + reach mode bs) (drop_of_length-le v past)
 
 next-inner_suc : (mode : Mode) (v : List ℕ) (k : ℕ) → k < length v → ends mode (get_or v k 0) ≡ false
     → next_component mode v (suc k) ≡ next_component mode v k
 unfolding next_component
 next-inner_suc mode v k inside within =
     let here : next_component mode v k ≡ k + suc (reach mode (drop (suc k) v)) =
-    next_at mode v k inside ∙ ap (λ (b : Bool). k + (if b then 1 else suc (reach mode (drop (suc k) v)))) within in
+    next-here mode v k inside ∙ ap (λ (b : Bool). k + (if b then 1 else suc (reach mode (drop (suc k) v)))) within in
     let there : next_component mode v (suc k) ≡ suc k + reach mode (drop (suc k) v) = refl in
     omega arith
 
@@ -119,74 +119,74 @@ pub next-inner : (mode : Mode) (v : List ℕ) (k : ℕ) → k < length v → end
     → next_component mode v (k + 1) ≡ next_component mode v k
 next-inner mode v k inside within = rw add-one (next-inner_suc mode v k inside within)
 
-reach_some : (mode : Mode) (bs : List ℕ) → 1 ≤ reach mode bs
+reach-some : (mode : Mode) (bs : List ℕ) → 1 ≤ reach mode bs
 unfolding reach
-reach_some mode [] = omega arith
-reach_some mode (b ∷ bs) = cases (ends mode b) where
+reach-some mode [] = omega arith
+reach-some mode (b ∷ bs) = cases (ends mode b) where
   cases : (e : Bool) → 1 ≤ (if e then 1 else suc (reach mode bs))
   cases true = omega arith
   cases false = omega arith
 
-pub next_past : (mode : Mode) (v : List ℕ) (k : ℕ) → k < next_component mode v k
+pub next-above : (mode : Mode) (v : List ℕ) (k : ℕ) → k < next_component mode v k
 unfolding next_component
-next_past mode v k = let some : 1 ≤ reach mode (drop k v) = reach_some mode (drop k v) in omega arith
+next-above mode v k = let some : 1 ≤ reach mode (drop k v) = reach-some mode (drop k v) in omega arith
 
-reach_high : (mode : Mode) (bs : List ℕ) → reach mode bs ≤ suc (length bs)
+reach-high : (mode : Mode) (bs : List ℕ) → reach mode bs ≤ suc (length bs)
 unfolding reach
-reach_high mode [] = omega arith
-reach_high mode (b ∷ bs) = cases (ends mode b) (reach_high mode bs) where
+reach-high mode [] = omega arith
+reach-high mode (b ∷ bs) = cases (ends mode b) (reach-high mode bs) where
   cases : (e : Bool) → reach mode bs ≤ suc (length bs) → (if e then 1 else suc (reach mode bs)) ≤ suc (suc (length bs))
   cases true h = omega arith
   cases false h = omega arith
 
-pub next_high : (mode : Mode) (v : List ℕ) (k : ℕ) → k ≤ length v → next_component mode v k ≤ length v + 1
+pub next-high : (mode : Mode) (v : List ℕ) (k : ℕ) → k ≤ length v → next_component mode v k ≤ length v + 1
 unfolding next_component
-next_high mode v k inside =
-    let high : reach mode (drop k v) ≤ suc (length (drop k v)) = reach_high mode (drop k v) in
+next-high mode v k inside =
+    let high : reach mode (drop k v) ≤ suc (length (drop k v)) = reach-high mode (drop k v) in
     let long : length (drop k v) ≡ length v - k = length-drop k v in
     omega arith
 
-next_mono_one : (mode : Mode) (v : List ℕ) (k : ℕ) → next_component mode v k ≤ next_component mode v (k + 1)
-next_mono_one mode v k = elim (cases_lt k (length v)) [
-  | inl inside ↦ elim (ends_or_not mode (get_or v k 0)) [
+next-mono_one : (mode : Mode) (v : List ℕ) (k : ℕ) → next_component mode v k ≤ next_component mode v (k + 1)
+next-mono_one mode v k = elim (cases_lt k (length v)) [
+  | inl inside ↦ elim (ends-or_not mode (get_or v k 0)) [
     | inl end ↦
         let here : next_component mode v k ≡ k + 1 = next-end mode v k inside end in
-        let past : k + 1 < next_component mode v (k + 1) = next_past mode v (k + 1) in omega arith
+        let past : k + 1 < next_component mode v (k + 1) = next-above mode v (k + 1) in omega arith
     | inr within ↦ let same : next_component mode v (k + 1) ≡ next_component mode v k = next-inner mode v k inside within in omega arith
   ]
   | inr outside ↦
-      let here : next_component mode v k ≡ k + 1 = next-past mode v k outside in
-      let past : k + 1 < next_component mode v (k + 1) = next_past mode v (k + 1) in omega arith
+      let here : next_component mode v k ≡ k + 1 = next-outside mode v k outside in
+      let past : k + 1 < next_component mode v (k + 1) = next-above mode v (k + 1) in omega arith
 ]
 
-next_mono_by : (mode : Mode) (v : List ℕ) (k d : ℕ) → next_component mode v k ≤ next_component mode v (k + d)
-next_mono_by mode v k zero = let same : next_component mode v k ≡ next_component mode v (k + 0) = ap (next_component mode v) (sym (add-zero k)) in omega arith
-next_mono_by mode v k (suc d) =
-    let so_far : next_component mode v k ≤ next_component mode v (k + d) = next_mono_by mode v k d in
-    let one : next_component mode v (k + d) ≤ next_component mode v (k + d + 1) = next_mono_one mode v (k + d) in
+next-mono_by : (mode : Mode) (v : List ℕ) (k d : ℕ) → next_component mode v k ≤ next_component mode v (k + d)
+next-mono_by mode v k zero = let same : next_component mode v k ≡ next_component mode v (k + 0) = ap (next_component mode v) (sym (add-zero k)) in omega arith
+next-mono_by mode v k (suc d) =
+    let so_far : next_component mode v k ≤ next_component mode v (k + d) = next-mono_by mode v k d in
+    let one : next_component mode v (k + d) ≤ next_component mode v (k + d + 1) = next-mono_one mode v (k + d) in
     let place : k + d + 1 ≡ k + suc d = omega arith in
     let same : next_component mode v (k + d + 1) ≡ next_component mode v (k + suc d) = ap (next_component mode v) place in
     omega arith
 
 -- A later place is before no earlier component.
-pub next_mono : (mode : Mode) (v : List ℕ) (k e : ℕ) → k ≤ e → next_component mode v k ≤ next_component mode v e
-next_mono mode v k e low =
-    let so_far : next_component mode v k ≤ next_component mode v (k + (e - k)) = next_mono_by mode v k (e - k) in
+pub next-mono : (mode : Mode) (v : List ℕ) (k e : ℕ) → k ≤ e → next_component mode v k ≤ next_component mode v e
+next-mono mode v k e low =
+    let so_far : next_component mode v k ≤ next_component mode v (k + (e - k)) = next-mono_by mode v k (e - k) in
     let place : k + (e - k) ≡ e = omega arith in
     let same : next_component mode v (k + (e - k)) ≡ next_component mode v e = ap (next_component mode v) place in
     omega arith
 
 -- What ends a component at a later place ends this one or a later one.
-pub next_before_end : (mode : Mode) (v : List ℕ) (k e : ℕ) → k ≤ e → e < length v → ends mode (get_or v e 0) ≡ true
+pub next-before_end : (mode : Mode) (v : List ℕ) (k e : ℕ) → k ≤ e → e < length v → ends mode (get_or v e 0) ≡ true
     → next_component mode v k ≤ e + 1
-next_before_end mode v k e low inside end =
-    let so_far : next_component mode v k ≤ next_component mode v e = next_mono mode v k e low in
+next-before_end mode v k e low inside end =
+    let so_far : next_component mode v k ≤ next_component mode v e = next-mono mode v k e low in
     let here : next_component mode v e ≡ e + 1 = next-end mode v e inside end in
     omega arith
 
 -- in plain mode each byte is a component
-pub next_plain : (mode : Mode) (v : List ℕ) (k : ℕ) → is_path mode ≡ false → next_component mode v k ≡ k + 1
-next_plain mode v k plain = elim (cases_lt k (length v)) [
-  | inl inside ↦ next-end mode v k inside (ends_plain mode (get_or v k 0) plain)
-  | inr outside ↦ next-past mode v k outside
+pub next-plain : (mode : Mode) (v : List ℕ) (k : ℕ) → is_path mode ≡ false → next_component mode v k ≡ k + 1
+next-plain mode v k plain = elim (cases_lt k (length v)) [
+  | inl inside ↦ next-end mode v k inside (ends-plain mode (get_or v k 0) plain)
+  | inr outside ↦ next-outside mode v k outside
 ]

@@ -16,16 +16,16 @@ use Rattle.glob_matcher.specs.Bytes.{NoSlash, StandsForItself, fold, folds, is_p
 use Rattle.glob_matcher.specs.Tokens.{Byte}
 use Rattle.glob_matcher.specs.Matching.{SplitsFrom}
 use Rattle.glob_matcher.specs.Private.Reader.{Fits}
-use Rattle.glob_matcher.specs.Private.Scans.{Follows, IsScan, Passed, reached_by}
+use Rattle.glob_matcher.specs.Private.Scans.{Follows, IsScan, HasPassed, reached_by}
 use Rattle.glob_matcher.specs.Private.States.{IsMet, IsScanFor, Stands}
 use Rattle.glob_matcher.specs.Steps.{Counts}
-use Rattle.glob_matcher.specs.Private.Took.{Took}
+use Rattle.glob_matcher.specs.Private.Takes.{Takes}
 use Rattle.glob_matcher.specs.Private.Prices.{Measure, amount, move}
-use Rattle.glob_matcher.specs.Private.Budget.{Allows, Missed}
-use Rattle.glob_matcher.proofs.lemmas.two_marks.Components.{inner}
-use Rattle.glob_matcher.proofs.lemmas.two_marks.States.{end_missed, free_moved, inner_of, left_without, literal_token, local_moved, mark_of, mark_eq, misses_byte, stands_on, stands_past_slash}
+use Rattle.glob_matcher.specs.Private.Budget.{Allows, Misses}
+use Rattle.glob_matcher.proofs.lemmas.two_marks.Components.{ends-inner}
+use Rattle.glob_matcher.proofs.lemmas.two_marks.States.{end_missed, stands_free_moved, inner_of, left_without, literal_token, stands_local_moved, mark_of, mark_eq, misses_byte, stands_on, stands_past_slash}
 use Rattle.glob_matcher.proofs.lemmas.two_marks.Budget.{allows_free_moved, allows_less, allows_local_moved, allows_missed, allows_on, allows_past_slash, left_missed}
-use Rattle.glob_matcher.proofs.lemmas.two_marks.Prices.{amount_mono, move_some, took_on}
+use Rattle.glob_matcher.proofs.lemmas.two_marks.Prices.{amount-mono, move-some, Takes-on}
 
 same_or_not : (a b : ℕ) → (a ≡ b) ⊎ (a ≢ b)
 same_or_not a b = elim (cases_lt a b) [
@@ -36,11 +36,11 @@ same_or_not a b = elim (cases_lt a b) [
   ]
 ]
 
-fold_exact : (mode : Mode) (b : ℕ) → folds mode ≡ false → fold mode b ≡ b
-fold_exact mode b off = ap (λ (on : Bool). if on then to_ascii_lowercase b else b) off
+fold-exact : (mode : Mode) (b : ℕ) → folds mode ≡ false → fold mode b ≡ b
+fold-exact mode b off = ap (λ (on : Bool). if on then to_ascii_lowercase b else b) off
 
-fold_lower : (mode : Mode) (b : ℕ) → folds mode ≡ true → fold mode b ≡ to_ascii_lowercase b
-fold_lower mode b on = ap (λ (x : Bool). if x then to_ascii_lowercase b else b) on
+fold-lowercase : (mode : Mode) (b : ℕ) → folds mode ≡ true → fold mode b ≡ to_ascii_lowercase b
+fold-lowercase mode b on = ap (λ (x : Bool). if x then to_ascii_lowercase b else b) on
 
 -- a byte of the value is what follows
 abbrev pub Suits : Follow → ℕ → Type 0
@@ -49,49 +49,49 @@ Suits (follow.Folded b) = λ c. to_ascii_lowercase c ≡ to_ascii_lowercase b
 Suits follow.End = λ c. ⊥
 
 -- a byte that is what follows is taken by the token there
-pub suited : (mode : Mode) (p : List ℕ) (i : ℕ) (f : Follow) (c : ℕ) → Follows mode p i f → Suits f c
+pub fits_what_follows : (mode : Mode) (p : List ℕ) (i : ℕ) (f : Follow) (c : ℕ) → Follows mode p i f → Suits f c
     → (i < length p) × StandsForItself (get_or p i 0) × Fits mode (Byte (get_or p i 0)) c
-suited mode p i (follow.Byte b) c is suits = (
+fits_what_follows mode p i (follow.Byte b) c is suits = (
   is.0.inside,
   subst StandsForItself (sym is.0.is) is.1,
   ap (fold mode) (suits ∙ sym is.0.is),
 )
-suited mode p i (follow.Folded b) c is suits = (
+fits_what_follows mode p i (follow.Folded b) c is suits = (
   is.0.inside,
   subst StandsForItself (sym is.0.is) is.1,
-  fold_lower mode c is.2 ∙ (suits ∙ (sym (fold_lower mode b is.2) ∙ ap (fold mode) (sym is.0.is))),
+  fold-lowercase mode c is.2 ∙ (suits ∙ (sym (fold-lowercase mode b is.2) ∙ ap (fold mode) (sym is.0.is))),
 )
-suited mode p i follow.End c is suits = absurd suits
+fits_what_follows mode p i follow.End c is suits = absurd suits
 
 -- where the value has not what follows, the token there takes no byte
-pub unsuited : (mode : Mode) (p v : List ℕ) (i k : ℕ) (f : Follow) → Follows mode p i f → k < length v → ¬ Suits f (get_or v k 0)
+pub misses_what_follows : (mode : Mode) (p v : List ℕ) (i k : ℕ) (f : Follow) → Follows mode p i f → k < length v → ¬ Suits f (get_or v k 0)
     → ¬ SplitsFrom v k p i mode
-unsuited mode p v i k (follow.Byte b) is inside other =
+misses_what_follows mode p v i k (follow.Byte b) is inside other =
     misses_byte v k (literal_token mode p i is.0.inside (subst StandsForItself (sym is.0.is) is.1)) refl (omega arith)
-    (λ fits. other (sym (fold_exact mode (get_or v k 0) is.2) ∙ (fits.1 ∙ (fold_exact mode (get_or p i 0) is.2 ∙ is.0.is))))
-unsuited mode p v i k (follow.Folded b) is inside other =
+    (λ fits. other (sym (fold-exact mode (get_or v k 0) is.2) ∙ (fits.1 ∙ (fold-exact mode (get_or p i 0) is.2 ∙ is.0.is))))
+misses_what_follows mode p v i k (follow.Folded b) is inside other =
     misses_byte v k (literal_token mode p i is.0.inside (subst StandsForItself (sym is.0.is) is.1)) refl (omega arith)
     (λ fits.
     other
-    (sym (fold_lower mode (get_or v k 0) is.2)
-    ∙ (fits.1 ∙ (fold_lower mode (get_or p i 0) is.2 ∙ ap to_ascii_lowercase is.0.is))))
-unsuited mode p v i k follow.End is inside other = end_missed mode p v i k is (λ past. omega arith)
+    (sym (fold-lowercase mode (get_or v k 0) is.2)
+    ∙ (fits.1 ∙ (fold-lowercase mode (get_or p i 0) is.2 ∙ ap to_ascii_lowercase is.0.is))))
+misses_what_follows mode p v i k follow.End is inside other = end_missed mode p v i k is (λ past. omega arith)
 
 -- A scan for what follows is a scan for the rest of the pattern, after the look at what follows.
 pub scan_for : (mode : Mode) (p : List ℕ) {v : List ℕ} (f : Follow) {from : Mark} {s : Scan} {before between after : Counts}
-    → Follows mode p from.place f → Took before between 0 1 → IsScan v (Suits f) from s between after
+    → Follows mode p from.place f → Takes before between 0 1 → IsScan v (Suits f) from s between after
     → IsScanFor mode p v from s before after
 scan_for mode p {v} f {from} {s = scan.Found m} is looked found =
     let so = found.meaning in
     let here : Follows mode p m.place f = subst (λ (i : ℕ). Follows mode p i f) (sym so.0.same) is in
-    let fits = suited mode p m.place f (get_or v m.at 0) here so.2 in
+    let fits = fits_what_follows mode p m.place f (get_or v m.at 0) here so.2 in
     record {
       same = so.0.same;
       low = so.0.low;
       inside = so.0.inside;
-      missed = λ k low below. unsuited mode p v from.place k f is (omega (arith, so.0.inside)) (so.0.unsuited k low below);
+      missed = λ k low below. misses_what_follows mode p v from.place k f is (omega (arith, so.0.inside)) (so.0.unsuited k low below);
       met = (fits.0, fits.1, so.1, fits.2);
-      took = took_on looked found.took (omega arith) (omega arith);
+      takes = Takes-on looked found.takes (omega arith) (omega arith);
     }
 scan_for mode p {v} f {from} {s = scan.Blocked m} is looked found =
     let so = found.meaning in
@@ -100,9 +100,9 @@ scan_for mode p {v} f {from} {s = scan.Blocked m} is looked found =
       same = so.0.same;
       low = so.0.low;
       inside = so.0.inside;
-      missed = λ k low below. unsuited mode p v from.place k f is (omega (arith, so.0.inside)) (so.0.unsuited k low below);
-      met = (so.1, so.3, unsuited mode p v m.place m.at f here so.1 so.2);
-      took = took_on looked found.took (omega arith) (omega arith);
+      missed = λ k low below. misses_what_follows mode p v from.place k f is (omega (arith, so.0.inside)) (so.0.unsuited k low below);
+      met = (so.1, so.3, misses_what_follows mode p v m.place m.at f here so.1 so.2);
+      takes = Takes-on looked found.takes (omega arith) (omega arith);
     }
 scan_for mode p {v} f {from} {s = scan.Undecided m} is looked found =
     let so = found.meaning in
@@ -110,9 +110,9 @@ scan_for mode p {v} f {from} {s = scan.Undecided m} is looked found =
       same = so.same;
       low = so.low;
       inside = so.inside;
-      missed = λ k low below. unsuited mode p v from.place k f is (omega (arith, so.inside)) (so.unsuited k low below);
+      missed = λ k low below. misses_what_follows mode p v from.place k f is (omega (arith, so.inside)) (so.unsuited k low below);
       met = tt;
-      took = took_on looked found.took (omega arith) (omega arith);
+      takes = Takes-on looked found.takes (omega arith) (omega arith);
     }
 
 -- The crossing mark of a run of stars moves on over places from which the rest of the pattern splits nothing.
@@ -125,7 +125,7 @@ free_skips zero {mode} {p} {v} {m} x st same far inside missed =
 free_skips (suc d) {m} x st same far inside missed =
     let next : Mark = mark_of m.place (m.at + 1) in
     let left = left_without st (missed m.at (omega arith) (omega arith)) in
-    free_skips d x (free_moved next left (omega arith) refl refl) same (omega arith) inside
+    free_skips d x (stands_free_moved next left (omega arith) refl refl) same (omega arith) inside
     (λ k low below. missed k (omega arith) below)
 
 pub stands_free_skipped : {mode : Mode} {p v : List ℕ} {m : Mark} (x : Mark) → Stands mode p v m.place m.at (crossing.Free m) None
@@ -144,7 +144,7 @@ free_skips_counts zero {measure} {mode} {p} {v} {m} x {s} {n} a same far inside 
 free_skips_counts (suc d) {measure} {m = m} x a same far inside =
     let next : Mark = mark_of m.place (m.at + 1) in
     let left = left_missed (omega arith) (allows_missed a) in
-    allows_less (omega (arith, move_some measure))
+    allows_less (omega (arith, move-some measure))
     (free_skips_counts d x (allows_free_moved next (omega arith) refl refl left) same (omega arith) inside)
 
 pub allows_free_skipped : {measure : Measure} {mode : Mode} {p v : List ℕ} {m : Mark} (x : Mark) {s n : ℕ}
@@ -162,7 +162,7 @@ local_skips zero {mode} {p} {v} {c} {m} x st same far inside bare missed =
 local_skips (suc d) {m} x st same far inside bare missed =
     let next : Mark = mark_of m.place (m.at + 1) in
     let moved =
-    local_moved next st (missed m.at (omega arith) (omega arith)) (omega arith)
+    stands_local_moved next st (missed m.at (omega arith) (omega arith)) (omega arith)
     (bare.at m.at (omega arith) (omega arith)) refl refl in
     local_skips d x moved same (omega arith) inside (record { at = λ k low below. bare.at k (omega arith) below })
     (λ k low below. missed k (omega arith) below)
@@ -182,8 +182,8 @@ local_skips_counts zero {measure} {mode} {p} {v} {c} {m} x {s} {n} path a same f
     (subst (λ (y : Mark). Allows measure mode p v y.place y.at c (Some y) s n) (mark_eq x m.place m.at same at) a)
 local_skips_counts (suc d) {measure} {mode} {v = v} {m = m} x path a same far inside bare =
     let next : Mark = mark_of m.place (m.at + 1) in
-    let within = inner mode (get_or v m.at 0) path (bare.at m.at (omega arith) (omega arith)) in
-    allows_less (omega (arith, move_some measure))
+    let within = ends-inner mode (get_or v m.at 0) path (bare.at m.at (omega arith) (omega arith)) in
+    allows_less (omega (arith, move-some measure))
     (local_skips_counts d x path
     (allows_local_moved next (omega arith) within refl refl (allows_missed a)) same (omega arith) inside
     (record { at = λ k low below. bare.at k (omega arith) below }))
@@ -211,7 +211,7 @@ free_found {mode} {p} {m} st met =
     ]
 
 byte_price : (measure : Measure) (i s : ℕ) → s + amount measure 1 8 ≤ s + amount measure 1 (8 * (i + 1 - i))
-byte_price measure i s = let more : amount measure 1 8 ≤ amount measure 1 (8 * (i + 1 - i)) = amount_mono measure (omega arith) (omega arith) in omega arith
+byte_price measure i s = let more : amount measure 1 8 ≤ amount measure 1 (8 * (i + 1 - i)) = amount-mono measure (omega arith) (omega arith) in omega arith
 
 pub free_found_counts : {measure : Measure} {mode : Mode} {p v : List ℕ} {m : Mark} {s n : ℕ}
     → Allows measure mode p v m.place m.at (crossing.Free m) None s n → IsMet mode p v (scan.Found m)
@@ -255,7 +255,7 @@ local_found_counts {measure} {mode} {p} {v} {c} {m} {l} {s} {n} st a met mark =
     ]
 
 -- scans, one after the other
-pub passed_on : {v : List ℕ} {P : ℕ → Type 0} {a b c : Mark} → Passed v P a b → Passed v P b c → Passed v P a c
+pub passed_on : {v : List ℕ} {P : ℕ → Type 0} {a b c : Mark} → HasPassed v P a b → HasPassed v P b c → HasPassed v P a c
 passed_on {b} x y = record {
   same = y.same ∙ x.same;
   low = omega (arith, x.low, y.low);
@@ -267,19 +267,19 @@ passed_on {b} x y = record {
 }
 
 -- a scan that goes on from where another has come to
-pub scan_on : {v : List ℕ} {P : ℕ → Type 0} {a b : Mark} {s : Scan} {before between after : Counts} → Passed v P a b
-    → Took before between (2 * (b.at - a.at)) (2 * (b.at - a.at)) → IsScan v P b s between after → IsScan v P a s before after
+pub scan_on : {v : List ℕ} {P : ℕ → Type 0} {a b : Mark} {s : Scan} {before between after : Counts} → HasPassed v P a b
+    → Takes before between (2 * (b.at - a.at)) (2 * (b.at - a.at)) → IsScan v P b s between after → IsScan v P a s before after
 scan_on {s = scan.Found m} x taken y = record {
   meaning = (passed_on x y.meaning.0, y.meaning.1, y.meaning.2);
-  took = took_on taken y.took (omega (arith, x.low, y.meaning.0.low)) (omega (arith, x.low, y.meaning.0.low));
+  takes = Takes-on taken y.takes (omega (arith, x.low, y.meaning.0.low)) (omega (arith, x.low, y.meaning.0.low));
 }
 scan_on {s = scan.Blocked m} x taken y = record {
   meaning = (passed_on x y.meaning.0, y.meaning.1, y.meaning.2, y.meaning.3);
-  took = took_on taken y.took (omega (arith, x.low, y.meaning.0.low)) (omega (arith, x.low, y.meaning.0.low));
+  takes = Takes-on taken y.takes (omega (arith, x.low, y.meaning.0.low)) (omega (arith, x.low, y.meaning.0.low));
 }
 scan_on {s = scan.Undecided m} x taken y = record {
   meaning = passed_on x y.meaning;
-  took = took_on taken y.took (omega (arith, x.low, y.meaning.low)) (omega (arith, x.low, y.meaning.low));
+  takes = Takes-on taken y.takes (omega (arith, x.low, y.meaning.low)) (omega (arith, x.low, y.meaning.low));
 }
 
 -- no mark, where it is none of all
@@ -293,16 +293,16 @@ pub local_scanned : {mode : Mode} {p v : List ℕ} {i k : ℕ} {c : Crossing} {m
     → x.at ≡ m.at + 1 → IsScanFor mode p v x s before after → NoSlash v x.at (reached_by s).at
     → Stands mode p v (reached_by s).place (reached_by s).at c (Some (reached_by s))
 local_scanned {x = x} {s} st miss inside other same at so bare =
-    stands_local_skipped (reached_by s) (local_moved x st miss inside other same at) so.same so.low
+    stands_local_skipped (reached_by s) (stands_local_moved x st miss inside other same at) so.same so.low
     so.inside bare so.missed
 
 pub local_scanned_counts : {measure : Measure} {mode : Mode} {p v : List ℕ} {i k : ℕ} {c : Crossing} {m x : Mark} {s : Scan} {before after : Counts} {w n : ℕ}
     → Stands mode p v i k c (Some m) → m.at < length v → get_or v m.at 0 ≢ slash → x.place ≡ m.place → x.at ≡ m.at + 1
-    → IsScanFor mode p v x s before after → NoSlash v x.at (reached_by s).at → Missed measure mode p v i k c (Some m) w n
+    → IsScanFor mode p v x s before after → NoSlash v x.at (reached_by s).at → Misses measure mode p v i k c (Some m) w n
     → Allows measure mode p v (reached_by s).place (reached_by s).at c (Some (reached_by s))
     (w + move measure + 2 * ((reached_by s).at - x.at)) n
 local_scanned_counts {mode = mode} {v = v} {m = m} {x} {s} st inside other same at so bare a =
-    let within = inner mode (get_or v m.at 0) st.local.path other in
+    let within = ends-inner mode (get_or v m.at 0) st.local.path other in
     allows_local_skipped (reached_by s) st.local.path (allows_local_moved x inside within same at a) so.same so.low so.inside bare
 
 -- the steps go on, from before a call as from after it

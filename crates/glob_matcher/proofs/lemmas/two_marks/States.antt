@@ -12,14 +12,14 @@ use Rattle.glob_matcher.specs.Tokens.{Token, Byte, Any, OneOf, Free, Local, Dirs
 use Rattle.glob_matcher.specs.Matching.{Splits, SplitsFrom}
 use Rattle.glob_matcher.specs.Private.Reader.{IsToken, Fits, AfterSlash, is_star}
 use Rattle.glob_matcher.specs.Private.Components.{ends, separates, next_component}
-use Rattle.glob_matcher.specs.Private.States.{LaterFree, LaterDirs, LaterLocal, LaterCrossing, LaterWithin, Ahead, Far, Near, FreeKnown, LocalKnown, WithinKnown, Stands, IsLeft, IsNextDirectory}
+use Rattle.glob_matcher.specs.Private.States.{LaterFree, LaterDirs, LaterLocal, LaterCrossing, LaterLocalIfSet, SuccessAhead, SuccessFar, SuccessNear, FreeKnown, LocalKnown, LocalKnownIfSet, Stands, IsLeft, IsNextDirectory}
 use Rattle.glob_matcher.proofs.lemmas.reading.SetLemmas.{HasByte-unique, two_bytes}
 use Rattle.glob_matcher.proofs.lemmas.reading.TokenLemmas.{TokenAt-unique}
 use Rattle.glob_matcher.proofs.lemmas.cutting.CutLemmas.{free_in, free_out, local_in, local_out, dirs_in_empty, dirs_in, dirs_out, nothing_out, end_in, end_out}
 use Rattle.glob_matcher.proofs.lemmas.cutting.Engines.{byte_in, byte_out}
 use Rattle.glob_matcher.proofs.lemmas.reading.Existence.{items_close}
 use Rattle.glob_matcher.proofs.lemmas.cutting.SlashLemmas.{fold_slash}
-use Rattle.glob_matcher.proofs.lemmas.two_marks.Components.{IsInner, separates-fits, separates-slash, inner, slash_ends, ends_or_not, next-inner, next_past, next_before_end, next_plain}
+use Rattle.glob_matcher.proofs.lemmas.two_marks.Components.{IsInner, separates-fits, separates-slash, ends-inner, ends-at_slash, ends-or_not, next-inner, next-above, next-before_end, next-plain}
 
 -- the engine at its start
 pub stands_start : (mode : Mode) (p v : List ℕ) → Stands mode p v 0 0 crossing.Unmet None
@@ -67,16 +67,16 @@ run_end_not_after {p} {i} {j} run (inr h) =
 
 -- The byte taken from here on: what was ahead stays ahead.
 ahead_on : {mode : Mode} {p v : List ℕ} {i : ℕ} {s : TokenKind} {j k : ℕ} → (x : IsToken mode p i s j) → is_star s ≡ false → k < length v
-    → Fits mode x.token (get_or v k 0) → Ahead mode p v i k → Ahead mode p v j (k + 1)
+    → Fits mode x.token (get_or v k 0) → SuccessAhead mode p v i k → SuccessAhead mode p v j (k + 1)
 ahead_on {mode} {p} {v} {i} {s} {j} {k} x single inside fits a =
     let a_past : k < a.e = a.past in
     let out = byte_out mode p v i s j a.e x single a.inside a.splits in
     let e_inside : a.e < length v = out.0 in
-    let next : next_component mode v (k + 1) ≤ a.e + 1 = elim (ends_or_not mode (get_or v k 0)) [
+    let next : next_component mode v (k + 1) ≤ a.e + 1 = elim (ends-or_not mode (get_or v k 0)) [
       | inl end ↦
           let there : ends mode (get_or v a.e 0) ≡ true =
           sym (separates-fits mode x.token (get_or v a.e 0) out.1) ∙ (separates-fits mode x.token (get_or v k 0) fits ∙ end) in
-          next_before_end mode v (k + 1) a.e (omega arith) e_inside there
+          next-before_end mode v (k + 1) a.e (omega arith) e_inside there
       | inr within ↦
           let apart : separates mode x.token ≡ false = separates-fits mode x.token (get_or v k 0) fits ∙ within in
           let far : next_component mode v k ≤ a.e = a.far x.token j x.here apart in
@@ -103,10 +103,10 @@ ahead_on {mode} {p} {v} {i} {s} {j} {k} x single inside fits a =
 -- a byte that is no slash, taken by a token
 pub not_slash_here : (mode : Mode) (t : Token) (c : ℕ) → IsTrue (is_path mode) → Fits mode t c → t ≢ Byte slash → c ≢ slash
 not_slash_here mode t c path fits other is =
-    other (separates-slash mode t path (separates-fits mode t c fits ∙ slash_ends mode c is))
+    other (separates-slash mode t path (separates-fits mode t c fits ∙ ends-at_slash mode c is))
 
 near_on : {mode : Mode} {p v : List ℕ} {i : ℕ} {s : TokenKind} {j k : ℕ} → (x : IsToken mode p i s j) → is_star s ≡ false
-    → IsTrue (is_path mode) → Fits mode x.token (get_or v k 0) → x.token ≢ Byte slash → Near mode p v i k → Near mode p v j (k + 1)
+    → IsTrue (is_path mode) → Fits mode x.token (get_or v k 0) → x.token ≢ Byte slash → SuccessNear mode p v i k → SuccessNear mode p v j (k + 1)
 near_on {mode} {p} {v} {i} {s} {j} {k} x single path fits other n =
     let out = byte_out mode p v i s j n.e x single n.inside n.splits in
     let e_inside : n.e < length v = out.0 in
@@ -126,16 +126,16 @@ near_on {mode} {p} {v} {i} {s} {j} {k} x single path fits other n =
       ]
 
 -- a later success of a mark, seen from here
-local_near : (mode : Mode) (p v : List ℕ) (i k : ℕ) (c : Crossing) (l : Option Mark) → WithinKnown mode p v i k c l
-    → LaterWithin mode p v l → Near mode p v i k
+local_near : (mode : Mode) (p v : List ℕ) (i k : ℕ) (c : Crossing) (l : Option Mark) → LocalKnownIfSet mode p v i k c l
+    → LaterLocalIfSet mode p v l → SuccessNear mode p v i k
 local_near mode p v i k c None known later = absurd later
 local_near mode p v i k c (Some m) known later = known.near later
 
-within_on : {mode : Mode} {p : List ℕ} (v : List ℕ) {i : ℕ} {s : TokenKind} {j : ℕ} (k : ℕ) (c : Crossing) (l : Option Mark) → (x : IsToken mode p i s j)
-    → is_star s ≡ false → Fits mode x.token (get_or v k 0) → x.token ≢ Byte slash → WithinKnown mode p v i k c l
-    → WithinKnown mode p v j (k + 1) c l
-within_on v k c None x single fits other known = tt
-within_on {mode} {p} v {i} {j} k c (Some m) x single fits other known = record {
+local_known_on : {mode : Mode} {p : List ℕ} (v : List ℕ) {i : ℕ} {s : TokenKind} {j : ℕ} (k : ℕ) (c : Crossing) (l : Option Mark) → (x : IsToken mode p i s j)
+    → is_star s ≡ false → Fits mode x.token (get_or v k 0) → x.token ≢ Byte slash → LocalKnownIfSet mode p v i k c l
+    → LocalKnownIfSet mode p v j (k + 1) c l
+local_known_on v k c None x single fits other known = tt
+local_known_on {mode} {p} v {i} {j} k c (Some m) x single fits other known = record {
   path = known.path;
   low = known.low;
   here = λ after. not_after after;
@@ -163,11 +163,11 @@ stands_on {mode} {p} {v} {i} {s} {j} {k} {c} {l} st x single inside fits other =
   ];
   ahead = λ later. ahead_on x single inside fits (st.ahead later);
   crossing = st.crossing;
-  local = within_on v k c l x single fits other st.local;
+  local = local_known_on v k c l x single fits other st.local;
 }
 
 -- at a slash, what the local mark could find later is found here
-found_at_slash : {mode : Mode} {p v : List ℕ} {i k : ℕ} → get_or v k 0 ≡ slash → Near mode p v i k → SplitsFrom v k p i mode
+found_at_slash : {mode : Mode} {p v : List ℕ} {i k : ℕ} → get_or v k 0 ≡ slash → SuccessNear mode p v i k → SplitsFrom v k p i mode
 found_at_slash {mode} {p} {v} {i} {k} is n = elim (cases_lt k n.e) [
   | inl later ↦ absurd (n.bare.at k (omega arith) later is)
   | inr same ↦ let low : k ≤ n.e = n.low in let at : n.e ≡ k = omega arith in subst (λ (m : ℕ). SplitsFrom v m p i mode) at n.splits
@@ -213,12 +213,12 @@ nothing_met {mode} {p} {v} {i} j {k} {c} {l} st here whole = elim (st.complete w
 ]
 
 -- a later success of a mark, seen from the mark itself
-pub dirs_ahead : {mode : Mode} {p v : List ℕ} {i k : ℕ} → LaterDirs mode p v i k → Ahead mode p v i k
+pub dirs_ahead : {mode : Mode} {p v : List ℕ} {i k : ℕ} → LaterDirs mode p v i k → SuccessAhead mode p v i k
 dirs_ahead {mode} {v} {k} later =
     let past : k < later.e = later.after.past in
     let inside : later.e ≤ length v = later.after.inside in
-    let end : ends mode (get_or v (later.e - 1) 0) ≡ true = slash_ends mode (get_or v (later.e - 1) 0) later.after.slash in
-    let far : next_component mode v k ≤ later.e - 1 + 1 = next_before_end mode v k (later.e - 1) (omega arith) (omega arith) end in
+    let end : ends mode (get_or v (later.e - 1) 0) ≡ true = ends-at_slash mode (get_or v (later.e - 1) 0) later.after.slash in
+    let far : next_component mode v k ≤ later.e - 1 + 1 = next-before_end mode v k (later.e - 1) (omega arith) (omega arith) end in
     record {
       e = later.e;
       past = past;
@@ -228,9 +228,9 @@ dirs_ahead {mode} {v} {k} later =
       splits = later.splits;
     }
 
-pub far_ahead : {mode : Mode} {p v : List ℕ} {i k : ℕ} → ¬ IsAfterSlash p i → Far mode p v i k → Ahead mode p v i k
+pub far_ahead : {mode : Mode} {p v : List ℕ} {i k : ℕ} → ¬ IsAfterSlash p i → SuccessFar mode p v i k → SuccessAhead mode p v i k
 far_ahead {mode} {v} {k} start f =
-    let past : k < next_component mode v k = next_past mode v k in
+    let past : k < next_component mode v k = next-above mode v k in
     record {
       e = f.e;
       past = omega (arith, f.far);
@@ -242,7 +242,7 @@ far_ahead {mode} {v} {k} start f =
 
 -- A match comes through here, where each later success of a mark does.
 comes_here : {mode : Mode} {p v : List ℕ} {i k : ℕ} {c : Crossing} {l : Option Mark} → Stands mode p v i k c l
-    → (Near mode p v i k → SplitsFrom v k p i mode) → (Ahead mode p v i k → SplitsFrom v k p i mode)
+    → (SuccessNear mode p v i k → SplitsFrom v k p i mode) → (SuccessAhead mode p v i k → SplitsFrom v k p i mode)
     → Splits v p mode → SplitsFrom v k p i mode
 comes_here {mode} {p} {v} {i} {k} {c} {l} st near ahead whole = elim (st.complete whole) [
   | inl all ↦ all
@@ -268,7 +268,7 @@ free_known {mode} {p} v {j} here j_low more = record {
   slash_follows path (inr (inl bare)) t n token = absurd ((here.bounded path).1 bare)
   slash_follows path (inr (inr escaped)) t n token =
       let same = TokenAt-unique mode p j t (Byte slash) n (j + 2) token (inl (escaped, refl)) in
-      subst (λ (u : Token). separates mode u ≡ true) (sym same.0) (slash_ends mode slash refl)
+      subst (λ (u : Token). separates mode u ≡ true) (sym same.0) (ends-at_slash mode slash refl)
 
   far : (path : Bool) → is_path mode ≡ path → (k e : ℕ) → k < e → (t : Token) (n : ℕ) → TokenAt mode p j t n
       → separates mode t ≡ false → next_component mode v k ≤ e
@@ -276,7 +276,7 @@ free_known {mode} {p} v {j} here j_low more = record {
       let yes : separates mode t ≡ true = slash_follows path ((here.bounded path).0.after) t n token in
       let wrong : true ≡ false = sym yes ∙ apart in cc
   far false plain k e past t n token apart =
-      let one : next_component mode v k ≡ k + 1 = next_plain mode v k plain in omega arith
+      let one : next_component mode v k ≡ k + 1 = next-plain mode v k plain in omega arith
 
 abbrev pub mark_of : ℕ → ℕ → Mark
 mark_of place at = record { place = place; at = at }
@@ -291,9 +291,9 @@ free_from {mode} {p} v {i} {j} k e here low inside all =
     free_in mode p v i j k out.0 here (omega (arith, out.1)) out.2 out.3
 
 -- A run of stars that crosses slashes: both marks are forgotten, and one is set.
-pub free_met : {mode : Mode} {p v : List ℕ} {i j k : ℕ} {c : Crossing} {l : Option Mark} (m : Mark) → Stands mode p v i k c l
+pub stands_free_met : {mode : Mode} {p v : List ℕ} {i j k : ℕ} {c : Crossing} {l : Option Mark} (m : Mark) → Stands mode p v i k c l
     → TokenAt mode p i Free j → j ≤ length p → j ≢ length p → m.place ≡ j → m.at ≡ k → Stands mode p v j k (crossing.Free m) None
-free_met {mode} {p} {v} {i} {j} {k} m st here j_low more same_place same_at =
+stands_free_met {mode} {p} {v} {i} {j} {k} m st here j_low more same_place same_at =
     subst (λ (n : Mark). Stands mode p v j k (crossing.Free n) None) (mark_eq m j k same_place same_at) (made free_known_here) where
       free_known_here : FreeKnown mode p v j
       free_known_here = free_known v here j_low more
@@ -342,15 +342,15 @@ dirs_from {mode} {p} {v} {i} {j} {k} {e} here after all =
           (record { past = omega (arith, after.past, more.past); inside = more.inside; slash = more.slash }) rest
 
 -- a later success of a local mark would need a slash before it
-no_local_after_slash : (mode : Mode) (p v : List ℕ) (i k : ℕ) (c : Crossing) (l : Option Mark) → WithinKnown mode p v i k c l
-    → IsAfterSlash p i → LaterWithin mode p v l → ⊥
+no_local_after_slash : (mode : Mode) (p v : List ℕ) (i k : ℕ) (c : Crossing) (l : Option Mark) → LocalKnownIfSet mode p v i k c l
+    → IsAfterSlash p i → LaterLocalIfSet mode p v l → ⊥
 no_local_after_slash mode p v i k c None known after later = later
 no_local_after_slash mode p v i k c (Some m) known after later = known.here after
 
 -- A double star with its slash: both marks are forgotten, and one is set.
-pub dirs_met : {mode : Mode} {p v : List ℕ} {i j k : ℕ} {c : Crossing} {l : Option Mark} (m : Mark) → Stands mode p v i k c l
+pub stands_dirs_met : {mode : Mode} {p v : List ℕ} {i j k : ℕ} {c : Crossing} {l : Option Mark} (m : Mark) → Stands mode p v i k c l
     → TokenAt mode p i Dirs j → j ≤ length p → m.place ≡ j → m.at ≡ k → Stands mode p v j k (crossing.Dirs m) None
-dirs_met {mode} {p} {v} {i} {j} {k} {c} {l} m st here j_low same_place same_at =
+stands_dirs_met {mode} {p} {v} {i} {j} {k} {c} {l} m st here j_low same_place same_at =
     subst (λ (n : Mark). Stands mode p v j k (crossing.Dirs n) None) (mark_eq m j k same_place same_at) made where
       after_slash : IsAfterSlash p i
       after_slash = here.bounded.before
@@ -391,9 +391,9 @@ bare_on {b} x y = record {
 }
 
 -- A run of stars within a component: its mark is set, and the crossing mark stays.
-pub local_met : {mode : Mode} {p v : List ℕ} {i j k : ℕ} {c : Crossing} {l : Option Mark} (m : Mark) → Stands mode p v i k c l
+pub stands_local_met : {mode : Mode} {p v : List ℕ} {i j k : ℕ} {c : Crossing} {l : Option Mark} (m : Mark) → Stands mode p v i k c l
     → TokenAt mode p i Local j → j ≤ length p → m.place ≡ j → m.at ≡ k → Stands mode p v j k c (Some m)
-local_met {mode} {p} {v} {i} {j} {k} {c} {l} m st here j_low same_place same_at =
+stands_local_met {mode} {p} {v} {i} {j} {k} {c} {l} m st here j_low same_place same_at =
     subst (λ (n : Mark). Stands mode p v j k c (Some n)) (mark_eq m j k same_place same_at) made where
       split : (e : ℕ) → k ≤ e → e ≤ length v → NoSlash v k e → SplitsFrom v e p j mode
           → SplitsFrom v k p j mode ⊎ (LaterLocal mode p v j k ⊎ LaterCrossing mode p v c)
@@ -402,12 +402,12 @@ local_met {mode} {p} {v} {i} {j} {k} {c} {l} m st here j_low same_place same_at 
         | inr same ↦ let at : e ≡ k = omega arith in inl (subst (λ (n : ℕ). SplitsFrom v n p j mode) at all)
       ]
 
-      from_near : Near mode p v i k → SplitsFrom v k p j mode ⊎ (LaterLocal mode p v j k ⊎ LaterCrossing mode p v c)
+      from_near : SuccessNear mode p v i k → SplitsFrom v k p j mode ⊎ (LaterLocal mode p v j k ⊎ LaterCrossing mode p v c)
       from_near n =
           let out = local_out mode p v i j n.e here n.inside n.splits in
           split out.0 (omega (arith, n.low, out.1)) out.2 (bare_on n.bare out.3) out.4
 
-      far : LaterCrossing mode p v c → Far mode p v j k
+      far : LaterCrossing mode p v c → SuccessFar mode p v j k
       far later =
           let a = st.ahead later in
           let out = local_out mode p v i j a.e here a.inside a.splits in
@@ -442,10 +442,10 @@ local_met {mode} {p} {v} {i} {j} {k} {c} {l} m st here j_low same_place same_at 
       }
 
 -- The local mark moves by one byte that is no slash.
-pub local_moved : {mode : Mode} {p v : List ℕ} {i k : ℕ} {c : Crossing} {m : Mark} (n : Mark) → Stands mode p v i k c (Some m)
+pub stands_local_moved : {mode : Mode} {p v : List ℕ} {i k : ℕ} {c : Crossing} {m : Mark} (n : Mark) → Stands mode p v i k c (Some m)
     → ¬ SplitsFrom v k p i mode → m.at < length v → get_or v m.at 0 ≢ slash → n.place ≡ m.place → n.at ≡ m.at + 1
     → Stands mode p v n.place n.at c (Some n)
-local_moved {mode} {p} {v} {i} {k} {c} {m} n st miss inside other same_place same_at =
+stands_local_moved {mode} {p} {v} {i} {k} {c} {m} n st miss inside other same_place same_at =
     subst (λ (x : Mark). Stands mode p v x.place x.at c (Some x)) (mark_eq n m.place (m.at + 1) same_place same_at) made where
       known : LocalKnown mode p v i k c m.place m.at
       known = st.local
@@ -470,11 +470,11 @@ local_moved {mode} {p} {v} {i} {k} {c} {m} n st miss inside other same_place sam
         splits = later.splits;
       }
 
-      far : LaterCrossing mode p v c → Far mode p v m.place (m.at + 1)
+      far : LaterCrossing mode p v c → SuccessFar mode p v m.place (m.at + 1)
       far later =
           let f = known.far later in
           let same : next_component mode v (m.at + 1) ≡ next_component mode v m.at =
-          next-inner mode v m.at inside (inner mode (get_or v m.at 0) known.path other) in
+          next-inner mode v m.at inside (ends-inner mode (get_or v m.at 0) known.path other) in
           record { e = f.e; far = omega (arith, f.far); inside = f.inside; splits = f.splits }
 
       split : LaterLocal mode p v m.place m.at
@@ -548,9 +548,9 @@ left_stuck {mode} {p} {v} {m} st miss stuck = record {
 pub unmet_left : {mode : Mode} {p v : List ℕ} → IsLeft mode p v crossing.Unmet → ¬ Splits v p mode
 unmet_left left whole = left.complete whole
 
-pub free_moved : {mode : Mode} {p v : List ℕ} {m : Mark} (n : Mark) → IsLeft mode p v (crossing.Free m) → m.at < length v
+pub stands_free_moved : {mode : Mode} {p v : List ℕ} {m : Mark} (n : Mark) → IsLeft mode p v (crossing.Free m) → m.at < length v
     → n.place ≡ m.place → n.at ≡ m.at + 1 → Stands mode p v n.place n.at (crossing.Free n) None
-free_moved {mode} {p} {v} {m} n left inside same_place same_at =
+stands_free_moved {mode} {p} {v} {m} n left inside same_place same_at =
     subst (λ (x : Mark). Stands mode p v x.place x.at (crossing.Free x) None) (mark_eq n m.place (m.at + 1) same_place same_at) made where
       known : FreeKnown mode p v m.place
       known = left.crossing
@@ -591,9 +591,9 @@ free_stuck {v} {m} left past whole =
     let later = left.complete whole in
     let x : m.at < later.e = later.past in let y : later.e ≤ length v = later.inside in omega arith
 
-pub dirs_moved : {mode : Mode} {p v : List ℕ} {m n : Mark} → IsLeft mode p v (crossing.Dirs m) → IsNextDirectory v m n
+pub stands_dirs_moved : {mode : Mode} {p v : List ℕ} {m n : Mark} → IsLeft mode p v (crossing.Dirs m) → IsNextDirectory v m n
     → Stands mode p v n.place n.at (crossing.Dirs n) None
-dirs_moved {mode} {p} {v} {m} {n} left next =
+stands_dirs_moved {mode} {p} {v} {m} {n} left next =
     subst (λ (x : Mark). Stands mode p v x.place x.at (crossing.Dirs x) None) (mark_eq n m.place n.at next.same refl) made where
       n_past : m.at < n.at
       n_past = next.after.past
@@ -647,11 +647,11 @@ pub end_missed : (mode : Mode) (p v : List ℕ) (i k : ℕ) → i ≡ length p �
 end_missed mode p v i k at_end short all = short (end_out mode p v i k at_end all)
 
 -- where a local mark is set, a token that is no slash takes no slash
-pub inner_of : (mode : Mode) (p v : List ℕ) (i k : ℕ) (c : Crossing) (l : Option Mark) (t : Token) → WithinKnown mode p v i k c l
+pub inner_of : (mode : Mode) (p v : List ℕ) (i k : ℕ) (c : Crossing) (l : Option Mark) (t : Token) → LocalKnownIfSet mode p v i k c l
     → Fits mode t (get_or v k 0) → t ≢ Byte slash → IsInner mode v k l
 inner_of mode p v i k c None t known fits other = tt
 inner_of mode p v i k c (Some m) t known fits other =
-    inner mode (get_or v k 0) known.path (not_slash_here mode t (get_or v k 0) known.path fits other)
+    ends-inner mode (get_or v k 0) known.path (not_slash_here mode t (get_or v k 0) known.path fits other)
 
 -- A byte that begins no other token is a token by itself.
 abbrev pub literal_token : (mode : Mode) (p : List ℕ) (i : ℕ) → i < length p → StandsForItself (get_or p i 0)
@@ -665,16 +665,16 @@ literal_token mode p i inside plain = record {
 }
 
 -- the local mark, where it is known which it is
-pub known_local : {mode : Mode} {p v : List ℕ} {i k : ℕ} {c : Crossing} {other l : Option Mark} → other ≡ l → Stands mode p v i k c other
+pub Stands-local : {mode : Mode} {p v : List ℕ} {i k : ℕ} {c : Crossing} {other l : Option Mark} → other ≡ l → Stands mode p v i k c other
     → Stands mode p v i k c l
-known_local {mode} {p} {v} {i} {k} {c} same st = subst (λ (x : Option Mark). Stands mode p v i k c x) same st
+Stands-local {mode} {p} {v} {i} {k} {c} same st = subst (λ (x : Option Mark). Stands mode p v i k c x) same st
 
 -- the crossing mark, where it is known which it is
-pub known_crossing : {mode : Mode} {p v : List ℕ} {c d : Crossing} → c ≡ d → IsLeft mode p v c → IsLeft mode p v d
-known_crossing {mode} {p} {v} same left = subst (λ (x : Crossing). IsLeft mode p v x) same left
+pub IsLeft-crossing : {mode : Mode} {p v : List ℕ} {c d : Crossing} → c ≡ d → IsLeft mode p v c → IsLeft mode p v d
+IsLeft-crossing {mode} {p} {v} same left = subst (λ (x : Crossing). IsLeft mode p v x) same left
 
 -- the places, where it is known which they are
-pub known_places : {mode : Mode} {p v : List ℕ} {i j k e : ℕ} {c : Crossing} {l : Option Mark} → j ≡ i → e ≡ k
+pub Stands-places : {mode : Mode} {p v : List ℕ} {i j k e : ℕ} {c : Crossing} {l : Option Mark} → j ≡ i → e ≡ k
     → Stands mode p v i k c l → Stands mode p v j e c l
-known_places {mode} {p} {v} {i} {e} {c} {l} x y st =
+Stands-places {mode} {p} {v} {i} {e} {c} {l} x y st =
     subst (λ (m : ℕ). Stands mode p v m e c l) (sym x) (subst (λ (m : ℕ). Stands mode p v i m c l) (sym y) st)

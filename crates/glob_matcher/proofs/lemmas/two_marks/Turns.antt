@@ -5,13 +5,13 @@ use Rattle.glob_matcher.specs.declared.wildmatch.state.State.{State}
 use Rattle.glob_matcher.specs.declared.wildmatch.state.Turn.{Turn}
 use Rattle.glob_matcher.specs.declared.wildmatch.state.Turn.TheVariants as turn
 use Rattle.glob_matcher.specs.Steps.{Counts}
-use Rattle.glob_matcher.specs.Private.Took.{Took}
+use Rattle.glob_matcher.specs.Private.Takes.{Takes}
 use Rattle.glob_matcher.specs.declared.wildmatch.tokens.TokenKind.{TokenKind}
 use Rattle.glob_matcher.specs.Private.Looks.{IsSetPaid}
 use Rattle.glob_matcher.specs.Private.Reader.{IsTokenRead, is_star}
 use Rattle.glob_matcher.specs.Private.Budget.{CountsOutcome}
 use Rattle.glob_matcher.specs.Private.Turns.{IsTurn}
-use Rattle.glob_matcher.proofs.lemmas.two_marks.Prices.{took_within}
+use Rattle.glob_matcher.proofs.lemmas.two_marks.Prices.{Takes-within}
 
 counts_on : (t : Turn) (a b c : ℕ) → b ≡ a → CountsOutcome t b c → CountsOutcome t a c
 counts_on turn.Match a b c same more = tt
@@ -20,25 +20,25 @@ counts_on (turn.Miss s) a b c same more = omega arith
 counts_on (turn.On s) a b c same more = omega arith
 
 pub turn_on : {mode : Mode} {p v : List ℕ} {state : State} {t : Turn} {before between after : Counts} {looks looked all : ℕ}
-    → Took before between 0 looks → looked + looks ≤ all → IsTurn mode p v state all t between after
+    → Takes before between 0 looks → looked + looks ≤ all → IsTurn mode p v state all t between after
     → IsTurn mode p v state looked t before after
 turn_on {t = t} {before} {between} {after} {looked = looked} taken enough so = record {
   meaning = so.meaning;
-  allows = λ measure s n low a. so.allows measure s n (took_within measure s 0 looked low taken (omega arith) enough) a;
+  allows = λ measure s n low a. so.allows measure s n (Takes-within measure s 0 looked low taken (omega arith) enough) a;
   progress = counts_on t before.steps between.steps after.steps (omega (arith, taken.steps)) so.progress;
 }
 
 -- the looks of the readers
 pub token_looks : {before after : Counts} {i : ℕ} {kind : TokenKind} {j : ℕ} → i < j → IsTokenRead before after i kind j
-    → Took before after 0 (6 * (j - i))
+    → Takes before after 0 (6 * (j - i))
 token_looks {before} {after} {i} {kind} {j} past read = cases (is_star kind) refl where
-  cases : (star : Bool) → is_star kind ≡ star → Took before after 0 (6 * (j - i))
+  cases : (star : Bool) → is_star kind ≡ star → Takes before after 0 (6 * (j - i))
   cases true star = record { steps = omega (arith, read.steps); looks = omega (arith, read.run star) }
   cases false one = record { steps = omega (arith, read.steps); looks = omega (arith, read.other one) }
 
 pub star_looks : {before after : Counts} {i : ℕ} {kind : TokenKind} {j : ℕ} → i < j → is_star kind ≡ true → IsTokenRead before after i kind j
-    → Took before after 0 (5 * (j - i) - 3)
+    → Takes before after 0 (5 * (j - i) - 3)
 star_looks {i = i} {j = j} past star read = record { steps = omega (arith, read.steps); looks = omega (arith, read.run star) }
 
-pub set_looks : {n : ℕ} {before after : Counts} {i j : ℕ} → i ≤ j → IsSetPaid n before after i j → Took before after n (4 * (j - i) + 1)
+pub set_looks : {n : ℕ} {before after : Counts} {i j : ℕ} → i ≤ j → IsSetPaid n before after i j → Takes before after n (4 * (j - i) + 1)
 set_looks {i = i} {j} low paid = record { steps = paid.steps; looks = omega (arith, paid.looks) }

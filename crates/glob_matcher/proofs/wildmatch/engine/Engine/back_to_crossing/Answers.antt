@@ -1,18 +1,17 @@
 use Rattle.std.proofs.Common.{subst, sym, arith}
 use Rattle.glob_matcher.specs.declared.wildmatch.state.Crossing.{Crossing}
-use Rattle.glob_matcher.specs.Private.Prices.{counted}
+use Rattle.glob_matcher.specs.Private.Prices.{amount_of}
 use Rattle.glob_matcher.specs.Private.Budget.{AllowsLeft}
 use Rattle.glob_matcher.specs.Private.Turns.{IsBacktrack}
-use Rattle.glob_matcher.proofs.lemmas.two_marks.States.{known_crossing, known_places, dirs_moved, dirs_stuck, unmet_left}
-use Rattle.glob_matcher.proofs.lemmas.two_marks.Prices.{moves_price}
-use Rattle.glob_matcher.proofs.lemmas.two_marks.Budget as budget
-use Rattle.glob_matcher.proofs.lemmas.two_marks.Budget.{allows_left, allows_less, allows_dirs_moved, dirs_stuck_counts}
+use Rattle.glob_matcher.proofs.lemmas.two_marks.States.{IsLeft-crossing, Stands-places, stands_dirs_moved, dirs_stuck, unmet_left}
+use Rattle.glob_matcher.proofs.lemmas.two_marks.Prices.{moves-price}
+use Rattle.glob_matcher.proofs.lemmas.two_marks.Budget.{Allows-places, AllowsLeft-crossing, allows_left, allows_less, allows_dirs_moved, dirs_stuck_counts}
 use Rattle.glob_matcher.proofs.wildmatch.engine.Engine.back_to_crossing.Goals as goal
 
 pub returns-in-Unmet : goal.returns-in-Unmet
 returns-in-Unmet g c =
     record {
-      meaning = unmet_left (known_crossing c.in-Unmet.is c.requires);
+      meaning = unmet_left (IsLeft-crossing c.in-Unmet.is c.requires);
       allows = λ measure n a. allows_left a;
       progress = tt;
     }
@@ -20,28 +19,28 @@ returns-in-Unmet g c =
 pub returns-in-Free : goal.returns-in-Free
 returns-in-Free g c =
     let m = g.M.Match in
-    subst (λ (x : Crossing). IsBacktrack m.mode m.pattern m.value (λ measure. AllowsLeft measure m.mode m.pattern m.value x (counted measure c.args.self.now))
+    subst (λ (x : Crossing). IsBacktrack m.mode m.pattern m.value (λ measure. AllowsLeft measure m.mode m.pattern m.value x (amount_of measure c.args.self.now))
     c.back_to_free.result c.args.self.now c.back_to_free.new.self) (sym c.in-Free.is) c.back_to_free.ensures
 
 pub returns-in-None : goal.returns-in-None
 returns-in-None g c =
-    let left = known_crossing c.in-Dirs.is c.requires in
+    let left = IsLeft-crossing c.in-Dirs.is c.requires in
     record {
       meaning = dirs_stuck left c.in-None.ensures.unable;
       allows = λ measure n a.
-          dirs_stuck_counts (λ inside. moves_price measure (c.in-None.ensures.count inside)) (budget.known_crossing c.in-Dirs.is a);
+          dirs_stuck_counts (λ inside. moves-price measure (c.in-None.ensures.count inside)) (AllowsLeft-crossing c.in-Dirs.is a);
       progress = tt;
     }
 
 pub returns-in-Some : goal.returns-in-Some
 returns-in-Some g c =
-    let left = known_crossing c.in-Dirs.is c.requires in
+    let left = IsLeft-crossing c.in-Dirs.is c.requires in
     let moved = c.in-Some.ensures.moved in
     let moves = c.in-Some.ensures.moves in
     record {
-      meaning = known_places c.place.ensures c.at.ensures (dirs_moved left moved);
+      meaning = Stands-places c.place.ensures c.at.ensures (stands_dirs_moved left moved);
       allows = λ measure n a.
-          budget.known_places c.place.ensures c.at.ensures
-          (allows_less (moves_price measure moves) (allows_dirs_moved moved (budget.known_crossing c.in-Dirs.is a)));
+          Allows-places c.place.ensures c.at.ensures
+          (allows_less (moves-price measure moves) (allows_dirs_moved moved (AllowsLeft-crossing c.in-Dirs.is a)));
       progress = omega (arith, moved.after.past, moves.steps);
     }

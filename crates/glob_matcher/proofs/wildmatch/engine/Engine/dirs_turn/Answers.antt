@@ -1,16 +1,16 @@
 use Rattle.std.proofs.Common.{arith}
-use Rattle.glob_matcher.proofs.lemmas.two_marks.States.{dirs_met}
-use Rattle.glob_matcher.proofs.lemmas.two_marks.Prices.{took_within}
-use Rattle.glob_matcher.proofs.lemmas.two_marks.Budget.{allows_dirs}
+use Rattle.glob_matcher.proofs.lemmas.two_marks.States.{stands_dirs_met}
+use Rattle.glob_matcher.proofs.lemmas.two_marks.Prices.{Takes-within}
+use Rattle.glob_matcher.proofs.lemmas.two_marks.Budget.{allows_dirs_met}
 use Rattle.glob_matcher.proofs.wildmatch.engine.Engine.dirs_turn.Goals as goal
 
 pub returns : goal.returns
 returns g c =
     let mark = c.set_mark-mark.ensures in
     record {
-      meaning = dirs_met c.set_mark-mark.result c.requires.stands c.requires.token c.requires.inside mark.place mark.at;
+      meaning = stands_dirs_met c.set_mark-mark.result c.requires.stands c.requires.token c.requires.inside mark.place mark.at;
       allows = λ measure s n low a.
-          allows_dirs c.set_mark-mark.result c.requires.token c.requires.stands.inside mark.place mark.at
-          (took_within measure s 0 _ low mark.count (omega arith) (omega arith)) a;
+          allows_dirs_met c.set_mark-mark.result c.requires.token c.requires.stands.inside mark.place mark.at
+          (Takes-within measure s 0 _ low mark.count (omega arith) (omega arith)) a;
       progress = omega (arith, mark.count.steps);
     }

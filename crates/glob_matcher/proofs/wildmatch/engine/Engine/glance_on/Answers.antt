@@ -1,5 +1,5 @@
 use Rattle.std.proofs.Common.{arith}
-use Rattle.glob_matcher.proofs.lemmas.two_marks.Prices.{took_on}
+use Rattle.glob_matcher.proofs.lemmas.two_marks.Prices.{Takes-on}
 use Rattle.glob_matcher.proofs.lemmas.two_marks.Scans.{passed_on, scan_on}
 use Rattle.glob_matcher.proofs.wildmatch.engine.Engine.glance_on.Goals as goal
 
@@ -10,7 +10,7 @@ stride-preserved g c =
       passed = passed_on c.stride.invariant.passed seen.meaning;
       on = omega (arith, c.in-Undecided.ensures.onward, c.stride.invariant.on);
       count =
-          took_on c.stride.invariant.count seen.took (omega (arith, c.stride.invariant.on, seen.meaning.low))
+          Takes-on c.stride.invariant.count seen.takes (omega (arith, c.stride.invariant.on, seen.meaning.low))
           (omega (arith, c.stride.invariant.on, seen.meaning.low));
     }
 

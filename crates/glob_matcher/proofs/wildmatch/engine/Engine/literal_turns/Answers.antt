@@ -2,11 +2,11 @@ use Rattle.std.proofs.Common.{◌≡◌, ℕ, ◌+◌, ◌-◌, ◌*◌, ◌<◌
 use Rattle.std.proofs.lemmas.Bool.{cases_lt}
 use Rattle.glob_matcher.specs.Tokens.{Byte}
 use Rattle.glob_matcher.specs.Private.Reader.{Fits}
-use Rattle.glob_matcher.specs.Private.Prices.{amount, counted}
+use Rattle.glob_matcher.specs.Private.Prices.{amount, amount_of}
 use Rattle.glob_matcher.specs.Bytes.{StandsForItself}
 use Rattle.glob_matcher.proofs.lemmas.two_marks.States.{inner_of, literal_token, misses_byte, stands_on}
-use Rattle.glob_matcher.proofs.lemmas.two_marks.Prices.{amount_mono, amount_same, amount_sum, took_both, took_on, took_within}
-use Rattle.glob_matcher.proofs.lemmas.two_marks.Budget.{allows_less, allows_on, tested}
+use Rattle.glob_matcher.proofs.lemmas.two_marks.Prices.{amount-mono, amount-same, amount-sum, Takes-both, Takes-on, Takes-within}
+use Rattle.glob_matcher.proofs.lemmas.two_marks.Budget.{allows_less, allows_on, test_of_token}
 use Rattle.glob_matcher.proofs.lemmas.two_marks.Scans.{byte_of}
 use Rattle.glob_matcher.proofs.wildmatch.engine.Engine.literal_turns.Goals as goal
 use Rattle.glob_matcher.proofs.wildmatch.engine.Engine.literal_turns.Goals.{then-byte-eq47-via-then-byte-eq47, then-byte-eq47-via-else-byte-eq47+then-not-stands_for_itself}
@@ -29,14 +29,14 @@ returns-then-not-has g c =
       };
       allows = λ measure s n low a.
           let passed = c.bytes.place - c.args.state.place in
-          let one = took_both c.pattern_byte-byte.ensures.count c.has.ensures.count in
-          let all : counted measure c.has.new.self ≤ s + amount measure (passed + 1) (2 * passed + 3) =
-          took_within measure s 0 1 low (took_both c.bytes.invariant.count one) (omega arith) (omega arith) in
+          let one = Takes-both c.pattern_byte-byte.ensures.count c.has.ensures.count in
+          let all : amount_of measure c.has.new.self ≤ s + amount measure (passed + 1) (2 * passed + 3) =
+          Takes-within measure s 0 1 low (Takes-both c.bytes.invariant.count one) (omega arith) (omega arith) in
           let price : amount measure (passed + 1) (2 * passed + 3)
-          ≤ amount measure passed (8 * passed) + amount measure 1 (8 * (c.bytes.place + 1 - c.bytes.place)) = amount_sum measure passed (8 * passed) 1 (8 * (c.bytes.place + 1 - c.bytes.place)) (omega arith) (omega arith) in
+          ≤ amount measure passed (8 * passed) + amount measure 1 (8 * (c.bytes.place + 1 - c.bytes.place)) = amount-sum measure passed (8 * passed) 1 (8 * (c.bytes.place + 1 - c.bytes.place)) (omega arith) (omega arith) in
           record {
             before = s + amount measure passed (8 * passed);
-            tested = tested (literal_token m.mode m.pattern c.bytes.place inside own) refl (omega arith);
+            tested = test_of_token (literal_token m.mode m.pattern c.bytes.place inside own) refl (omega arith);
             allows = c.bytes.invariant.allows measure s n a;
           };
       progress = omega (arith, c.has.ensures.count.steps, c.pattern_byte-byte.ensures.count.steps, c.bytes.invariant.count.steps);
@@ -57,14 +57,14 @@ bytes-preserved g c =
           let passed = c.bytes.place - c.args.state.place in
           let now = c.bytes.place + 1 - c.args.state.place in
           let price : amount measure now (8 * now) ≤ amount measure passed (8 * passed) + amount measure 1 (8 * (c.bytes.place + 1 - c.bytes.place)) =
-          amount_sum measure passed (8 * passed) 1 (8 * (c.bytes.place + 1 - c.bytes.place)) (omega (arith, c.bytes.invariant.low)) (omega (arith, c.bytes.invariant.low)) in
+          amount-sum measure passed (8 * passed) 1 (8 * (c.bytes.place + 1 - c.bytes.place)) (omega (arith, c.bytes.invariant.low)) (omega (arith, c.bytes.invariant.low)) in
           allows_on {r = s + amount measure now (8 * now)} token refl (omega arith) fits.0 fits.1
           (inner_of m.mode m.pattern m.value c.bytes.place c.bytes.at c.args.state.crossing c.args.state.local
           token.token c.bytes.invariant.stands.local fits.1 (λ is. c.if-byte-eq47.false (same ∙ byte_of is)))
           (c.bytes.invariant.allows measure s n a);
       low = omega (arith, c.bytes.invariant.low);
       count =
-          took_on c.bytes.invariant.count (took_both c.pattern_byte-byte.ensures.count c.has.ensures.count)
+          Takes-on c.bytes.invariant.count (Takes-both c.pattern_byte-byte.ensures.count c.has.ensures.count)
           (omega (arith, c.bytes.invariant.low)) (omega (arith, c.bytes.invariant.low));
     }
 
@@ -74,8 +74,8 @@ bytes-init g c =
     record {
       stands = c.requires.stands;
       allows = λ measure s n a.
-          let none : amount measure (start - start) (8 * (start - start)) ≤ amount measure 0 0 = amount_mono measure (omega arith) (omega arith) in
-          allows_less (omega (arith, none, amount_same measure 0)) a;
+          let none : amount measure (start - start) (8 * (start - start)) ≤ amount measure 0 0 = amount-mono measure (omega arith) (omega arith) in
+          allows_less (omega (arith, none, amount-same measure 0)) a;
       low = omega arith;
       count = record { steps = omega arith; looks = omega arith };
     }
@@ -86,7 +86,7 @@ returns-after-bytes g c =
     record {
       meaning = c.bytes.invariant.stands;
       allows = λ measure s n low a.
-          allows_less (took_within measure s 0 1 low c.bytes.invariant.count (omega arith) (omega arith)) (c.bytes.invariant.allows measure s n a);
+          allows_less (Takes-within measure s 0 1 low c.bytes.invariant.count (omega arith) (omega arith)) (c.bytes.invariant.allows measure s n a);
       progress = omega (arith, c.bytes.invariant.count.steps);
     }
 
@@ -109,7 +109,7 @@ returns-then-byte-eq47 g c =
       meaning = c.bytes.invariant.stands;
       allows = λ measure s n low a.
           allows_less
-          (took_within measure s 0 1 low (took_both c.bytes.invariant.count c.pattern_byte-byte.ensures.count) (omega arith) (omega arith))
+          (Takes-within measure s 0 1 low (Takes-both c.bytes.invariant.count c.pattern_byte-byte.ensures.count) (omega arith) (omega arith))
           (c.bytes.invariant.allows measure s n a);
       progress = omega (arith, c.bytes.invariant.count.steps, c.pattern_byte-byte.ensures.count.steps);
     }

@@ -1,6 +1,6 @@
 -- The engine stands here with the same marks, and each byte taken is a step and two looks.
 use Rattle.std.proofs.Common.{ℕ, ◌+◌, ◌-◌, ◌*◌, ◌≤◌, length}
-use Rattle.glob_matcher.specs.Private.Took.{Took}
+use Rattle.glob_matcher.specs.Private.Takes.{Takes}
 use Rattle.glob_matcher.specs.Private.States.{Stands}
 use Rattle.glob_matcher.specs.Private.Prices.{Measure, amount}
 use Rattle.glob_matcher.specs.Private.Budget.{Allows, AllowsAt}
@@ -13,7 +13,7 @@ invariant-bytes g l = record {
       → Allows measure g.M.Match.mode g.M.Match.pattern g.M.Match.value l.place l.at l.state.crossing l.state.local
       (s + amount measure (l.place - l.fn.state.place) (8 * (l.place - l.fn.state.place))) n;
   low : l.fn.state.place ≤ l.place;
-  count : Took l.fn.self l.self (l.place - l.fn.state.place) (2 * (l.place - l.fn.state.place));
+  count : Takes l.fn.self l.self (l.place - l.fn.state.place) (2 * (l.place - l.fn.state.place));
 }
 
 abbrev pub decreases-bytes : goal.decreases-bytes

@@ -1,6 +1,6 @@
 use Rattle.std.proofs.Common.{arith}
 use Rattle.glob_matcher.proofs.lemmas.two_marks.States.{bare_on}
-use Rattle.glob_matcher.proofs.lemmas.two_marks.Prices.{took_on}
+use Rattle.glob_matcher.proofs.lemmas.two_marks.Prices.{Takes-on}
 use Rattle.glob_matcher.proofs.lemmas.two_marks.Scans.{passed_on, scan_on}
 use Rattle.glob_matcher.proofs.wildmatch.engine.Engine.look_on.Goals as goal
 
@@ -13,7 +13,7 @@ stride-preserved g c =
       bare = bare_on c.stride.invariant.bare c.in-Undecided.ensures.bare;
       on = omega (arith, c.in-Undecided.ensures.onward, c.stride.invariant.on);
       count =
-          took_on c.stride.invariant.count seen.took (omega (arith, c.stride.invariant.on, seen.meaning.low))
+          Takes-on c.stride.invariant.count seen.takes (omega (arith, c.stride.invariant.on, seen.meaning.low))
           (omega (arith, c.stride.invariant.on, seen.meaning.low));
     }
 

@@ -1,7 +1,7 @@
 -- No slash was passed so far, and each byte passed is counted.
 use Rattle.std.proofs.Common.{◌≡◌, ◌+◌, ◌-◌, ◌≤◌, length}
 use Rattle.glob_matcher.specs.Bytes.{NoSlash}
-use Rattle.glob_matcher.specs.Private.Took.{Took}
+use Rattle.glob_matcher.specs.Private.Takes.{Takes}
 use Rattle.glob_matcher.proofs.wildmatch.engine.Engine.next_directory.Given as goal
 
 abbrev pub invariant-bytes : goal.invariant-bytes
@@ -10,7 +10,7 @@ invariant-bytes g l = record {
   low : l.fn.mark.at ≤ l.reached.at;
   inside : l.fn.mark.at ≤ length g.M.Match.value → l.reached.at ≤ length g.M.Match.value;
   bare : NoSlash g.M.Match.value l.fn.mark.at l.reached.at;
-  count : Took l.fn.self l.self (l.reached.at - l.fn.mark.at) (l.reached.at - l.fn.mark.at);
+  count : Takes l.fn.self l.self (l.reached.at - l.fn.mark.at) (l.reached.at - l.fn.mark.at);
 }
 
 abbrev pub decreases-bytes : goal.decreases-bytes

@@ -1,13 +1,13 @@
 -- No byte so far is what is looked for, and two steps were taken for each.
 use Rattle.std.proofs.Common.{◌-◌, ◌*◌, length}
-use Rattle.glob_matcher.specs.Private.Scans.{Passed}
-use Rattle.glob_matcher.specs.Private.Took.{Took}
+use Rattle.glob_matcher.specs.Private.Scans.{HasPassed}
+use Rattle.glob_matcher.specs.Private.Takes.{Takes}
 use Rattle.glob_matcher.proofs.wildmatch.engine.Engine.scan.Given as goal
 
 abbrev pub invariant-bytes : goal.invariant-bytes
 invariant-bytes g l = record {
-  passed : Passed g.M.Match.value (g.N.Needle.suits l.needle) l.fn.mark l.reached;
-  count : Took l.fn.self l.self (2 * (l.reached.at - l.fn.mark.at)) (2 * (l.reached.at - l.fn.mark.at));
+  passed : HasPassed g.M.Match.value (g.N.Needle.suits l.needle) l.fn.mark l.reached;
+  count : Takes l.fn.self l.self (2 * (l.reached.at - l.fn.mark.at)) (2 * (l.reached.at - l.fn.mark.at));
 }
 
 abbrev pub decreases-bytes : goal.decreases-bytes

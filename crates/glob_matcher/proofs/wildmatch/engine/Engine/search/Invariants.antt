@@ -2,15 +2,15 @@
 use Rattle.std.proofs.Common.{◌+◌, ◌-◌, length}
 use Rattle.glob_matcher.specs.Steps.{step_limit, look_limit}
 use Rattle.glob_matcher.specs.Private.States.{StandsAt}
-use Rattle.glob_matcher.specs.Private.Prices.{Measure, amount, counted}
+use Rattle.glob_matcher.specs.Private.Prices.{Measure, amount, amount_of}
 use Rattle.glob_matcher.specs.Private.Budget.{AllowsAt}
 use Rattle.glob_matcher.proofs.wildmatch.engine.Engine.search.Given as goal
 
 abbrev pub invariant-turns : goal.invariant-turns
 invariant-turns g l = record {
   stands : StandsAt g.M.Match.mode g.M.Match.pattern g.M.Match.value l.state;
-  allows : (measure : Measure) → AllowsAt measure g.M.Match.mode g.M.Match.pattern g.M.Match.value l.state (counted measure l.self)
-      (counted measure l.fn.self + amount measure (step_limit (length g.M.Match.pattern) (length g.M.Match.value) - 1) (look_limit (length g.M.Match.pattern) (length g.M.Match.value) - 2));
+  allows : (measure : Measure) → AllowsAt measure g.M.Match.mode g.M.Match.pattern g.M.Match.value l.state (amount_of measure l.self)
+      (amount_of measure l.fn.self + amount measure (step_limit (length g.M.Match.pattern) (length g.M.Match.value) - 1) (look_limit (length g.M.Match.pattern) (length g.M.Match.value) - 2));
 }
 
 abbrev pub decreases-turns : goal.decreases-turns

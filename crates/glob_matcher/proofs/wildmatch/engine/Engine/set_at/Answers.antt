@@ -2,7 +2,7 @@ use Rattle.std.proofs.Common.{◌≡◌, ◌∙◌, ap, subst, arith}
 use Rattle.glob_matcher.specs.declared.wildmatch.mode.Mode.{Mode}
 use Rattle.glob_matcher.specs.Sets.{set_holds}
 use Rattle.glob_matcher.proofs.lemmas.reading.Walks.{set_closed, set_broken}
-use Rattle.glob_matcher.proofs.lemmas.reading.LookLemmas.{reading_first, reading_next, searched_here, searched_inside}
+use Rattle.glob_matcher.proofs.lemmas.reading.LookLemmas.{reading_first, reading_next, search_front_here, search_front_inside}
 use Rattle.glob_matcher.proofs.wildmatch.engine.Engine.set_at.Goals as goal
 
 pub items-init : goal.items-init
@@ -35,15 +35,15 @@ returns-in-Close-clause-found g c =
 pub returns-in-Close-clause-count : goal.returns-in-Close-clause-count
 returns-in-Close-clause-count g c =
     let so_far = c.items.invariant in
-    let took = c.in-Close.ensures.count in
-    let ahead = searched_here g.M.Match.pattern c.items.cursor.place c.items.cursor.close so_far.known c.in-Close.ensures.entry.0.1 in
-    record { steps = omega (arith, so_far.steps, took.steps); looks = omega (arith, so_far.looks, took.looks, ahead) }
+    let takes = c.in-Close.ensures.count in
+    let ahead = search_front_here g.M.Match.pattern c.items.cursor.place c.items.cursor.close so_far.known c.in-Close.ensures.entry.0.1 in
+    record { steps = omega (arith, so_far.steps, takes.steps); looks = omega (arith, so_far.looks, takes.looks, ahead) }
 
 pub returns-in-Broken-clause-broken : goal.returns-in-Broken-clause-broken
 returns-in-Broken-clause-broken g c =
     let so_far = c.items.invariant in
     let paid = c.in-Broken.ensures.count in
-    let ahead = searched_inside g.M.Match.pattern c.items.cursor.place c.items.cursor.close so_far.known so_far.inside in
+    let ahead = search_front_inside g.M.Match.pattern c.items.cursor.place c.items.cursor.close so_far.known so_far.inside in
     record { steps = omega (arith, so_far.steps, paid.steps); looks = omega (arith, so_far.looks, paid.looks, ahead, so_far.inside) }
 
 pub returns-in-Broken-clause-none : goal.returns-in-Broken-clause-none

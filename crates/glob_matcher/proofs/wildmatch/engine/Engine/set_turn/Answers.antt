@@ -3,9 +3,9 @@ use Rattle.glob_matcher.specs.declared.wildmatch.tokens.TokenKind.TheVariants as
 use Rattle.glob_matcher.specs.Tokens.{OneOf, Nothing}
 use Rattle.glob_matcher.specs.Private.Reader.{IsToken}
 use Rattle.glob_matcher.proofs.lemmas.two_marks.States.{inner_of, misses_byte, nothing_met, stands_on}
-use Rattle.glob_matcher.proofs.lemmas.two_marks.Prices.{took_within}
+use Rattle.glob_matcher.proofs.lemmas.two_marks.Prices.{Takes-within}
 use Rattle.glob_matcher.proofs.lemmas.two_marks.Turns.{set_looks}
-use Rattle.glob_matcher.proofs.lemmas.two_marks.Budget.{allows_on, allows_test, tested}
+use Rattle.glob_matcher.proofs.lemmas.two_marks.Budget.{allows_on, allows_test, test_of_token}
 use Rattle.glob_matcher.proofs.wildmatch.engine.Engine.set_turn.Goals as goal
 
 pub returns-in_default : goal.returns-in_default
@@ -23,8 +23,8 @@ returns-in_default g c =
       meaning = nothing_met _ c.requires.stands x.here;
       allows = λ measure s n low a.
           allows_test c.requires.stands.inside
-          (tested x refl
-          (took_within measure s 0 1 low (set_looks (omega arith) c.in_default.ensures.broken) (omega arith) (omega (arith, inside)))) a;
+          (test_of_token x refl
+          (Takes-within measure s 0 1 low (set_looks (omega arith) c.in_default.ensures.broken) (omega arith) (omega (arith, inside)))) a;
       progress = tt;
     }
 
@@ -45,8 +45,8 @@ returns-then-not-takes g c =
       allows = λ measure s n low a. record {
         before = s;
         tested =
-            tested x refl
-            (took_within measure s 0 1 low (set_looks (omega (arith, found.past)) paid) (omega arith) (omega (arith, found.past)));
+            test_of_token x refl
+            (Takes-within measure s 0 1 low (set_looks (omega (arith, found.past)) paid) (omega arith) (omega (arith, found.past)));
         allows = a;
       };
       progress = omega (arith, paid.steps);
@@ -64,7 +64,7 @@ returns g c =
       meaning = stands_on c.requires.stands x refl fits.0 fits.1 (λ is. cc);
       allows = λ measure s n low a.
           allows_on x refl
-          (took_within measure s 0 1 low (set_looks (omega (arith, found.past)) paid) (omega arith) (omega (arith, found.past))) fits.0 fits.1
+          (Takes-within measure s 0 1 low (set_looks (omega (arith, found.past)) paid) (omega arith) (omega (arith, found.past))) fits.0 fits.1
           (inner_of m.mode m.pattern m.value c.args.state.place c.args.state.at c.args.state.crossing c.args.state.local x.token
           c.requires.stands.local fits.1 (λ is. cc)) a;
       progress = omega (arith, paid.steps);

@@ -2,9 +2,9 @@ use Rattle.std.proofs.Common.{ap, arith}
 use Rattle.glob_matcher.specs.Private.Reader.{is_star}
 use Rattle.glob_matcher.proofs.lemmas.reading.TokenKinds.{is_free, is_local, is_dirs, is_nothing, no_set}
 use Rattle.glob_matcher.proofs.lemmas.two_marks.States.{nothing_met}
-use Rattle.glob_matcher.proofs.lemmas.two_marks.Prices.{took_within}
+use Rattle.glob_matcher.proofs.lemmas.two_marks.Prices.{Takes-within}
 use Rattle.glob_matcher.proofs.lemmas.two_marks.Turns.{star_looks, token_looks, turn_on}
-use Rattle.glob_matcher.proofs.lemmas.two_marks.Budget.{allows_test, tested}
+use Rattle.glob_matcher.proofs.lemmas.two_marks.Budget.{allows_test, test_of_token}
 use Rattle.glob_matcher.proofs.wildmatch.engine.Engine.special_turn.Goals as goal
 
 pub free_turn-requires-clause-token : goal.free_turn-requires-clause-token
@@ -43,7 +43,7 @@ returns-in-Nothing g c =
       meaning = nothing_met _ c.requires.stands (is_nothing x c.in-Nothing.is);
       allows = λ measure s n low a.
           allows_test c.requires.stands.inside
-          (tested x (ap is_star c.in-Nothing.is) (took_within measure s 0 1 low (token_looks x.past c.token_at-kind.ensures.count) (omega arith) (omega (arith, x.past)))) a;
+          (test_of_token x (ap is_star c.in-Nothing.is) (Takes-within measure s 0 1 low (token_looks x.past c.token_at-kind.ensures.count) (omega arith) (omega (arith, x.past)))) a;
       progress = tt;
     }
 

@@ -1,9 +1,9 @@
 use Rattle.std.proofs.Common.{◌≡◌, ◌+◌, ◌≤◌, length, false, true, refl, arith}
-use Rattle.glob_matcher.specs.Private.Prices.{amount, counted}
+use Rattle.glob_matcher.specs.Private.Prices.{amount, amount_of}
 use Rattle.glob_matcher.proofs.lemmas.two_marks.States.{end_met, end_missed}
-use Rattle.glob_matcher.proofs.lemmas.two_marks.Prices.{amount_same, took_within}
+use Rattle.glob_matcher.proofs.lemmas.two_marks.Prices.{amount-same, Takes-within}
 use Rattle.glob_matcher.proofs.lemmas.two_marks.Turns.{turn_on}
-use Rattle.glob_matcher.proofs.lemmas.two_marks.Budget.{allows_test, tested_one}
+use Rattle.glob_matcher.proofs.lemmas.two_marks.Budget.{allows_test, test_of_one}
 use Rattle.glob_matcher.proofs.wildmatch.engine.Engine.take_turn.Goals as goal
 
 pub returns-then-ends_at : goal.returns-then-ends_at
@@ -14,9 +14,9 @@ returns-then-ends_at g c =
     record {
       meaning = end_met c.requires (omega arith) (c.if-ends_at.ensures.answer.0 refl);
       allows = λ measure s n low a.
-          let one : counted measure c.ends_at.new.self ≤ s + amount measure 1 1 =
-          took_within measure s 0 0 low c.ends_at.ensures.count (omega arith) (omega arith) in
-          allows_test c.requires.inside (tested_one (omega (arith, one, amount_same measure 1))) a;
+          let one : amount_of measure c.ends_at.new.self ≤ s + amount measure 1 1 =
+          Takes-within measure s 0 0 low c.ends_at.ensures.count (omega arith) (omega arith) in
+          allows_test c.requires.inside (test_of_one (omega (arith, one, amount-same measure 1))) a;
       progress = tt;
     }
 
@@ -33,9 +33,9 @@ returns-then-state-pattern_len g c =
             (λ end. let wrong : false ≡ true = c.if-ends_at.ensures.answer.1 end in cc);
       };
       allows = λ measure s n low a.
-          let one : counted measure c.ends_at.new.self ≤ s + amount measure 1 1 =
-          took_within measure s 0 0 low c.ends_at.ensures.count (omega arith) (omega arith) in
-          record { before = s; tested = tested_one (omega (arith, one, amount_same measure 1)); allows = a };
+          let one : amount_of measure c.ends_at.new.self ≤ s + amount measure 1 1 =
+          Takes-within measure s 0 0 low c.ends_at.ensures.count (omega arith) (omega arith) in
+          record { before = s; tested = test_of_one (omega (arith, one, amount-same measure 1)); allows = a };
       progress = omega (arith, c.ends_at.ensures.count.steps);
     }
 

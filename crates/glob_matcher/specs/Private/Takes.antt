@@ -3,11 +3,11 @@ use Rattle.std.specs.Prelude.{◌≡◌, ℕ, ◌+◌, ◌≤◌}
 use Rattle.glob_matcher.specs.Steps.{Counts}
 
 -- from one state of the counts to another: s steps, and at most l looks
-pub record Took (before after : Counts) (s l : ℕ) : Type 0 where
+pub record Takes (before after : Counts) (s l : ℕ) : Type 0 where
   pub steps : after.steps ≡ before.steps + s
   pub looks : after.looks ≤ before.looks + l
 
 -- the same, with exactly l looks
-pub record Counted (before after : Counts) (s l : ℕ) : Type 0 where
+pub record TakesExactly (before after : Counts) (s l : ℕ) : Type 0 where
   pub steps : after.steps ≡ before.steps + s
   pub looks : after.looks ≡ before.looks + l
