@@ -88,47 +88,165 @@ fn find_byte(bytes: &[u8], byte: u8, mode: Mode) -> Option<usize>
     }
 }
 
-/// The first place, from one place on and before another, where the wanted byte stands; where none is wanted, the first.
-fn next_place(
-    value: &[u8],
-    at: usize,
-    until: usize,
-    wanted: Option<u8>,
+/// One level of the recursion: the texts and the mode of a match, and how many star tokens the attempts of this level stand
+/// below.
+#[derive(Copy, Clone)]
+struct Level<'a> {
+    pattern: &'a [u8],
+    value: &'a [u8],
     mode: Mode,
-) -> Option<usize>
-    requires low { at ≤ until }
-    requires inside { until ≤ length value.now }
-    ensures found { IfSome result (λ found. Skips mode value.now wanted at found) }
-    ensures inside { IfSome result (λ found. found < until) }
-    ensures none { IfNone result (Skips mode value.now wanted at until) }
-{
-    let Some(byte) = wanted else {
-        return if at < until { Some(at) } else { None };
-    };
-    let offset = find_byte(&value[at..until], byte, mode)?;
-    Some(at + offset)
+    depth: usize,
 }
 
-/// Where the component at a place of the value ends: at the first slash, or at the value's end.
-fn component_end(value: &[u8], at: usize) -> usize
-    requires { at ≤ length value.now }
-    ensures { IsComponentEnd value.now at result }
-{
-    match memchr(b'/', &value[at..]) {
-        Some(offset) => at + offset,
-        None => value.len(),
+impl<'a> Level<'a> {
+    /// The first place of the value, from one place on and before another, where the wanted byte stands; where none is wanted,
+    /// the first.
+    fn next_at(&self, at: usize, until: usize, wanted: Option<u8>) -> Option<usize>
+        requires low { at ≤ until }
+        requires inside { until ≤ length self.now.value.now }
+        ensures found { IfSome result (λ found. Skips self.now.mode self.now.value.now wanted at found) }
+        ensures inside { IfSome result (λ found. found < until) }
+        ensures none { IfNone result (Skips self.now.mode self.now.value.now wanted at until) }
+    {
+        let Some(byte) = wanted else {
+            return if at < until { Some(at) } else { None };
+        };
+        let offset = find_byte(&self.value[at..until], byte, self.mode)?;
+        Some(at + offset)
     }
-}
 
-/// The answer at the pattern's end: a match where the value ends too.
-fn end_answer(value: &[u8], at: usize) -> Answer
-    ensures ends { at ≡ length value.now → result ≡ Answer.Match }
-    ensures more { at ≢ length value.now → result ≡ Answer.NoMatch }
-{
-    if at == value.len() {
-        Answer::Match
-    } else {
-        Answer::NoMatch
+    /// Where the component at a place of the value ends: at the first slash, or at the value's end.
+    fn component_end(&self, at: usize) -> usize
+        requires { at ≤ length self.now.value.now }
+        ensures { IsComponentEnd self.now.value.now at result }
+    {
+        match memchr(b'/', &self.value[at..]) {
+            Some(offset) => at + offset,
+            None => self.value.len(),
+        }
+    }
+
+    /// The answer at the pattern's end: a match where the value ends too.
+    fn end_answer(&self, at: usize) -> Answer
+        ensures ends { at ≡ length self.now.value.now → result ≡ Answer.Match }
+        ensures more { at ≢ length self.now.value.now → result ≡ Answer.NoMatch }
+    {
+        if at == self.value.len() {
+            Answer::Match
+        } else {
+            Answer::NoMatch
+        }
+    }
+
+    /// What the attempt from these places on answers.
+    #[cycle(attempt)]
+    fn attempt(&self, mut place: usize, mut at: usize) -> Answer
+        requires start { IsStart self.now.pattern.now place self.now.mode }
+        requires inside { at ≤ length self.now.value.now }
+        requires shallow { self.now.depth ≤ 64 }
+        ensures { IsAttempt result self.now.pattern.now place self.now.value.now at self.now.mode self.now.depth }
+    {
+        if self.depth == MAX_DEPTH {
+            return Answer::RecursionLimitReached;
+        }
+        'tokens: while place < self.pattern.len() {
+            let (kind, next) = token_at(self.pattern, place, self.mode);
+            match kind {
+                TokenKind::Free => return self.cross(next, at),
+                TokenKind::Local => return self.stay(next, at),
+                TokenKind::Dirs => return self.descend(next, at),
+                TokenKind::Nothing => return Answer::AbortAll,
+                TokenKind::Byte(_) | TokenKind::Any | TokenKind::Set => {
+                    if at == self.value.len() {
+                        return Answer::AbortAll;
+                    }
+                    if !kind.takes(self.pattern, place, self.value[at], self.mode) {
+                        return Answer::NoMatch;
+                    }
+                    place = next;
+                    at += 1;
+                }
+            }
+        }
+        self.end_answer(at)
+    }
+
+    /// Tries the rest of the pattern at each place of the value from one on.
+    #[cycle(attempt)]
+    fn cross(&self, place: usize, mut at: usize) -> Answer
+        requires start { IsStart self.now.pattern.now place self.now.mode }
+        requires no_star { ¬ HasByte self.now.pattern.now place star }
+        requires inside { at ≤ length self.now.value.now }
+        requires shallow { self.now.depth < 64 }
+        ensures { IsCrossing result self.now.pattern.now place self.now.value.now at self.now.mode self.now.depth }
+    {
+        if place == self.pattern.len() {
+            return Answer::Match;
+        }
+        let (kind, _) = token_at(self.pattern, place, self.mode);
+        let wanted = kind.literal();
+        let below = Level {
+            depth: self.depth + 1,
+            ..*self
+        };
+        'places: while let Some(found) = self.next_at(at, self.value.len(), wanted) {
+            match below.attempt(place, found) {
+                Answer::NoMatch | Answer::AbortToStarStar => at = found + 1,
+                answer => return answer,
+            }
+        }
+        Answer::AbortAll
+    }
+
+    /// Tries the rest of the pattern at each place of the value's component from one on.
+    #[cycle(attempt)]
+    fn stay(&self, place: usize, mut at: usize) -> Answer
+        requires start { IsStart self.now.pattern.now place self.now.mode }
+        requires no_star { ¬ HasByte self.now.pattern.now place star }
+        requires inside { at ≤ length self.now.value.now }
+        requires shallow { self.now.depth < 64 }
+        ensures { IsWithin result self.now.pattern.now place self.now.value.now at self.now.mode self.now.depth }
+    {
+        let end = self.component_end(at);
+        if place == self.pattern.len() {
+            if end < self.value.len() {
+                return Answer::AbortToStarStar;
+            }
+            return Answer::Match;
+        }
+        let (kind, _) = token_at(self.pattern, place, self.mode);
+        let wanted = kind.literal();
+        let until = self.value.len().min(end + 1);
+        let below = Level {
+            depth: self.depth + 1,
+            ..*self
+        };
+        'places: while let Some(found) = self.next_at(at, until, wanted) {
+            match below.attempt(place, found) {
+                Answer::NoMatch => at = found + 1,
+                answer => return answer,
+            }
+        }
+        Answer::AbortToStarStar
+    }
+
+    /// Tries the rest of the pattern here, and after each slash of the value from here on.
+    #[cycle(attempt)]
+    fn descend(&self, place: usize, at: usize) -> Answer
+        requires token { (i : ℕ) × IsBoundary self.now.pattern.now i self.now.mode × DirsAt self.now.mode self.now.pattern.now i place }
+        requires inside { at ≤ length self.now.value.now }
+        requires shallow { self.now.depth < 64 }
+        ensures { (i : ℕ) → DirsAt self.now.mode self.now.pattern.now i place
+            → IsDescent result self.now.pattern.now i place self.now.value.now at self.now.mode self.now.depth }
+    {
+        let below = Level {
+            depth: self.depth + 1,
+            ..*self
+        };
+        match below.attempt(place, at) {
+            Answer::Match => Answer::Match,
+            _ => self.cross(place - 1, at),
+        }
     }
 }
 
@@ -139,12 +257,11 @@ fn end_answer(value: &[u8], at: usize) -> Answer
 /// from `place` on make at most 63, each answer means what [`Answer`] says, and an abort comes where one must; with more,
 /// only a [`Answer::Match`] says anything. It takes no memory. The rules are in `docs/ENGINES.md`, "The pruned recursive
 /// engine".
-#[cycle(attempt)]
 pub fn attempt(
     pattern: &[u8],
-    mut place: usize,
+    place: usize,
     value: &[u8],
-    mut at: usize,
+    at: usize,
     mode: Mode,
     depth: usize,
 ) -> Answer
@@ -153,115 +270,13 @@ pub fn attempt(
     requires shallow { depth ≤ 64 }
     ensures { IsAttempt result pattern.now place value.now at mode depth }
 {
-    if depth == MAX_DEPTH {
-        return Answer::RecursionLimitReached;
-    }
-    'tokens: while place < pattern.len() {
-        let (kind, next) = token_at(pattern, place, mode);
-        match kind {
-            TokenKind::Free => return cross(pattern, next, value, at, mode, depth),
-            TokenKind::Local => return stay(pattern, next, value, at, mode, depth),
-            TokenKind::Dirs => return descend(pattern, next, value, at, mode, depth),
-            TokenKind::Nothing => return Answer::AbortAll,
-            TokenKind::Byte(_) | TokenKind::Any | TokenKind::Set => {
-                if at == value.len() {
-                    return Answer::AbortAll;
-                }
-                if !kind.takes(pattern, place, value[at], mode) {
-                    return Answer::NoMatch;
-                }
-                place = next;
-                at += 1;
-            }
-        }
-    }
-    end_answer(value, at)
-}
-
-/// Tries the rest of the pattern at each place of the value from one on.
-#[cycle(attempt)]
-fn cross(
-    pattern: &[u8],
-    place: usize,
-    value: &[u8],
-    mut at: usize,
-    mode: Mode,
-    depth: usize,
-) -> Answer
-    requires start { IsStart pattern.now place mode }
-    requires no_star { ¬ HasByte pattern.now place star }
-    requires inside { at ≤ length value.now }
-    requires shallow { depth < 64 }
-    ensures { IsCrossing result pattern.now place value.now at mode depth }
-{
-    if place == pattern.len() {
-        return Answer::Match;
-    }
-    let (kind, _) = token_at(pattern, place, mode);
-    let wanted = kind.literal();
-    'places: while let Some(found) = next_place(value, at, value.len(), wanted, mode) {
-        match attempt(pattern, place, value, found, mode, depth + 1) {
-            Answer::NoMatch | Answer::AbortToStarStar => at = found + 1,
-            answer => return answer,
-        }
-    }
-    Answer::AbortAll
-}
-
-/// Tries the rest of the pattern at each place of the value's component from one on.
-#[cycle(attempt)]
-fn stay(
-    pattern: &[u8],
-    place: usize,
-    value: &[u8],
-    mut at: usize,
-    mode: Mode,
-    depth: usize,
-) -> Answer
-    requires start { IsStart pattern.now place mode }
-    requires no_star { ¬ HasByte pattern.now place star }
-    requires inside { at ≤ length value.now }
-    requires shallow { depth < 64 }
-    ensures { IsWithin result pattern.now place value.now at mode depth }
-{
-    let end = component_end(value, at);
-    if place == pattern.len() {
-        if end < value.len() {
-            return Answer::AbortToStarStar;
-        }
-        return Answer::Match;
-    }
-    let (kind, _) = token_at(pattern, place, mode);
-    let wanted = kind.literal();
-    let until = value.len().min(end + 1);
-    'places: while let Some(found) = next_place(value, at, until, wanted, mode) {
-        match attempt(pattern, place, value, found, mode, depth + 1) {
-            Answer::NoMatch => at = found + 1,
-            answer => return answer,
-        }
-    }
-    Answer::AbortToStarStar
-}
-
-/// Tries the rest of the pattern here, and after each slash of the value from here on.
-#[cycle(attempt)]
-fn descend(
-    pattern: &[u8],
-    place: usize,
-    value: &[u8],
-    at: usize,
-    mode: Mode,
-    depth: usize,
-) -> Answer
-    requires token { (i : ℕ) × IsBoundary pattern.now i mode × DirsAt mode pattern.now i place }
-    requires inside { at ≤ length value.now }
-    requires shallow { depth < 64 }
-    ensures { (i : ℕ) → DirsAt mode pattern.now i place → IsDescent result pattern.now i place value.now at mode depth }
-{
-    match attempt(pattern, place, value, at, mode, depth + 1) {
-        Answer::Match => Answer::Match,
-        _ => cross(pattern, place - 1, value, at, mode, depth),
-    }
+    let level = Level {
+        pattern,
+        value,
+        mode,
+        depth,
+    };
+    level.attempt(place, at)
 }
 
 /// Whether `pattern` matches the whole of `value`, by the pruned recursive engine: one [`attempt`] from both starts.

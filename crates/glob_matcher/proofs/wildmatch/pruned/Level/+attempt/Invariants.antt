@@ -2,34 +2,34 @@
 use Rattle.std.proofs.Common.{◌+◌, ◌-◌, ◌*◌, length}
 use Rattle.glob_matcher.proofs.lemmas.cutting.Alignments.{Aligned}
 use Rattle.glob_matcher.proofs.lemmas.cutting.StarLemmas.{Tried}
-use Rattle.glob_matcher.proofs.wildmatch.pruned.+attempt.Given as goal
+use Rattle.glob_matcher.proofs.wildmatch.pruned.Level.+attempt.Given as goal
 
 abbrev pub decreases-attempt : goal.decreases-attempt
-decreases-attempt l = 3 * (64 - l.depth)
+decreases-attempt l = 3 * (64 - l.self.now.depth)
 
 abbrev pub decreases-cross : goal.decreases-cross
-decreases-cross l = 3 * (63 - l.depth) + 1
+decreases-cross l = 3 * (63 - l.self.now.depth) + 1
 
 abbrev pub decreases-stay : goal.decreases-stay
-decreases-stay l = 3 * (63 - l.depth) + 1
+decreases-stay l = 3 * (63 - l.self.now.depth) + 1
 
 abbrev pub decreases-descend : goal.decreases-descend
-decreases-descend l = 3 * (63 - l.depth) + 2
+decreases-descend l = 3 * (63 - l.self.now.depth) + 2
 
 abbrev pub invariant-attempt-tokens : goal.invariant-attempt-tokens
-invariant-attempt-tokens l = Aligned l.mode l.pattern l.value l.fn.place l.fn.at l.place l.at
+invariant-attempt-tokens l = Aligned l.self.mode l.self.pattern.now l.self.value.now l.fn.place l.fn.at l.place l.at
 
 abbrev pub decreases-attempt-tokens : goal.decreases-attempt-tokens
-decreases-attempt-tokens l = length l.pattern - l.place
+decreases-attempt-tokens l = length l.self.pattern.now - l.place
 
 abbrev pub invariant-cross-places : goal.invariant-cross-places
-invariant-cross-places l = Tried l.mode l.pattern l.value l.place (l.depth + 1) l.fn.at l.at (length l.value)
+invariant-cross-places l = Tried l.self.mode l.self.pattern.now l.self.value.now l.place (l.self.depth + 1) l.fn.at l.at (length l.self.value.now)
 
 abbrev pub decreases-cross-places : goal.decreases-cross-places
-decreases-cross-places l = length l.value - l.at
+decreases-cross-places l = length l.self.value.now - l.at
 
 abbrev pub invariant-stay-places : goal.invariant-stay-places
-invariant-stay-places l = Tried l.mode l.pattern l.value l.place (l.depth + 1) l.fn.at l.at l.until
+invariant-stay-places l = Tried l.self.mode l.self.pattern.now l.self.value.now l.place (l.self.depth + 1) l.fn.at l.at l.until
 
 abbrev pub decreases-stay-places : goal.decreases-stay-places
 decreases-stay-places l = l.until - l.at

@@ -8,7 +8,7 @@ use Rattle.glob_matcher.proofs.lemmas.reading.TokenKinds.{is_free, is_local, is_
 use Rattle.glob_matcher.proofs.lemmas.cutting.Alignments.{aligned_next}
 use Rattle.glob_matcher.proofs.lemmas.pruned.AttemptLemmas.{end_here, value_ends, nothing_here, misses, star_here}
 use Rattle.glob_matcher.proofs.lemmas.cutting.StarLemmas.{first_token, tried_next, cross_none, cross_answer, stay_more, stay_none, stay_answer, free_star, local_star, dirs_star, descent_here, descent_later}
-use Rattle.glob_matcher.proofs.wildmatch.pruned.+attempt.Goals as goal
+use Rattle.glob_matcher.proofs.wildmatch.pruned.Level.+attempt.Goals as goal
 
 -- what sends the search on is no match
 not_match : (answer : Answer) → (answer ≡ NoMatch) ⊎ (answer ≡ AbortToStarStar) → answer ≢ Match
@@ -39,45 +39,45 @@ attempt-returns-in-Nothing t c =
     nothing_here c.tokens.invariant (λ deep. omega arith)
     c.token_at-kind.result.1 here
 
-pub attempt-returns-then-at-value : goal.attempt-returns-then-at-value
-attempt-returns-then-at-value t c =
+pub attempt-returns-then-at-self : goal.attempt-returns-then-at-self
+attempt-returns-then-at-self t c =
     let s = c.token_at-kind in
     let one = is_one s.ensures c.in-Byte.is in
     value_ends c.tokens.invariant (λ deep. omega arith)
-    s.ensures.token s.result.1 one s.ensures.here c.if-at-value.true
+    s.ensures.token s.result.1 one s.ensures.here c.if-at-self.true
 
 pub attempt-returns-then-not-takes : goal.attempt-returns-then-not-takes
 attempt-returns-then-not-takes t c =
     let s = c.token_at-kind in
     let one = is_one s.ensures c.in-Byte.is in
-    let high : c.tokens.at ≤ length c.args.value.now = c.tokens.invariant.value_high in
+    let high : c.tokens.at ≤ length c.args.self.now.value.now = c.tokens.invariant.value_high in
     let fits = c.if-not-takes.ensures s.ensures.token s.result.1 s.ensures.here s.ensures.same_kind in
     misses c.tokens.invariant (λ deep. omega arith)
     s.ensures.token s.result.1 one s.ensures.here (omega arith) (λ f. let never = fits.1 f in cc)
 
 pub attempt-tokens-preserved : goal.attempt-tokens-preserved
 attempt-tokens-preserved t c =
-    let p = c.args.pattern.now in
+    let p = c.args.self.now.pattern.now in
     let s = c.token_at-kind in
     let one = is_one s.ensures c.in-Byte.is in
-    let high : c.tokens.at ≤ length c.args.value.now = c.tokens.invariant.value_high in
+    let high : c.tokens.at ≤ length c.args.self.now.value.now = c.tokens.invariant.value_high in
     let fits = c.if-not-takes.ensures s.ensures.token s.result.1 s.ensures.here s.ensures.same_kind in
     aligned_next s.ensures.token s.result.1 c.tokens.invariant one s.ensures.here s.ensures.past (omega arith) (fits.0 refl)
 
 pub attempt-returns : goal.attempt-returns
 attempt-returns t c =
-    let p = c.args.pattern.now in
+    let p = c.args.self.now.pattern.now in
     let inside : c.tokens.place ≤ length p = start_inside c.tokens.invariant.start in
     end_here c.tokens.invariant (λ deep. omega arith) (omega arith) c.end_answer.ensures.ends c.end_answer.ensures.more
 
 pub cross-token_at-kind-requires : goal.cross-token_at-kind-requires
 cross-token_at-kind-requires t c =
-    let inside : c.args.place ≤ length c.args.pattern.now = start_inside c.requires.start in
+    let inside : c.args.place ≤ length c.args.self.now.pattern.now = start_inside c.requires.start in
     omega arith
 
 pub stay-token_at-kind-requires : goal.stay-token_at-kind-requires
 stay-token_at-kind-requires t c =
-    let inside : c.args.place ≤ length c.args.pattern.now = start_inside c.requires.start in
+    let inside : c.args.place ≤ length c.args.self.now.pattern.now = start_inside c.requires.start in
     omega arith
 
 pub cross-returns-in_default-attempt : goal.cross-returns-in_default-attempt
@@ -108,9 +108,9 @@ descend-returns-in_default t c = λ i here.
     let after : c.args.place ≡ here.at + 1 = here.after in
     descent_later here (omega arith) c.requires.inside c.attempt.ensures c.in_default.not-Match c.cross.ensures
 
-pub stay-returns-then-end-value : goal.stay-returns-then-end-value
-stay-returns-then-end-value t c =
-    stay_more c.if-place-pattern.true c.requires.inside c.component_end-end.ensures (λ e. let before = c.if-end-value.true in omega arith)
+pub stay-returns-then-end-self : goal.stay-returns-then-end-self
+stay-returns-then-end-self t c =
+    stay_more c.if-place-self.true c.requires.inside c.component_end-end.ensures (λ e. let before = c.if-end-self.true in omega arith)
 
 pub stay-places-preserved : goal.stay-places-preserved
 stay-places-preserved t c =
@@ -134,25 +134,25 @@ stay-returns t c =
 
 pub attempt-cross-requires : goal.attempt-cross-requires
 attempt-cross-requires t c =
-    let p = c.args.pattern.now in
+    let p = c.args.self.now.pattern.now in
     let s = c.token_at-kind in
-    let here : TokenAt c.args.mode p c.tokens.place Free s.result.1 = is_free s.ensures c.in-Free.is in
-    let start : IsStart p s.result.1 c.args.mode = record { place = inl (start_next Free s.result.1 c.tokens.invariant.start here) } in
+    let here : TokenAt c.args.self.now.mode p c.tokens.place Free s.result.1 = is_free s.ensures c.in-Free.is in
+    let start : IsStart p s.result.1 c.args.self.now.mode = record { place = inl (start_next Free s.result.1 c.tokens.invariant.start here) } in
     (search rules, (start, (here.run.whole, (c.tokens.invariant.value_high, omega arith))))
 
 pub attempt-stay-requires : goal.attempt-stay-requires
 attempt-stay-requires t c =
-    let p = c.args.pattern.now in
+    let p = c.args.self.now.pattern.now in
     let s = c.token_at-kind in
-    let here : TokenAt c.args.mode p c.tokens.place Local s.result.1 = is_local s.ensures c.in-Local.is in
-    let start : IsStart p s.result.1 c.args.mode = record { place = inl (start_next Local s.result.1 c.tokens.invariant.start here) } in
+    let here : TokenAt c.args.self.now.mode p c.tokens.place Local s.result.1 = is_local s.ensures c.in-Local.is in
+    let start : IsStart p s.result.1 c.args.self.now.mode = record { place = inl (start_next Local s.result.1 c.tokens.invariant.start here) } in
     (search rules, (start, (here.run.whole, (c.tokens.invariant.value_high, omega arith))))
 
 pub attempt-descend-requires : goal.attempt-descend-requires
 attempt-descend-requires t c =
-    let p = c.args.pattern.now in
+    let p = c.args.self.now.pattern.now in
     let s = c.token_at-kind in
-    let here : TokenAt c.args.mode p c.tokens.place Dirs s.result.1 = is_dirs s.ensures c.in-Dirs.is in (
+    let here : TokenAt c.args.self.now.mode p c.tokens.place Dirs s.result.1 = is_dirs s.ensures c.in-Dirs.is in (
       search rules,
       (
         (c.tokens.place, dirs_boundary c.tokens.invariant.start here, here),
