@@ -35,7 +35,7 @@ pub(crate) fn is_ends_with(text: &[u8]) -> bool
 }
 
 /// Whether the text has a slash.
-#[tactic(auto, using(crate::proofs::ByteSearches::is_some_first_byte))]
+#[tactic(auto, using(crate::proofs::lemmas::ByteSearches::is_some_first_byte))]
 pub(crate) fn has_slash(text: &[u8]) -> bool
     ensures { result ≡ has_slash text.now }
 {
@@ -43,7 +43,7 @@ pub(crate) fn has_slash(text: &[u8]) -> bool
 }
 
 /// Whether the text has a wildcard, escaped or not.
-#[tactic(auto, using(crate::proofs::ByteSearches::is_some_first_byte))]
+#[tactic(auto, using(crate::proofs::lemmas::ByteSearches::is_some_first_byte))]
 pub(crate) fn has_wildcard(text: &[u8]) -> bool
     ensures { result ≡ list_any is_wildcard text.now }
 {

@@ -1,7 +1,7 @@
 -- The sign is taken off first, so what follows it decides whether there is a reading.
 use Rattle.std.proofs.Common.{sym, ◌∙◌}
 use Rattle.std.proofs.lemmas.Bool.{false≢true, true≢false}
-use Rattle.glob_patterns.proofs.LineReading.{not_blank-HasReading, blank_after_sign}
+use Rattle.glob_patterns.proofs.lemmas.ReadingLemmas.{not_blank-HasReading, blank_after_sign}
 use Rattle.glob_patterns.proofs.parse.pattern.Goals as goal
 
 pub returns-then-is_whitespace-clause-reads : goal.returns-then-is_whitespace-clause-reads

@@ -1,5 +1,5 @@
 -- Each part of a line is fixed by what stands before it.
-use Rattle.glob_patterns.proofs.LineReading.{one_reading}
+use Rattle.glob_patterns.proofs.lemmas.ReadingLemmas.{one_reading}
 use Rattle.glob_patterns.proofs.laws.patterns.line_has_one_reading.Goals as goal
 
 pub returns : goal.returns

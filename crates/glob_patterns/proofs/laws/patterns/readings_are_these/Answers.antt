@@ -1,5 +1,5 @@
 -- Each part of a reading is fixed by what stands before it, and the equations give the parts.
-use Rattle.glob_patterns.proofs.ReadingEquations.{HasReading-none, Reads-reading_of, none-reading_of, reading_of-Reads}
+use Rattle.glob_patterns.proofs.lemmas.ReadingEquations.{HasReading-none, Reads-reading_of, none-reading_of, reading_of-Reads}
 use Rattle.glob_patterns.proofs.laws.patterns.readings_are_these.Goals as goal
 
 pub returns-clause-some : goal.returns-clause-some

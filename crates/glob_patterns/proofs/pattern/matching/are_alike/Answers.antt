@@ -2,7 +2,7 @@
 use Rattle.std.proofs.Common.{sym, ◌∙◌}
 use Rattle.std.proofs.lemmas.Bool.Decides.{Decides-eqb}
 use Rattle.std.proofs.lemmas.Slice.Eq.{slice_eq-Decides}
-use Rattle.glob_patterns.proofs.Shortcuts.{alike_unfolded}
+use Rattle.glob_patterns.proofs.lemmas.Shortcuts.{alike_unfolded}
 use Rattle.glob_patterns.proofs.pattern.matching.are_alike.Goals as goal
 
 pub returns-else-contains-clause-exact : goal.returns-else-contains-clause-exact

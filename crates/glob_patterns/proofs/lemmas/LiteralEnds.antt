@@ -13,7 +13,7 @@ use Rattle.glob_matcher.specs.Tokens.{Token, Byte, Any, OneOf, Free, Local, Dirs
 use Rattle.glob_matcher.specs.Matching.{Splits, SplitsFrom}
 use Rattle.glob_matcher.proofs.lemmas.cutting.CutLemmas.{step_out, one_out, end_out, nothing_out}
 use Rattle.glob_matcher.proofs.lemmas.reading.Existence.{items_close, TokenAt-past}
-use Rattle.glob_patterns.proofs.LiteralLemmas.{IsLiteral, IsCopied, literal_out, alike_from}
+use Rattle.glob_patterns.proofs.lemmas.LiteralLemmas.{IsLiteral, IsCopied, literal_out, alike_from}
 
 -- no byte from place n on may belong to a token of more than one byte
 record IsTail (p : List ℕ) (n : ℕ) : Type 0 where

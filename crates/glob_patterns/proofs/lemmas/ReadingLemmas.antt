@@ -9,7 +9,7 @@ use Rattle.std.proofs.lemmas.List.{append_cancel_left, append_cancel_right}
 use Rattle.std.proofs.lemmas.Slice.Eq.{starts_is}
 use Rattle.glob_patterns.specs.declared.pattern.mode.Mode.{Mode}
 use Rattle.glob_patterns.specs.Patterns.{Reads, SameReading, HasReading, sign_of, slash_if, first_special, is_blank, without_negation, IsPattern}
-use Rattle.glob_patterns.proofs.FlagBits.{is_by_its_end-sum}
+use Rattle.glob_patterns.proofs.lemmas.ModeBits.{is_by_its_end-sum}
 
 pub one_reading : (text : List ℕ) (may_alter : Bool) (body body' : List ℕ) (flags flags' : Mode) (place place' : Option ℕ) → Reads text may_alter body flags place → Reads text may_alter body' flags' place' → SameReading body body' flags flags' place place'
 one_reading text may_alter body body' flags flags' place place' r s =

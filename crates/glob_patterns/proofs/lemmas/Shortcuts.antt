@@ -8,7 +8,7 @@ use Rattle.glob_patterns.specs.Folding.{AreAlike, EndsAlike}
 use Rattle.glob_patterns.specs.Private.Fronts.{BeginsAlike}
 use Rattle.glob_matcher.specs.Matching.{Splits}
 use Rattle.glob_patterns.specs.Patterns.{first_special, is_star_and_literal}
-use Rattle.glob_patterns.proofs.LiteralLemmas.{literal_splits, literal_front, literal_from_place, literal_up_to_place, star_literal_out, star_literal_in}
+use Rattle.glob_patterns.proofs.lemmas.LiteralLemmas.{literal_splits, literal_front, literal_from_place, literal_up_to_place, star_literal_out, star_literal_in}
 
 -- a map that changes no element
 map_same : (f : ℕ → ℕ) → ((b : ℕ) → f b ≡ b) → (xs : List ℕ) → map f xs ≡ xs
