@@ -26,8 +26,8 @@ entry_of seen m = record {
 -- the entry of a line's reading, with a value and a number
 abbrev pub entry_with : {V : Type 0} → V → ℕ → Reading → Entry V
 entry_with value number reading = record {
-  text = reading.body;
-  mode = reading.flags;
+  text = reading.text;
+  mode = reading.mode;
   place = reading.place;
   value = value;
   number = number;

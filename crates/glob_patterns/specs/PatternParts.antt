@@ -19,7 +19,7 @@ place_of p = p.first_wildcard_pos
 
 -- the pattern is the reading of the line
 abbrev pub IsReadFrom : List ℕ → Bool → Pattern → Type 0
-IsReadFrom text may_alter p = Reads text may_alter (text_of p) (mode_of p) (place_of p)
+IsReadFrom line may_alter p = Reads line may_alter (text_of p) (mode_of p) (place_of p)
 
 -- two patterns agree in all that callers see
 pub record SamePattern (p q : Pattern) : Type 0 where

@@ -11,59 +11,59 @@ use Rattle.glob_patterns.specs.declared.pattern.mode.Mode.{Mode}
 use Rattle.glob_patterns.specs.Patterns.{Reads, SameReading, HasReading, sign_of, slash_if, first_special, is_blank, without_negation, IsPattern}
 use Rattle.glob_patterns.proofs.lemmas.ModeBits.{is_by_its_end-sum}
 
-pub one_reading : (text : List ℕ) (may_alter : Bool) (body body' : List ℕ) (flags flags' : Mode) (place place' : Option ℕ) → Reads text may_alter body flags place → Reads text may_alter body' flags' place' → SameReading body body' flags flags' place place'
-one_reading text may_alter body body' flags flags' place place' r s =
+pub one_reading : (line : List ℕ) (may_alter : Bool) (text text' : List ℕ) (mode mode' : Mode) (place place' : Option ℕ) → Reads line may_alter text mode place → Reads line may_alter text' mode' place' → SameReading text text' mode mode' place place'
+one_reading line may_alter text text' mode mode' place place' r s =
     let signs : r.sign ≡ s.sign = r.signed ∙ sym s.signed in
-    let rests : r.lead ++ (body ++ r.tail) ≡ s.lead ++ (body' ++ s.tail) =
-    append_cancel_left s.sign _ _ (ap (λ (x : List ℕ). x ++ (r.lead ++ (body ++ r.tail))) (sym signs) ∙ sym r.joined ∙ s.joined) in
+    let rests : r.lead ++ (text ++ r.tail) ≡ s.lead ++ (text' ++ s.tail) =
+    append_cancel_left s.sign _ _ (ap (λ (x : List ℕ). x ++ (r.lead ++ (text ++ r.tail))) (sym signs) ∙ sym r.joined ∙ s.joined) in
     let leads : r.lead ≡ s.lead = r.leads ∙ ap (λ (x : List ℕ). slash_if (starts_with nat_eq x (codes "/"))) rests ∙ sym s.leads in
-    let backs : body ++ r.tail ≡ body' ++ s.tail =
-    append_cancel_left s.lead _ _ (ap (λ (x : List ℕ). x ++ (body ++ r.tail)) (sym leads) ∙ rests) in
+    let backs : text ++ r.tail ≡ text' ++ s.tail =
+    append_cancel_left s.lead _ _ (ap (λ (x : List ℕ). x ++ (text ++ r.tail)) (sym leads) ∙ rests) in
     let tails : r.tail ≡ s.tail = r.trails ∙ ap (λ (x : List ℕ). slash_if (ends_with nat_eq x (codes "/"))) backs ∙ sym s.trails in
-    let bodies : body ≡ body' =
-    append_cancel_right _ _ s.tail (ap (λ (x : List ℕ). body ++ x) (sym tails) ∙ backs) in
-    let bits : flags.0 ≡ flags'.0 = cc (r.flagged, s.flagged, signs, leads, bodies, tails) in
+    let texts : text ≡ text' =
+    append_cancel_right _ _ s.tail (ap (λ (x : List ℕ). text ++ x) (sym tails) ∙ backs) in
+    let bits : mode.0 ≡ mode'.0 = cc (r.bits, s.bits, signs, leads, texts, tails) in
     record {
-      body = bodies;
-      flags = ap (λ (n : ℕ). let mode : Mode = record { 0 = n } in mode) bits;
-      place = r.placed ∙ ap first_special bodies ∙ sym s.placed;
+      text = texts;
+      mode = ap (λ (n : ℕ). let mode : Mode = record { 0 = n } in mode) bits;
+      place = r.placed ∙ ap first_special texts ∙ sym s.placed;
     }
 
 -- what follows the sign of a line that has a reading isn't blank
-pub not_blank-HasReading : (text : List ℕ) (may_alter : Bool) (rest : List ℕ) → text ≡ sign_of may_alter text ++ rest → HasReading text may_alter → is_blank rest ≡ false
-not_blank-HasReading text may_alter rest e r =
-    let same : rest ≡ r.read.lead ++ (r.body ++ r.read.tail) =
-    append_cancel_left (sign_of may_alter text) _ _ (sym e ∙ r.read.joined ∙ ap (λ (x : List ℕ). x ++ (r.read.lead ++ (r.body ++ r.read.tail))) r.read.signed) in
+pub not_blank-HasReading : (line : List ℕ) (may_alter : Bool) (rest : List ℕ) → line ≡ sign_of may_alter line ++ rest → HasReading line may_alter → is_blank rest ≡ false
+not_blank-HasReading line may_alter rest e r =
+    let same : rest ≡ r.read.lead ++ (r.text ++ r.read.tail) =
+    append_cancel_left (sign_of may_alter line) _ _ (sym e ∙ r.read.joined ∙ ap (λ (x : List ℕ). x ++ (r.read.lead ++ (r.text ++ r.read.tail))) r.read.signed) in
     ap is_blank same ∙ r.read.not_blank
 
 -- A line that begins with `\!` or `\#` isn't blank, and neither is what follows the backslash.
-escaped_sign : (text rest : List ℕ) (b : ℕ) → is_ascii_whitespace b ≡ false → starts_with nat_eq text (92 ∷ b ∷ []) ≡ true → text ≡ codes "\\" ++ rest → is_blank rest ≡ is_blank text
-escaped_sign text rest b dark begins e =
-    let whole : text ≡ 92 ∷ b ∷ drop 2 text = (starts_is Decides-eqb text (92 ∷ b ∷ []) _ refl).0 begins in
-    let back : rest ≡ b ∷ drop 2 text = append_cancel_left (codes "\\") _ _ (sym e ∙ whole) in
+escaped_sign : (line rest : List ℕ) (b : ℕ) → is_ascii_whitespace b ≡ false → starts_with nat_eq line (92 ∷ b ∷ []) ≡ true → line ≡ codes "\\" ++ rest → is_blank rest ≡ is_blank line
+escaped_sign line rest b dark begins e =
+    let whole : line ≡ 92 ∷ b ∷ drop 2 line = (starts_is Decides-eqb line (92 ∷ b ∷ []) _ refl).0 begins in
+    let back : rest ≡ b ∷ drop 2 line = append_cancel_left (codes "\\") _ _ (sym e ∙ whole) in
     ap is_blank back ∙ and_left _ _ dark ∙ sym (ap is_blank whole)
 
 -- What follows the sign is blank exactly where the line without its negation is.
-pub blank_after_sign : (text : List ℕ) (may_alter : Bool) (rest : List ℕ) → text ≡ sign_of may_alter text ++ rest → is_blank rest ≡ is_blank (if may_alter then without_negation text else text)
-blank_after_sign text false rest e = ap is_blank (sym e)
-blank_after_sign text true rest e =
+pub blank_after_sign : (line : List ℕ) (may_alter : Bool) (rest : List ℕ) → line ≡ sign_of may_alter line ++ rest → is_blank rest ≡ is_blank (if may_alter then without_negation line else line)
+blank_after_sign line false rest e = ap is_blank (sym e)
+blank_after_sign line true rest e =
     ⊎_elim
-    (λ (negated : starts_with nat_eq text (codes "!") ≡ true). let e' = rw negated at e in rw negated (ap is_blank (ap (drop 1) (sym e'))))
-    (λ (bare : starts_with nat_eq text (codes "!") ≡ false).
+    (λ (negated : starts_with nat_eq line (codes "!") ≡ true). let e' = rw negated at e in rw negated (ap is_blank (ap (drop 1) (sym e'))))
+    (λ (bare : starts_with nat_eq line (codes "!") ≡ false).
     let e' = rw bare at e in
     rw bare (
     ⊎_elim
-    (λ (escaped : (starts_with nat_eq text (codes "\\!") || starts_with nat_eq text (codes "\\#")) ≡ true).
+    (λ (escaped : (starts_with nat_eq line (codes "\\!") || starts_with nat_eq line (codes "\\#")) ≡ true).
     let e'' = rw escaped at e' in
-    ⊎_elim (λ h. escaped_sign text rest 33 refl h e'') (λ h. escaped_sign text rest 35 refl h e'') (or_cases _ _ escaped))
-    (λ (plain : (starts_with nat_eq text (codes "\\!") || starts_with nat_eq text (codes "\\#")) ≡ false).
+    ⊎_elim (λ h. escaped_sign line rest 33 refl h e'') (λ h. escaped_sign line rest 35 refl h e'') (or_cases _ _ escaped))
+    (λ (plain : (starts_with nat_eq line (codes "\\!") || starts_with nat_eq line (codes "\\#")) ≡ false).
     let e'' = rw plain at e' in ap is_blank (sym e''))
-    (cases_Bool (starts_with nat_eq text (codes "\\!") || starts_with nat_eq text (codes "\\#")))))
-    (cases_Bool (starts_with nat_eq text (codes "!")))
+    (cases_Bool (starts_with nat_eq line (codes "\\!") || starts_with nat_eq line (codes "\\#")))))
+    (cases_Bool (starts_with nat_eq line (codes "!")))
 
 -- What is read is the text, the mode and the place of a pattern.
-pub IsPattern-Reads : (text : List ℕ) (may_alter : Bool) (body : List ℕ) (flags : Mode) (place : Option ℕ) → Reads text may_alter body flags place → IsPattern body flags place
-IsPattern-Reads text may_alter body flags place r = record {
+pub IsPattern-Reads : (line : List ℕ) (may_alter : Bool) (text : List ℕ) (mode : Mode) (place : Option ℕ) → Reads line may_alter text mode place → IsPattern text mode place
+IsPattern-Reads line may_alter text mode place r = record {
   placed = r.placed;
-  ends = λ stands. sym (is_by_its_end-sum flags _ _ _ _ _ r.flagged) ∙ stands;
+  ends = λ stands. sym (is_by_its_end-sum mode _ _ _ _ _ r.bits) ∙ stands;
 }

@@ -37,80 +37,80 @@ sign_of-bare : (there : Bool) (rest : List ℕ) → there ≡ false → sign_of 
 sign_of-bare true rest h bare = absurd (false≢true (sym h))
 sign_of-bare false rest h bare = sym bare
 
--- a line that begins with `!` and no slash has a body that does
-mark_in_body : (body tail xs : List ℕ) (there : Bool) → tail ≡ slash_if there → body ++ tail ≡ 33 ∷ xs → starts_with nat_eq body (codes "!") ≡ true
-mark_in_body [] tail xs true t e =
+-- a line that begins with `!` and no slash has a text that does
+mark_in_text : (text tail xs : List ℕ) (there : Bool) → tail ≡ slash_if there → text ++ tail ≡ 33 ∷ xs → starts_with nat_eq text (codes "!") ≡ true
+mark_in_text [] tail xs true t e =
     let heads : ◌≡◌ {A = ℕ} 47 33 = ap (λ (l : List ℕ). get_or l 0 0) (sym t ∙ e) in absurd (omega arith)
-mark_in_body [] tail xs false t e =
+mark_in_text [] tail xs false t e =
     let lengths : ◌≡◌ {A = ℕ} 0 (suc (length xs)) = ap (λ (l : List ℕ). length l) (sym t ∙ e) in absurd (omega arith)
-mark_in_body (b ∷ bs) tail xs there t e =
+mark_in_text (b ∷ bs) tail xs there t e =
     let head : b ≡ 33 = ap (λ (l : List ℕ). get_or l 0 0) e in ap (λ (n : ℕ). starts_with nat_eq (n ∷ bs) (codes "!")) head
 
-module _ (text body : List ℕ) (flags : Mode) (place : Option ℕ) (r : Reads text true body flags place)
-    (unmarked : IsTrue (starts_with nat_eq body (codes "!")) → IsTrue (is_negative flags || is_absolute flags)) where
-  negative_is : is_negative flags ≡ bytes_eq r.sign (codes "!")
-  negative_is = is_negative-sum flags _ _ _ _ _ r.flagged
+module _ (line text : List ℕ) (mode : Mode) (place : Option ℕ) (r : Reads line true text mode place)
+    (unmarked : IsTrue (starts_with nat_eq text (codes "!")) → IsTrue (is_negative mode || is_absolute mode)) where
+  negative_is : is_negative mode ≡ bytes_eq r.sign (codes "!")
+  negative_is = is_negative-sum mode _ _ _ _ _ r.bits
 
-  absolute_is : is_absolute flags ≡ bytes_eq r.lead (codes "/")
-  absolute_is = is_absolute-sum flags _ _ _ _ _ r.flagged
+  absolute_is : is_absolute mode ≡ bytes_eq r.lead (codes "/")
+  absolute_is = is_absolute-sum mode _ _ _ _ _ r.bits
 
-  lead_is : slash_if (is_absolute flags) ≡ r.lead
+  lead_is : slash_if (is_absolute mode) ≡ r.lead
   lead_is = ap slash_if absolute_is ∙ slash_again r.lead _ r.leads
 
-  tail_is : slash_if (is_for_directories flags) ≡ r.tail
-  tail_is = ap slash_if (is_for_directories-sum flags _ _ _ _ _ r.flagged) ∙ slash_again r.tail _ r.trails
+  tail_is : slash_if (is_for_directories mode) ≡ r.tail
+  tail_is = ap slash_if (is_for_directories-sum mode _ _ _ _ _ r.bits) ∙ slash_again r.tail _ r.trails
 
-  shown_is : shown_line flags body ≡ mark_if (is_negative flags) ++ (r.lead ++ (body ++ r.tail))
+  shown_is : shown_line mode text ≡ mark_if (is_negative mode) ++ (r.lead ++ (text ++ r.tail))
   shown_is =
-      ap (λ (l : List ℕ). mark_if (is_negative flags) ++ (l ++ (body ++ slash_if (is_for_directories flags)))) lead_is
-      ∙ ap (λ (t : List ℕ). mark_if (is_negative flags) ++ (r.lead ++ (body ++ t))) tail_is
+      ap (λ (l : List ℕ). mark_if (is_negative mode) ++ (l ++ (text ++ slash_if (is_for_directories mode)))) lead_is
+      ∙ ap (λ (t : List ℕ). mark_if (is_negative mode) ++ (r.lead ++ (text ++ t))) tail_is
 
   -- what follows the backslash of an escaped sign has no sign: it begins with `#`, or else `!` or a slash stands before it
-  escaped_rest : (b : ℕ) → (b ≡ 33) ⊎ (b ≡ 35) → starts_with nat_eq text (92 ∷ b ∷ []) ≡ true → r.sign ≡ codes "\\"
-      → sign_of true (r.lead ++ (body ++ r.tail)) ≡ []
+  escaped_rest : (b : ℕ) → (b ≡ 33) ⊎ (b ≡ 35) → starts_with nat_eq line (92 ∷ b ∷ []) ≡ true → r.sign ≡ codes "\\"
+      → sign_of true (r.lead ++ (text ++ r.tail)) ≡ []
   escaped_rest b which begins sign =
-      let whole : text ≡ 92 ∷ b ∷ drop 2 text = (starts_is Decides-eqb text (92 ∷ b ∷ []) _ refl).0 begins in
-      let joined : text ≡ codes "\\" ++ (r.lead ++ (body ++ r.tail)) = r.joined ∙ ap (λ (x : List ℕ). x ++ (r.lead ++ (body ++ r.tail))) sign in
-      let rest : r.lead ++ (body ++ r.tail) ≡ b ∷ drop 2 text = append_cancel_left (codes "\\") _ _ (sym joined ∙ whole) in
+      let whole : line ≡ 92 ∷ b ∷ drop 2 line = (starts_is Decides-eqb line (92 ∷ b ∷ []) _ refl).0 begins in
+      let joined : line ≡ codes "\\" ++ (r.lead ++ (text ++ r.tail)) = r.joined ∙ ap (λ (x : List ℕ). x ++ (r.lead ++ (text ++ r.tail))) sign in
+      let rest : r.lead ++ (text ++ r.tail) ≡ b ∷ drop 2 line = append_cancel_left (codes "\\") _ _ (sym joined ∙ whole) in
       ⊎_elim
       (λ (mark : b ≡ 33).
-      let marked : r.lead ++ (body ++ r.tail) ≡ 33 ∷ drop 2 text = rest ∙ ap (λ (n : ℕ). n ∷ drop 2 text) mark in
+      let marked : r.lead ++ (text ++ r.tail) ≡ 33 ∷ drop 2 line = rest ∙ ap (λ (n : ℕ). n ∷ drop 2 line) mark in
       let no_lead : r.lead ≡ [] = r.leads ∙ ap (λ (x : List ℕ). slash_if (starts_with nat_eq x (codes "/"))) marked in
-      let bare : body ++ r.tail ≡ 33 ∷ drop 2 text = ap (λ (x : List ℕ). x ++ (body ++ r.tail)) (sym no_lead) ∙ marked in
-      let negative : is_negative flags ≡ false = negative_is ∙ ap (λ (x : List ℕ). bytes_eq x (codes "!")) sign in
-      let absolute : is_absolute flags ≡ false = absolute_is ∙ ap (λ (x : List ℕ). bytes_eq x (codes "/")) no_lead in
+      let bare : text ++ r.tail ≡ 33 ∷ drop 2 line = ap (λ (x : List ℕ). x ++ (text ++ r.tail)) (sym no_lead) ∙ marked in
+      let negative : is_negative mode ≡ false = negative_is ∙ ap (λ (x : List ℕ). bytes_eq x (codes "!")) sign in
+      let absolute : is_absolute mode ≡ false = absolute_is ∙ ap (λ (x : List ℕ). bytes_eq x (codes "/")) no_lead in
       absurd (⊎_elim (λ h. false≢true (sym negative ∙ h)) (λ h. false≢true (sym absolute ∙ h))
-      (or_cases _ _ (unmarked (mark_in_body body r.tail (drop 2 text) _ r.trails bare)))))
-      (λ (number : b ≡ 35). ap (sign_of true) (rest ∙ ap (λ (n : ℕ). n ∷ drop 2 text) number))
+      (or_cases _ _ (unmarked (mark_in_text text r.tail (drop 2 line) _ r.trails bare)))))
+      (λ (number : b ≡ 35). ap (sign_of true) (rest ∙ ap (λ (n : ℕ). n ∷ drop 2 line) number))
       which
 
-  sign_is : mark_if (is_negative flags) ≡ sign_of true (mark_if (is_negative flags) ++ (r.lead ++ (body ++ r.tail)))
+  sign_is : mark_if (is_negative mode) ≡ sign_of true (mark_if (is_negative mode) ++ (r.lead ++ (text ++ r.tail)))
   sign_is =
       ⊎_elim
-      (λ (negated : starts_with nat_eq text (codes "!") ≡ true).
+      (λ (negated : starts_with nat_eq line (codes "!") ≡ true).
       let sign = rw negated at r.signed in
       sign_of-marked _ _ (negative_is ∙ ap (λ (x : List ℕ). bytes_eq x (codes "!")) sign))
-      (λ (plain : starts_with nat_eq text (codes "!") ≡ false).
+      (λ (plain : starts_with nat_eq line (codes "!") ≡ false).
       let signed = rw plain at r.signed in
       ⊎_elim
-      (λ (escaped : (starts_with nat_eq text (codes "\\!") || starts_with nat_eq text (codes "\\#")) ≡ true).
+      (λ (escaped : (starts_with nat_eq line (codes "\\!") || starts_with nat_eq line (codes "\\#")) ≡ true).
       let sign = rw escaped at signed in
       sign_of-bare _ _ (negative_is ∙ ap (λ (x : List ℕ). bytes_eq x (codes "!")) sign)
       (⊎_elim (λ h. escaped_rest 33 (inl refl) h sign) (λ h. escaped_rest 35 (inr refl) h sign) (or_cases _ _ escaped)))
-      (λ (bare : (starts_with nat_eq text (codes "\\!") || starts_with nat_eq text (codes "\\#")) ≡ false).
+      (λ (bare : (starts_with nat_eq line (codes "\\!") || starts_with nat_eq line (codes "\\#")) ≡ false).
       let sign = rw bare at signed in
-      let whole : text ≡ r.lead ++ (body ++ r.tail) = r.joined ∙ ap (λ (x : List ℕ). x ++ (r.lead ++ (body ++ r.tail))) sign in
+      let whole : line ≡ r.lead ++ (text ++ r.tail) = r.joined ∙ ap (λ (x : List ℕ). x ++ (r.lead ++ (text ++ r.tail))) sign in
       sign_of-bare _ _ (negative_is ∙ ap (λ (x : List ℕ). bytes_eq x (codes "!")) sign)
       (ap (sign_of true) (sym whole) ∙ sym r.signed ∙ sign))
-      (cases_Bool (starts_with nat_eq text (codes "\\!") || starts_with nat_eq text (codes "\\#"))))
-      (cases_Bool (starts_with nat_eq text (codes "!")))
+      (cases_Bool (starts_with nat_eq line (codes "\\!") || starts_with nat_eq line (codes "\\#"))))
+      (cases_Bool (starts_with nat_eq line (codes "!")))
 
-  marks_agree : bytes_eq r.sign (codes "!") ≡ bytes_eq (mark_if (is_negative flags)) (codes "!")
-  marks_agree = sym negative_is ∙ sym (bytes_eq-mark_if (is_negative flags))
+  marks_agree : bytes_eq r.sign (codes "!") ≡ bytes_eq (mark_if (is_negative mode)) (codes "!")
+  marks_agree = sym negative_is ∙ sym (bytes_eq-mark_if (is_negative mode))
 
-  pub Reads-shown_line : Reads (shown_line flags body) true body flags place
+  pub Reads-shown_line : Reads (shown_line mode text) true text mode place
   Reads-shown_line = record {
-    sign = mark_if (is_negative flags);
+    sign = mark_if (is_negative mode);
     lead = r.lead;
     tail = r.tail;
     joined = shown_is;
@@ -118,6 +118,6 @@ module _ (text body : List ℕ) (flags : Mode) (place : Option ℕ) (r : Reads t
     not_blank = r.not_blank;
     leads = r.leads;
     trails = r.trails;
-    flagged = r.flagged ∙ ap (λ (x : Bool). sum_of_bits (has_slash body) (is_star_and_literal body) (bytes_eq r.tail (codes "/")) x (bytes_eq r.lead (codes "/"))) marks_agree;
+    bits = r.bits ∙ ap (λ (x : Bool). sum_of_bits (has_slash text) (is_star_and_literal text) (bytes_eq r.tail (codes "/")) x (bytes_eq r.lead (codes "/"))) marks_agree;
     placed = r.placed;
   }
