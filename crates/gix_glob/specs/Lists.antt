@@ -1,6 +1,6 @@
 -- The entries of a list of patterns, as plain data.
 use Rattle.std.specs.Prelude.{ℕ, List, Option}
-use Rattle.glob_patterns.specs.declared.pattern.mode.Mode.{Mode}
+use Rattle.glob_patterns.specs.declared.mode.Mode.{Mode}
 use Rattle.gix_glob.specs.declared.search.pattern.mapping.Mapping.{Mapping}
 use Rattle.glob_patterns.specs.PatternParts.{text_of, mode_of, place_of}
 use Rattle.glob_patterns.specs.Readings.{Reading}

@@ -4,7 +4,7 @@ use Rattle.std.specs.List.{list_any, list_all, starts_with, ends_with}
 use Rattle.std.specs.Char.{is_ascii_whitespace}
 use Rattle.std.specs.Str.{bytes_eq}
 use Rattle.bstr.specs.Utf8.{lossy_chars}
-use Rattle.glob_patterns.specs.declared.pattern.mode.Mode.{Mode}
+use Rattle.glob_patterns.specs.declared.mode.Mode.{Mode}
 use Rattle.glob_matcher.specs.Bytes.{HasByte, has_slash, is_special, open_bracket, close_bracket, backslash, slash}
 
 -- which of the named bits stand in a pattern's mode

@@ -1,7 +1,7 @@
 -- The reading of a line by equation. The law `readings_are_these` says that it is that of `Reads`, and no other.
 use Rattle.std.specs.Prelude.{ℕ, ◌-◌, Bool, nat_eq, if◌then◌else◌, List, length, take, drop, Option, None, Some, codes}
 use Rattle.std.specs.List.{starts_with, ends_with}
-use Rattle.glob_patterns.specs.declared.pattern.mode.Mode.{Mode}
+use Rattle.glob_patterns.specs.declared.mode.Mode.{Mode}
 use Rattle.glob_patterns.specs.Patterns.{bits_of, first_special, is_blank, sign_of, slash_if}
 
 -- what a line says of its pattern: its text, what is known of the text, and the place of its first special byte

@@ -2,7 +2,7 @@
 use Rattle.std.specs.Prelude.{◌≡◌, ◌&&◌, ℕ, ◌-◌, ◌<◌, ◌≤◌, Bool, true, not, IsTrue, List, drop, Option, None, Some, MatchOption, bit_or, if◌then◌else◌}
 use Rattle.glob_patterns.specs.declared.pattern.case.Case.{Case}
 use Rattle.glob_patterns.specs.declared.pattern.case.Case.TheVariants.{Sensitive, Fold}
-use Rattle.glob_patterns.specs.declared.pattern.mode.Mode as pattern
+use Rattle.glob_patterns.specs.declared.mode.Mode as pattern
 use Rattle.glob_matcher.specs.declared.wildmatch.mode.Mode as wildmatch
 use Rattle.glob_matcher.specs.Bytes.{HasByte, slash}
 use Rattle.glob_matcher.specs.Matching.{Splits}

@@ -7,7 +7,7 @@ ghost use Rattle.glob_patterns.specs.Patterns.{first_special, is_star_and_litera
 use memchr::{memchr, memchr3};
 
 /// The place of the first byte that may mean more than itself.
-pub(crate) fn first_wildcard_pos(text: &[u8]) -> Option<usize>
+pub(crate) fn first_special(text: &[u8]) -> Option<usize>
     ensures { result ≡ first_special text.now }
 {
     text.iter().position(|b| is_special(*b))
@@ -28,7 +28,7 @@ fn has_special(bytes: &[u8]) -> bool
 }
 
 /// Whether the text is a star with no such byte after it.
-pub(crate) fn is_ends_with(text: &[u8]) -> bool
+pub(crate) fn is_star_and_literal(text: &[u8]) -> bool
     ensures { result ≡ is_star_and_literal text.now }
 {
     text.starts_with(b"*") && !has_special(&text[1..])

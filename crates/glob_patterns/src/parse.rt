@@ -6,8 +6,9 @@ ghost use Rattle.glob_patterns.specs.Patterns.{Reads, HasReading, is_blank, with
 ghost use Rattle.glob_patterns.specs.PatternParts.{IsReadFrom};
 ghost use Rattle.glob_matcher.specs.Bytes.{has_slash};
 
-use crate::byte_tests::{first_wildcard_pos, has_slash, is_ends_with};
-use crate::pattern::{Mode, Pattern};
+use crate::byte_tests::{first_special, has_slash, is_star_and_literal};
+use crate::mode::Mode;
+use crate::pattern::Pattern;
 use bitflags::Flags;
 use std::alloc::{AllocError, Global};
 
@@ -21,13 +22,13 @@ pub fn pattern(line: &[u8], may_alter: bool) -> Option<(&[u8], Mode, Option<usiz
     ensures blank { IsNone result ↔ IsTrue (is_blank (if may_alter then without_negation line.now else line.now)) }
 {
     let (rest, negative) = after_sign(line, may_alter);
-    if is_whitespace(rest) {
+    if is_blank(rest) {
         return None;
     }
     let (inner, absolute) = after_lead(rest);
     let (text, must_be_dir) = before_tail(inner);
     let mode = mode_of(text, negative, absolute, must_be_dir);
-    Some((text, mode, first_wildcard_pos(text)))
+    Some((text, mode, first_special(text)))
 }
 
 /// Reads a pattern line, with its leading `!`, as [`Pattern::from_bytes`] does: `None` where it is blank. The error is
@@ -56,8 +57,8 @@ fn after_sign(line: &[u8], may_alter: bool) -> (&[u8], bool)
     (line, false)
 }
 
-/// Whether the bytes are ASCII whitespace alone.
-fn is_whitespace(bytes: &[u8]) -> bool
+/// Whether there are no bytes, or ASCII whitespace alone.
+fn is_blank(bytes: &[u8]) -> bool
     ensures { result ≡ is_blank bytes.now }
 {
     bytes.iter().all(|b| b.is_ascii_whitespace())
@@ -93,7 +94,7 @@ fn mode_of(text: &[u8], negative: bool, absolute: bool, must_be_dir: bool) -> Mo
     if !has_slash(text) {
         mode = mode.union(Mode::NO_SUB_DIR);
     }
-    if is_ends_with(text) {
+    if is_star_and_literal(text) {
         mode = mode.union(Mode::ENDS_WITH);
     }
     if must_be_dir {

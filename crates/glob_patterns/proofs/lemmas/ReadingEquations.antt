@@ -5,7 +5,7 @@ use Rattle.std.specs.List.{starts_with, ends_with}
 use Rattle.std.proofs.lemmas.Bool.{cases_Bool, or_cases}
 use Rattle.std.proofs.lemmas.Bool.Decides.{Decides-eqb}
 use Rattle.std.proofs.lemmas.Slice.Eq.{starts_is, ends_is}
-use Rattle.glob_patterns.specs.declared.pattern.mode.Mode.{Mode}
+use Rattle.glob_patterns.specs.declared.mode.Mode.{Mode}
 use Rattle.glob_patterns.specs.Patterns.{HasReading, Reads, bits_of, first_special, is_blank, sign_of}
 use Rattle.glob_patterns.specs.Readings.{Reading, before_tail, lead_of, reading_after_lead, reading_after_sign, reading_of, reading_with, rest_after, tail_of}
 
@@ -118,11 +118,11 @@ blank-none : (may_alter : Bool) (line : List ℕ) → is_blank (rest_of may_alte
 unfolding reading_of reading_after_sign
 blank-none may_alter line blank = rw blank refl
 
-record IsReading (may_alter : Bool) (line : List ℕ) (reading : Reading) : Type 0 where
+record IsGivenReading (may_alter : Bool) (line : List ℕ) (reading : Reading) : Type 0 where
   is : reading_of may_alter line ≡ Some reading
   reads : Reads line may_alter reading.text reading.mode reading.place
 
-some_reading : (may_alter : Bool) (line : List ℕ) → is_blank (rest_of may_alter line) ≡ false → (reading : Reading) × IsReading may_alter line reading
+some_reading : (may_alter : Bool) (line : List ℕ) → is_blank (rest_of may_alter line) ≡ false → (reading : Reading) × IsGivenReading may_alter line reading
 some_reading may_alter line some =
     let sign = sign_of may_alter line in
     let rest = rest_of may_alter line in
@@ -145,8 +145,8 @@ Reads-reading_of may_alter line reading is =
 
 -- ---- no reading
 
-pub none-reading_of : (may_alter : Bool) (line : List ℕ) → ¬ HasReading line may_alter → reading_of may_alter line ≡ None
-none-reading_of may_alter line none =
+pub reading_of-none : (may_alter : Bool) (line : List ℕ) → ¬ HasReading line may_alter → reading_of may_alter line ≡ None
+reading_of-none may_alter line none =
     ⊎_elim
     (blank-none may_alter line)
     (λ some. let found = some_reading may_alter line some in

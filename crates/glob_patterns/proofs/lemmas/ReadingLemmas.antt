@@ -7,12 +7,12 @@ use Rattle.std.proofs.lemmas.Bool.{cases_Bool, or_cases, and_left}
 use Rattle.std.proofs.lemmas.Bool.Decides.{Decides-eqb}
 use Rattle.std.proofs.lemmas.List.{append_cancel_left, append_cancel_right}
 use Rattle.std.proofs.lemmas.Slice.Eq.{starts_is}
-use Rattle.glob_patterns.specs.declared.pattern.mode.Mode.{Mode}
+use Rattle.glob_patterns.specs.declared.mode.Mode.{Mode}
 use Rattle.glob_patterns.specs.Patterns.{Reads, SameReading, HasReading, sign_of, slash_if, first_special, is_blank, without_negation, IsPattern}
 use Rattle.glob_patterns.proofs.lemmas.ModeBits.{is_by_its_end-sum}
 
-pub one_reading : (line : List ℕ) (may_alter : Bool) (text text' : List ℕ) (mode mode' : Mode) (place place' : Option ℕ) → Reads line may_alter text mode place → Reads line may_alter text' mode' place' → SameReading text text' mode mode' place place'
-one_reading line may_alter text text' mode mode' place place' r s =
+pub Reads-once : (line : List ℕ) (may_alter : Bool) (text text' : List ℕ) (mode mode' : Mode) (place place' : Option ℕ) → Reads line may_alter text mode place → Reads line may_alter text' mode' place' → SameReading text text' mode mode' place place'
+Reads-once line may_alter text text' mode mode' place place' r s =
     let signs : r.sign ≡ s.sign = r.signed ∙ sym s.signed in
     let rests : r.lead ++ (text ++ r.tail) ≡ s.lead ++ (text' ++ s.tail) =
     append_cancel_left s.sign _ _ (ap (λ (x : List ℕ). x ++ (r.lead ++ (text ++ r.tail))) (sym signs) ∙ sym r.joined ∙ s.joined) in
@@ -30,23 +30,23 @@ one_reading line may_alter text text' mode mode' place place' r s =
     }
 
 -- what follows the sign of a line that has a reading isn't blank
-pub not_blank-HasReading : (line : List ℕ) (may_alter : Bool) (rest : List ℕ) → line ≡ sign_of may_alter line ++ rest → HasReading line may_alter → is_blank rest ≡ false
-not_blank-HasReading line may_alter rest e r =
+pub HasReading-not_blank : (line : List ℕ) (may_alter : Bool) (rest : List ℕ) → line ≡ sign_of may_alter line ++ rest → HasReading line may_alter → is_blank rest ≡ false
+HasReading-not_blank line may_alter rest e r =
     let same : rest ≡ r.read.lead ++ (r.text ++ r.read.tail) =
     append_cancel_left (sign_of may_alter line) _ _ (sym e ∙ r.read.joined ∙ ap (λ (x : List ℕ). x ++ (r.read.lead ++ (r.text ++ r.read.tail))) r.read.signed) in
     ap is_blank same ∙ r.read.not_blank
 
 -- A line that begins with `\!` or `\#` isn't blank, and neither is what follows the backslash.
-escaped_sign : (line rest : List ℕ) (b : ℕ) → is_ascii_whitespace b ≡ false → starts_with nat_eq line (92 ∷ b ∷ []) ≡ true → line ≡ codes "\\" ++ rest → is_blank rest ≡ is_blank line
-escaped_sign line rest b dark begins e =
+is_blank-escaped : (line rest : List ℕ) (b : ℕ) → is_ascii_whitespace b ≡ false → starts_with nat_eq line (92 ∷ b ∷ []) ≡ true → line ≡ codes "\\" ++ rest → is_blank rest ≡ is_blank line
+is_blank-escaped line rest b dark begins e =
     let whole : line ≡ 92 ∷ b ∷ drop 2 line = (starts_is Decides-eqb line (92 ∷ b ∷ []) _ refl).0 begins in
     let back : rest ≡ b ∷ drop 2 line = append_cancel_left (codes "\\") _ _ (sym e ∙ whole) in
     ap is_blank back ∙ and_left _ _ dark ∙ sym (ap is_blank whole)
 
 -- What follows the sign is blank exactly where the line without its negation is.
-pub blank_after_sign : (line : List ℕ) (may_alter : Bool) (rest : List ℕ) → line ≡ sign_of may_alter line ++ rest → is_blank rest ≡ is_blank (if may_alter then without_negation line else line)
-blank_after_sign line false rest e = ap is_blank (sym e)
-blank_after_sign line true rest e =
+pub is_blank-after_sign : (line : List ℕ) (may_alter : Bool) (rest : List ℕ) → line ≡ sign_of may_alter line ++ rest → is_blank rest ≡ is_blank (if may_alter then without_negation line else line)
+is_blank-after_sign line false rest e = ap is_blank (sym e)
+is_blank-after_sign line true rest e =
     ⊎_elim
     (λ (negated : starts_with nat_eq line (codes "!") ≡ true). let e' = rw negated at e in rw negated (ap is_blank (ap (drop 1) (sym e'))))
     (λ (bare : starts_with nat_eq line (codes "!") ≡ false).
@@ -55,7 +55,7 @@ blank_after_sign line true rest e =
     ⊎_elim
     (λ (escaped : (starts_with nat_eq line (codes "\\!") || starts_with nat_eq line (codes "\\#")) ≡ true).
     let e'' = rw escaped at e' in
-    ⊎_elim (λ h. escaped_sign line rest 33 refl h e'') (λ h. escaped_sign line rest 35 refl h e'') (or_cases _ _ escaped))
+    ⊎_elim (λ h. is_blank-escaped line rest 33 refl h e'') (λ h. is_blank-escaped line rest 35 refl h e'') (or_cases _ _ escaped))
     (λ (plain : (starts_with nat_eq line (codes "\\!") || starts_with nat_eq line (codes "\\#")) ≡ false).
     let e'' = rw plain at e' in ap is_blank (sym e''))
     (cases_Bool (starts_with nat_eq line (codes "\\!") || starts_with nat_eq line (codes "\\#")))))

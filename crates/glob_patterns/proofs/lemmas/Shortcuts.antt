@@ -11,15 +11,15 @@ use Rattle.glob_patterns.specs.Patterns.{first_special, is_star_and_literal}
 use Rattle.glob_patterns.proofs.lemmas.LiteralLemmas.{literal_splits, literal_front, literal_from_place, literal_up_to_place, star_literal_out, star_literal_in}
 
 -- a map that changes no element
-map_same : (f : ℕ → ℕ) → ((b : ℕ) → f b ≡ b) → (xs : List ℕ) → map f xs ≡ xs
-map_same f each [] = refl
-map_same f each (x ∷ xs) = cc (each x, map_same f each xs)
+map-same : (f : ℕ → ℕ) → ((b : ℕ) → f b ≡ b) → (xs : List ℕ) → map f xs ≡ xs
+map-same f each [] = refl
+map-same f each (x ∷ xs) = cc (each x, map-same f each xs)
 
 -- where the mode doesn't fold, being alike is being equal
-pub alike_unfolded : (mode : Mode) (xs ys : List ℕ) → folds mode ≡ false → AreAlike mode xs ys ↔ (xs ≡ ys)
-alike_unfolded mode xs ys plain =
+pub AreAlike-unfolded : (mode : Mode) (xs ys : List ℕ) → folds mode ≡ false → AreAlike mode xs ys ↔ (xs ≡ ys)
+AreAlike-unfolded mode xs ys plain =
     let each : (b : ℕ) → fold mode b ≡ b = λ b. rw plain in (
-      λ same. (sym (map_same (fold mode) each xs) ∙ same ∙ map_same (fold mode) each ys),
+      λ same. (sym (map-same (fold mode) each xs) ∙ same ∙ map-same (fold mode) each ys),
       λ same. ap (map (fold mode)) same,
     )
 

@@ -4,7 +4,7 @@ ghost use Rattle.std.specs.List.{list_any, starts_with};
 ghost use Rattle.std.specs.Str.{IsUtf8};
 ghost use Rattle.std.specs.declared.cmp.Ordering.TheVariants.{Equal, Less};
 ghost use Rattle.glob_matcher.specs.declared.wildmatch.mode.Mode as wildmatch;
-ghost use Rattle.glob_patterns.specs.declared.pattern.mode.Mode as pattern;
+ghost use Rattle.glob_patterns.specs.declared.mode.Mode as pattern;
 ghost use Rattle.glob_patterns.specs.declared.pattern.Pattern.{Pattern};
 ghost use Rattle.glob_patterns.specs.declared.pattern.case.Case.{Case};
 ghost use Rattle.glob_patterns.specs.Folding.{AreAlike, EndsAlike, HasAlike};

@@ -1,5 +1,5 @@
 -- Each part of a reading is fixed by what stands before it, and the equations give the parts.
-use Rattle.glob_patterns.proofs.lemmas.ReadingEquations.{HasReading-none, Reads-reading_of, none-reading_of, reading_of-Reads}
+use Rattle.glob_patterns.proofs.lemmas.ReadingEquations.{HasReading-none, Reads-reading_of, reading_of-none, reading_of-Reads}
 use Rattle.glob_patterns.proofs.laws.patterns.readings_are_these.Goals as goal
 
 pub returns-clause-some : goal.returns-clause-some
@@ -9,4 +9,4 @@ returns-clause-some c line may_alter text mode place = (
 )
 
 pub returns-clause-none : goal.returns-clause-none
-returns-clause-none c line may_alter = (none-reading_of may_alter line, HasReading-none may_alter line)
+returns-clause-none c line may_alter = (reading_of-none may_alter line, HasReading-none may_alter line)
