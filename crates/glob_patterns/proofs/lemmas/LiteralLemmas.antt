@@ -1,7 +1,7 @@
 -- What a stretch without special bytes splits: the value has the same bytes there, up to case where the mode folds.
 use Rattle.std.proofs.Common.{◌≡◌, ◌↔◌, ◌⊎◌, inr, ⊎_elim, ℕ, zero, suc, ◌+◌, ◌-◌, ◌<◌, ◌≤◌, Bool, true, false, not, ◌==◌, List, ◌∷◌, length, get_or, take, drop, map, None, Some, refl, sym, ◌∙◌, ap, subst, arith, codes, nat_lt}
 use Rattle.std.specs.List.{list_any, position_or_len}
-use Rattle.std.proofs.lemmas.Bool.{and_parts, eq-eqb, ltb-false, cases_Bool, cases_eq, false≢true, false_from_ne_true}
+use Rattle.std.proofs.lemmas.Bool.{and_parts, eq-eqb, ltb-false, cases_Bool, cases_eq, false≢true, false_from_ne_true, not-true}
 use Rattle.std.proofs.lemmas.Bool.Decides.{Decides-eqb}
 use Rattle.std.proofs.lemmas.List.{get_or-map, ext_get_or, length-map, length-take, length-drop, get_or-take, get_or-drop}
 use Rattle.std.proofs.lemmas.List.Folds.{list_any_at, list_any_none}
@@ -177,17 +177,13 @@ module _ (mode : Mode) (lit : List ℕ) (none : list_any is_special lit ≡ fals
       (λ plain. free_in mode (42 ∷ lit) v 0 1 0 (length v - length lit) (free_star plain) (omega arith) (omega arith) later)
       (cases_Bool (is_path mode))
 
-not_true : (b : Bool) → not b ≡ true → b ≡ false
-not_true true h = absurd (false≢true h)
-not_true false h = refl
-
 -- A star and a literal split only values that end in the literal, up to case where the mode folds.
 pub star_literal_out : (p v : List ℕ) (mode : Mode) → is_star_and_literal p ≡ true → Splits v p mode
     → (length (drop 1 p) ≤ length v) × AreAlike mode (drop 1 p) (drop (length v - length (drop 1 p)) v)
 star_literal_out p v mode shape s =
     let both = and_parts _ _ shape in
     let whole : p ≡ 42 ∷ drop 1 p = (starts_is Decides-eqb p (codes "*") _ refl).0 both.0 in
-    star_out mode (drop 1 p) (not_true _ both.1) v (subst (λ (q : List ℕ). Splits v q mode) whole s)
+    star_out mode (drop 1 p) (not-true _ both.1) v (subst (λ (q : List ℕ). Splits v q mode) whole s)
 
 -- They split all of them in plain mode, and in path mode those without slash.
 pub star_literal_in : (p v : List ℕ) (mode : Mode) → is_star_and_literal p ≡ true → (is_path mode ≡ false) ⊎ (has_slash v ≡ false)
@@ -195,7 +191,7 @@ pub star_literal_in : (p v : List ℕ) (mode : Mode) → is_star_and_literal p �
 star_literal_in p v mode shape open_or_bare fits same =
     let both = and_parts _ _ shape in
     let whole : p ≡ 42 ∷ drop 1 p = (starts_is Decides-eqb p (codes "*") _ refl).0 both.0 in
-    subst (λ (q : List ℕ). Splits v q mode) (sym whole) (star_in mode (drop 1 p) (not_true _ both.1) v open_or_bare fits same)
+    subst (λ (q : List ℕ). Splits v q mode) (sym whole) (star_in mode (drop 1 p) (not-true _ both.1) v open_or_bare fits same)
 
 -- where a text has no special byte by the place of the first, it has none at all
 pub literal_from_place : (p : List ℕ) → first_special p ≡ None → list_any is_special p ≡ false

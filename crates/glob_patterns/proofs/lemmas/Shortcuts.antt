@@ -1,7 +1,7 @@
 -- What may be answered without the matcher.
 use Rattle.std.proofs.Common.{◌≡◌, ◌↔◌, ◌⊎◌, inl, inr, ⊎_elim, ℕ, Bool, true, false, not, ◌||◌, IsTrue, List, [], ◌∷◌, length, take, drop, map, None, Some, refl, sym, ◌∙◌, ap, subst, arith}
 use Rattle.std.proofs.lemmas.List.{length-take-le}
-use Rattle.std.proofs.lemmas.Bool.{false≢true, or_cases}
+use Rattle.std.proofs.lemmas.Bool.{false≢true, not-true, or_cases}
 use Rattle.glob_matcher.specs.declared.wildmatch.mode.Mode.{Mode}
 use Rattle.glob_matcher.specs.Bytes.{fold, folds, has_slash, is_path}
 use Rattle.glob_patterns.specs.Folding.{AreAlike, EndsAlike}
@@ -29,10 +29,6 @@ whole_exact answer p v mode none exact =
     let splits = literal_splits p v mode (literal_from_place p none) in
     (λ yes. splits.1 (sym (exact.0 yes)), λ s. exact.1 (sym (splits.0 s)))
 
-not_true : (b : Bool) → not b ≡ true → b ≡ false
-not_true true h = absurd (false≢true h)
-not_true false h = refl
-
 -- a value that doesn't end in the literal after a star doesn't match
 pub end_refused : (answer : Bool) (p v : List ℕ) (mode : Mode) → is_star_and_literal p ≡ true → answer ≡ false
     → IsTrue answer ↔ EndsAlike mode v (drop 1 p) → IsTrue false ↔ Splits v p mode
@@ -46,7 +42,7 @@ pub end_exact : (answer : Bool) (p v : List ℕ) (mode : Mode) → is_star_and_l
     → IsTrue answer ↔ EndsAlike mode v (drop 1 p) → IsTrue answer ↔ Splits v p mode
 end_exact answer p v mode shape free exact =
     let one_component : (is_path mode ≡ false) ⊎ (has_slash v ≡ false) =
-    ⊎_elim (λ h. inl (not_true _ h)) (λ h. inr (not_true _ h)) (or_cases _ _ free) in (
+    ⊎_elim (λ h. inl (not-true _ h)) (λ h. inr (not-true _ h)) (or_cases _ _ free) in (
       λ yes. (let ends = exact.0 yes in star_literal_in p v mode shape one_component ends.fits ends.alike),
       λ s. (let out = star_literal_out p v mode shape s in exact.1 (record { fits = out.0; alike = out.1 })),
     )
