@@ -1,6 +1,6 @@
 -- The entries of a list of patterns, as plain data.
 use Rattle.std.specs.Prelude.{ℕ, List, Option}
-use Rattle.glob_patterns.specs.declared.pattern.mode.Mode.{Mode}
+use Rattle.glob_patterns.specs.declared.mode.Mode.{Mode}
 use Rattle.gix_glob.specs.declared.search.pattern.mapping.Mapping.{Mapping}
 use Rattle.glob_patterns.specs.PatternParts.{text_of, mode_of, place_of}
 use Rattle.glob_patterns.specs.Readings.{Reading}
@@ -26,8 +26,8 @@ entry_of seen m = record {
 -- the entry of a line's reading, with a value and a number
 abbrev pub entry_with : {V : Type 0} → V → ℕ → Reading → Entry V
 entry_with value number reading = record {
-  text = reading.body;
-  mode = reading.flags;
+  text = reading.text;
+  mode = reading.mode;
   place = reading.place;
   value = value;
   number = number;

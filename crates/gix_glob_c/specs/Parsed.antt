@@ -10,9 +10,9 @@ use Rattle.glob_lines.specs.PathLines.{IsPlainPath}
 use Rattle.gix_glob_c.specs.Parts.{case_of, place_in}
 use Rattle.gix_glob_c.specs.declared.parsed.GlobPattern.{GlobPattern}
 
--- what is known of the text, as the flags of a pattern
-abbrev pub flags_of : GlobPattern → Mode
-flags_of pattern = record { 0 = pattern.mode }
+-- what is known of the text, as the mode of a pattern
+abbrev pub mode_of : GlobPattern → Mode
+mode_of pattern = record { 0 = pattern.mode }
 
 -- the place of the text's first special byte
 abbrev pub first_of : GlobPattern → Option ℕ
@@ -20,11 +20,11 @@ first_of pattern = place_in pattern.text.now pattern.first_wildcard_pos
 
 -- the parts make a pattern
 abbrev pub IsLawful : GlobPattern → Type 0
-IsLawful pattern = IsPattern pattern.text.now (flags_of pattern) (first_of pattern)
+IsLawful pattern = IsPattern pattern.text.now (mode_of pattern) (first_of pattern)
 
 -- the parts are those of the one reading of the line
 pub record IsRead (line : List ℕ) (pattern : GlobPattern) : Type 0 where
-  pub reads : Reads line true pattern.text.now (flags_of pattern) (first_of pattern)
+  pub reads : Reads line true pattern.text.now (mode_of pattern) (first_of pattern)
   pub lawful : IsLawful pattern
 
 -- a path from a folder on: plain, and without a slash at its end
@@ -37,7 +37,7 @@ pub record AnswersPath (pattern : GlobPattern) (path : List ℕ) (is_dir fold : 
   pub is : IsPathOfFile path
   pub position : Option ℕ
   pub start : IsBasenameStart path position
-  pub answers : Answers pattern.text.now (flags_of pattern) path position (Some is_dir) (case_of fold) (record { 0 = 1 })
+  pub answers : Answers pattern.text.now (mode_of pattern) path position (Some is_dir) (case_of fold) (record { 0 = 1 })
 
 -- the pattern at this index answers for a path
 pub record AnswersAt (patterns : List GlobPattern) (path : List ℕ) (is_dir fold : Bool) (index : ℕ) : Type 0 where
@@ -65,7 +65,7 @@ LastAnswer patterns path is_dir fold index =
 abbrev pub entry_of_parts : GlobPattern → Entry (Unit {0})
 entry_of_parts pattern = record {
   text = pattern.text.now;
-  mode = flags_of pattern;
+  mode = mode_of pattern;
   place = first_of pattern;
   value = tt;
   number = 0;

@@ -16,10 +16,10 @@ place_in text place = if nat_lt place (length text) then Some place else None
 
 -- the answer is that of the pattern which the line reads as, for the path, in path mode
 pub record LineAnswers (line path : List ℕ) (is_dir fold answer : Bool) : Type 0 where
-  pub body : List ℕ
-  pub flags : Mode
+  pub text : List ℕ
+  pub mode : Mode
   pub place : Option ℕ
   pub position : Option ℕ
-  pub read : Reads line true body flags place
+  pub read : Reads line true text mode place
   pub start : IsBasenameStart path position
-  pub exact : IsTrue answer ↔ Answers body flags path position (Some is_dir) (case_of fold) (record { 0 = 1 })
+  pub exact : IsTrue answer ↔ Answers text mode path position (Some is_dir) (case_of fold) (record { 0 = 1 })

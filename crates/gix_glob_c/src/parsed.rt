@@ -2,7 +2,7 @@
 ghost use Rattle.std.specs.Prelude.{◌≡◌, ◌<◌, ◌⊎◌, ◌^◌, ◌-◌, ◌↔◌, length, All, IsTrue, IfSome, true, false};
 ghost use Rattle.gix_glob.specs.Patterns.{HasReading, IsPattern};
 ghost use Rattle.gix_glob.specs.RepositoryPaths.{IsBasenameStart};
-ghost use Rattle.gix_glob_c.specs.Parsed.{AnswersPath, IsLawful, IsPathOfFile, IsRead, LastAnswer, first_of, flags_of, index_of};
+ghost use Rattle.gix_glob_c.specs.Parsed.{AnswersPath, IsLawful, IsPathOfFile, IsRead, LastAnswer, first_of, index_of, mode_of};
 
 use crate::{case_for, place_in};
 use bitflags::Flags;
@@ -96,7 +96,7 @@ fn last_match(patterns: &[GlobPattern<'_>], path: &[u8], is_dir: bool, fold: boo
 pub(crate) fn parts_of<'a>(view: PatternView<'a>) -> GlobPattern<'a>
     requires { IsPattern view.text.now view.mode view.first_wildcard_pos }
     ensures text { result.text.now ≡ view.entry.text.now }
-    ensures flags { flags_of result ≡ view.entry.mode }
+    ensures mode { mode_of result ≡ view.entry.mode }
     ensures place { first_of result ≡ view.entry.first_wildcard_pos }
 {
     GlobPattern {

@@ -17,7 +17,7 @@ mod labels;
 
 const LINES: &[u8] = b"*.rs\n\n!src/\n";
 
-/// Whether the pattern has this text and these flags.
+/// Whether the pattern has this text and this mode.
 fn is_read(read: Option<Pattern>, text: &[u8], bits: u32) -> bool {
     read.is_some_and(|pattern| pattern.text() == text && pattern.mode().bits() == bits)
 }

@@ -108,16 +108,16 @@ if_end : (b : Bool) (k : ℕ) (rest : List ℕ) → (at : ℕ) × ((if b then dr
 if_end true k rest = (k, refl)
 if_end false k rest = (0, refl)
 
-subject_is_end : (flags : pattern.Mode) (rest : List ℕ) (position : Option ℕ) → (at : ℕ) × (subject flags rest position ≡ drop at rest)
-subject_is_end flags rest None = (0, refl)
-subject_is_end flags rest (Some k) = if_end (is_without_sub_dir flags && not (is_absolute flags)) k rest
+subject_is_end : (pattern_mode : pattern.Mode) (rest : List ℕ) (position : Option ℕ) → (at : ℕ) × (subject pattern_mode rest position ≡ drop at rest)
+subject_is_end pattern_mode rest None = (0, refl)
+subject_is_end pattern_mode rest (Some k) = if_end (is_without_sub_dir pattern_mode && not (is_absolute pattern_mode)) k rest
 
 -- the last part of what is left has no slash
-name_has_no_slash : (flags : pattern.Mode) (rest : List ℕ) (position : Option ℕ) → (is_without_sub_dir flags && not (is_absolute flags)) ≡ true → IsBasenameStart rest position
-    → (m : ℕ) → ¬ HasByte (subject flags rest position) m slash
-name_has_no_slash flags rest None name start m there = start m there
-name_has_no_slash flags rest (Some k) name start m there =
-    let same : subject flags rest (Some k) ≡ drop k rest = ap (λ (b : Bool). if b then drop k rest else rest) name in
+name_has_no_slash : (pattern_mode : pattern.Mode) (rest : List ℕ) (position : Option ℕ) → (is_without_sub_dir pattern_mode && not (is_absolute pattern_mode)) ≡ true → IsBasenameStart rest position
+    → (m : ℕ) → ¬ HasByte (subject pattern_mode rest position) m slash
+name_has_no_slash pattern_mode rest None name start m there = start m there
+name_has_no_slash pattern_mode rest (Some k) name start m there =
+    let same : subject pattern_mode rest (Some k) ≡ drop k rest = ap (λ (b : Bool). if b then drop k rest else rest) name in
     let dropped : HasByte (drop k rest) m slash = subst (λ (xs : List ℕ). HasByte xs m slash) same there in
     let inside = dropped.inside in
     let long = length-drop k rest in
@@ -169,20 +169,20 @@ module _ (ends : EndsAsTheText) (bytes : HasTheBytes) (text path value : List �
 
 -- what the law of candidates says
 abbrev pub AnsweringPasses : Type 0
-AnsweringPasses = (text : List ℕ) (flags : pattern.Mode) (base : Option (List ℕ)) (path rest : List ℕ) (position : Option ℕ) (is_dir : Option Bool) (case : Case) (mode : wildmatch.Mode)
-    (row : Row) (probe : Probe) → Shows path probe → Asks text flags row → RestOf case base path rest → IsBasenameStart rest position → Answers text flags rest position is_dir case mode → Passes row probe
+AnsweringPasses = (text : List ℕ) (pattern_mode : pattern.Mode) (base : Option (List ℕ)) (path rest : List ℕ) (position : Option ℕ) (is_dir : Option Bool) (case : Case) (mode : wildmatch.Mode)
+    (row : Row) (probe : Probe) → Shows path probe → Asks text pattern_mode row → RestOf case base path rest → IsBasenameStart rest position → Answers text pattern_mode rest position is_dir case mode → Passes row probe
 
 -- A pattern that answers for what a base leaves of a path asks for nothing that the path doesn't show.
 pub answering_passes : EndsAsTheText → HasTheBytes → AnsweringPasses
-answering_passes ends bytes text flags base path rest position is_dir case mode row probe shows asks left start answers =
+answering_passes ends bytes text pattern_mode base path rest position is_dir case mode row probe shows asks left start answers =
     let below = rest_is_end case base path rest left in
-    let within = subject_is_end flags rest position in
-    let value : List ℕ = subject flags rest position in
+    let within = subject_is_end pattern_mode rest position in
+    let value : List ℕ = subject pattern_mode rest position in
     let at : ℕ = below.0 + within.0 in
     let is : value ≡ drop at path = within.1 ∙ (ap (drop within.0) below.1 ∙ drop-drop within.0 below.0 path) in
     let s = answers.splits in record {
       last = λ ended. (class_and_end ends bytes text path value (with_case mode case) at row probe shows is s (asks.end ended) asks.short).0;
       end = λ ended. (class_and_end ends bytes text path value (with_case mode case) at row probe shows is s (asks.end ended) asks.short).1;
       bytes = λ always_is. all_shown ends bytes text path value (with_case mode case) at row probe shows is s (asks.bytes always_is)
-          (λ name. name_has_no_slash flags rest position (sym asks.name ∙ name) start);
+          (λ name. name_has_no_slash pattern_mode rest position (sym asks.name ∙ name) start);
     }

@@ -7,7 +7,7 @@ use Rattle.std.proofs.lemmas.Bool.{cases_eq, cases_lt, cases_order}
 use Rattle.std.proofs.lemmas.List.{get_or-reverse, length-reverse}
 use Rattle.std.proofs.lemmas.Option.{get_or_from_slice_get, same_Some, slice_get-get_or, slice_get_within}
 use Rattle.gix_glob.specs.declared.pattern.Case.{Case}
-use Rattle.gix_glob.specs.declared.pattern.Mode as flags
+use Rattle.gix_glob.specs.declared.pattern.Mode as pattern
 use Rattle.gix_glob.specs.Deciding.{IsLastAnswer, PairAnswers, path_mode}
 use Rattle.gix_glob.specs.Lists.{Entry}
 use Rattle.gix_glob.specs.Loaded.{Listed}
@@ -297,7 +297,7 @@ module _ {V : Type 0} (lists : List (Listed V)) (rows : List Row) (path : List �
 -- ---- one candidate
 
 -- a row asks for the same, whatever it is chained to
-pub asks_chained : (text : List ℕ) (mode : flags.Mode) (row : Row) (before : ℕ) → Asks text mode row → Asks text mode (record row { before = before })
+pub asks_chained : (text : List ℕ) (mode : pattern.Mode) (row : Row) (before : ℕ) → Asks text mode row → Asks text mode (record row { before = before })
 asks_chained text mode row before a = record { short = a.short; class = a.class; end = a.end; bytes = a.bytes; name = a.name }
 
 pub entry_of_next : {V : Type 0} (lists : List (Listed V)) (rows : List Row) (probe : Probe) (place to i m : ℕ) → AreRows lists rows → IsNextPair rows probe place to (i, m) → HasEntryAt lists i m

@@ -14,8 +14,8 @@ use Rattle.glob_lines.proofs.LinesLemmas.{Lines-lines_of, Lines-only}
 
 -- the law `readings_are_these` of the crate below
 abbrev pub ReadingsAreThese : Type 0
-ReadingsAreThese = (text : List ℕ) (may_alter : Bool) (body : List ℕ) (flags : Mode) (place : Option ℕ)
-    → Reads text may_alter body flags place ↔ (reading_of may_alter text ≡ Some (record { body = body; flags = flags; place = place }))
+ReadingsAreThese = (line : List ℕ) (may_alter : Bool) (text : List ℕ) (mode : Mode) (place : Option ℕ)
+    → Reads line may_alter text mode place ↔ (reading_of may_alter line ≡ Some (record { text = text; mode = mode; place = place }))
 
 -- `given` is by equation what `Gives` says
 pub record Tells {V : Type 0} (Gives : List ℕ → List ℕ → V → Type 0) (given : List ℕ → Option (TextAndValue V)) : Type 0 where
@@ -32,7 +32,7 @@ module _ {V : Type 0} (Gives : List ℕ → List ℕ → V → Type 0) (given : 
   entry_of_line-is : (number : ℕ) (line : List ℕ) (entry : Entry V) → IsEntryOf Gives line number entry → entry_of_line given number line ≡ Some entry
   unfolding entry_of_line
   entry_of_line-is number line entry h =
-      let reading : Reading = record { body = entry.text; flags = entry.mode; place = entry.place } in
+      let reading : Reading = record { text = entry.text; mode = entry.mode; place = entry.place } in
       let numbered : ℕ → Entry V = λ n. entry_with entry.value n reading in
       ap (option_and_then (entry_given number)) (tells.found line h.text entry.value h.given)
       ∙ ap (option_map (entry_with entry.value number)) ((readings h.text true entry.text entry.mode entry.place).0 h.reads)
@@ -64,8 +64,8 @@ module _ {V : Type 0} (Gives : List ℕ → List ℕ → V → Type 0) (given : 
           let both : Some this ≡ Some it = sym (tells.found line text value gives) ∙ is in
           let equal : this ≡ it = cc in
           let same : text ≡ it.text = ap (λ (x : TextAndValue V). x.text) equal in
-          let reading : Reading = record { body = has.body; flags = has.flags; place = has.place } in
-          let read : None ≡ Some reading = sym blank ∙ sym (ap (reading_of true) same) ∙ (readings text true has.body has.flags has.place).0 has.read in
+          let reading : Reading = record { text = has.text; mode = has.mode; place = has.place } in
+          let read : None ≡ Some reading = sym blank ∙ sym (ap (reading_of true) same) ∙ (readings text true has.text has.mode has.place).0 has.read in
           absurd (cc);
     };
   }
@@ -75,7 +75,7 @@ module _ {V : Type 0} (Gives : List ℕ → List ℕ → V → Type 0) (given : 
       let entry_is : IsEntryOf Gives line number (entry_with it.value number reading) = record {
         text = it.text;
         given = tells.gives line it is;
-        reads = (readings it.text true reading.body reading.flags reading.place).1 read;
+        reads = (readings it.text true reading.text reading.mode reading.place).1 read;
         numbered = refl;
       } in
       record { is = entry_of_line-is number line _ entry_is; entry_is = entry_is }
@@ -109,7 +109,7 @@ module _ {V : Type 0} (Gives : List ℕ → List ℕ → V → Type 0) (given : 
       ⊎_elim
       (λ none. EntriesFrom-only (number + 1) lines entries h.1 ∙ sym (ap (λ o. cons_option o (entries_from given (number + 1) lines)) none.is))
       (λ some. let e = some.1.entry_is in
-      absurd (h.0.none e.text some.0.value e.given (record { body = some.0.text; flags = some.0.mode; place = some.0.place; read = e.reads })))
+      absurd (h.0.none e.text some.0.value e.given (record { text = some.0.text; mode = some.0.mode; place = some.0.place; read = e.reads })))
       (entry_cases number line)
   EntriesFrom-only number (line ∷ lines) entries (inr h) =
       h.2 ∙ ap (λ l. h.0 ∷ l) (EntriesFrom-only (number + 1) lines h.1 h.4)

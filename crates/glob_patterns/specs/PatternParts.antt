@@ -5,7 +5,7 @@ use Rattle.std.specs.Option.{option_cmp}
 use Rattle.std.specs.Ordering.{nat_cmp, ordering_then}
 use Rattle.std.specs.declared.cmp.Ordering.{Ordering}
 use Rattle.glob_patterns.specs.declared.pattern.Pattern.{Pattern}
-use Rattle.glob_patterns.specs.declared.pattern.mode.Mode.{Mode}
+use Rattle.glob_patterns.specs.declared.mode.Mode.{Mode}
 use Rattle.glob_patterns.specs.Patterns.{Reads}
 
 abbrev pub text_of : Pattern → List ℕ
@@ -19,7 +19,7 @@ place_of p = p.first_wildcard_pos
 
 -- the pattern is the reading of the line
 abbrev pub IsReadFrom : List ℕ → Bool → Pattern → Type 0
-IsReadFrom text may_alter p = Reads text may_alter (text_of p) (mode_of p) (place_of p)
+IsReadFrom line may_alter p = Reads line may_alter (text_of p) (mode_of p) (place_of p)
 
 -- two patterns agree in all that callers see
 pub record SamePattern (p q : Pattern) : Type 0 where

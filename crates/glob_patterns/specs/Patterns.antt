@@ -4,7 +4,7 @@ use Rattle.std.specs.List.{list_any, list_all, starts_with, ends_with}
 use Rattle.std.specs.Char.{is_ascii_whitespace}
 use Rattle.std.specs.Str.{bytes_eq}
 use Rattle.bstr.specs.Utf8.{lossy_chars}
-use Rattle.glob_patterns.specs.declared.pattern.mode.Mode.{Mode}
+use Rattle.glob_patterns.specs.declared.mode.Mode.{Mode}
 use Rattle.glob_matcher.specs.Bytes.{HasByte, has_slash, is_special, open_bracket, close_bracket, backslash, slash}
 
 -- which of the named bits stand in a pattern's mode
@@ -46,13 +46,13 @@ is_blank text = list_all is_ascii_whitespace text
 
 -- the line without one leading `!`
 abbrev pub without_negation : List ℕ → List ℕ
-without_negation text = if starts_with nat_eq text (codes "!") then drop 1 text else text
+without_negation line = if starts_with nat_eq line (codes "!") then drop 1 line else line
 
 -- what is taken off a line's front, where it may be altered: `!`, or the backslash of `\!` and `\#`
 abbrev pub sign_of : Bool → List ℕ → List ℕ
-sign_of may_alter text =
-    if may_alter && starts_with nat_eq text (codes "!") then codes "!"
-    else (if may_alter && (starts_with nat_eq text (codes "\\!") || starts_with nat_eq text (codes "\\#")) then codes "\\"
+sign_of may_alter line =
+    if may_alter && starts_with nat_eq line (codes "!") then codes "!"
+    else (if may_alter && (starts_with nat_eq line (codes "\\!") || starts_with nat_eq line (codes "\\#")) then codes "\\"
     else [])
 
 -- a slash where there is one
@@ -70,34 +70,34 @@ sum_of_bits slashed by_its_end for_directories negative absolute =
 
 -- the bits of what was read
 abbrev pub bits_of : List ℕ → List ℕ → List ℕ → List ℕ → ℕ
-bits_of sign lead body tail =
-    sum_of_bits (has_slash body) (is_star_and_literal body) (bytes_eq tail (codes "/")) (bytes_eq sign (codes "!")) (bytes_eq lead (codes "/"))
+bits_of sign lead text tail =
+    sum_of_bits (has_slash text) (is_star_and_literal text) (bytes_eq tail (codes "/")) (bytes_eq sign (codes "!")) (bytes_eq lead (codes "/"))
 
--- The line is a sign, a slash or none, the body, and a slash or none. The body is what a pattern of this line has as its text.
-pub record Reads (text : List ℕ) (may_alter : Bool) (body : List ℕ) (flags : Mode) (place : Option ℕ) : Type 0 where
+-- The line is a sign, a slash or none, the text of its pattern, and a slash or none.
+pub record Reads (line : List ℕ) (may_alter : Bool) (text : List ℕ) (mode : Mode) (place : Option ℕ) : Type 0 where
   pub sign : List ℕ
   pub lead : List ℕ
   pub tail : List ℕ
-  pub joined : text ≡ sign ++ (lead ++ (body ++ tail))
-  pub signed : sign ≡ sign_of may_alter text
-  pub not_blank : is_blank (lead ++ (body ++ tail)) ≡ false
-  pub leads : lead ≡ slash_if (starts_with nat_eq (lead ++ (body ++ tail)) (codes "/"))
-  pub trails : tail ≡ slash_if (ends_with nat_eq (body ++ tail) (codes "/"))
-  pub flagged : flags.0 ≡ bits_of sign lead body tail
-  pub placed : place ≡ first_special body
+  pub joined : line ≡ sign ++ (lead ++ (text ++ tail))
+  pub signed : sign ≡ sign_of may_alter line
+  pub not_blank : is_blank (lead ++ (text ++ tail)) ≡ false
+  pub leads : lead ≡ slash_if (starts_with nat_eq (lead ++ (text ++ tail)) (codes "/"))
+  pub trails : tail ≡ slash_if (ends_with nat_eq (text ++ tail) (codes "/"))
+  pub bits : mode.0 ≡ bits_of sign lead text tail
+  pub placed : place ≡ first_special text
 
 -- two readings agree in all that is answered
-pub record SameReading (b b' : List ℕ) (f f' : Mode) (p p' : Option ℕ) : Type 0 where
-  pub body : b ≡ b'
-  pub flags : f ≡ f'
+pub record SameReading (t t' : List ℕ) (m m' : Mode) (p p' : Option ℕ) : Type 0 where
+  pub text : t ≡ t'
+  pub mode : m ≡ m'
   pub place : p ≡ p'
 
 -- some reading exists
-pub record HasReading (text : List ℕ) (may_alter : Bool) : Type 0 where
-  pub body : List ℕ
-  pub flags : Mode
+pub record HasReading (line : List ℕ) (may_alter : Bool) : Type 0 where
+  pub text : List ℕ
+  pub mode : Mode
   pub place : Option ℕ
-  pub read : Reads text may_alter body flags place
+  pub read : Reads line may_alter text mode place
 
 -- a text as it is displayed: what isn't UTF-8 gives way to U+FFFD
 abbrev pub display_of : List ℕ → List ℕ
@@ -105,9 +105,9 @@ display_of text = encode_utf8_all (lossy_chars text)
 
 -- the line that is shown for a pattern
 abbrev pub shown_line : Mode → List ℕ → List ℕ
-shown_line flags body =
-    (if is_negative flags then codes "!" else [])
-    ++ (slash_if (is_absolute flags) ++ (body ++ slash_if (is_for_directories flags)))
+shown_line mode text =
+    (if is_negative mode then codes "!" else [])
+    ++ (slash_if (is_absolute mode) ++ (text ++ slash_if (is_for_directories mode)))
 
 -- A text, a mode and a place make a pattern: the place is that of the text's first special byte, and a mode that
 -- says that the end decides stands only with a star and a literal.

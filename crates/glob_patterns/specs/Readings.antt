@@ -1,13 +1,13 @@
 -- The reading of a line by equation. The law `readings_are_these` says that it is that of `Reads`, and no other.
 use Rattle.std.specs.Prelude.{ℕ, ◌-◌, Bool, nat_eq, if◌then◌else◌, List, length, take, drop, Option, None, Some, codes}
 use Rattle.std.specs.List.{starts_with, ends_with}
-use Rattle.glob_patterns.specs.declared.pattern.mode.Mode.{Mode}
+use Rattle.glob_patterns.specs.declared.mode.Mode.{Mode}
 use Rattle.glob_patterns.specs.Patterns.{bits_of, first_special, is_blank, sign_of, slash_if}
 
 -- what a line says of its pattern: its text, what is known of the text, and the place of its first special byte
 pub record Reading : Type 0 where
-  pub body : List ℕ
-  pub flags : Mode
+  pub text : List ℕ
+  pub mode : Mode
   pub place : Option ℕ
 
 -- what follows a front
@@ -27,10 +27,10 @@ before_tail text = take (length text - length (tail_of text)) text
 
 -- the reading of a line of these parts
 abbrev pub reading_with : List ℕ → List ℕ → List ℕ → List ℕ → Reading
-reading_with sign lead body tail = record {
-  body = body;
-  flags = record { 0 = bits_of sign lead body tail };
-  place = first_special body;
+reading_with sign lead text tail = record {
+  text = text;
+  mode = record { 0 = bits_of sign lead text tail };
+  place = first_special text;
 }
 
 -- the reading, where this follows the sign and the lead

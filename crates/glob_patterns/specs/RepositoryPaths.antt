@@ -2,7 +2,7 @@
 use Rattle.std.specs.Prelude.{◌≡◌, ◌&&◌, ℕ, ◌-◌, ◌<◌, ◌≤◌, Bool, true, not, IsTrue, List, drop, Option, None, Some, MatchOption, bit_or, if◌then◌else◌}
 use Rattle.glob_patterns.specs.declared.pattern.case.Case.{Case}
 use Rattle.glob_patterns.specs.declared.pattern.case.Case.TheVariants.{Sensitive, Fold}
-use Rattle.glob_patterns.specs.declared.pattern.mode.Mode as pattern
+use Rattle.glob_patterns.specs.declared.mode.Mode as pattern
 use Rattle.glob_matcher.specs.declared.wildmatch.mode.Mode as wildmatch
 use Rattle.glob_matcher.specs.Bytes.{HasByte, slash}
 use Rattle.glob_matcher.specs.Matching.{Splits}
@@ -26,11 +26,11 @@ with_case mode Fold = record { 0 = bit_or mode.0 2 }
 -- The bytes that a pattern looks at: the last part of the path, where the text has no slash and the line began with
 -- none, and where it is known where that part begins; else the whole path.
 abbrev pub subject : pattern.Mode → List ℕ → Option ℕ → List ℕ
-subject flags path None = path
-subject flags path (Some k) = if is_without_sub_dir flags && not (is_absolute flags) then drop k path else path
+subject pattern_mode path None = path
+subject pattern_mode path (Some k) = if is_without_sub_dir pattern_mode && not (is_absolute pattern_mode) then drop k path else path
 
--- A pattern of this text and these flags answers yes for a path: a pattern for directories only where the path is
+-- A pattern of this text and this mode answers yes for a path: a pattern for directories only where the path is
 -- known to be one, and the text matches what it looks at.
-pub record Answers (text : List ℕ) (flags : pattern.Mode) (path : List ℕ) (position : Option ℕ) (is_dir : Option Bool) (case : Case) (mode : wildmatch.Mode) : Type 0 where
-  pub directory : IsTrue (is_for_directories flags) → is_dir ≡ Some true
-  pub splits : Splits (subject flags path position) text (with_case mode case)
+pub record Answers (text : List ℕ) (pattern_mode : pattern.Mode) (path : List ℕ) (position : Option ℕ) (is_dir : Option Bool) (case : Case) (mode : wildmatch.Mode) : Type 0 where
+  pub directory : IsTrue (is_for_directories pattern_mode) → is_dir ≡ Some true
+  pub splits : Splits (subject pattern_mode path position) text (with_case mode case)

@@ -7,7 +7,7 @@ ghost use Rattle.glob_patterns.specs.Patterns.{first_special, is_star_and_litera
 use memchr::{memchr, memchr3};
 
 /// The place of the first byte that may mean more than itself.
-pub(crate) fn first_wildcard_pos(text: &[u8]) -> Option<usize>
+pub(crate) fn first_special(text: &[u8]) -> Option<usize>
     ensures { result ≡ first_special text.now }
 {
     text.iter().position(|b| is_special(*b))
@@ -28,14 +28,14 @@ fn has_special(bytes: &[u8]) -> bool
 }
 
 /// Whether the text is a star with no such byte after it.
-pub(crate) fn is_ends_with(text: &[u8]) -> bool
+pub(crate) fn is_star_and_literal(text: &[u8]) -> bool
     ensures { result ≡ is_star_and_literal text.now }
 {
     text.starts_with(b"*") && !has_special(&text[1..])
 }
 
 /// Whether the text has a slash.
-#[tactic(auto, using(crate::proofs::ByteSearches::is_some_first_byte))]
+#[tactic(auto, using(crate::proofs::lemmas::ByteSearches::is_some_first_byte))]
 pub(crate) fn has_slash(text: &[u8]) -> bool
     ensures { result ≡ has_slash text.now }
 {
@@ -43,7 +43,7 @@ pub(crate) fn has_slash(text: &[u8]) -> bool
 }
 
 /// Whether the text has a wildcard, escaped or not.
-#[tactic(auto, using(crate::proofs::ByteSearches::is_some_first_byte))]
+#[tactic(auto, using(crate::proofs::lemmas::ByteSearches::is_some_first_byte))]
 pub(crate) fn has_wildcard(text: &[u8]) -> bool
     ensures { result ≡ list_any is_wildcard text.now }
 {

@@ -3,5 +3,6 @@
 
 mod byte_tests;
 pub mod laws;
+mod mode;
 pub mod parse;
 pub mod pattern;

@@ -6,8 +6,9 @@ ghost use Rattle.glob_patterns.specs.Patterns.{Reads, HasReading, is_blank, with
 ghost use Rattle.glob_patterns.specs.PatternParts.{IsReadFrom};
 ghost use Rattle.glob_matcher.specs.Bytes.{has_slash};
 
-use crate::byte_tests::{first_wildcard_pos, has_slash, is_ends_with};
-use crate::pattern::{Mode, Pattern};
+use crate::byte_tests::{first_special, has_slash, is_star_and_literal};
+use crate::mode::Mode;
+use crate::pattern::Pattern;
 use bitflags::Flags;
 use std::alloc::{AllocError, Global};
 
@@ -16,72 +17,72 @@ use std::alloc::{AllocError, Global};
 ///
 /// With `may_alter` a leading `!` is taken off and negates, and the backslash of a leading `\!` or `\#` is taken off.
 /// One leading and one trailing slash are taken off in any case. The rule is "reading a pattern" in `docs/PATTERNS.md`.
-pub fn pattern(pat: &[u8], may_alter: bool) -> Option<(&[u8], Mode, Option<usize>)>
-    ensures reads { MatchOption result (¬ HasReading pat.now may_alter) (λ found. Reads pat.now may_alter found.0.now found.1 found.2) }
-    ensures blank { IsNone result ↔ IsTrue (is_blank (if may_alter then without_negation pat.now else pat.now)) }
+pub fn pattern(line: &[u8], may_alter: bool) -> Option<(&[u8], Mode, Option<usize>)>
+    ensures reads { MatchOption result (¬ HasReading line.now may_alter) (λ found. Reads line.now may_alter found.0.now found.1 found.2) }
+    ensures blank { IsNone result ↔ IsTrue (is_blank (if may_alter then without_negation line.now else line.now)) }
 {
-    let (line, negative) = after_sign(pat, may_alter);
-    if is_whitespace(line) {
+    let (rest, negative) = after_sign(line, may_alter);
+    if is_blank(rest) {
         return None;
     }
-    let (line, absolute) = after_lead(line);
-    let (text, must_be_dir) = before_tail(line);
+    let (inner, absolute) = after_lead(rest);
+    let (text, must_be_dir) = before_tail(inner);
     let mode = mode_of(text, negative, absolute, must_be_dir);
-    Some((text, mode, first_wildcard_pos(text)))
+    Some((text, mode, first_special(text)))
 }
 
 /// Reads a pattern line, with its leading `!`, as [`Pattern::from_bytes`] does: `None` where it is blank. The error is
 /// want of memory for the text.
-pub fn parse(alloc: Global, text: &[u8]) -> Result<Option<Pattern>, AllocError>
-    ensures reads { IfOk result (λ read. MatchOption read (¬ HasReading text.now true) (IsReadFrom text.now true)) }
-    ensures blank { IsOkAnd result IsNone ↔ IsTrue (is_blank (without_negation text.now)) }
+pub fn parse(alloc: Global, line: &[u8]) -> Result<Option<Pattern>, AllocError>
+    ensures reads { IfOk result (λ read. MatchOption read (¬ HasReading line.now true) (IsReadFrom line.now true)) }
+    ensures blank { IsOkAnd result IsNone ↔ IsTrue (is_blank (without_negation line.now)) }
 {
-    Pattern::from_bytes(alloc, text)
+    Pattern::from_bytes(alloc, line)
 }
 
 /// What follows the sign of a line, and whether the sign negates.
-fn after_sign(pat: &[u8], may_alter: bool) -> (&[u8], bool)
-    ensures rest { pat.now ≡ sign_of may_alter pat.now ++ result.0.now }
-    ensures negative { result.1 ≡ bytes_eq (sign_of may_alter pat.now) (codes "!") }
+fn after_sign(line: &[u8], may_alter: bool) -> (&[u8], bool)
+    ensures rest { line.now ≡ sign_of may_alter line.now ++ result.0.now }
+    ensures negative { result.1 ≡ bytes_eq (sign_of may_alter line.now) (codes "!") }
 {
     if !may_alter {
-        return (pat, false);
+        return (line, false);
     }
-    if let Some(rest) = pat.strip_prefix(b"!") {
+    if let Some(rest) = line.strip_prefix(b"!") {
         return (rest, true);
     }
-    if pat.starts_with(b"\\!") || pat.starts_with(b"\\#") {
-        return (&pat[1..], false);
+    if line.starts_with(b"\\!") || line.starts_with(b"\\#") {
+        return (&line[1..], false);
     }
-    (pat, false)
+    (line, false)
 }
 
-/// Whether the bytes are ASCII whitespace alone.
-fn is_whitespace(bytes: &[u8]) -> bool
+/// Whether there are no bytes, or ASCII whitespace alone.
+fn is_blank(bytes: &[u8]) -> bool
     ensures { result ≡ is_blank bytes.now }
 {
     bytes.iter().all(|b| b.is_ascii_whitespace())
 }
 
 /// What follows a leading slash, and whether there was one.
-fn after_lead(line: &[u8]) -> (&[u8], bool)
-    ensures lead { line.now ≡ slash_if (starts_with nat_eq line.now (codes "/")) ++ result.0.now }
-    ensures absolute { result.1 ≡ starts_with nat_eq line.now (codes "/") }
+fn after_lead(rest: &[u8]) -> (&[u8], bool)
+    ensures lead { rest.now ≡ slash_if (starts_with nat_eq rest.now (codes "/")) ++ result.0.now }
+    ensures absolute { result.1 ≡ starts_with nat_eq rest.now (codes "/") }
 {
-    match line.strip_prefix(b"/") {
-        Some(rest) => (rest, true),
-        None => (line, false),
+    match rest.strip_prefix(b"/") {
+        Some(inner) => (inner, true),
+        None => (rest, false),
     }
 }
 
 /// What stands before a trailing slash, and whether there was one.
-fn before_tail(line: &[u8]) -> (&[u8], bool)
-    ensures tail { line.now ≡ result.0.now ++ slash_if (ends_with nat_eq line.now (codes "/")) }
-    ensures must_be_dir { result.1 ≡ ends_with nat_eq line.now (codes "/") }
+fn before_tail(inner: &[u8]) -> (&[u8], bool)
+    ensures tail { inner.now ≡ result.0.now ++ slash_if (ends_with nat_eq inner.now (codes "/")) }
+    ensures must_be_dir { result.1 ≡ ends_with nat_eq inner.now (codes "/") }
 {
-    match line.strip_suffix(b"/") {
+    match inner.strip_suffix(b"/") {
         Some(text) => (text, true),
-        None => (line, false),
+        None => (inner, false),
     }
 }
 
@@ -93,7 +94,7 @@ fn mode_of(text: &[u8], negative: bool, absolute: bool, must_be_dir: bool) -> Mo
     if !has_slash(text) {
         mode = mode.union(Mode::NO_SUB_DIR);
     }
-    if is_ends_with(text) {
+    if is_star_and_literal(text) {
         mode = mode.union(Mode::ENDS_WITH);
     }
     if must_be_dir {

@@ -5,17 +5,17 @@ ghost use Rattle.glob_patterns.specs.Patterns.{first_special, is_by_its_end, is_
 
 use crate::{byte_tests, parse};
 use bitflags::Flags;
+use glob_matcher::wildmatch;
 use std::alloc::{AllocError, Global};
 
 mod case;
+mod comparisons;
 mod display;
-mod matching;
-mod mode;
 mod paths;
 mod view;
 
+pub use crate::mode::Mode;
 pub use case::Case;
-pub use mode::Mode;
 pub use paths::basename_start;
 pub use view::PatternView;
 
@@ -39,23 +39,23 @@ impl Pattern {
     ghost use Rattle.glob_patterns.specs.PatternParts.{text_of, mode_of, place_of, IsReadFrom};
 
     /// Reads a pattern line, with its leading `!`: `None` where it is blank. The error is want of memory for the text.
-    pub fn from_bytes(alloc: Global, text: &[u8]) -> Result<Option<Pattern>, AllocError>
-        ensures reads { IfOk result (λ read. MatchOption read (¬ HasReading text.now true) (IsReadFrom text.now true)) }
-        ensures blank { IsOkAnd result IsNone ↔ IsTrue (is_blank (without_negation text.now)) }
+    pub fn from_bytes(alloc: Global, line: &[u8]) -> Result<Option<Pattern>, AllocError>
+        ensures reads { IfOk result (λ read. MatchOption read (¬ HasReading line.now true) (IsReadFrom line.now true)) }
+        ensures blank { IsOkAnd result IsNone ↔ IsTrue (is_blank (without_negation line.now)) }
     {
-        Pattern::read(alloc, text, true)
+        Pattern::read(alloc, line, true)
     }
 
     /// Reads a pattern line in which `!`, `\!` and `\#` have no meaning of their own: `None` where it is blank. One leading
     /// and one trailing slash are taken off all the same. The error is want of memory for the text.
     pub fn from_bytes_without_negation(
         alloc: Global,
-        text: &[u8],
+        line: &[u8],
     ) -> Result<Option<Pattern>, AllocError>
-        ensures reads { IfOk result (λ read. MatchOption read (¬ HasReading text.now false) (IsReadFrom text.now false)) }
-        ensures blank { IsOkAnd result IsNone ↔ IsTrue (is_blank text.now) }
+        ensures reads { IfOk result (λ read. MatchOption read (¬ HasReading line.now false) (IsReadFrom line.now false)) }
+        ensures blank { IsOkAnd result IsNone ↔ IsTrue (is_blank line.now) }
     {
-        Pattern::read(alloc, text, false)
+        Pattern::read(alloc, line, false)
     }
 
     /// Reads a pattern line into memory of its own.
@@ -169,14 +169,28 @@ impl Pattern {
     }
 }
 
+/// Matching a value.
+impl Pattern {
+    ghost use Rattle.glob_matcher.specs.Matching.{Splits};
+    ghost use Rattle.glob_patterns.specs.PatternParts.{text_of};
+
+    /// Whether the text matches the value. What the line said of negation, of directories and of a leading slash
+    /// doesn't count. It takes no memory. The rule is "matching a value" in `docs/PATTERNS.md`.
+    pub fn matches(&self, value: &[u8], mode: wildmatch::Mode) -> bool
+        ensures { IsTrue result ↔ Splits value.now (text_of self.now) mode }
+    {
+        self.view().matches(value, mode)
+    }
+}
+
 /// Whether a text, a mode and a place make a pattern.
 fn are_parts(text: &[u8], mode: Mode, first_wildcard_pos: Option<usize>) -> bool
     ensures { IsTrue result ↔ IsPattern text.now mode first_wildcard_pos }
 {
-    if first_wildcard_pos != byte_tests::first_wildcard_pos(text) {
+    if first_wildcard_pos != byte_tests::first_special(text) {
         return false;
     }
-    !mode.contains(Mode::ENDS_WITH) || byte_tests::is_ends_with(text)
+    !mode.contains(Mode::ENDS_WITH) || byte_tests::is_star_and_literal(text)
 }
 
 #[cfg(test)]

@@ -7,10 +7,10 @@ use Rattle.gix_glob.specs.RepositoryPaths.{Answers, IsBasenameStart}
 
 -- The answer is yes exactly if the pattern that the line reads as answers for the path of a file, in path mode.
 pub record LineAnswers (line path : List ℕ) (answer : Bool) : Type 0 where
-  pub body : List ℕ
-  pub flags : Mode
+  pub text : List ℕ
+  pub mode : Mode
   pub place : Option ℕ
   pub position : Option ℕ
-  pub read : Reads line true body flags place
+  pub read : Reads line true text mode place
   pub start : IsBasenameStart path position
-  pub exact : IsTrue answer ↔ Answers body flags path position (Some false) Sensitive (record { 0 = 1 })
+  pub exact : IsTrue answer ↔ Answers text mode path position (Some false) Sensitive (record { 0 = 1 })

@@ -9,9 +9,9 @@ use Rattle.gix_glob_c.proofs.gix_glob_matches.Goals as goal
 
 pub returns : goal.returns
 returns c = λ lawful.
-    let flags = pattern_mode_of c.from_bits_retain.result c.args.pattern_mode (c.from_bits_retain.ensures tt) in
+    let pattern_mode = pattern_mode_of c.from_bits_retain.result c.args.pattern_mode (c.from_bits_retain.ensures tt) in
     let mode = match_mode_of c.from_bits_retain-2.result c.args.mode (c.from_bits_retain-2.ensures tt) in
-    let held = subst (λ (m : pattern.Mode). IsPattern c.args.text.now m c.place_in.result) (sym flags)
+    let held = subst (λ (m : pattern.Mode). IsPattern c.args.text.now m c.place_in.result) (sym pattern_mode)
     (subst (λ (place : Option ℕ). IsPattern c.args.text.now (record { 0 = c.args.pattern_mode }) place) (sym c.place_in.ensures) lawful) in
     subst (λ (m : wildmatch.Mode). IsTrue c.matches.result ↔ Splits c.args.value.now c.args.text.now m) mode
     (c.matches.ensures held)

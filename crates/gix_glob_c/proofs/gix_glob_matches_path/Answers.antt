@@ -8,8 +8,8 @@ pub returns-clause-answers : goal.returns-clause-answers
 returns-clause-answers c = λ reading relative.
     let view = c.in-Some.view in
     record {
-      body = view.text.now;
-      flags = view.mode;
+      text = view.text.now;
+      mode = view.mode;
       place = view.first_wildcard_pos;
       position = c.basename_start.result;
       read = c.in-Some.ensures.reads;

@@ -4,7 +4,7 @@ ghost use Rattle.std.specs.List.{list_any, starts_with};
 ghost use Rattle.std.specs.Str.{IsUtf8};
 ghost use Rattle.std.specs.declared.cmp.Ordering.TheVariants.{Equal, Less};
 ghost use Rattle.glob_matcher.specs.declared.wildmatch.mode.Mode as wildmatch;
-ghost use Rattle.glob_patterns.specs.declared.pattern.mode.Mode as pattern;
+ghost use Rattle.glob_patterns.specs.declared.mode.Mode as pattern;
 ghost use Rattle.glob_patterns.specs.declared.pattern.Pattern.{Pattern};
 ghost use Rattle.glob_patterns.specs.declared.pattern.case.Case.{Case};
 ghost use Rattle.glob_patterns.specs.Folding.{AreAlike, EndsAlike, HasAlike};
@@ -46,24 +46,24 @@ pub fn two_answers_agree()
 
 /// A line has at most one reading.
 pub fn line_has_one_reading()
-    ensures { (text : List ℕ) (may_alter : Bool) (body body' : List ℕ) (flags flags' : pattern.Mode) (place place' : Option ℕ)
-        → Reads text may_alter body flags place → Reads text may_alter body' flags' place'
-        → SameReading body body' flags flags' place place' }
+    ensures { (line : List ℕ) (may_alter : Bool) (text text' : List ℕ) (mode mode' : pattern.Mode) (place place' : Option ℕ)
+        → Reads line may_alter text mode place → Reads line may_alter text' mode' place'
+        → SameReading text text' mode mode' place place' }
 {}
 
 /// A line has the reading that the equations of `reading_of` give, and no other.
 pub fn readings_are_these()
-    ensures some { (text : List ℕ) (may_alter : Bool) (body : List ℕ) (flags : pattern.Mode) (place : Option ℕ)
-        → Reads text may_alter body flags place
-        ↔ (reading_of may_alter text ≡ Some (record { body = body; flags = flags; place = place })) }
-    ensures none { (text : List ℕ) (may_alter : Bool) → ¬ HasReading text may_alter ↔ (reading_of may_alter text ≡ None) }
+    ensures some { (line : List ℕ) (may_alter : Bool) (text : List ℕ) (mode : pattern.Mode) (place : Option ℕ)
+        → Reads line may_alter text mode place
+        ↔ (reading_of may_alter line ≡ Some (record { text = text; mode = mode; place = place })) }
+    ensures none { (line : List ℕ) (may_alter : Bool) → ¬ HasReading line may_alter ↔ (reading_of may_alter line ≡ None) }
 {}
 
 /// What is shown of a reading is read back, unless the text begins with `!` and no sign and no slash stands before it.
 pub fn shown_line_is_read_back()
-    ensures { (text body : List ℕ) (flags : pattern.Mode) (place : Option ℕ) → Reads text true body flags place
-        → (IsTrue (starts_with nat_eq body (codes "!")) → IsTrue (is_negative flags || is_absolute flags))
-        → Reads (shown_line flags body) true body flags place }
+    ensures { (line text : List ℕ) (mode : pattern.Mode) (place : Option ℕ) → Reads line true text mode place
+        → (IsTrue (starts_with nat_eq text (codes "!")) → IsTrue (is_negative mode || is_absolute mode))
+        → Reads (shown_line mode text) true text mode place }
 {}
 
 /// A text that is UTF-8 is displayed byte for byte.

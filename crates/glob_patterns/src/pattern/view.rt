@@ -7,7 +7,7 @@ ghost use Rattle.glob_matcher.specs.Steps.{pattern_look_limit, step_limit};
 ghost use Rattle.glob_patterns.specs.Patterns.{HasReading, IsPattern, Reads};
 ghost use Rattle.glob_patterns.specs.RepositoryPaths.{Answers, IsAfterLastSlash, subject};
 
-use super::matching::{are_alike, begins_alike, ends_alike, is_one_component};
+use super::comparisons::{are_alike, begins_alike, ends_alike, is_one_component};
 use super::paths::with_case;
 use super::{Case, Mode};
 use crate::parse;

@@ -5,8 +5,8 @@ pub returns-clause-answers : goal.returns-clause-answers
 returns-clause-answers c = λ reading.
     let view = c.in-Some.pattern in
     record {
-      body = view.text.now;
-      flags = view.mode;
+      text = view.text.now;
+      mode = view.mode;
       place = view.first_wildcard_pos;
       position = c.basename_start-start.result;
       read = c.in-Some.ensures.reads;

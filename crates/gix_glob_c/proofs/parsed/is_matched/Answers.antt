@@ -7,23 +7,23 @@ use Rattle.gix_glob.specs.RepositoryPaths.{Answers}
 use Rattle.gix_glob.proofs.Answering.{basename_once}
 use Rattle.gix_glob_c.proofs.Bits.{pattern_mode_of}
 use Rattle.gix_glob_c.specs.Parts.{case_of}
-use Rattle.gix_glob_c.specs.Parsed.{AnswersPath, flags_of}
+use Rattle.gix_glob_c.specs.Parsed.{AnswersPath, mode_of}
 use Rattle.gix_glob_c.proofs.parsed.is_matched.Goals as goal
 
 pub returns : goal.returns
 returns c = λ lawful.
     let parts = c.args.pattern.now in
     let text = parts.text.now in
-    let flags = pattern_mode_of c.from_bits_retain.result parts.mode (c.from_bits_retain.ensures tt) in
-    let held = subst (λ (m : pattern.Mode). IsPattern text m c.place_in.result) (sym flags)
-    (subst (λ (place : Option ℕ). IsPattern text (flags_of parts) place) (sym c.place_in.ensures) lawful) in
+    let pattern_mode = pattern_mode_of c.from_bits_retain.result parts.mode (c.from_bits_retain.ensures tt) in
+    let held = subst (λ (m : pattern.Mode). IsPattern text m c.place_in.result) (sym pattern_mode)
+    (subst (λ (place : Option ℕ). IsPattern text (mode_of parts) place) (sym c.place_in.ensures) lawful) in
     let told = subst (λ (case : Case). IsTrue c.matches_repo_relative_path.result
-    ↔ Answers text (flags_of parts) c.args.path.now c.args.position (Some c.args.is_dir) case (record { 0 = 1 })) c.case_for.ensures
+    ↔ Answers text (mode_of parts) c.args.path.now c.args.position (Some c.args.is_dir) case (record { 0 = 1 })) c.case_for.ensures
     (subst (λ (m : pattern.Mode). IsTrue c.matches_repo_relative_path.result
-    ↔ Answers text m c.args.path.now c.args.position (Some c.args.is_dir) c.case_for.result (record { 0 = 1 })) flags
+    ↔ Answers text m c.args.path.now c.args.position (Some c.args.is_dir) c.case_for.result (record { 0 = 1 })) pattern_mode
     (c.matches_repo_relative_path.ensures held)) in (
       λ yes. record { is = c.requires.path; position = c.args.position; start = c.requires.start; answers = told.0 yes },
       λ (h : AnswersPath parts c.args.path.now c.args.is_dir c.args.fold).
-          told.1 (subst (λ (p : Option ℕ). Answers text (flags_of parts) c.args.path.now p (Some c.args.is_dir) (case_of c.args.fold) (record { 0 = 1 }))
+          told.1 (subst (λ (p : Option ℕ). Answers text (mode_of parts) c.args.path.now p (Some c.args.is_dir) (case_of c.args.fold) (record { 0 = 1 }))
           (basename_once c.args.path.now h.position c.args.position h.start c.requires.start) h.answers),
     )

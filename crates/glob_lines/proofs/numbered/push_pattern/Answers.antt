@@ -14,7 +14,7 @@ returns-in_ok-push g c =
     let old = c.args.mappings.now.items in
     let pattern = c.in-Some.pattern in
     let read : IsReadFrom c.args.text.now true pattern = rw c.in-Some.is at c.in_ok-pattern.ensures.reads in
-    let reading : Reading = record { body = text_of pattern; flags = mode_of pattern; place = place_of pattern } in
+    let reading : Reading = record { text = text_of pattern; mode = mode_of pattern; place = place_of pattern } in
     let is : reading_of true c.args.text.now ≡ Some reading = (c.readings_are_these.ensures.some _ _ _ _ _).0 read in
     let mapping : Mapping g.row.V.Denot = record { pattern = pattern; value = c.args.value; sequence_number = c.args.number } in
     ap (map (entry_of (λ v. v))) c.in_ok-push.ensures.items

@@ -1,5 +1,5 @@
 -- Each byte of such a text is a token of its own.
-use Rattle.glob_patterns.proofs.LiteralLemmas.{literal_splits}
+use Rattle.glob_patterns.proofs.lemmas.LiteralLemmas.{literal_splits}
 use Rattle.glob_patterns.proofs.laws.patterns.literal_text_splits_itself.Goals as goal
 
 pub returns : goal.returns

@@ -1,5 +1,5 @@
 -- The token that holds such a byte is that byte alone.
-use Rattle.glob_patterns.proofs.NeededBytes.{literal_bytes}
+use Rattle.glob_patterns.proofs.lemmas.LiteralBytes.{literal_bytes}
 use Rattle.glob_patterns.proofs.laws.patterns.matched_values_have_the_literal_bytes.Goals as goal
 
 pub returns : goal.returns

@@ -1,7 +1,7 @@
 -- The derived comparisons compare the three parts in order.
 use Rattle.std.proofs.Common.{sym, ◌∙◌}
 use Rattle.std.specs.Cmp.{Equal-is}
-use Rattle.glob_patterns.proofs.PatternOrder.{equal_patterns}
+use Rattle.glob_patterns.proofs.lemmas.PatternOrder.{equal_patterns}
 use Rattle.glob_patterns.specs.contracts.pattern.PatternOrd.TheImpl.Laws.{matches_eq-law}
 use Rattle.glob_patterns.proofs.laws.patterns.order_agrees_with_equality.Goals as goal
 

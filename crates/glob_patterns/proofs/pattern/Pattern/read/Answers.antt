@@ -1,7 +1,7 @@
 -- What is read keeps the invariant.
 use Rattle.std.proofs.Common.{sym, subst, List, ℕ}
 use Rattle.glob_patterns.specs.Patterns.{IsPattern}
-use Rattle.glob_patterns.proofs.LineReading.{IsPattern-Reads}
+use Rattle.glob_patterns.proofs.lemmas.ReadingLemmas.{IsPattern-Reads}
 use Rattle.glob_patterns.proofs.pattern.Pattern.read.Goals as goal
 
 pub invariant_of-result : goal.invariant_of-result

@@ -10,7 +10,7 @@ use Rattle.gix_glob.proofs.search.tests.WholePattern.bytes_to_patterns.Goals as 
 pub returns : goal.returns
 returns c =
     let read : IsReadFrom c.args.bytes.now true c.in-Some.pattern = rw c.in-Some.is at c.in_ok-pattern.ensures.reads in
-    let reading : Reading = record { body = text_of c.in-Some.pattern; flags = mode_of c.in-Some.pattern; place = place_of c.in-Some.pattern } in
+    let reading : Reading = record { text = text_of c.in-Some.pattern; mode = mode_of c.in-Some.pattern; place = place_of c.in-Some.pattern } in
     let is : reading_of true c.args.bytes.now ≡ Some reading = (c.readings_are_these.ensures.some _ _ _ _ _).0 read in
     rw (c.in_ok-push.ensures.items, c.new-mappings.ensures.items) (sym (ap (λ (r : Option Reading). option_to_list (option_map (entry_with tt 1) r)) is))
 

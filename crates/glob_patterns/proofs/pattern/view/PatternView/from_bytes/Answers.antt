@@ -1,5 +1,5 @@
 -- What is read makes a pattern.
-use Rattle.glob_patterns.proofs.LineReading.{IsPattern-Reads}
+use Rattle.glob_patterns.proofs.lemmas.ReadingLemmas.{IsPattern-Reads}
 use Rattle.glob_patterns.proofs.pattern.view.PatternView.from_bytes.Goals as goal
 
 pub returns-clause-lawful : goal.returns-clause-lawful

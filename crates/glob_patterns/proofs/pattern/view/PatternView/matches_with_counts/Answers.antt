@@ -1,7 +1,7 @@
 -- Each shortcut answers what the tokens of the text say.
 use Rattle.std.proofs.Common.{◌↔◌, Bool, IsTrue, sym, ◌∙◌, subst}
 use Rattle.glob_matcher.specs.Matching.{Splits}
-use Rattle.glob_patterns.proofs.Shortcuts.{whole_exact, end_exact, end_refused, front_refused}
+use Rattle.glob_patterns.proofs.lemmas.Shortcuts.{whole_exact, end_exact, end_refused, front_refused}
 use Rattle.glob_patterns.proofs.pattern.view.PatternView.matches_with_counts.Goals as goal
 
 pub returns-in_default-clause-exact : goal.returns-in_default-clause-exact

@@ -13,7 +13,7 @@ use Rattle.glob_matcher.specs.Tokens.{Token, Byte, Any, OneOf, Free, Local, Dirs
 use Rattle.glob_matcher.specs.Matching.{Splits, SplitsFrom}
 use Rattle.glob_matcher.proofs.lemmas.cutting.CutLemmas.{step_out, one_out, end_out, nothing_out}
 use Rattle.glob_matcher.proofs.lemmas.reading.Existence.{items_close, TokenAt-past}
-use Rattle.glob_patterns.proofs.LiteralLemmas.{IsLiteral, IsCopied, literal_out, alike_from}
+use Rattle.glob_patterns.proofs.lemmas.LiteralLemmas.{IsLiteral, IsCopied, literal_out, AreAlike-from}
 
 -- no byte from place n on may belong to a token of more than one byte
 record IsTail (p : List ℕ) (n : ℕ) : Type 0 where
@@ -84,11 +84,11 @@ at_tail mode p v n k tail inside all =
 Later : (mode : Mode) (p v : List ℕ) (n i : ℕ) → Type 0
 Later mode p v n i = (j k : ℕ) → i < j → j ≤ n → k ≤ length v → SplitsFrom v k p j mode → EndsInTail mode v p n
 
-before_tail : (mode : Mode) (p v : List ℕ) (n i k : ℕ) (ts : List Token) → From mode p i ts → IsTail p n → i < n → k ≤ length v
+from_before_tail : (mode : Mode) (p v : List ℕ) (n i k : ℕ) (ts : List Token) → From mode p i ts → IsTail p n → i < n → k ≤ length v
     → Later mode p v n i → SplitsFrom v k p i mode → EndsInTail mode v p n
 unfolding Later
-before_tail mode p v n i k [] read tail low inside later all = let high = tail.inside in absurd (omega (arith, read))
-before_tail mode p v n i k (t ∷ ts) read tail low inside later all =
+from_before_tail mode p v n i k [] read tail low inside later all = let high = tail.inside in absurd (omega (arith, read))
+from_before_tail mode p v n i k (t ∷ ts) read tail low inside later all =
     let out = step_out mode p v i read.0 k t read.1 inside all in
     let past : i < read.0 = TokenAt-past mode p i t read.0 read.1 in
     elim (cases_lt n read.0) [
@@ -104,7 +104,7 @@ to_tail zero mode p v n i k enough low tail inside all =
     at_tail mode p v n k tail inside (subst (λ (m : ℕ). SplitsFrom v k p m mode) here all)
 to_tail (suc d) mode p v n i k enough low tail inside all = ⊎_elim
     (λ (here : i ≡ n). at_tail mode p v n k tail inside (subst (λ (m : ℕ). SplitsFrom v k p m mode) here all))
-    (λ (before : i ≡ n → ⊥). before_tail mode p v n i k all.tokens all.read tail (omega arith) inside
+    (λ (before : i ≡ n → ⊥). from_before_tail mode p v n i k all.tokens all.read tail (omega arith) inside
     (λ j e past within in_value rest. to_tail d mode p v n j e (omega arith) within tail in_value rest) all)
     (cases_eq i n)
 
@@ -133,7 +133,7 @@ literal_ends front end v mode none s =
     let sum : out.place + (length p - length front) ≡ length v = out.fits in
     let start : length v - length end ≡ out.place = omega arith in record {
       fits = omega arith;
-      alike = alike_from mode end (drop (length v - length end) v) (length-drop-is end v (omega arith))
+      alike = AreAlike-from mode end (drop (length v - length end) v) (length-drop-is end v (omega arith))
           (λ m below.
           let copied : fold mode (get_or v (out.place + m) 0) ≡ fold mode (get_or p (length front + m) 0) =
           out.copied.at (out.place + m) (length front + m) (omega arith) (omega arith) (omega arith) in

@@ -1,25 +1,25 @@
 -- What may be answered without the matcher.
 use Rattle.std.proofs.Common.{◌≡◌, ◌↔◌, ◌⊎◌, inl, inr, ⊎_elim, ℕ, Bool, true, false, not, ◌||◌, IsTrue, List, [], ◌∷◌, length, take, drop, map, None, Some, refl, sym, ◌∙◌, ap, subst, arith}
 use Rattle.std.proofs.lemmas.List.{length-take-le}
-use Rattle.std.proofs.lemmas.Bool.{false≢true, or_cases}
+use Rattle.std.proofs.lemmas.Bool.{false≢true, not-true, or_cases}
 use Rattle.glob_matcher.specs.declared.wildmatch.mode.Mode.{Mode}
 use Rattle.glob_matcher.specs.Bytes.{fold, folds, has_slash, is_path}
 use Rattle.glob_patterns.specs.Folding.{AreAlike, EndsAlike}
 use Rattle.glob_patterns.specs.Private.Fronts.{BeginsAlike}
 use Rattle.glob_matcher.specs.Matching.{Splits}
 use Rattle.glob_patterns.specs.Patterns.{first_special, is_star_and_literal}
-use Rattle.glob_patterns.proofs.LiteralLemmas.{literal_splits, literal_front, literal_from_place, literal_up_to_place, star_literal_out, star_literal_in}
+use Rattle.glob_patterns.proofs.lemmas.LiteralLemmas.{literal_splits, literal_front, literal_from_place, literal_up_to_place, star_literal_out, star_literal_in}
 
 -- a map that changes no element
-map_same : (f : ℕ → ℕ) → ((b : ℕ) → f b ≡ b) → (xs : List ℕ) → map f xs ≡ xs
-map_same f each [] = refl
-map_same f each (x ∷ xs) = cc (each x, map_same f each xs)
+map-same : (f : ℕ → ℕ) → ((b : ℕ) → f b ≡ b) → (xs : List ℕ) → map f xs ≡ xs
+map-same f each [] = refl
+map-same f each (x ∷ xs) = cc (each x, map-same f each xs)
 
 -- where the mode doesn't fold, being alike is being equal
-pub alike_unfolded : (mode : Mode) (xs ys : List ℕ) → folds mode ≡ false → AreAlike mode xs ys ↔ (xs ≡ ys)
-alike_unfolded mode xs ys plain =
+pub AreAlike-unfolded : (mode : Mode) (xs ys : List ℕ) → folds mode ≡ false → AreAlike mode xs ys ↔ (xs ≡ ys)
+AreAlike-unfolded mode xs ys plain =
     let each : (b : ℕ) → fold mode b ≡ b = λ b. rw plain in (
-      λ same. (sym (map_same (fold mode) each xs) ∙ same ∙ map_same (fold mode) each ys),
+      λ same. (sym (map-same (fold mode) each xs) ∙ same ∙ map-same (fold mode) each ys),
       λ same. ap (map (fold mode)) same,
     )
 
@@ -28,10 +28,6 @@ pub whole_exact : (answer : Bool) (p v : List ℕ) (mode : Mode) → first_speci
 whole_exact answer p v mode none exact =
     let splits = literal_splits p v mode (literal_from_place p none) in
     (λ yes. splits.1 (sym (exact.0 yes)), λ s. exact.1 (sym (splits.0 s)))
-
-not_true : (b : Bool) → not b ≡ true → b ≡ false
-not_true true h = absurd (false≢true h)
-not_true false h = refl
 
 -- a value that doesn't end in the literal after a star doesn't match
 pub end_refused : (answer : Bool) (p v : List ℕ) (mode : Mode) → is_star_and_literal p ≡ true → answer ≡ false
@@ -46,7 +42,7 @@ pub end_exact : (answer : Bool) (p v : List ℕ) (mode : Mode) → is_star_and_l
     → IsTrue answer ↔ EndsAlike mode v (drop 1 p) → IsTrue answer ↔ Splits v p mode
 end_exact answer p v mode shape free exact =
     let one_component : (is_path mode ≡ false) ⊎ (has_slash v ≡ false) =
-    ⊎_elim (λ h. inl (not_true _ h)) (λ h. inr (not_true _ h)) (or_cases _ _ free) in (
+    ⊎_elim (λ h. inl (not-true _ h)) (λ h. inr (not-true _ h)) (or_cases _ _ free) in (
       λ yes. (let ends = exact.0 yes in star_literal_in p v mode shape one_component ends.fits ends.alike),
       λ s. (let out = star_literal_out p v mode shape s in exact.1 (record { fits = out.0; alike = out.1 })),
     )

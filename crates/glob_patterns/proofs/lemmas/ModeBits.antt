@@ -2,7 +2,7 @@
 use Rattle.std.proofs.Common.{◌≡◌, ℕ, Bool, true, false, not, ◌&&◌, refl, ap, ◌∙◌}
 use Rattle.std.specs.Prelude.{◌==◌, bit_and}
 use Rattle.std.proofs.lemmas.Bool.{and_parts}
-use Rattle.glob_patterns.specs.declared.pattern.mode.Mode.{Mode}
+use Rattle.glob_patterns.specs.declared.mode.Mode.{Mode}
 use Rattle.glob_patterns.specs.Patterns.{sum_of_bits, is_by_its_end, is_for_directories, is_negative, is_absolute}
 
 -- two answers are the same

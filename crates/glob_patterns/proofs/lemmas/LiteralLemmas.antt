@@ -1,7 +1,7 @@
 -- What a stretch without special bytes splits: the value has the same bytes there, up to case where the mode folds.
 use Rattle.std.proofs.Common.{◌≡◌, ◌↔◌, ◌⊎◌, inr, ⊎_elim, ℕ, zero, suc, ◌+◌, ◌-◌, ◌<◌, ◌≤◌, Bool, true, false, not, ◌==◌, List, ◌∷◌, length, get_or, take, drop, map, None, Some, refl, sym, ◌∙◌, ap, subst, arith, codes, nat_lt}
 use Rattle.std.specs.List.{list_any, position_or_len}
-use Rattle.std.proofs.lemmas.Bool.{and_parts, eq-eqb, ltb-false, cases_Bool, cases_eq, false≢true, false_from_ne_true}
+use Rattle.std.proofs.lemmas.Bool.{and_parts, eq-eqb, ltb-false, cases_Bool, cases_eq, false≢true, false_from_ne_true, not-true}
 use Rattle.std.proofs.lemmas.Bool.Decides.{Decides-eqb}
 use Rattle.std.proofs.lemmas.List.{get_or-map, ext_get_or, length-map, length-take, length-drop, get_or-take, get_or-drop}
 use Rattle.std.proofs.lemmas.List.Folds.{list_any_at, list_any_none}
@@ -60,22 +60,22 @@ literal_in mode p v (suc n) k e i j ke ij inside reach plain same all =
     (literal_in mode p v n (k + 1) e (i + 1) j (omega arith) (omega arith) inside reach (record { at = λ y low high. plain.at y (omega arith) high }) (record { at = λ x y low high sum. same.at x y (omega arith) high (omega arith) }) all)
 
 -- lists of one length are alike exactly where their bytes are
-pub alike_from : (mode : Mode) (xs ys : List ℕ) → length xs ≡ length ys → ((m : ℕ) → m < length xs → fold mode (get_or xs m 0) ≡ fold mode (get_or ys m 0)) → AreAlike mode xs ys
-alike_from mode xs ys long each =
+pub AreAlike-from : (mode : Mode) (xs ys : List ℕ) → length xs ≡ length ys → ((m : ℕ) → m < length xs → fold mode (get_or xs m 0) ≡ fold mode (get_or ys m 0)) → AreAlike mode xs ys
+AreAlike-from mode xs ys long each =
     let f : ℕ → ℕ = fold mode in
     ext_get_or 0 (map f xs) (map f ys) (length-map xs f ∙ long ∙ sym (length-map ys f))
     (λ m below. let inside : m < length xs = omega (arith, length-map xs f) in
     get_or-map f xs m 0 0 inside ∙ each m inside ∙ sym (get_or-map f ys m 0 0 (omega (arith, long))))
 
-alike_length : (mode : Mode) (xs ys : List ℕ) → AreAlike mode xs ys → length xs ≡ length ys
-alike_length mode xs ys same =
+AreAlike-length : (mode : Mode) (xs ys : List ℕ) → AreAlike mode xs ys → length xs ≡ length ys
+AreAlike-length mode xs ys same =
     let f : ℕ → ℕ = fold mode in
     sym (length-map xs f) ∙ ap (λ (zs : List ℕ). length zs) same ∙ length-map ys f
 
-pub alike_at : (mode : Mode) (xs ys : List ℕ) → AreAlike mode xs ys → (m : ℕ) → m < length xs → fold mode (get_or xs m 0) ≡ fold mode (get_or ys m 0)
-alike_at mode xs ys same m inside =
+pub AreAlike-at : (mode : Mode) (xs ys : List ℕ) → AreAlike mode xs ys → (m : ℕ) → m < length xs → fold mode (get_or xs m 0) ≡ fold mode (get_or ys m 0)
+AreAlike-at mode xs ys same m inside =
     let f : ℕ → ℕ = fold mode in
-    sym (get_or-map f xs m 0 0 inside) ∙ ap (λ (zs : List ℕ). get_or zs m 0) same ∙ get_or-map f ys m 0 0 (omega (arith, alike_length mode xs ys same))
+    sym (get_or-map f xs m 0 0 inside) ∙ ap (λ (zs : List ℕ). get_or zs m 0) same ∙ get_or-map f ys m 0 0 (omega (arith, AreAlike-length mode xs ys same))
 
 -- a text without special bytes is literal
 literal_everywhere : (p : List ℕ) → list_any is_special p ≡ false → IsLiteral p 0 (length p)
@@ -88,10 +88,10 @@ literal_splits p v mode none =
       λ s. (let out = literal_out mode p v (length p) 0 (length p) 0 (length p) (omega arith) (omega arith) (omega arith) (omega arith) plain s in
           let ends = end_out mode p v (length p) (length p) refl out.2 in
           let reach = out.0 in
-          alike_from mode v p (omega arith) (λ m inside. out.1.at m m (omega arith) (omega arith) refl)),
-      λ same. (let long = alike_length mode v p same in
+          AreAlike-from mode v p (omega arith) (λ m inside. out.1.at m m (omega arith) (omega arith) refl)),
+      λ same. (let long = AreAlike-length mode v p same in
           literal_in mode p v (length p) 0 (length p) 0 (length p) (omega arith) (omega arith) (omega arith) (omega arith) plain
-          (record { at = λ x y low high sum. let here : x ≡ y = omega arith in subst (λ (m : ℕ). fold mode (get_or v x 0) ≡ fold mode (get_or p m 0)) here (alike_at mode v p same x (omega arith)) })
+          (record { at = λ x y low high sum. let here : x ≡ y = omega arith in subst (λ (m : ℕ). fold mode (get_or v x 0) ≡ fold mode (get_or p m 0)) here (AreAlike-at mode v p same x (omega arith)) })
           (end_in mode p v (length p) (length p) refl (omega arith))),
     )
 
@@ -102,7 +102,7 @@ literal_front p v mode n inside plain s =
     let out = literal_out mode p v n 0 n 0 n (omega arith) (omega arith) inside (omega arith) plain s in
     let reach = out.0 in (
       reach,
-      alike_from mode (take n p) (take n v) (simp length-take (omega arith))
+      AreAlike-from mode (take n p) (take n v) (simp length-take (omega arith))
           (λ m below. let small : m < n = (let l = length-take n p in omega arith) in
           ap (fold mode) (get_or-take n p m 0 small) ∙ sym (out.1.at m m (omega arith) small refl) ∙ ap (fold mode) (sym (get_or-take n v m 0 small))),
     )
@@ -143,7 +143,7 @@ module _ (mode : Mode) (lit : List ℕ) (none : list_any is_special lit ≡ fals
       let ends = end_out mode (42 ∷ lit) v (length (42 ∷ lit)) (e + length lit) refl out.2 in
       let place : length v - length lit ≡ e = omega arith in (
         omega arith,
-        alike_from mode lit (drop (length v - length lit) v) (rw length-drop (omega arith))
+        AreAlike-from mode lit (drop (length v - length lit) v) (rw length-drop (omega arith))
             (λ m below. rw get_or-drop (sym (out.1.at (length v - length lit + m) (suc m) (omega arith) (omega arith) (omega arith)))),
       )
 
@@ -161,7 +161,7 @@ module _ (mode : Mode) (lit : List ℕ) (none : list_any is_special lit ≡ fals
       let place : x ≡ length v - length lit + m = omega arith in
       ap (λ (k : ℕ). fold mode (get_or v k 0)) place
       ∙ ap (fold mode) (sym (get_or-drop (length v - length lit) v m 0))
-      ∙ sym (alike_at mode lit (drop (length v - length lit) v) same m (omega arith))
+      ∙ sym (AreAlike-at mode lit (drop (length v - length lit) v) same m (omega arith))
 
   star_in : (v : List ℕ) → (is_path mode ≡ false) ⊎ (has_slash v ≡ false)
       → length lit ≤ length v → AreAlike mode lit (drop (length v - length lit) v) → Splits v (42 ∷ lit) mode
@@ -177,17 +177,13 @@ module _ (mode : Mode) (lit : List ℕ) (none : list_any is_special lit ≡ fals
       (λ plain. free_in mode (42 ∷ lit) v 0 1 0 (length v - length lit) (free_star plain) (omega arith) (omega arith) later)
       (cases_Bool (is_path mode))
 
-not_true : (b : Bool) → not b ≡ true → b ≡ false
-not_true true h = absurd (false≢true h)
-not_true false h = refl
-
 -- A star and a literal split only values that end in the literal, up to case where the mode folds.
 pub star_literal_out : (p v : List ℕ) (mode : Mode) → is_star_and_literal p ≡ true → Splits v p mode
     → (length (drop 1 p) ≤ length v) × AreAlike mode (drop 1 p) (drop (length v - length (drop 1 p)) v)
 star_literal_out p v mode shape s =
     let both = and_parts _ _ shape in
     let whole : p ≡ 42 ∷ drop 1 p = (starts_is Decides-eqb p (codes "*") _ refl).0 both.0 in
-    star_out mode (drop 1 p) (not_true _ both.1) v (subst (λ (q : List ℕ). Splits v q mode) whole s)
+    star_out mode (drop 1 p) (not-true _ both.1) v (subst (λ (q : List ℕ). Splits v q mode) whole s)
 
 -- They split all of them in plain mode, and in path mode those without slash.
 pub star_literal_in : (p v : List ℕ) (mode : Mode) → is_star_and_literal p ≡ true → (is_path mode ≡ false) ⊎ (has_slash v ≡ false)
@@ -195,7 +191,7 @@ pub star_literal_in : (p v : List ℕ) (mode : Mode) → is_star_and_literal p �
 star_literal_in p v mode shape open_or_bare fits same =
     let both = and_parts _ _ shape in
     let whole : p ≡ 42 ∷ drop 1 p = (starts_is Decides-eqb p (codes "*") _ refl).0 both.0 in
-    subst (λ (q : List ℕ). Splits v q mode) (sym whole) (star_in mode (drop 1 p) (not_true _ both.1) v open_or_bare fits same)
+    subst (λ (q : List ℕ). Splits v q mode) (sym whole) (star_in mode (drop 1 p) (not-true _ both.1) v open_or_bare fits same)
 
 -- where a text has no special byte by the place of the first, it has none at all
 pub literal_from_place : (p : List ℕ) → first_special p ≡ None → list_any is_special p ≡ false

@@ -5,23 +5,23 @@ use Rattle.std.specs.List.{starts_with, ends_with}
 use Rattle.std.proofs.lemmas.Bool.{cases_Bool, or_cases}
 use Rattle.std.proofs.lemmas.Bool.Decides.{Decides-eqb}
 use Rattle.std.proofs.lemmas.Slice.Eq.{starts_is, ends_is}
-use Rattle.glob_patterns.specs.declared.pattern.mode.Mode.{Mode}
+use Rattle.glob_patterns.specs.declared.mode.Mode.{Mode}
 use Rattle.glob_patterns.specs.Patterns.{HasReading, Reads, bits_of, first_special, is_blank, sign_of}
 use Rattle.glob_patterns.specs.Readings.{Reading, before_tail, lead_of, reading_after_lead, reading_after_sign, reading_of, reading_with, rest_after, tail_of}
 
 -- ---- a reading is that of the equation
 
-before_tail-append : (body tail : List ℕ) → tail ≡ tail_of (body ++ tail) → before_tail (body ++ tail) ≡ body
-before_tail-append body tail is =
-    let long : length (body ++ tail) - length (tail_of (body ++ tail)) ≡ length body =
-    ap (λ (t : List ℕ). length (body ++ tail) - length t) (sym is) ∙ omega (arith, length-append body tail) in
-    ap (λ n. take n (body ++ tail)) long ∙ take_at body tail (length body) refl
+before_tail-append : (text tail : List ℕ) → tail ≡ tail_of (text ++ tail) → before_tail (text ++ tail) ≡ text
+before_tail-append text tail is =
+    let long : length (text ++ tail) - length (tail_of (text ++ tail)) ≡ length text =
+    ap (λ (t : List ℕ). length (text ++ tail) - length t) (sym is) ∙ omega (arith, length-append text tail) in
+    ap (λ n. take n (text ++ tail)) long ∙ take_at text tail (length text) refl
 
-after_lead-is : (sign lead body tail : List ℕ) → tail ≡ tail_of (body ++ tail) → reading_after_lead sign lead (body ++ tail) ≡ reading_with sign lead body tail
+after_lead-is : (sign lead text tail : List ℕ) → tail ≡ tail_of (text ++ tail) → reading_after_lead sign lead (text ++ tail) ≡ reading_with sign lead text tail
 unfolding reading_after_lead
-after_lead-is sign lead body tail is =
-    ap (λ b. reading_with sign lead b (tail_of (body ++ tail))) (before_tail-append body tail is)
-    ∙ ap (λ t. reading_with sign lead body t) (sym is)
+after_lead-is sign lead text tail is =
+    ap (λ b. reading_with sign lead b (tail_of (text ++ tail))) (before_tail-append text tail is)
+    ∙ ap (λ t. reading_with sign lead text t) (sym is)
 
 after_sign-is : (sign lead inner : List ℕ) → is_blank (lead ++ inner) ≡ false → lead ≡ lead_of (lead ++ inner)
     → reading_after_sign sign (lead ++ inner) ≡ Some (reading_after_lead sign lead inner)
@@ -40,14 +40,14 @@ line-is may_alter line sign rest signed joined =
     ap (λ (l : List ℕ). rest_after l line) (sym signed) ∙ ap (rest_after sign) joined ∙ drop_at sign rest (length sign) refl in
     ap (λ l. reading_after_sign l (rest_after (sign_of may_alter line) line)) (sym signed) ∙ ap (reading_after_sign sign) behind
 
-pub reading_of-Reads : (may_alter : Bool) (line body : List ℕ) (flags : Mode) (place : Option ℕ) → Reads line may_alter body flags place → reading_of may_alter line ≡ Some (record { body = body; flags = flags; place = place })
-reading_of-Reads may_alter line body flags place r =
-    let bits : Mode = record { 0 = bits_of r.sign r.lead body r.tail } in
-    let flagged : bits ≡ flags = ap (λ (n : ℕ). let mode : Mode = record { 0 = n } in mode) (sym r.flagged) in
-    let reading : Mode → Option ℕ → Reading = λ m p. record { body = body; flags = m; place = p } in
-    line-is may_alter line r.sign (r.lead ++ (body ++ r.tail)) r.signed r.joined
-    ∙ after_sign-is r.sign r.lead (body ++ r.tail) r.not_blank r.leads
-    ∙ ap Some (after_lead-is r.sign r.lead body r.tail r.trails ∙ ap (λ m. reading m (first_special body)) flagged ∙ ap (reading flags) (sym r.placed))
+pub reading_of-Reads : (may_alter : Bool) (line text : List ℕ) (mode : Mode) (place : Option ℕ) → Reads line may_alter text mode place → reading_of may_alter line ≡ Some (record { text = text; mode = mode; place = place })
+reading_of-Reads may_alter line text mode place r =
+    let bits : Mode = record { 0 = bits_of r.sign r.lead text r.tail } in
+    let flagged : bits ≡ mode = ap (λ (n : ℕ). let mode : Mode = record { 0 = n } in mode) (sym r.bits) in
+    let reading : Mode → Option ℕ → Reading = λ m p. record { text = text; mode = m; place = p } in
+    line-is may_alter line r.sign (r.lead ++ (text ++ r.tail)) r.signed r.joined
+    ∙ after_sign-is r.sign r.lead (text ++ r.tail) r.not_blank r.leads
+    ∙ ap Some (after_lead-is r.sign r.lead text r.tail r.trails ∙ ap (λ m. reading m (first_special text)) flagged ∙ ap (reading mode) (sym r.placed))
 
 -- ---- the equation gives a reading
 
@@ -60,8 +60,8 @@ lead-rest rest =
     (λ none. rw none refl)
     (cases_Bool (starts_with nat_eq rest (codes "/")))
 
-body-tail : (inner : List ℕ) → inner ≡ before_tail inner ++ tail_of inner
-body-tail inner =
+text-tail : (inner : List ℕ) → inner ≡ before_tail inner ++ tail_of inner
+text-tail inner =
     ⊎_elim
     (λ yes. let end = (ends_is Decides-eqb inner (codes "/") (ends_with nat_eq inner (codes "/")) refl).0 yes in
     rw yes end)
@@ -94,9 +94,9 @@ sign-rest true line =
     (cases_Bool (begins_with (codes "!") line))
 
 Reads-parts : (may_alter : Bool) (line sign lead inner : List ℕ) → sign ≡ sign_of may_alter line → line ≡ sign ++ (lead ++ inner) → is_blank (lead ++ inner) ≡ false → lead ≡ lead_of (lead ++ inner)
-    → let reading = reading_with sign lead (before_tail inner) (tail_of inner) in Reads line may_alter reading.body reading.flags reading.place
+    → let reading = reading_with sign lead (before_tail inner) (tail_of inner) in Reads line may_alter reading.text reading.mode reading.place
 Reads-parts may_alter line sign lead inner signed joined some leads =
-    let parts : inner ≡ before_tail inner ++ tail_of inner = body-tail inner in
+    let parts : inner ≡ before_tail inner ++ tail_of inner = text-tail inner in
     record {
       sign = sign;
       lead = lead;
@@ -106,7 +106,7 @@ Reads-parts may_alter line sign lead inner signed joined some leads =
       not_blank = subst (λ l. is_blank (lead ++ l) ≡ false) parts some;
       leads = subst (λ l. lead ≡ lead_of (lead ++ l)) parts leads;
       trails = ap tail_of parts;
-      flagged = refl;
+      bits = refl;
       placed = refl;
     }
 
@@ -118,11 +118,11 @@ blank-none : (may_alter : Bool) (line : List ℕ) → is_blank (rest_of may_alte
 unfolding reading_of reading_after_sign
 blank-none may_alter line blank = rw blank refl
 
-record IsReading (may_alter : Bool) (line : List ℕ) (reading : Reading) : Type 0 where
+record IsGivenReading (may_alter : Bool) (line : List ℕ) (reading : Reading) : Type 0 where
   is : reading_of may_alter line ≡ Some reading
-  reads : Reads line may_alter reading.body reading.flags reading.place
+  reads : Reads line may_alter reading.text reading.mode reading.place
 
-some_reading : (may_alter : Bool) (line : List ℕ) → is_blank (rest_of may_alter line) ≡ false → (reading : Reading) × IsReading may_alter line reading
+some_reading : (may_alter : Bool) (line : List ℕ) → is_blank (rest_of may_alter line) ≡ false → (reading : Reading) × IsGivenReading may_alter line reading
 some_reading may_alter line some =
     let sign = sign_of may_alter line in
     let rest = rest_of may_alter line in
@@ -130,29 +130,29 @@ some_reading may_alter line some =
     let inner = rest_after lead rest in
     let parts : rest ≡ lead ++ inner = lead-rest rest in
     let reading : Reading = reading_with sign lead (before_tail inner) (tail_of inner) in
-    let reads : Reads line may_alter reading.body reading.flags reading.place =
+    let reads : Reads line may_alter reading.text reading.mode reading.place =
     Reads-parts may_alter line sign lead inner refl (sign-rest may_alter line ∙ ap (λ l. sign ++ l) parts) (subst (λ l. is_blank l ≡ false) parts some) (ap lead_of parts) in
-    (reading, record { is = reading_of-Reads may_alter line reading.body reading.flags reading.place reads; reads = reads })
+    (reading, record { is = reading_of-Reads may_alter line reading.text reading.mode reading.place reads; reads = reads })
 
-pub Reads-reading_of : (may_alter : Bool) (line : List ℕ) (reading : Reading) → reading_of may_alter line ≡ Some reading → Reads line may_alter reading.body reading.flags reading.place
+pub Reads-reading_of : (may_alter : Bool) (line : List ℕ) (reading : Reading) → reading_of may_alter line ≡ Some reading → Reads line may_alter reading.text reading.mode reading.place
 Reads-reading_of may_alter line reading is =
     ⊎_elim
     (λ blank. let none : None ≡ Some reading = sym (blank-none may_alter line blank) ∙ is in absurd (cc))
     (λ some. let found = some_reading may_alter line some in
     let same : found.0 ≡ reading = let both : Some found.0 ≡ Some reading = sym found.1.is ∙ is in cc in
-    subst (λ (r : Reading). Reads line may_alter r.body r.flags r.place) same found.1.reads)
+    subst (λ (r : Reading). Reads line may_alter r.text r.mode r.place) same found.1.reads)
     (cases_Bool (is_blank (rest_of may_alter line)))
 
 -- ---- no reading
 
-pub none-reading_of : (may_alter : Bool) (line : List ℕ) → ¬ HasReading line may_alter → reading_of may_alter line ≡ None
-none-reading_of may_alter line none =
+pub reading_of-none : (may_alter : Bool) (line : List ℕ) → ¬ HasReading line may_alter → reading_of may_alter line ≡ None
+reading_of-none may_alter line none =
     ⊎_elim
     (blank-none may_alter line)
     (λ some. let found = some_reading may_alter line some in
-    absurd (none (record { body = found.0.body; flags = found.0.flags; place = found.0.place; read = found.1.reads })))
+    absurd (none (record { text = found.0.text; mode = found.0.mode; place = found.0.place; read = found.1.reads })))
     (cases_Bool (is_blank (rest_of may_alter line)))
 
 pub HasReading-none : (may_alter : Bool) (line : List ℕ) → reading_of may_alter line ≡ None → ¬ HasReading line may_alter
 HasReading-none may_alter line none has =
-    let both : None ≡ Some _ = sym none ∙ reading_of-Reads may_alter line has.body has.flags has.place has.read in absurd (cc)
+    let both : None ≡ Some _ = sym none ∙ reading_of-Reads may_alter line has.text has.mode has.place has.read in absurd (cc)

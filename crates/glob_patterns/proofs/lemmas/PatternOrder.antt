@@ -4,7 +4,7 @@ use Rattle.std.specs.Cmp.Lexicographic.{pointwise}
 use Rattle.std.specs.Option.{option_eq}
 use Rattle.std.proofs.lemmas.Bool.{and_parts, and_from, eqb-true, eq-eqb}
 use Rattle.std.proofs.lemmas.Slice.Eq.{bytes_eq-Decides}
-use Rattle.glob_patterns.specs.declared.pattern.mode.Mode.{Mode}
+use Rattle.glob_patterns.specs.declared.mode.Mode.{Mode}
 use Rattle.glob_patterns.specs.declared.pattern.Pattern.{Pattern}
 use Rattle.glob_patterns.specs.PatternParts.{text_of, mode_of, place_of, SamePattern}
 

@@ -1,28 +1,14 @@
-//! Whether a value matches, and the comparisons that decide it without the matcher.
+//! The comparisons that decide without the matcher whether a value matches.
 ghost use Rattle.std.specs.Prelude.{◌≡◌, ◌↔◌, ◌||◌, ◌+◌, ◌*◌, ◌≤◌, not, IsTrue, length};
 ghost use Rattle.glob_matcher.specs.Bytes.{has_slash, is_path};
 ghost use Rattle.glob_patterns.specs.Folding.{AreAlike, EndsAlike};
 ghost use Rattle.glob_patterns.specs.Private.Fronts.{BeginsAlike};
 
-use super::Pattern;
 use crate::byte_tests::has_slash;
 use bitflags::Flags;
 use glob_matcher::wildmatch;
 use glob_matcher::wildmatch::Counts;
 use std::sync::ledger::Ledger;
-
-impl Pattern {
-    ghost use Rattle.glob_matcher.specs.Matching.{Splits};
-    ghost use Rattle.glob_patterns.specs.PatternParts.{text_of};
-
-    /// Whether the text matches the value. What the line said of negation, of directories and of a leading slash
-    /// doesn't count. It takes no memory. The rule is "matching a value" in `docs/PATTERNS.md`.
-    pub fn matches(&self, value: &[u8], mode: wildmatch::Mode) -> bool
-        ensures { IsTrue result ↔ Splits value.now (text_of self.now) mode }
-    {
-        self.view().matches(value, mode)
-    }
-}
 
 /// Whether a star may take all bytes of the value: in plain mode, and where the value has no slash. Each byte of the value
 /// counts as a look.

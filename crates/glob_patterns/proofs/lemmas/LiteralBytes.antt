@@ -9,11 +9,10 @@ use Rattle.glob_matcher.specs.Tokens.{Token, Byte, Any, OneOf, Free, Local, Dirs
 use Rattle.glob_matcher.specs.Matching.{Splits, SplitsFrom}
 use Rattle.glob_matcher.proofs.lemmas.cutting.CutLemmas.{step_out, one_out}
 use Rattle.glob_matcher.proofs.lemmas.reading.Existence.{TokenAt-past}
-use Rattle.glob_matcher.proofs.lemmas.reading.SetLemmas.{HasByte-unique}
 
 module _ (mode : Mode) (p v : List ℕ) (i b : ℕ) (clean : IsUnescapedUpTo p i) (h : HasByte p i b) (plain : is_joining b ≡ false) where
   not_joining : (c : ℕ) → HasByte p i c → is_joining c ≡ true → ⊥
-  not_joining c other joins = false≢true (sym plain ∙ (ap is_joining (HasByte-unique p i b c h other) ∙ joins))
+  not_joining c other joins = false≢true (sym plain ∙ (ap is_joining (sym h.is ∙ other.is) ∙ joins))
 
   at_place : (c m : ℕ) → m ≡ i → HasByte p m c → HasByte p i c
   at_place c m same other = subst (λ (n : ℕ). HasByte p n c) same other
@@ -23,7 +22,8 @@ module _ (mode : Mode) (p v : List ℕ) (i b : ℕ) (clean : IsUnescapedUpTo p i
   covers j e k (Byte c) low past inside (inl x) all = absurd (clean.no_escape j low x.0.escape)
   covers j e k (Byte c) low past inside (inr x) all =
       let same : j ≡ i = omega (arith, x.2) in
-      let byte : b ≡ c = HasByte-unique p i b c h (at_place c j same x.0) in
+      let there = at_place c j same x.0 in
+      let byte : b ≡ c = sym h.is ∙ there.is in
       let one = one_out mode p v j e k (Byte c) tt (inr x) all in
       record { place = k; inside = one.0; alike = one.1 ∙ ap (fold mode) (sym byte) }
   covers j e k Any low past inside x all = absurd (not_joining question_mark (at_place question_mark j (omega (arith, x.1)) x.0) refl)

@@ -1,0 +1,10 @@
+pub mod ByteSearches
+pub mod LiteralLemmas
+pub mod LiteralBytes
+pub mod LiteralEnds
+pub mod ModeBits
+pub mod PatternOrder
+pub mod ReadingEquations
+pub mod ReadingLemmas
+pub mod Shortcuts
+pub mod ShownLines
