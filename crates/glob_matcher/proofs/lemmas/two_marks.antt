@@ -1,5 +1,9 @@
 pub mod Components
 pub mod States
+pub mod TakenBytes
+pub mod MetStars
+pub mod MovedMarks
+pub mod StuckMarks
 pub mod Prices
 pub mod Budget
 pub mod Scans

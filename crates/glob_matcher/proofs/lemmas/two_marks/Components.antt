@@ -93,32 +93,6 @@ separates_by-slash path Nothing is apart = cc
 pub separates-slash : (mode : Mode) (t : Token) → IsTrue (is_path mode) → separates mode t ≡ true → t ≡ Byte slash
 separates-slash mode t path apart = separates_by-slash (is_path mode) t path apart
 
-next-here : (mode : Mode) (v : List ℕ) (k : ℕ) → k < length v
-    → next_component mode v k ≡ k + (if ends mode (get_or v k 0) then 1 else suc (reach mode (drop (suc k) v)))
-unfolding next_component reach
-next-here mode v k inside = ap (λ (bs : List ℕ). k + reach mode bs) (drop-cons v k 0 inside)
-
-pub next-end : (mode : Mode) (v : List ℕ) (k : ℕ) → k < length v → ends mode (get_or v k 0) ≡ true → next_component mode v k ≡ k + 1
-next-end mode v k inside end =
-    next-here mode v k inside ∙ ap (λ (b : Bool). k + (if b then 1 else suc (reach mode (drop (suc k) v)))) end
-
-pub next-outside : (mode : Mode) (v : List ℕ) (k : ℕ) → length v ≤ k → next_component mode v k ≡ k + 1
-unfolding next_component reach
-next-outside mode v k past = ap (λ (bs : List ℕ). k + reach mode bs) (drop_of_length-le v past)
-
-next-inner_suc : (mode : Mode) (v : List ℕ) (k : ℕ) → k < length v → ends mode (get_or v k 0) ≡ false
-    → next_component mode v (suc k) ≡ next_component mode v k
-unfolding next_component
-next-inner_suc mode v k inside within =
-    let here : next_component mode v k ≡ k + suc (reach mode (drop (suc k) v)) =
-    next-here mode v k inside ∙ ap (λ (b : Bool). k + (if b then 1 else suc (reach mode (drop (suc k) v)))) within in
-    let there : next_component mode v (suc k) ≡ suc k + reach mode (drop (suc k) v) = refl in
-    omega arith
-
-pub next-inner : (mode : Mode) (v : List ℕ) (k : ℕ) → k < length v → ends mode (get_or v k 0) ≡ false
-    → next_component mode v (k + 1) ≡ next_component mode v k
-next-inner mode v k inside within = rw add-one (next-inner_suc mode v k inside within)
-
 reach-some : (mode : Mode) (bs : List ℕ) → 1 ≤ reach mode bs
 unfolding reach
 reach-some mode [] = omega arith
@@ -126,10 +100,6 @@ reach-some mode (b ∷ bs) = cases (ends mode b) where
   cases : (e : Bool) → 1 ≤ (if e then 1 else suc (reach mode bs))
   cases true = omega arith
   cases false = omega arith
-
-pub next-above : (mode : Mode) (v : List ℕ) (k : ℕ) → k < next_component mode v k
-unfolding next_component
-next-above mode v k = let some : 1 ≤ reach mode (drop k v) = reach-some mode (drop k v) in omega arith
 
 reach-high : (mode : Mode) (bs : List ℕ) → reach mode bs ≤ suc (length bs)
 unfolding reach
@@ -139,54 +109,85 @@ reach-high mode (b ∷ bs) = cases (ends mode b) (reach-high mode bs) where
   cases true h = omega arith
   cases false h = omega arith
 
-pub next-high : (mode : Mode) (v : List ℕ) (k : ℕ) → k ≤ length v → next_component mode v k ≤ length v + 1
-unfolding next_component
-next-high mode v k inside =
-    let high : reach mode (drop k v) ≤ suc (length (drop k v)) = reach-high mode (drop k v) in
-    let long : length (drop k v) ≡ length v - k = length-drop k v in
-    omega arith
+module _ (mode : Mode) (v : List ℕ) where
+  next-here : (k : ℕ) → k < length v
+      → next_component mode v k ≡ k + (if ends mode (get_or v k 0) then 1 else suc (reach mode (drop (suc k) v)))
+  unfolding next_component reach
+  next-here k inside = ap (λ (bs : List ℕ). k + reach mode bs) (drop-cons v k 0 inside)
 
-next-mono_one : (mode : Mode) (v : List ℕ) (k : ℕ) → next_component mode v k ≤ next_component mode v (k + 1)
-next-mono_one mode v k = elim (cases_lt k (length v)) [
-  | inl inside ↦ elim (ends-or_not mode (get_or v k 0)) [
-    | inl end ↦
-        let here : next_component mode v k ≡ k + 1 = next-end mode v k inside end in
-        let past : k + 1 < next_component mode v (k + 1) = next-above mode v (k + 1) in omega arith
-    | inr within ↦ let same : next_component mode v (k + 1) ≡ next_component mode v k = next-inner mode v k inside within in omega arith
+  pub next-end : (k : ℕ) → k < length v → ends mode (get_or v k 0) ≡ true → next_component mode v k ≡ k + 1
+  next-end k inside end =
+      next-here k inside ∙ ap (λ (b : Bool). k + (if b then 1 else suc (reach mode (drop (suc k) v)))) end
+
+  pub next-outside : (k : ℕ) → length v ≤ k → next_component mode v k ≡ k + 1
+  unfolding next_component reach
+  next-outside k past = ap (λ (bs : List ℕ). k + reach mode bs) (drop_of_length-le v past)
+
+  next-inner_suc : (k : ℕ) → k < length v → ends mode (get_or v k 0) ≡ false
+      → next_component mode v (suc k) ≡ next_component mode v k
+  unfolding next_component
+  next-inner_suc k inside within =
+      let here : next_component mode v k ≡ k + suc (reach mode (drop (suc k) v)) =
+      next-here k inside ∙ ap (λ (b : Bool). k + (if b then 1 else suc (reach mode (drop (suc k) v)))) within in
+      let there : next_component mode v (suc k) ≡ suc k + reach mode (drop (suc k) v) = refl in
+      omega arith
+
+  pub next-inner : (k : ℕ) → k < length v → ends mode (get_or v k 0) ≡ false
+      → next_component mode v (k + 1) ≡ next_component mode v k
+  next-inner k inside within = rw add-one (next-inner_suc k inside within)
+
+  pub next-above : (k : ℕ) → k < next_component mode v k
+  unfolding next_component
+  next-above k = let some : 1 ≤ reach mode (drop k v) = reach-some mode (drop k v) in omega arith
+
+  pub next-high : (k : ℕ) → k ≤ length v → next_component mode v k ≤ length v + 1
+  unfolding next_component
+  next-high k inside =
+      let high : reach mode (drop k v) ≤ suc (length (drop k v)) = reach-high mode (drop k v) in
+      let long : length (drop k v) ≡ length v - k = length-drop k v in
+      omega arith
+
+  next-mono_one : (k : ℕ) → next_component mode v k ≤ next_component mode v (k + 1)
+  next-mono_one k = elim (cases_lt k (length v)) [
+    | inl inside ↦ elim (ends-or_not mode (get_or v k 0)) [
+      | inl end ↦
+          let here : next_component mode v k ≡ k + 1 = next-end k inside end in
+          let past : k + 1 < next_component mode v (k + 1) = next-above (k + 1) in omega arith
+      | inr within ↦ let same : next_component mode v (k + 1) ≡ next_component mode v k = next-inner k inside within in omega arith
+    ]
+    | inr outside ↦
+        let here : next_component mode v k ≡ k + 1 = next-outside k outside in
+        let past : k + 1 < next_component mode v (k + 1) = next-above (k + 1) in omega arith
   ]
-  | inr outside ↦
-      let here : next_component mode v k ≡ k + 1 = next-outside mode v k outside in
-      let past : k + 1 < next_component mode v (k + 1) = next-above mode v (k + 1) in omega arith
-]
 
-next-mono_by : (mode : Mode) (v : List ℕ) (k d : ℕ) → next_component mode v k ≤ next_component mode v (k + d)
-next-mono_by mode v k zero = let same : next_component mode v k ≡ next_component mode v (k + 0) = ap (next_component mode v) (sym (add-zero k)) in omega arith
-next-mono_by mode v k (suc d) =
-    let so_far : next_component mode v k ≤ next_component mode v (k + d) = next-mono_by mode v k d in
-    let one : next_component mode v (k + d) ≤ next_component mode v (k + d + 1) = next-mono_one mode v (k + d) in
-    let place : k + d + 1 ≡ k + suc d = omega arith in
-    let same : next_component mode v (k + d + 1) ≡ next_component mode v (k + suc d) = ap (next_component mode v) place in
-    omega arith
+  next-mono_by : (k d : ℕ) → next_component mode v k ≤ next_component mode v (k + d)
+  next-mono_by k zero = let same : next_component mode v k ≡ next_component mode v (k + 0) = ap (next_component mode v) (sym (add-zero k)) in omega arith
+  next-mono_by k (suc d) =
+      let so_far : next_component mode v k ≤ next_component mode v (k + d) = next-mono_by k d in
+      let one : next_component mode v (k + d) ≤ next_component mode v (k + d + 1) = next-mono_one (k + d) in
+      let place : k + d + 1 ≡ k + suc d = omega arith in
+      let same : next_component mode v (k + d + 1) ≡ next_component mode v (k + suc d) = ap (next_component mode v) place in
+      omega arith
 
--- A later place is before no earlier component.
-pub next-mono : (mode : Mode) (v : List ℕ) (k e : ℕ) → k ≤ e → next_component mode v k ≤ next_component mode v e
-next-mono mode v k e low =
-    let so_far : next_component mode v k ≤ next_component mode v (k + (e - k)) = next-mono_by mode v k (e - k) in
-    let place : k + (e - k) ≡ e = omega arith in
-    let same : next_component mode v (k + (e - k)) ≡ next_component mode v e = ap (next_component mode v) place in
-    omega arith
+  -- A later place is before no earlier component.
+  pub next-mono : (k e : ℕ) → k ≤ e → next_component mode v k ≤ next_component mode v e
+  next-mono k e low =
+      let so_far : next_component mode v k ≤ next_component mode v (k + (e - k)) = next-mono_by k (e - k) in
+      let place : k + (e - k) ≡ e = omega arith in
+      let same : next_component mode v (k + (e - k)) ≡ next_component mode v e = ap (next_component mode v) place in
+      omega arith
 
--- What ends a component at a later place ends this one or a later one.
-pub next-before_end : (mode : Mode) (v : List ℕ) (k e : ℕ) → k ≤ e → e < length v → ends mode (get_or v e 0) ≡ true
-    → next_component mode v k ≤ e + 1
-next-before_end mode v k e low inside end =
-    let so_far : next_component mode v k ≤ next_component mode v e = next-mono mode v k e low in
-    let here : next_component mode v e ≡ e + 1 = next-end mode v e inside end in
-    omega arith
+  -- What ends a component at a later place ends this one or a later one.
+  pub next-before_end : (k e : ℕ) → k ≤ e → e < length v → ends mode (get_or v e 0) ≡ true
+      → next_component mode v k ≤ e + 1
+  next-before_end k e low inside end =
+      let so_far : next_component mode v k ≤ next_component mode v e = next-mono k e low in
+      let here : next_component mode v e ≡ e + 1 = next-end e inside end in
+      omega arith
 
--- in plain mode each byte is a component
-pub next-plain : (mode : Mode) (v : List ℕ) (k : ℕ) → is_path mode ≡ false → next_component mode v k ≡ k + 1
-next-plain mode v k plain = elim (cases_lt k (length v)) [
-  | inl inside ↦ next-end mode v k inside (ends-plain mode (get_or v k 0) plain)
-  | inr outside ↦ next-outside mode v k outside
-]
+  -- in plain mode each byte is a component
+  pub next-plain : (k : ℕ) → is_path mode ≡ false → next_component mode v k ≡ k + 1
+  next-plain k plain = elim (cases_lt k (length v)) [
+    | inl inside ↦ next-end k inside (ends-plain mode (get_or v k 0) plain)
+    | inr outside ↦ next-outside k outside
+  ]

@@ -4,7 +4,7 @@ use Rattle.glob_matcher.specs.Tokens.{Byte}
 use Rattle.glob_matcher.specs.Private.Reader.{Fits}
 use Rattle.glob_matcher.specs.Private.Prices.{amount, amount_of}
 use Rattle.glob_matcher.specs.Bytes.{StandsForItself}
-use Rattle.glob_matcher.proofs.lemmas.two_marks.States.{inner_of, literal_token, misses_byte, stands_on}
+use Rattle.glob_matcher.proofs.lemmas.two_marks.TakenBytes.{inner_of, literal_token, misses_byte, stands_on}
 use Rattle.glob_matcher.proofs.lemmas.two_marks.Prices.{amount-mono, amount-same, amount-sum, Takes-both, Takes-on, Takes-within}
 use Rattle.glob_matcher.proofs.lemmas.two_marks.Budget.{allows_less, allows_on, test_of_token}
 use Rattle.glob_matcher.proofs.lemmas.two_marks.Scans.{byte_of}
@@ -58,9 +58,8 @@ bytes-preserved g c =
           let now = c.bytes.place + 1 - c.args.state.place in
           let price : amount measure now (8 * now) ≤ amount measure passed (8 * passed) + amount measure 1 (8 * (c.bytes.place + 1 - c.bytes.place)) =
           amount-sum measure passed (8 * passed) 1 (8 * (c.bytes.place + 1 - c.bytes.place)) (omega (arith, c.bytes.invariant.low)) (omega (arith, c.bytes.invariant.low)) in
-          allows_on {r = s + amount measure now (8 * now)} token refl (omega arith) fits.0 fits.1
-          (inner_of m.mode m.pattern m.value c.bytes.place c.bytes.at c.args.state.crossing c.args.state.local
-          token.token c.bytes.invariant.stands.local fits.1 (λ is. c.if-byte-eq47.false (same ∙ byte_of is)))
+          allows_on {after = s + amount measure now (8 * now)} token refl (omega arith) fits.0 fits.1
+          (inner_of token.token c.bytes.invariant.stands fits.1 (λ is. c.if-byte-eq47.false (same ∙ byte_of is)))
           (c.bytes.invariant.allows measure s n a);
       low = omega (arith, c.bytes.invariant.low);
       count =

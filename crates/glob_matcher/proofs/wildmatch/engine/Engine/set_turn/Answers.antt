@@ -2,7 +2,8 @@ use Rattle.std.proofs.Common.{◌≡◌, true, inr, length, refl, arith}
 use Rattle.glob_matcher.specs.declared.wildmatch.tokens.TokenKind.TheVariants as kind
 use Rattle.glob_matcher.specs.Tokens.{OneOf, Nothing}
 use Rattle.glob_matcher.specs.Private.Reader.{IsToken}
-use Rattle.glob_matcher.proofs.lemmas.two_marks.States.{inner_of, misses_byte, nothing_met, stands_on}
+use Rattle.glob_matcher.proofs.lemmas.two_marks.States.{nothing_met}
+use Rattle.glob_matcher.proofs.lemmas.two_marks.TakenBytes.{inner_of, misses_byte, stands_on}
 use Rattle.glob_matcher.proofs.lemmas.two_marks.Prices.{Takes-within}
 use Rattle.glob_matcher.proofs.lemmas.two_marks.Turns.{set_looks}
 use Rattle.glob_matcher.proofs.lemmas.two_marks.Budget.{allows_on, allows_test, test_of_token}
@@ -65,7 +66,6 @@ returns g c =
       allows = λ measure s n low a.
           allows_on x refl
           (Takes-within measure s 0 1 low (set_looks (omega (arith, found.past)) paid) (omega arith) (omega (arith, found.past))) fits.0 fits.1
-          (inner_of m.mode m.pattern m.value c.args.state.place c.args.state.at c.args.state.crossing c.args.state.local x.token
-          c.requires.stands.local fits.1 (λ is. cc)) a;
+          (inner_of x.token c.requires.stands fits.1 (λ is. cc)) a;
       progress = omega (arith, paid.steps);
     }

@@ -1,7 +1,7 @@
 use Rattle.std.proofs.Common.{◌≡◌, ◌<◌, ℕ, length, get_or, false, true, ap, refl, sym, subst, arith}
 use Rattle.glob_matcher.specs.Tokens.{Byte}
 use Rattle.glob_matcher.specs.Private.Reader.{Fits}
-use Rattle.glob_matcher.proofs.lemmas.two_marks.States.{literal_token, misses_byte, stands_past_slash}
+use Rattle.glob_matcher.proofs.lemmas.two_marks.TakenBytes.{literal_token, misses_byte, stands_past_slash}
 use Rattle.glob_matcher.proofs.lemmas.two_marks.Prices.{Takes-within}
 use Rattle.glob_matcher.proofs.lemmas.two_marks.Budget.{allows_past_slash, test_of_token}
 use Rattle.glob_matcher.proofs.lemmas.two_marks.Scans.{slash_is_itself}
