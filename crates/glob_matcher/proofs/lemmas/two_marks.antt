@@ -6,6 +6,9 @@ pub mod MovedMarks
 pub mod StuckMarks
 pub mod Prices
 pub mod Budget
+pub mod TakenByteCosts
+pub mod MetStarCosts
+pub mod MovedMarkCosts
 pub mod Scans
 pub mod Turns
 pub mod Texts

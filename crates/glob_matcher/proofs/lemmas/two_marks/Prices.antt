@@ -180,6 +180,14 @@ left-times_mono m v k e low = mul-le-mul_left m (omega (arith, left-is v k, left
 pub left-times_less : (m : ℕ) (v : List ℕ) (k e : ℕ) → k ≤ length v → k < e → m * left v e + m ≤ m * left v k
 left-times_less m v k e inside past = omega (arith, left-times_next m v k inside, left-times_mono m v (k + 1) e (omega arith))
 
+-- the moves over the places from one to another
+pub moves_between : (measure : Measure) (v : List ℕ) (k e : ℕ) → k ≤ length v + 1 → e ≤ length v + 1
+    → move measure * left v k + move measure * k ≡ move measure * left v e + move measure * e
+moves_between measure v k e low high =
+    let sum : left v k + k ≡ left v e + e = omega (arith, left-is v k, left-is v e) in
+    let times : move measure * (left v k + k) ≡ move measure * (left v e + e) = ap (λ (y : ℕ). move measure * y) sum in
+    omega arith
+
 onward-mono : (mode : Mode) (v : List ℕ) (apart : Bool) (k e : ℕ) → k ≤ e → onward mode v apart k ≤ onward mode v apart e
 unfolding onward
 onward-mono mode v true k e low = next-mono mode v k e low

@@ -27,7 +27,9 @@ use Rattle.glob_matcher.proofs.lemmas.two_marks.States.{end_missed, mark_of, mar
 use Rattle.glob_matcher.proofs.lemmas.two_marks.TakenBytes.{inner_of, literal_token, misses_byte, stands_on, stands_past_slash}
 use Rattle.glob_matcher.proofs.lemmas.two_marks.MovedMarks.{stands_free_moved, stands_local_moved}
 use Rattle.glob_matcher.proofs.lemmas.two_marks.StuckMarks.{left_without}
-use Rattle.glob_matcher.proofs.lemmas.two_marks.Budget.{allows_free_moved, allows_less, allows_local_moved, allows_missed, allows_on, allows_past_slash, left_missed}
+use Rattle.glob_matcher.proofs.lemmas.two_marks.Budget.{allows_less, allows_missed}
+use Rattle.glob_matcher.proofs.lemmas.two_marks.TakenByteCosts.{allows_on, allows_past_slash}
+use Rattle.glob_matcher.proofs.lemmas.two_marks.MovedMarkCosts.{allows_free_moved, allows_local_moved, left_missed}
 use Rattle.glob_matcher.proofs.lemmas.two_marks.Prices.{amount-mono, move-some, Takes-on}
 
 fold-exact : (mode : Mode) (b : ℕ) → folds mode ≡ false → fold mode b ≡ b

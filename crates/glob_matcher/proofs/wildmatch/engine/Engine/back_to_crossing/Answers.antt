@@ -7,7 +7,8 @@ use Rattle.glob_matcher.proofs.lemmas.two_marks.States.{IsLeft-crossing, Stands-
 use Rattle.glob_matcher.proofs.lemmas.two_marks.MovedMarks.{stands_dirs_moved}
 use Rattle.glob_matcher.proofs.lemmas.two_marks.StuckMarks.{dirs_stuck, unmet_left}
 use Rattle.glob_matcher.proofs.lemmas.two_marks.Prices.{moves-price}
-use Rattle.glob_matcher.proofs.lemmas.two_marks.Budget.{Allows-places, AllowsLeft-crossing, allows_left, allows_less, allows_dirs_moved, dirs_stuck_counts}
+use Rattle.glob_matcher.proofs.lemmas.two_marks.Budget.{Allows-places, AllowsLeft-crossing, allows_left, allows_less}
+use Rattle.glob_matcher.proofs.lemmas.two_marks.MovedMarkCosts.{allows_dirs_moved, dirs_stuck_counts}
 use Rattle.glob_matcher.proofs.wildmatch.engine.Engine.back_to_crossing.Goals as goal
 
 pub returns-in-Unmet : goal.returns-in-Unmet

@@ -3,7 +3,8 @@ use Rattle.glob_matcher.proofs.lemmas.two_marks.States.{Stands-places}
 use Rattle.glob_matcher.proofs.lemmas.two_marks.MovedMarks.{stands_free_moved}
 use Rattle.glob_matcher.proofs.lemmas.two_marks.StuckMarks.{free_stuck}
 use Rattle.glob_matcher.proofs.lemmas.two_marks.Prices.{amount-same, move-price, scan-price, Takes-both}
-use Rattle.glob_matcher.proofs.lemmas.two_marks.Budget.{Allows-places, allows_free_moved, allows_less, free_stuck_counts}
+use Rattle.glob_matcher.proofs.lemmas.two_marks.Budget.{Allows-places, allows_less}
+use Rattle.glob_matcher.proofs.lemmas.two_marks.MovedMarkCosts.{allows_free_moved, free_stuck_counts}
 use Rattle.glob_matcher.proofs.lemmas.two_marks.Scans.{stands_free_skipped, allows_free_skipped, free_found, free_found_counts}
 use Rattle.glob_matcher.proofs.wildmatch.engine.Engine.back_to_free.Goals as goal
 

@@ -2,7 +2,8 @@ use Rattle.std.proofs.Common.{◌+◌, ◌-◌, ◌*◌, ℕ, inr, ap, refl, ari
 use Rattle.glob_matcher.proofs.lemmas.two_marks.States.{Stands-places, miss_of}
 use Rattle.glob_matcher.proofs.lemmas.two_marks.StuckMarks.{left_stuck, left_without}
 use Rattle.glob_matcher.proofs.lemmas.two_marks.Prices.{amount-same, move-over, move-price, scan-price, Takes-both}
-use Rattle.glob_matcher.proofs.lemmas.two_marks.Budget.{Allows-places, allows_less, allows_missed, left_less, left_missed, left_stuck_counts}
+use Rattle.glob_matcher.proofs.lemmas.two_marks.Budget.{Allows-places, allows_less, allows_missed, left_less}
+use Rattle.glob_matcher.proofs.lemmas.two_marks.MovedMarkCosts.{left_missed, left_stuck_counts}
 use Rattle.glob_matcher.proofs.lemmas.two_marks.Scans.{IsLocalPast, local_found, local_found_counts, local_scanned, local_scanned_counts, none_of}
 use Rattle.glob_matcher.proofs.wildmatch.engine.Engine.back_to_local.Goals as goal
 

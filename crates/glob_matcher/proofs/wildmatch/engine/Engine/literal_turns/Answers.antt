@@ -6,7 +6,8 @@ use Rattle.glob_matcher.specs.Private.Prices.{amount, amount_of}
 use Rattle.glob_matcher.specs.Bytes.{StandsForItself}
 use Rattle.glob_matcher.proofs.lemmas.two_marks.TakenBytes.{inner_of, literal_token, misses_byte, stands_on}
 use Rattle.glob_matcher.proofs.lemmas.two_marks.Prices.{amount-mono, amount-same, amount-sum, Takes-both, Takes-on, Takes-within}
-use Rattle.glob_matcher.proofs.lemmas.two_marks.Budget.{allows_less, allows_on, test_of_token}
+use Rattle.glob_matcher.proofs.lemmas.two_marks.Budget.{allows_less, test_of_token}
+use Rattle.glob_matcher.proofs.lemmas.two_marks.TakenByteCosts.{allows_on}
 use Rattle.glob_matcher.proofs.lemmas.two_marks.Scans.{byte_of}
 use Rattle.glob_matcher.proofs.wildmatch.engine.Engine.literal_turns.Goals as goal
 use Rattle.glob_matcher.proofs.wildmatch.engine.Engine.literal_turns.Goals.{then-byte-eq47-via-then-byte-eq47, then-byte-eq47-via-else-byte-eq47+then-not-stands_for_itself}

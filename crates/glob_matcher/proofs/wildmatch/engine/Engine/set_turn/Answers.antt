@@ -6,7 +6,8 @@ use Rattle.glob_matcher.proofs.lemmas.two_marks.States.{nothing_met}
 use Rattle.glob_matcher.proofs.lemmas.two_marks.TakenBytes.{inner_of, misses_byte, stands_on}
 use Rattle.glob_matcher.proofs.lemmas.two_marks.Prices.{Takes-within}
 use Rattle.glob_matcher.proofs.lemmas.two_marks.Turns.{set_looks}
-use Rattle.glob_matcher.proofs.lemmas.two_marks.Budget.{allows_on, allows_test, test_of_token}
+use Rattle.glob_matcher.proofs.lemmas.two_marks.Budget.{allows_test, test_of_token}
+use Rattle.glob_matcher.proofs.lemmas.two_marks.TakenByteCosts.{allows_on}
 use Rattle.glob_matcher.proofs.wildmatch.engine.Engine.set_turn.Goals as goal
 
 pub returns-in_default : goal.returns-in_default

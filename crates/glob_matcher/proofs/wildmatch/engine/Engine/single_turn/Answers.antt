@@ -3,7 +3,8 @@ use Rattle.glob_matcher.specs.Private.Reader.{kind_of}
 use Rattle.glob_matcher.proofs.lemmas.reading.TokenKinds.{token_is}
 use Rattle.glob_matcher.proofs.lemmas.two_marks.TakenBytes.{stands_on, stands_past_slash, misses_byte, inner_of}
 use Rattle.glob_matcher.proofs.lemmas.two_marks.Prices.{Takes-within}
-use Rattle.glob_matcher.proofs.lemmas.two_marks.Budget.{allows_on, allows_past_slash, test_of_token}
+use Rattle.glob_matcher.proofs.lemmas.two_marks.Budget.{test_of_token}
+use Rattle.glob_matcher.proofs.lemmas.two_marks.TakenByteCosts.{allows_on, allows_past_slash}
 use Rattle.glob_matcher.proofs.wildmatch.engine.Engine.single_turn.Goals as goal
 
 pub returns-then-not-takes : goal.returns-then-not-takes

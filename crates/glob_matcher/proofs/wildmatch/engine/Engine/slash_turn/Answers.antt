@@ -3,7 +3,8 @@ use Rattle.glob_matcher.specs.Tokens.{Byte}
 use Rattle.glob_matcher.specs.Private.Reader.{Fits}
 use Rattle.glob_matcher.proofs.lemmas.two_marks.TakenBytes.{literal_token, misses_byte, stands_past_slash}
 use Rattle.glob_matcher.proofs.lemmas.two_marks.Prices.{Takes-within}
-use Rattle.glob_matcher.proofs.lemmas.two_marks.Budget.{allows_past_slash, test_of_token}
+use Rattle.glob_matcher.proofs.lemmas.two_marks.Budget.{test_of_token}
+use Rattle.glob_matcher.proofs.lemmas.two_marks.TakenByteCosts.{allows_past_slash}
 use Rattle.glob_matcher.proofs.lemmas.two_marks.Scans.{slash_is_itself}
 use Rattle.glob_matcher.proofs.wildmatch.engine.Engine.slash_turn.Goals as goal
 
