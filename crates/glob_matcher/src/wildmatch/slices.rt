@@ -4,6 +4,7 @@ ghost use Rattle.glob_matcher.specs.Bytes.{HasByte, open_bracket};
 ghost use Rattle.glob_matcher.specs.Sets.{Set, SetAt, set_holds};
 ghost use Rattle.glob_matcher.specs.Tokens.{Token, TokenAt};
 ghost use Rattle.glob_matcher.specs.Private.Reader.{IsToken, kind_of, Fits};
+ghost use Rattle.glob_matcher.specs.Steps.{IsBlankOf};
 
 use super::counts::Counts;
 use super::engine::{is_short, read_set, read_token};
@@ -29,12 +30,8 @@ fn token_with_counts<S: Ledger, L: Ledger>(
     steps: Blank,
     looks: Blank,
 ) -> (TokenKind, usize)
-    requires steps_name { steps.name ≡ S.name }
-    requires steps_parts { steps.parts ≡ S.parts }
-    requires steps_some { 0 < steps.parts }
-    requires looks_name { looks.name ≡ L.name }
-    requires looks_parts { looks.parts ≡ L.parts }
-    requires looks_some { 0 < looks.parts }
+    requires steps { IsBlankOf S.name S.parts steps }
+    requires looks { IsBlankOf L.name L.parts looks }
     requires inside { place < length pattern.now }
     ensures { IsToken mode pattern.now place result.0 result.1 }
 {
@@ -61,12 +58,8 @@ fn set_with_counts<S: Ledger, L: Ledger>(
     steps: Blank,
     looks: Blank,
 ) -> Option<(usize, bool)>
-    requires steps_name { steps.name ≡ S.name }
-    requires steps_parts { steps.parts ≡ S.parts }
-    requires steps_some { 0 < steps.parts }
-    requires looks_name { looks.name ≡ L.name }
-    requires looks_parts { looks.parts ≡ L.parts }
-    requires looks_some { 0 < looks.parts }
+    requires steps { IsBlankOf S.name S.parts steps }
+    requires looks { IsBlankOf L.name L.parts looks }
     requires bracket { HasByte pattern.now place open_bracket }
     ensures found { IfSome result (λ found. (set : Set) × SetAt pattern.now place set found.0 × (found.1 ≡ set_holds mode set byte)) }
     ensures none { IfNone result ((set : Set) (end : ℕ) → ¬ SetAt pattern.now place set end) }
