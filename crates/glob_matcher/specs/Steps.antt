@@ -2,7 +2,7 @@
 -- token, or the pattern's end, tested at one place of the value; one mark set; or one mark moved by one byte or found unable to
 -- move. A look reads one byte of the pattern or of the value.
 use Rattle.std.specs.Prelude.{◌≡◌, ℕ, ◌+◌, ◌*◌, ◌<◌, if◌then◌else◌}
-use Rattle.std.specs.declared.ledger.Blank.{Blank}
+use Rattle.std.specs.declared.sync.ledger.Blank.{Blank}
 use Rattle.glob_matcher.specs.declared.wildmatch.mode.Mode.{Mode}
 use Rattle.glob_matcher.specs.Bytes.{is_path}
 

@@ -7,11 +7,11 @@
 ghost use Rattle.std.specs.Prelude.{◌≡◌, ◌≢◌, ◌↔◌, ◌⊎◌, ℕ, ◌+◌, ◌-◌, ◌^◌, ◌<◌, ◌≤◌, IsTrue, IfSome, IfNone, length, slice_index, slice_range, take};
 ghost use Rattle.glob_matcher.specs.declared.wildmatch.sets.Class.{Class};
 ghost use Rattle.glob_matcher.specs.Bytes.{HasByte, folds, is_path, open_bracket, slash};
-ghost use Rattle.glob_matcher.specs.Sets.{Set, SetAt, name_of, set_holds};
+ghost use Rattle.glob_matcher.specs.Sets.{Set, SetAt, name_of};
 ghost use Rattle.glob_matcher.specs.Tokens.{Token, Byte};
-ghost use Rattle.glob_matcher.specs.Private.Reader.{kind_of, Fits, IsSetTested, IsToken};
+ghost use Rattle.glob_matcher.specs.Private.Reader.{kind_of, Fits, IsSetRead, IsSetTested, IsToken};
 ghost use Rattle.glob_matcher.specs.Matching.{Splits};
-ghost use Rattle.glob_matcher.specs.Private.Looks.{LookedOver, IsSetPaid};
+ghost use Rattle.glob_matcher.specs.Private.Looks.{LookedOver, IsSetPaid, read_end};
 ghost use Rattle.glob_matcher.specs.Private.Takes.{Takes};
 ghost use Rattle.glob_matcher.specs.Steps.{look_limit, step_limit};
 
@@ -245,11 +245,8 @@ impl<'c, 'a, S: Ledger, L: Ledger, M: Match> Engine<'c, 'a, S, L, M> {
     #[inline(always)]
     fn set_apart(&mut self, place: usize, byte: u8) -> Option<(usize, bool)>
         requires { HasByte M.pattern place open_bracket }
-        ensures found { IfSome result (λ found. (set : Set) × SetAt M.pattern place set found.0 × (found.1 ≡ set_holds M.mode set byte)) }
-        ensures inside { IfSome result (λ found. (place < found.0) × (found.0 ≤ length M.pattern)) }
-        ensures none { IfNone result ((set : Set) (end : ℕ) → ¬ SetAt M.pattern place set end) }
-        ensures count { IfSome result (λ found. LookedOver 4 self.old self.new place found.0) }
-        ensures broken { IfNone result (LookedOver 4 self.old self.new place (length M.pattern)) }
+        ensures read { IsSetRead M.mode M.pattern place byte result }
+        ensures count { LookedOver 4 self.old self.new place (read_end M.pattern result) }
     {
         read_set::<S, L, Brand>(self.pattern, place, byte, self.mode, &mut *self.counts).0
     }
@@ -499,12 +496,9 @@ pub fn read_set<'c, 'a, S: Ledger, L: Ledger, M: Match>(
     requires mode { mode ≡ M.mode }
     requires counts { counts.ghost_name ≡ M.counts }
     requires bracket { HasByte pattern.now place open_bracket }
-    ensures found { IfSome result.0 (λ found. (set : Set) × SetAt pattern.now place set found.0 × (found.1 ≡ set_holds mode set byte)) }
-    ensures inside { IfSome result.0 (λ found. (place < found.0) × (found.0 ≤ length pattern.now)) }
-    ensures none { IfNone result.0 ((set : Set) (end : ℕ) → ¬ SetAt pattern.now place set end) }
+    ensures read { IsSetRead mode pattern.now place byte result.0 }
     ensures same { result.1.ghost_name ≡ counts.entry.ghost_name }
-    ensures count { IfSome result.0 (λ found. LookedOver 4 counts.old result.1.now place found.0) }
-    ensures broken { IfNone result.0 (LookedOver 4 counts.old result.1.now place (length pattern.now)) }
+    ensures count { LookedOver 4 counts.old result.1.now place (read_end pattern.now result.0) }
 {
     let mut engine = Engine::<'c, 'a, S, L, M> {
         pattern,

@@ -4,14 +4,13 @@
 //! looked for only where it isn't known.
 ghost use Rattle.std.specs.Prelude.{◌↔◌, ℕ, ◌+◌, ◌-◌, ◌<◌, ◌≤◌, IsTrue, IfSome, IfNone, Option, Some, None, true, length, slice_index, not, false, ◌&&◌, ◌||◌, ◌==◌, ◌≡◌, ◌≢◌, if◌then◌else◌, Bool};
 ghost use Rattle.glob_matcher.specs.declared.wildmatch.sets.Class.{Class};
-ghost use Rattle.glob_matcher.specs.declared.wildmatch.sets.Item.{Item};
 ghost use Rattle.glob_matcher.specs.Bytes.{HasByte, IsEscaped, is_path, open_bracket, close_bracket, backslash, colon, dash, slash};
-ghost use Rattle.glob_matcher.specs.Sets.{BeginsRange, BeginsClass, IsFirstFrom, IsSign, IsUpperEnd, ItemAt, Set, SetAt, member_of, name_of};
+ghost use Rattle.glob_matcher.specs.Sets.{BeginsRange, BeginsClass, IsFirstFrom, IsSign, IsUpperEnd, member_of, name_of};
 ghost use Rattle.glob_matcher.specs.Sets.{class_holds, item_holds};
-ghost use Rattle.glob_matcher.specs.Sets.{set_holds as held_by, range_holds as in_range, is_between as between};
+ghost use Rattle.glob_matcher.specs.Sets.{range_holds as in_range, is_between as between};
 ghost use Rattle.glob_matcher.specs.Private.Takes.{Takes};
-ghost use Rattle.glob_matcher.specs.Private.Looks.{LookedOver, IsKnown, IsSpelled, IsPaid, IsPaidToEnd, IsPaidFor, search_front};
-ghost use Rattle.glob_matcher.specs.Private.Reader.{IsEntry, after_item, at_first, first_item};
+ghost use Rattle.glob_matcher.specs.Private.Looks.{LookedOver, IsItemRead, IsKnown, IsPaidFor, read_end, search_front};
+ghost use Rattle.glob_matcher.specs.Private.Reader.{IsEntry, IsSetRead, after_item, at_first, first_item};
 
 use super::engine::{Engine, Match};
 use super::mode::Mode;
@@ -308,10 +307,7 @@ impl<'c, 'a, S: Ledger, L: Ledger, M: Match> Engine<'c, 'a, S, L, M> {
     fn class_at(&mut self, place: usize, close: Option<usize>) -> Option<Spelled>
         requires begins { BeginsClass M.pattern place }
         requires known { IsKnown M.pattern place close }
-        ensures found { IfSome result (λ s. (low : Option ℕ) → IsSpelled M.pattern low place s) }
-        ensures none { IfNone result ((low : Option ℕ) (x : Item) (j : ℕ) → ¬ ItemAt M.pattern low place x j) }
-        ensures count { IfSome result (λ s. IsPaid 2 self.old self.new place close s) }
-        ensures broken { IfNone result (IsPaidToEnd 2 self.old self.new M.pattern place) }
+        ensures { (low : Option ℕ) → IsItemRead 2 self.old self.new M.pattern low place close result }
     {
         let Some(end) = self.class_close(place, close) else {
             return None;
@@ -357,10 +353,7 @@ impl<'c, 'a, S: Ledger, L: Ledger, M: Match> Engine<'c, 'a, S, L, M> {
     fn range_at(&mut self, from: u8, place: usize, close: Option<usize>) -> Option<Spelled>
         requires begins { BeginsRange M.pattern (Some from) place }
         requires known { IsKnown M.pattern place close }
-        ensures found { IfSome result (λ s. IsSpelled M.pattern (Some from) place s) }
-        ensures none { IfNone result ((x : Item) (j : ℕ) → ¬ ItemAt M.pattern (Some from) place x j) }
-        ensures count { IfSome result (λ s. IsPaid 2 self.old self.new place close s) }
-        ensures broken { IfNone result (IsPaidToEnd 2 self.old self.new M.pattern place) }
+        ensures { IsItemRead 2 self.old self.new M.pattern (Some from) place close result }
     {
         let Some((high, next)) = self.upper_end(place + 1) else {
             return None;
@@ -376,10 +369,7 @@ impl<'c, 'a, S: Ledger, L: Ledger, M: Match> Engine<'c, 'a, S, L, M> {
     fn dash_at(&mut self, low: Option<u8>, place: usize, close: Option<usize>) -> Option<Spelled>
         requires here { HasByte M.pattern place dash }
         requires known { IsKnown M.pattern place close }
-        ensures found { IfSome result (λ s. IsSpelled M.pattern low place s) }
-        ensures none { IfNone result ((x : Item) (j : ℕ) → ¬ ItemAt M.pattern low place x j) }
-        ensures count { IfSome result (λ s. IsPaid 1 self.old self.new place close s) }
-        ensures broken { IfNone result (IsPaidToEnd 1 self.old self.new M.pattern place) }
+        ensures { IsItemRead 1 self.old self.new M.pattern low place close result }
     {
         match self.range_from(low, place) {
             Some(from) => self.range_at(from, place, close),
@@ -404,10 +394,7 @@ impl<'c, 'a, S: Ledger, L: Ledger, M: Match> Engine<'c, 'a, S, L, M> {
     fn bracket_at(&mut self, low: Option<u8>, place: usize, close: Option<usize>) -> Option<Spelled>
         requires here { HasByte M.pattern place open_bracket }
         requires known { IsKnown M.pattern place close }
-        ensures found { IfSome result (λ s. IsSpelled M.pattern low place s) }
-        ensures none { IfNone result ((x : Item) (j : ℕ) → ¬ ItemAt M.pattern low place x j) }
-        ensures count { IfSome result (λ s. IsPaid 1 self.old self.new place close s) }
-        ensures broken { IfNone result (IsPaidToEnd 1 self.old self.new M.pattern place) }
+        ensures { IsItemRead 1 self.old self.new M.pattern low place close result }
     {
         if self.begins_class(place) {
             return self.class_at(place, close);
@@ -423,10 +410,7 @@ impl<'c, 'a, S: Ledger, L: Ledger, M: Match> Engine<'c, 'a, S, L, M> {
     fn escape_at(&mut self, place: usize, close: Option<usize>) -> Option<Spelled>
         requires here { HasByte M.pattern place backslash }
         requires known { IsKnown M.pattern place close }
-        ensures found { IfSome result (λ s. (low : Option ℕ) → IsSpelled M.pattern low place s) }
-        ensures none { IfNone result ((low : Option ℕ) (x : Item) (j : ℕ) → ¬ ItemAt M.pattern low place x j) }
-        ensures count { IfSome result (λ s. IsPaid 1 self.old self.new place close s) }
-        ensures broken { IfNone result (IsPaidToEnd 1 self.old self.new M.pattern place) }
+        ensures { (low : Option ℕ) → IsItemRead 1 self.old self.new M.pattern low place close result }
     {
         let Some(byte) = self.escaped_at(place) else {
             return None;
@@ -442,10 +426,7 @@ impl<'c, 'a, S: Ledger, L: Ledger, M: Match> Engine<'c, 'a, S, L, M> {
     fn item_at(&mut self, cursor: Cursor, byte: u8) -> Option<Spelled>
         requires here { HasByte M.pattern cursor.place byte }
         requires known { IsKnown M.pattern cursor.place cursor.close }
-        ensures found { IfSome result (λ s. IsSpelled M.pattern cursor.low cursor.place s) }
-        ensures none { IfNone result ((x : Item) (j : ℕ) → ¬ ItemAt M.pattern cursor.low cursor.place x j) }
-        ensures count { IfSome result (λ s. IsPaid 1 self.old self.new cursor.place cursor.close s) }
-        ensures broken { IfNone result (IsPaidToEnd 1 self.old self.new M.pattern cursor.place) }
+        ensures { IsItemRead 1 self.old self.new M.pattern cursor.low cursor.place cursor.close result }
     {
         match byte {
             b'\\' => self.escape_at(cursor.place, cursor.close),
@@ -505,11 +486,8 @@ impl<'c, 'a, S: Ledger, L: Ledger, M: Match> Engine<'c, 'a, S, L, M> {
     #[inline(always)]
     pub fn set_at(&mut self, place: usize, byte: u8) -> Option<(usize, bool)>
         requires { HasByte M.pattern place open_bracket }
-        ensures found { IfSome result (λ found. (set : Set) × SetAt M.pattern place set found.0 × (found.1 ≡ held_by M.mode set byte)) }
-        ensures inside { IfSome result (λ found. (place < found.0) × (found.0 ≤ length M.pattern)) }
-        ensures none { IfNone result ((set : Set) (end : ℕ) → ¬ SetAt M.pattern place set end) }
-        ensures count { IfSome result (λ found. LookedOver 4 self.old self.new place found.0) }
-        ensures broken { IfNone result (LookedOver 4 self.old self.new place (length M.pattern)) }
+        ensures read { IsSetRead M.mode M.pattern place byte result }
+        ensures count { LookedOver 4 self.old self.new place (read_end M.pattern result) }
     {
         let mode = self.mode();
         let (is_negated, first) = self.opened(place);

@@ -7,7 +7,7 @@ use Rattle.glob_matcher.specs.declared.wildmatch.sets.Cursor.{Cursor}
 use Rattle.glob_matcher.specs.declared.wildmatch.sets.Entry.TheVariants as entry
 use Rattle.glob_matcher.specs.Steps.{Counts}
 use Rattle.glob_matcher.specs.Bytes.{HasByte, close_bracket}
-use Rattle.glob_matcher.specs.Private.Looks.{IsKnown, IsPaid, LookedOver, search_front}
+use Rattle.glob_matcher.specs.Private.Looks.{IsItemRead, IsKnown, IsPaid, LookedOver, search_front}
 use Rattle.glob_matcher.specs.Private.Reader.{IsEntry, after_item, at_first}
 use Rattle.glob_matcher.specs.Private.Takes.{Takes}
 use Rattle.glob_matcher.proofs.lemmas.reading.Walks.{IsUnderway, underway_first, underway_next}
@@ -60,6 +60,18 @@ pub paid_same : {before after : Counts} {i : ℕ} {s : Spelled} (spare : ℕ) �
     → after.looks + spare + 3 * i ≤ before.looks + 3 * s.next → IsPaid spare before after i s.close s
 paid_same {i = i} {s = s} spare steps low looks =
     record { steps = steps; looks = let more = search_front_on s.close i s.next low in omega (arith, looks, more) }
+
+-- one of the looks that were left over was taken before
+pub spare_taken : {before between after : Counts} {text : List ℕ} {low : Option ℕ} {i : ℕ} {known : Option ℕ} {item : Option Spelled}
+    → Takes before between 0 1 → IsItemRead 2 between after text low i known item → IsItemRead 1 before after text low i known item
+spare_taken {item = None} takes read = record {
+  answer = read.answer;
+  paid = record { steps = omega (arith, takes.steps, read.paid.steps); looks = omega (arith, takes.looks, read.paid.looks) };
+}
+spare_taken {item = Some s} takes read = record {
+  answer = read.answer;
+  paid = record { steps = omega (arith, takes.steps, read.paid.steps); looks = omega (arith, takes.looks, read.paid.looks) };
+}
 
 -- The reader of a set stands at this cursor: the items so far, and those from here on, are the set's; what is known of the closing
 -- bracket; and what pays the looks.

@@ -3,5 +3,5 @@ use Rattle.glob_matcher.proofs.wildmatch.tokens.TokenKind.takes.Goals as goal
 
 pub returns-in-Some : goal.returns-in-Some
 returns-in-Some c =
-    let found = c.in-Some.ensures.found in
-    set_takes c.args.mode c.args.byte c.in-Set.is found.1 found.2
+    let found = c.in-Some.ensures in
+    set_takes c.args.mode c.args.byte c.in-Set.is found.here found.answer
