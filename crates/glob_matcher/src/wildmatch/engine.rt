@@ -12,7 +12,7 @@ ghost use Rattle.glob_matcher.specs.Tokens.{Token, Byte};
 ghost use Rattle.glob_matcher.specs.Private.Reader.{kind_of, Fits, IsSetRead, IsSetTested, IsToken};
 ghost use Rattle.glob_matcher.specs.Matching.{Splits};
 ghost use Rattle.glob_matcher.specs.Private.Looks.{LookedOver, IsSetPaid, read_end};
-ghost use Rattle.glob_matcher.specs.Private.Takes.{Takes};
+ghost use Rattle.glob_matcher.specs.Private.Takes.{Takes, TakesExactly};
 ghost use Rattle.glob_matcher.specs.Steps.{look_limit, step_limit};
 
 use super::counts::Counts;
@@ -159,8 +159,7 @@ impl<'c, 'a, S: Ledger, L: Ledger, M: Match> Engine<'c, 'a, S, L, M> {
     pub fn pattern_byte(&mut self, place: usize) -> u8
         requires { place < length M.pattern }
         ensures here { result ≡ slice_index M.pattern place }
-        ensures count { Takes self.old self.new 0 1 }
-        ensures look { self.new.looks ≡ self.old.looks + 1 }
+        ensures count { TakesExactly self.old self.new 0 1 }
     {
         self.counts.look();
         self.pattern[place]
@@ -193,8 +192,7 @@ impl<'c, 'a, S: Ledger, L: Ledger, M: Match> Engine<'c, 'a, S, L, M> {
     #[inline(always)]
     pub fn has(&mut self, at: usize, wanted: u8) -> bool
         ensures answer { IsTrue result ↔ ((at < length M.value) × Fits M.mode (Byte wanted) (slice_index M.value at)) }
-        ensures count { Takes self.old self.new 1 1 }
-        ensures look { self.new.looks ≡ self.old.looks + 1 }
+        ensures count { TakesExactly self.old self.new 1 1 }
     {
         self.counts.step_with_look();
         at < self.value.len() && self.mode.alike(self.value[at], wanted)
@@ -204,8 +202,7 @@ impl<'c, 'a, S: Ledger, L: Ledger, M: Match> Engine<'c, 'a, S, L, M> {
     #[inline(always)]
     pub fn ends_in(&mut self, wanted: u8) -> bool
         ensures answer { IsTrue result ↔ ((0 < length M.value) × Fits M.mode (Byte wanted) (slice_index M.value (length M.value - 1))) }
-        ensures count { Takes self.old self.new 1 1 }
-        ensures look { self.new.looks ≡ self.old.looks + 1 }
+        ensures count { TakesExactly self.old self.new 1 1 }
     {
         self.counts.step_with_look();
         let len = self.value.len();
@@ -218,8 +215,7 @@ impl<'c, 'a, S: Ledger, L: Ledger, M: Match> Engine<'c, 'a, S, L, M> {
         requires { kind ≢ TokenKind.Set }
         ensures answer { (token : Token) → kind ≡ kind_of token
             → IsTrue result ↔ ((at < length M.value) × Fits M.mode token (slice_index M.value at)) }
-        ensures count { Takes self.old self.new 1 1 }
-        ensures look { self.new.looks ≡ self.old.looks + 1 }
+        ensures count { TakesExactly self.old self.new 1 1 }
     {
         self.counts.step_with_look();
         at < self.value.len() && kind.fits(self.value[at], self.mode)
@@ -285,8 +281,7 @@ impl<'c, 'a, S: Ledger, L: Ledger, M: Match> Engine<'c, 'a, S, L, M> {
     pub fn pass(&mut self, mark: Mark) -> Option<(Mark, u8)>
         ensures moved { IfSome result (λ x. (x.0.place ≡ mark.place) × (x.0.at ≡ mark.at + 1) × (mark.at < length M.value) × (slice_index M.value mark.at ≡ x.1)) }
         ensures unable { IfNone result (length M.value ≤ mark.at) }
-        ensures count { Takes self.old self.new 1 1 }
-        ensures look { self.new.looks ≡ self.old.looks + 1 }
+        ensures count { TakesExactly self.old self.new 1 1 }
     {
         self.counts.step_with_look();
         if mark.at >= self.value.len() {
@@ -320,8 +315,7 @@ impl<'c, 'a, S: Ledger, L: Ledger, M: Match> Engine<'c, 'a, S, L, M> {
         requires { mark.at < length M.value }
         ensures moved { IfSome result (λ x. (x.place ≡ mark.place) × (x.at ≡ mark.at + 1) × (mark.at < length M.value) × (slice_index M.value mark.at ≢ slash)) }
         ensures unable { IfNone result (slice_index M.value mark.at ≡ slash) }
-        ensures count { Takes self.old self.new 1 1 }
-        ensures look { self.new.looks ≡ self.old.looks + 1 }
+        ensures count { TakesExactly self.old self.new 1 1 }
     {
         self.counts.step_with_look();
         if self.value[mark.at] == b'/' {
@@ -338,8 +332,7 @@ impl<'c, 'a, S: Ledger, L: Ledger, M: Match> Engine<'c, 'a, S, L, M> {
     pub fn pass_within_or_end(&mut self, mark: Mark) -> Option<Mark>
         ensures moved { IfSome result (λ x. (x.place ≡ mark.place) × (x.at ≡ mark.at + 1) × (mark.at < length M.value) × (slice_index M.value mark.at ≢ slash)) }
         ensures unable { IfNone result ((length M.value ≤ mark.at) ⊎ (slice_index M.value mark.at ≡ slash)) }
-        ensures count { Takes self.old self.new 1 1 }
-        ensures look { self.new.looks ≡ self.old.looks + 1 }
+        ensures count { TakesExactly self.old self.new 1 1 }
     {
         if mark.at >= self.value.len() {
             self.counts.step_with_look();
@@ -362,8 +355,7 @@ impl<'c, 'a, S: Ledger, L: Ledger, M: Match> Engine<'c, 'a, S, L, M> {
     pub fn suits<N: Needle>(&mut self, mark: Mark, needle: N) -> bool
         requires { mark.at < length M.value }
         ensures answer { IsTrue result ↔ N.suits needle (slice_index M.value mark.at) }
-        ensures count { Takes self.old self.new 1 1 }
-        ensures look { self.new.looks ≡ self.old.looks + 1 }
+        ensures count { TakesExactly self.old self.new 1 1 }
     {
         self.counts.step_with_look();
         needle.takes(self.value[mark.at])

@@ -1,6 +1,6 @@
 use Rattle.std.proofs.Common.{◌+◌, ◌-◌, ◌*◌, ℕ, inr, ap, arith}
 use Rattle.glob_matcher.proofs.lemmas.two_marks.States.{Stands-local, Stands-places, left_stuck, left_without}
-use Rattle.glob_matcher.proofs.lemmas.two_marks.Prices.{amount-same, move-over, move-price, scan-price, Takes-both}
+use Rattle.glob_matcher.proofs.lemmas.two_marks.Prices.{Takes-both, TakesExactly-at_most, amount-same, move-over, move-price, scan-price}
 use Rattle.glob_matcher.proofs.lemmas.two_marks.Budget.{Allows-places, Misses-local, allows_less, allows_missed, left_less, left_missed, left_stuck_counts}
 use Rattle.glob_matcher.proofs.lemmas.two_marks.Scans.{IsLocalPast, local_found, local_found_counts, local_scanned, local_scanned_counts, none_of}
 use Rattle.glob_matcher.proofs.wildmatch.engine.Engine.back_to_local.Goals as goal
@@ -19,7 +19,7 @@ pub returns-in_default-pass_within_or_end : goal.returns-in_default-pass_within_
 returns-in_default-pass_within_or_end g c =
     let here = Stands-local c.in-Some.is c.requires.stands in
     let stuck = c.in_default-pass_within_or_end.ensures.unable in
-    let pass = c.pass_within_or_end.ensures.count in
+    let pass = TakesExactly-at_most c.pass_within_or_end.ensures.count in
     record {
       meaning = left_stuck here c.requires.missed stuck;
       allows = λ measure n a.
@@ -35,7 +35,7 @@ returns-in-Blocked g c =
     let here = Stands-local c.in-Some.is c.requires.stands in
     let bare = c.in-Blocked.ensures.bare in
     let passed = 2 * (c.in-Blocked.field-0.at - c.in-Some-pass_within_or_end.moved.at) in
-    let pass = c.pass_within_or_end.ensures.count in
+    let pass = TakesExactly-at_most c.pass_within_or_end.ensures.count in
     let reached = local_scanned here c.requires.missed moved.2 moved.3 moved.0 moved.1 so bare in
     record {
       meaning = left_stuck reached so.met.2 (inr so.met.1);
@@ -54,7 +54,7 @@ returns-in-Undecided g c =
     let here = Stands-local c.in-Some.is c.requires.stands in
     let bare = c.in-Undecided.ensures.bare in
     let passed = 2 * (c.in-Undecided.reached.at - c.in-Some-pass_within_or_end.moved.at) in
-    let pass = c.pass_within_or_end.ensures.count in
+    let pass = TakesExactly-at_most c.pass_within_or_end.ensures.count in
     record {
       meaning = Stands-places c.place.ensures c.at.ensures (local_scanned here c.requires.missed moved.2 moved.3 moved.0 moved.1 so bare);
       allows = λ measure n a.
@@ -72,7 +72,7 @@ returns-in-Found g c =
     let here = Stands-local c.in-Some.is c.requires.stands in
     let bare = c.in-Found.ensures.bare in
     let passed = 2 * (c.in-Found.found.at - c.in-Some-pass_within_or_end.moved.at) in
-    let pass = c.pass_within_or_end.ensures.count in
+    let pass = TakesExactly-at_most c.pass_within_or_end.ensures.count in
     let local : IsLocalPast g.M.Match.pattern c.in-Found.found c.local_past.result = record { at_slash = c.local_past.ensures.at_slash; at_other = c.local_past.ensures.at_other } in
     let all = Takes-both (Takes-both pass so.takes) c.local_past.ensures.count in
     let reached = local_scanned here c.requires.missed moved.2 moved.3 moved.0 moved.1 so bare in

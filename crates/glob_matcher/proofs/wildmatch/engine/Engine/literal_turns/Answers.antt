@@ -5,7 +5,7 @@ use Rattle.glob_matcher.specs.Private.Reader.{Fits}
 use Rattle.glob_matcher.specs.Private.Prices.{amount, amount_of}
 use Rattle.glob_matcher.specs.Bytes.{StandsForItself}
 use Rattle.glob_matcher.proofs.lemmas.two_marks.States.{inner_of, literal_token, misses_byte, stands_on}
-use Rattle.glob_matcher.proofs.lemmas.two_marks.Prices.{amount-mono, amount-same, amount-sum, Takes-both, Takes-on, Takes-within}
+use Rattle.glob_matcher.proofs.lemmas.two_marks.Prices.{Takes-both, Takes-on, Takes-within, TakesExactly-at_most, amount-mono, amount-same, amount-sum}
 use Rattle.glob_matcher.proofs.lemmas.two_marks.Budget.{allows_less, allows_on, test_of_token}
 use Rattle.glob_matcher.proofs.lemmas.two_marks.Scans.{byte_of}
 use Rattle.glob_matcher.proofs.wildmatch.engine.Engine.literal_turns.Goals as goal
@@ -29,7 +29,7 @@ returns-then-not-has g c =
       };
       allows = λ measure s n low a.
           let passed = c.bytes.place - c.args.state.place in
-          let one = Takes-both c.pattern_byte-byte.ensures.count c.has.ensures.count in
+          let one = Takes-both (TakesExactly-at_most c.pattern_byte-byte.ensures.count) (TakesExactly-at_most c.has.ensures.count) in
           let all : amount_of measure c.has.new.self ≤ s + amount measure (passed + 1) (2 * passed + 3) =
           Takes-within measure s 0 1 low (Takes-both c.bytes.invariant.count one) (omega arith) (omega arith) in
           let price : amount measure (passed + 1) (2 * passed + 3)
@@ -64,7 +64,7 @@ bytes-preserved g c =
           (c.bytes.invariant.allows measure s n a);
       low = omega (arith, c.bytes.invariant.low);
       count =
-          Takes-on c.bytes.invariant.count (Takes-both c.pattern_byte-byte.ensures.count c.has.ensures.count)
+          Takes-on c.bytes.invariant.count (Takes-both (TakesExactly-at_most c.pattern_byte-byte.ensures.count) (TakesExactly-at_most c.has.ensures.count))
           (omega (arith, c.bytes.invariant.low)) (omega (arith, c.bytes.invariant.low));
     }
 
@@ -109,7 +109,7 @@ returns-then-byte-eq47 g c =
       meaning = c.bytes.invariant.stands;
       allows = λ measure s n low a.
           allows_less
-          (Takes-within measure s 0 1 low (Takes-both c.bytes.invariant.count c.pattern_byte-byte.ensures.count) (omega arith) (omega arith))
+          (Takes-within measure s 0 1 low (Takes-both c.bytes.invariant.count (TakesExactly-at_most c.pattern_byte-byte.ensures.count)) (omega arith) (omega arith))
           (c.bytes.invariant.allows measure s n a);
       progress = omega (arith, c.bytes.invariant.count.steps, c.pattern_byte-byte.ensures.count.steps);
     }

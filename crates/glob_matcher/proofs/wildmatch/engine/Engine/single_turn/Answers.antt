@@ -2,7 +2,7 @@ use Rattle.std.proofs.Common.{◌≡◌, ◌∙◌, false, true, ap, refl, sym, 
 use Rattle.glob_matcher.specs.Private.Reader.{kind_of}
 use Rattle.glob_matcher.proofs.lemmas.reading.TokenKinds.{token_is}
 use Rattle.glob_matcher.proofs.lemmas.two_marks.States.{stands_on, stands_past_slash, misses_byte, inner_of}
-use Rattle.glob_matcher.proofs.lemmas.two_marks.Prices.{Takes-within}
+use Rattle.glob_matcher.proofs.lemmas.two_marks.Prices.{Takes-within, TakesExactly-at_most}
 use Rattle.glob_matcher.proofs.lemmas.two_marks.Budget.{allows_on, allows_past_slash, test_of_token}
 use Rattle.glob_matcher.proofs.wildmatch.engine.Engine.single_turn.Goals as goal
 
@@ -21,7 +21,7 @@ returns-then-not-takes g c =
         before = s;
         tested =
             test_of_token x c.requires.single
-            (Takes-within measure s 0 _ low c.takes.ensures.count (omega arith) (omega (arith, x.past)));
+            (Takes-within measure s 0 _ low (TakesExactly-at_most c.takes.ensures.count) (omega arith) (omega (arith, x.past)));
         allows = a;
       };
       progress = omega (arith, c.takes.ensures.count.steps);
@@ -37,7 +37,7 @@ returns-then-is_slash g c =
           (token_is x.token (sym x.same_kind ∙ c.if-is_slash.ensures.0 refl));
       allows = λ measure s n low a.
           allows_past_slash x c.requires.single
-          (Takes-within measure s 0 _ low c.takes.ensures.count (omega arith) (omega (arith, x.past))) fits.0 fits.1 a;
+          (Takes-within measure s 0 _ low (TakesExactly-at_most c.takes.ensures.count) (omega arith) (omega (arith, x.past))) fits.0 fits.1 a;
       progress = omega (arith, c.takes.ensures.count.steps);
     }
 
@@ -52,7 +52,7 @@ returns g c =
           (λ is. let wrong : false ≡ true = c.if-is_slash.ensures.1 (x.same_kind ∙ ap kind_of is) in cc);
       allows = λ measure s n low a.
           allows_on x c.requires.single
-          (Takes-within measure s 0 _ low c.takes.ensures.count (omega arith) (omega (arith, x.past))) fits.0 fits.1
+          (Takes-within measure s 0 _ low (TakesExactly-at_most c.takes.ensures.count) (omega arith) (omega (arith, x.past))) fits.0 fits.1
           (inner_of m.mode m.pattern m.value c.args.state.place c.args.state.at c.args.state.crossing
           c.args.state.local x.token c.requires.stands.local fits.1
           (λ is. let wrong : false ≡ true = c.if-is_slash.ensures.1 (x.same_kind ∙ ap kind_of is) in cc)) a;

@@ -2,7 +2,7 @@ use Rattle.std.proofs.Common.{◌≡◌, ◌<◌, ℕ, length, get_or, false, tr
 use Rattle.glob_matcher.specs.Tokens.{Byte}
 use Rattle.glob_matcher.specs.Private.Reader.{Fits}
 use Rattle.glob_matcher.proofs.lemmas.two_marks.States.{literal_token, misses_byte, stands_past_slash}
-use Rattle.glob_matcher.proofs.lemmas.two_marks.Prices.{Takes-within}
+use Rattle.glob_matcher.proofs.lemmas.two_marks.Prices.{Takes-within, TakesExactly-at_most}
 use Rattle.glob_matcher.proofs.lemmas.two_marks.Budget.{allows_past_slash, test_of_token}
 use Rattle.glob_matcher.proofs.lemmas.two_marks.Scans.{slash_is_itself}
 use Rattle.glob_matcher.proofs.wildmatch.engine.Engine.slash_turn.Goals as goal
@@ -25,7 +25,7 @@ returns-then-not-has g c =
           let token = literal_token m.mode m.pattern c.args.state.place c.requires.place (slash_is_itself _ c.requires.is) in
           record {
             before = s;
-            tested = test_of_token token refl (Takes-within measure s 0 1 low c.has.ensures.count (omega arith) (omega arith));
+            tested = test_of_token token refl (Takes-within measure s 0 1 low (TakesExactly-at_most c.has.ensures.count) (omega arith) (omega arith));
             allows = a;
           };
       progress = omega (arith, c.has.ensures.count.steps);
@@ -41,6 +41,6 @@ returns g c =
     record {
       meaning = stands_past_slash c.requires.stands token refl fits.0 fits.1 (ap Byte c.requires.is);
       allows = λ measure s n low a.
-          allows_past_slash token refl (Takes-within measure s 0 1 low c.has.ensures.count (omega arith) (omega arith)) fits.0 fits.1 a;
+          allows_past_slash token refl (Takes-within measure s 0 1 low (TakesExactly-at_most c.has.ensures.count) (omega arith) (omega arith)) fits.0 fits.1 a;
       progress = omega (arith, c.has.ensures.count.steps);
     }
