@@ -7,6 +7,7 @@ mod advance;
 mod backtrack;
 mod counts;
 mod engine;
+mod items;
 mod mode;
 mod needle;
 #[cfg(test)]

@@ -1,6 +1,6 @@
 -- What the reader of a pattern answers: the items of a set and the tokens, each with the place after it.
 use Rattle.std.specs.Prelude.{◌≡◌, ◌≢◌, ◌↔◌, ◌⊎◌, ℕ, ◌+◌, ◌-◌, ◌*◌, ◌<◌, ◌≤◌, ⊤, Bool, true, false, not, IsTrue, List, [], length, slice_index, Option, None, MatchOption, if◌then◌else◌}
-use Rattle.glob_matcher.specs.declared.wildmatch.sets.Item.{Item}
+use Rattle.glob_matcher.specs.declared.wildmatch.items.Item.{Item}
 use Rattle.glob_matcher.specs.declared.wildmatch.sets.Cursor.{Cursor}
 use Rattle.glob_matcher.specs.declared.wildmatch.sets.Spelled.{Spelled}
 use Rattle.glob_matcher.specs.declared.wildmatch.sets.Entry.{Entry}

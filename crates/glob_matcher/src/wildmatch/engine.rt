@@ -5,7 +5,7 @@
 //! So no other module can read the value without a step, or count in another place. `holds` looks at the length alone, and
 //! counts none.
 ghost use Rattle.std.specs.Prelude.{◌≡◌, ◌≢◌, ◌↔◌, ◌⊎◌, ℕ, ◌+◌, ◌-◌, ◌^◌, ◌<◌, ◌≤◌, IsTrue, IfSome, IfNone, length, slice_index, slice_range, take};
-ghost use Rattle.glob_matcher.specs.declared.wildmatch.sets.Class.{Class};
+ghost use Rattle.glob_matcher.specs.declared.wildmatch.items.Class.{Class};
 ghost use Rattle.glob_matcher.specs.Bytes.{HasByte, folds, is_path, open_bracket, slash};
 ghost use Rattle.glob_matcher.specs.Sets.{Set, SetAt, name_of};
 ghost use Rattle.glob_matcher.specs.Tokens.{Token, Byte};
@@ -16,9 +16,9 @@ ghost use Rattle.glob_matcher.specs.Private.Takes.{Takes, TakesExactly};
 ghost use Rattle.glob_matcher.specs.Steps.{look_limit, step_limit};
 
 use super::counts::Counts;
+use super::items::Class;
 use super::mode::Mode;
 use super::needle::Needle;
-use super::sets::Class;
 use super::tokens::TokenKind;
 use std::marker::{Brand, Model, PhantomData};
 use std::sync::ledger::Ledger;

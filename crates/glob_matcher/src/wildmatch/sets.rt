@@ -3,147 +3,16 @@
 //! Each `[:` wants to know where the first `]` after it is. That one stays the first for each later `[:` before it, so it is
 //! looked for only where it isn't known.
 ghost use Rattle.std.specs.Prelude.{◌↔◌, ℕ, ◌+◌, ◌-◌, ◌<◌, ◌≤◌, IsTrue, IfSome, IfNone, Option, Some, None, true, length, slice_index, not, false, ◌&&◌, ◌||◌, ◌==◌, ◌≡◌, ◌≢◌, if◌then◌else◌, Bool};
-ghost use Rattle.glob_matcher.specs.declared.wildmatch.sets.Class.{Class};
 ghost use Rattle.glob_matcher.specs.Bytes.{HasByte, IsEscaped, is_path, open_bracket, close_bracket, backslash, colon, dash, slash};
-ghost use Rattle.glob_matcher.specs.Sets.{BeginsRange, BeginsClass, IsFirstFrom, IsSign, IsUpperEnd, member_of, name_of};
-ghost use Rattle.glob_matcher.specs.Sets.{class_holds, item_holds};
-ghost use Rattle.glob_matcher.specs.Sets.{range_holds as in_range, is_between as between};
+ghost use Rattle.glob_matcher.specs.Sets.{BeginsRange, BeginsClass, IsFirstFrom, IsSign, IsUpperEnd};
 ghost use Rattle.glob_matcher.specs.Private.Takes.{Takes};
 ghost use Rattle.glob_matcher.specs.Private.Looks.{LookedOver, IsItemRead, IsKnown, IsPaidFor, read_end, search_front};
 ghost use Rattle.glob_matcher.specs.Private.Reader.{IsEntry, IsSetRead, after_item, at_first, first_item};
 
 use super::engine::{Engine, Match};
+use super::items::Item;
 use super::mode::Mode;
 use std::sync::ledger::Ledger;
-
-/// A class of bytes that a set names between `[:` and `:]`.
-#[derive(Debug, Copy, Clone, Eq, PartialEq)]
-pub enum Class {
-    Alnum,
-    Alpha,
-    Blank,
-    Cntrl,
-    Digit,
-    Graph,
-    Lower,
-    Print,
-    Punct,
-    Space,
-    Upper,
-    Xdigit,
-}
-
-/// An item of a set.
-#[derive(Debug, Copy, Clone, Eq, PartialEq)]
-pub enum Item {
-    /// One byte.
-    Member(u8),
-    /// The bytes from a lower to an upper end.
-    Range(u8, u8),
-    /// The bytes of a class.
-    Class(Class),
-}
-
-impl Class {
-    /// The class of a name, where there is one.
-    pub fn named(name: &[u8]) -> Option<Class>
-        ensures found { IfSome result (λ class. name.now ≡ name_of class) }
-        ensures none { IfNone result ((class : Class) → ¬ (name.now ≡ name_of class)) }
-    {
-        match name {
-            b"alnum" => Some(Class::Alnum),
-            b"alpha" => Some(Class::Alpha),
-            b"blank" => Some(Class::Blank),
-            b"cntrl" => Some(Class::Cntrl),
-            b"digit" => Some(Class::Digit),
-            b"graph" => Some(Class::Graph),
-            b"lower" => Some(Class::Lower),
-            b"print" => Some(Class::Print),
-            b"punct" => Some(Class::Punct),
-            b"space" => Some(Class::Space),
-            b"upper" => Some(Class::Upper),
-            b"xdigit" => Some(Class::Xdigit),
-            _ => None,
-        }
-    }
-}
-
-impl Class {
-    /// Whether the class holds a byte, which is folded already where the mode asks for it.
-    fn holds(self, byte: u8, mode: Mode) -> bool
-        ensures { result ≡ class_holds mode self byte }
-    {
-        match self {
-            Class::Alnum => byte.is_ascii_alphanumeric(),
-            Class::Alpha => byte.is_ascii_alphabetic(),
-            Class::Blank => byte == b' ' || byte == b'\t',
-            Class::Cntrl => byte.is_ascii_control(),
-            Class::Digit => byte.is_ascii_digit(),
-            Class::Graph => byte.is_ascii_graphic(),
-            Class::Lower => byte.is_ascii_lowercase(),
-            Class::Print => byte == b' ' || byte.is_ascii_graphic(),
-            Class::Punct => byte.is_ascii_punctuation(),
-            Class::Space => (byte == b' ' || byte == b'\t') || (byte == b'\n' || byte == b'\r'),
-            Class::Upper => byte.is_ascii_uppercase()
-                || (mode.folds() && byte.is_ascii_lowercase()),
-            Class::Xdigit => byte.is_ascii_hexdigit(),
-        }
-    }
-}
-
-/// Whether a number lies between two others, in either order.
-fn is_between(a: u8, b: u8, n: u8) -> bool
-    ensures { result ≡ between a b n }
-{
-    (a <= n && n <= b) || (b <= n && n <= a)
-}
-
-/// Whether a range holds a byte. Where case doesn't count, the ends in uppercase count too.
-fn range_holds(low: u8, high: u8, byte: u8, mode: Mode) -> bool
-    ensures { result ≡ in_range mode low high byte }
-{
-    let (low, high, byte) = (mode.fold(low), mode.fold(high), mode.fold(byte));
-    (low <= byte && byte <= high)
-        || (mode.folds()
-            && byte.is_ascii_lowercase()
-            && is_between(
-                low.to_ascii_uppercase(),
-                high.to_ascii_uppercase(),
-                byte.to_ascii_uppercase(),
-            ))
-}
-
-impl Item {
-    /// Whether the item holds a byte.
-    fn holds(self, byte: u8, mode: Mode) -> bool
-        ensures { result ≡ item_holds mode byte self }
-    {
-        match self {
-            Item::Member(member) => mode.fold(byte) == mode.fold(member),
-            Item::Range(low, high) => range_holds(low, high, byte, mode),
-            Item::Class(class) => class.holds(mode.fold(byte), mode),
-        }
-    }
-
-    /// Whether the item holds a byte, or one before it does.
-    fn holds_too(self, is_held: bool, byte: u8, mode: Mode) -> bool
-        ensures { result ≡ (is_held || item_holds mode byte self) }
-    {
-        is_held || self.holds(byte, mode)
-    }
-}
-
-impl Item {
-    /// The member that a range after this item begins from.
-    fn member(self) -> Option<u8>
-        ensures { result ≡ member_of self }
-    {
-        match self {
-            Item::Member(byte) => Some(byte),
-            Item::Range(..) | Item::Class(_) => None,
-        }
-    }
-}
 
 /// An item as it is spelled.
 #[derive(Clone, Copy)]
