@@ -105,7 +105,7 @@ descend-returns-in-Match t c = λ i here. descent_here here c.requires.inside (c
 
 pub descend-returns-in_default : goal.descend-returns-in_default
 descend-returns-in_default t c = λ i here.
-    let after : c.args.place ≡ here.at + 1 = here.after in
+    let after : c.args.place ≡ here.run_end + 1 = here.after in
     descent_later here (omega arith) c.requires.inside c.attempt.ensures c.in_default.not-Match c.cross.ensures
 
 pub stay-returns-then-end-value : goal.stay-returns-then-end-value
