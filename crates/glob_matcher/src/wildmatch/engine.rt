@@ -1,9 +1,9 @@
 //! One match as the engine with two marks sees it: its pattern, its value, its mode and the counts of what it takes, as one
 //! value.
 //!
-//! The bytes of the value are read by the methods of this module alone, and each that reads one counts one step and one look.
-//! So no other module can read the value without a step, or count in another place. `holds` looks at the length alone, and
-//! counts none.
+//! The bytes of the value are read by the methods of this module alone, and each that reads one counts one step and one look;
+//! but for a set, whose byte is looked at before the step is counted, if a set begins at all. So no other module can read the
+//! value without a step, or count in another place. `has_left` looks at the length alone, and counts none.
 ghost use Rattle.std.specs.Prelude.{◌≡◌, ◌≢◌, ◌↔◌, ◌⊎◌, ℕ, ◌+◌, ◌-◌, ◌^◌, ◌<◌, ◌≤◌, IsTrue, IfSome, IfNone, length, slice_index, slice_range, take};
 ghost use Rattle.glob_matcher.specs.declared.wildmatch.items.Class.{Class};
 ghost use Rattle.glob_matcher.specs.Bytes.{HasByte, folds, is_path, open_bracket, slash};
@@ -190,7 +190,7 @@ impl<'c, 'a, S: Ledger, L: Ledger, M: Match> Engine<'c, 'a, S, L, M> {
 
     /// Tests a token of one byte that is this byte.
     #[inline(always)]
-    pub fn has(&mut self, at: usize, wanted: u8) -> bool
+    pub fn fits_byte(&mut self, at: usize, wanted: u8) -> bool
         ensures answer { IsTrue result ↔ ((at < length M.value) × Fits M.mode (Byte wanted) (slice_index M.value at)) }
         ensures count { TakesExactly self.old self.new 1 1 }
     {
@@ -198,7 +198,7 @@ impl<'c, 'a, S: Ledger, L: Ledger, M: Match> Engine<'c, 'a, S, L, M> {
         at < self.value.len() && self.mode.alike(self.value[at], wanted)
     }
 
-    /// Tests the pattern's last token, where it is this byte: whether it takes the value's last byte.
+    /// Tests the pattern's last token, where it is this byte: whether it fits the value's last byte.
     #[inline(always)]
     pub fn ends_in(&mut self, wanted: u8) -> bool
         ensures answer { IsTrue result ↔ ((0 < length M.value) × Fits M.mode (Byte wanted) (slice_index M.value (length M.value - 1))) }
@@ -211,7 +211,7 @@ impl<'c, 'a, S: Ledger, L: Ledger, M: Match> Engine<'c, 'a, S, L, M> {
 
     /// Tests a token of this kind, which is no set.
     #[inline(always)]
-    pub fn takes(&mut self, kind: TokenKind, at: usize) -> bool
+    pub fn fits(&mut self, kind: TokenKind, at: usize) -> bool
         requires { kind ≢ TokenKind.Set }
         ensures answer { (token : Token) → kind ≡ kind_of token
             → IsTrue result ↔ ((at < length M.value) × Fits M.mode token (slice_index M.value at)) }
@@ -247,10 +247,10 @@ impl<'c, 'a, S: Ledger, L: Ledger, M: Match> Engine<'c, 'a, S, L, M> {
         read_set::<S, L, Brand>(self.pattern, place, byte, self.mode, &mut *self.counts).0
     }
 
-    /// Tests the set whose bracket stands at a place of the pattern: the place after it, and whether it takes the byte of the
+    /// Tests the set whose bracket stands at a place of the pattern: the place after it, and whether it fits the byte of the
     /// value. Where the value ends, any byte will do. `None` where no set begins, which is no step.
     #[inline(always)]
-    pub fn takes_set(&mut self, place: usize, at: usize) -> Option<(usize, bool)>
+    pub fn fits_set(&mut self, place: usize, at: usize) -> Option<(usize, bool)>
         requires { HasByte M.pattern place open_bracket }
         ensures found { IfSome result (λ found. IsSetTested M.mode M.pattern M.value place at found.0 found.1) }
         ensures none { IfNone result ((set : Set) (end : ℕ) → ¬ SetAt M.pattern place set end) }
@@ -343,7 +343,7 @@ impl<'c, 'a, S: Ledger, L: Ledger, M: Match> Engine<'c, 'a, S, L, M> {
 
     /// Whether the value has so many bytes from the mark on. No byte is read.
     #[inline(always)]
-    pub fn holds(&self, mark: Mark, count: usize) -> bool
+    pub fn has_left(&self, mark: Mark, count: usize) -> bool
         requires { mark.at ≤ length M.value }
         ensures { IsTrue result ↔ (mark.at + count ≤ length M.value) }
     {
@@ -394,7 +394,7 @@ fn refuses<'c, 'a, S: Ledger, L: Ledger, M: Match>(
 /// Whether the search says that the pattern matches the value, and the counts of what it took. It is not inlined, so that a
 /// value that the last bytes refuse doesn't pay for the registers of the search.
 #[inline(never)]
-fn searched<'c, 'a, S: Ledger, L: Ledger, M: Match>(
+fn search_whole<'c, 'a, S: Ledger, L: Ledger, M: Match>(
     pattern: &'a [u8],
     value: &'a [u8],
     mode: Mode,
@@ -442,7 +442,7 @@ pub fn run<'c, 'a, S: Ledger, L: Ledger, M: Match>(
     if is_refused {
         return (false, counts);
     }
-    searched::<S, L, M>(pattern, value, mode, counts)
+    search_whole::<S, L, M>(pattern, value, mode, counts)
 }
 
 /// The token at a place of the pattern, and the place after it, by an engine that reads no value; and the counts.

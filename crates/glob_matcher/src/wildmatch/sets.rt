@@ -84,7 +84,7 @@ impl Cursor {
 }
 
 /// Whether a set holds a byte: where it is negated, if none of its items does, but in path mode never a slash.
-fn takes(mode: Mode, is_negated: bool, byte: u8, is_held: bool) -> bool
+fn set_holds(mode: Mode, is_negated: bool, byte: u8, is_held: bool) -> bool
     ensures { result ≡ (not (is_path mode && byte == slash) && (if is_negated then not is_held else is_held)) }
 {
     !(mode.is_path() && byte == b'/') && is_held != is_negated
@@ -369,7 +369,7 @@ impl<'c, 'a, S: Ledger, L: Ledger, M: Match> Engine<'c, 'a, S, L, M> {
                     cursor = spelled.onward();
                 }
                 Entry::Close => {
-                    let holds = takes(mode, is_negated, byte, is_held);
+                    let holds = set_holds(mode, is_negated, byte, is_held);
                     return Some((cursor.place + 1, holds));
                 }
                 Entry::Broken => return None,

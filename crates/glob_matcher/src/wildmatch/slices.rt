@@ -66,8 +66,8 @@ fn set_with_counts<S: Ledger, L: Ledger>(
 }
 
 impl TokenKind {
-    /// Whether the token of this kind at a place of the pattern is one of a single byte and takes that byte.
-    pub fn takes(self, pattern: &[u8], place: usize, byte: u8, mode: Mode) -> bool
+    /// Whether the token of this kind at a place of the pattern is one of a single byte and fits that byte.
+    pub fn fits_at(self, pattern: &[u8], place: usize, byte: u8, mode: Mode) -> bool
         requires { place < length pattern.now }
         ensures { (token : Token) (end : ℕ) → TokenAt mode pattern.now place token end → self ≡ kind_of token → IsTrue result ↔ Fits mode token byte }
     {

@@ -45,7 +45,7 @@ impl TokenKind {
         matches!(self, TokenKind::Byte(b'/'))
     }
 
-    /// Whether a token of this kind, which is no set, is one of a single byte and takes that byte.
+    /// Whether a token of this kind, which is no set, is one of a single byte and fits that byte.
     #[inline(always)]
     pub fn fits(self, byte: u8, mode: Mode) -> bool
         requires { self ≢ kind.Set }

@@ -34,7 +34,7 @@ returns-in-Close-clause-read g c =
       past = omega (arith, so_far.past);
       inside = omega (arith, entry.1);
       answer =
-          subst (λ (m : Mode). c.takes-holds.result ≡ set_holds m all.0 c.args.byte) c.mode-mode.ensures (c.takes-holds.ensures ∙ all.2);
+          subst (λ (m : Mode). c.set_holds-holds.result ≡ set_holds m all.0 c.args.byte) c.mode-mode.ensures (c.set_holds-holds.ensures ∙ all.2);
     }
 
 pub returns-in-Close-clause-count : goal.returns-in-Close-clause-count

@@ -1,5 +1,5 @@
 use Rattle.glob_matcher.proofs.lemmas.reading.TokenKinds.{set_takes}
-use Rattle.glob_matcher.proofs.wildmatch.tokens.TokenKind.takes.Goals as goal
+use Rattle.glob_matcher.proofs.wildmatch.tokens.TokenKind.fits_at.Goals as goal
 
 pub returns-in-Some : goal.returns-in-Some
 returns-in-Some c =
