@@ -206,6 +206,7 @@ impl<'c, 'a, S: Ledger, L: Ledger, M: Match> Engine<'c, 'a, S, L, M> {
     {
         self.counts.step_with_look();
         let len = self.value.len();
+        // Most values end in another byte: `alike`, which tests first whether two bytes are equal, would only add a test.
         len > 0 && self.mode.fold(self.value[len - 1]) == self.mode.fold(wanted)
     }
 

@@ -106,6 +106,7 @@ impl Item {
         ensures { result ≡ item_holds mode byte self }
     {
         match self {
+            // Most members are other bytes: `alike`, which tests first whether two bytes are equal, would only add a test.
             Item::Member(member) => mode.fold(byte) == mode.fold(member),
             Item::Range(low, high) => range_holds(low, high, byte, mode),
             Item::Class(class) => class.holds(mode.fold(byte), mode),

@@ -52,7 +52,7 @@ impl TokenKind {
         ensures { (token : Token) → self ≡ kind_of token → IsTrue result ↔ Fits mode token byte }
     {
         match self {
-            TokenKind::Byte(wanted) => mode.fold(byte) == mode.fold(wanted),
+            TokenKind::Byte(wanted) => mode.alike(byte, wanted),
             TokenKind::Any => !(mode.is_path() && byte == b'/'),
             TokenKind::Set
             | TokenKind::Free
