@@ -106,6 +106,29 @@ impl Mark {
 }
 
 impl<'c, 'a, S: Ledger, L: Ledger, M: Match> Engine<'c, 'a, S, L, M> {
+    /// The engine of a match, over the counts of what it takes.
+    #[inline(always)]
+    fn new(
+        pattern: &'a [u8],
+        value: &'a [u8],
+        mode: Mode,
+        counts: &'c mut Counts<S, L>,
+    ) -> Engine<'c, 'a, S, L, M>
+        requires pattern { pattern.now ≡ M.pattern }
+        requires value { value.now ≡ M.value }
+        requires mode { mode ≡ M.mode }
+        requires counts { counts.ghost_name ≡ M.counts }
+        ensures { result ≡ counts.old }
+    {
+        Engine {
+            pattern,
+            value,
+            mode,
+            counts,
+            of: PhantomData,
+        }
+    }
+
     /// How many bytes the pattern has.
     #[inline(always)]
     pub fn pattern_len(&self) -> usize
@@ -380,13 +403,7 @@ fn refuses<'c, 'a, S: Ledger, L: Ledger, M: Match>(
     ensures steps { result.1.now.steps ≤ counts.old.steps + 1 }
     ensures looks { result.1.now.looks ≤ counts.old.looks + 2 }
 {
-    let mut ends = Engine::<'c, 'a, S, L, M> {
-        pattern,
-        value,
-        mode,
-        counts,
-        of: PhantomData,
-    };
+    let mut ends = Engine::<'c, 'a, S, L, M>::new(pattern, value, mode, counts);
     let answer = ends.ends_otherwise();
     let Engine { counts, .. } = ends;
     (answer, counts)
@@ -410,13 +427,7 @@ fn search_whole<'c, 'a, S: Ledger, L: Ledger, M: Match>(
     ensures steps { result.1.now.steps + 1 ≤ counts.old.steps + step_limit (length pattern.now) (length value.now) }
     ensures looks { result.1.now.looks + 2 ≤ counts.old.looks + look_limit (length pattern.now) (length value.now) }
 {
-    let mut engine = Engine::<'c, 'a, S, L, M> {
-        pattern,
-        value,
-        mode,
-        counts,
-        of: PhantomData,
-    };
+    let mut engine = Engine::<'c, 'a, S, L, M>::new(pattern, value, mode, counts);
     let answer = engine.search();
     let Engine { counts, .. } = engine;
     (answer, counts)
@@ -461,13 +472,7 @@ pub fn read_token<'c, 'a, S: Ledger, L: Ledger, M: Match>(
     requires inside { place < length pattern.now }
     ensures { IsToken mode pattern.now place result.0.0 result.0.1 }
 {
-    let mut engine = Engine::<'c, 'a, S, L, M> {
-        pattern,
-        value: pattern,
-        mode,
-        counts,
-        of: PhantomData,
-    };
+    let mut engine = Engine::<'c, 'a, S, L, M>::new(pattern, pattern, mode, counts);
     let answer = engine.token_at(place);
     let Engine { counts, .. } = engine;
     (answer, counts)
@@ -493,13 +498,7 @@ pub fn read_set<'c, 'a, S: Ledger, L: Ledger, M: Match>(
     ensures same { result.1.ghost_name ≡ counts.entry.ghost_name }
     ensures count { LookedOver 4 counts.old result.1.now place (read_end pattern.now result.0) }
 {
-    let mut engine = Engine::<'c, 'a, S, L, M> {
-        pattern,
-        value: pattern,
-        mode,
-        counts,
-        of: PhantomData,
-    };
+    let mut engine = Engine::<'c, 'a, S, L, M>::new(pattern, pattern, mode, counts);
     let answer = engine.set_at(place, byte);
     let Engine { counts, .. } = engine;
     (answer, counts)
