@@ -4,7 +4,7 @@
 //! The bytes of the value are read by the methods of this module alone, and each that reads one counts one step and one look;
 //! but for a set, whose byte is looked at before the step is counted, if a set begins at all. So no other module can read the
 //! value without a step, or count in another place. `has_left` looks at the length alone, and counts none.
-ghost use Rattle.std.specs.Prelude.{◌≡◌, ◌≢◌, ◌↔◌, ◌⊎◌, ℕ, ◌+◌, ◌-◌, ◌^◌, ◌<◌, ◌≤◌, IsTrue, IfSome, IfNone, length, slice_index, slice_range, take};
+ghost use Rattle.std.specs.Prelude.{◌≡◌, ◌≢◌, ◌↔◌, ◌⊎◌, ℕ, ◌+◌, ◌-◌, ◌^◌, ◌<◌, ◌≤◌, IsTrue, IfSome, IfNone, MatchOption, length, slice_index, slice_range, take};
 ghost use Rattle.glob_matcher.specs.declared.wildmatch.items.Class.{Class};
 ghost use Rattle.glob_matcher.specs.Bytes.{HasByte, folds, is_path, open_bracket, slash};
 ghost use Rattle.glob_matcher.specs.Sets.{Set, SetAt, name_of};
@@ -192,8 +192,8 @@ impl<'c, 'a, S: Ledger, L: Ledger, M: Match> Engine<'c, 'a, S, L, M> {
     pub fn class_named(&mut self, from: usize, to: usize) -> Option<Class>
         requires order { from ≤ to }
         requires inside { to ≤ length M.pattern }
-        ensures found { IfSome result (λ class. slice_range M.pattern from to ≡ name_of class) }
-        ensures none { IfNone result ((class : Class) → ¬ (slice_range M.pattern from to ≡ name_of class)) }
+        ensures class { MatchOption result ((class : Class) → ¬ (slice_range M.pattern from to ≡ name_of class))
+            (λ class. slice_range M.pattern from to ≡ name_of class) }
         ensures count { LookedOver 1 self.old self.new from to }
         ensures looks { self.new.looks + from ≡ self.old.looks + to }
     {

@@ -1,5 +1,5 @@
 //! What a bracket set holds: its items, each of them a byte, a range or a class. How a set is read is in `sets`.
-ghost use Rattle.std.specs.Prelude.{◌≡◌, ◌||◌, IfSome, IfNone};
+ghost use Rattle.std.specs.Prelude.{◌≡◌, ◌||◌, MatchOption};
 ghost use Rattle.glob_matcher.specs.declared.wildmatch.items.Class.{Class};
 ghost use Rattle.glob_matcher.specs.Sets.{class_holds, is_between, item_holds, member_of, name_of, range_holds};
 
@@ -36,8 +36,7 @@ pub enum Item {
 impl Class {
     /// The class of a name, where there is one.
     pub fn named(name: &[u8]) -> Option<Class>
-        ensures found { IfSome result (λ class. name.now ≡ name_of class) }
-        ensures none { IfNone result ((class : Class) → ¬ (name.now ≡ name_of class)) }
+        ensures { MatchOption result ((class : Class) → ¬ (name.now ≡ name_of class)) (λ class. name.now ≡ name_of class) }
     {
         match name {
             b"alnum" => Some(Class::Alnum),

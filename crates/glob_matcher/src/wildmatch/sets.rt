@@ -2,7 +2,7 @@
 //!
 //! Each `[:` wants to know where the first `]` after it is. That one stays the first for each later `[:` before it, so it is
 //! looked for only where it isn't known.
-ghost use Rattle.std.specs.Prelude.{◌↔◌, ℕ, ◌+◌, ◌-◌, ◌<◌, ◌≤◌, IsTrue, IfSome, IfNone, Option, Some, None, true, length, slice_index, not, false, ◌&&◌, ◌||◌, ◌==◌, ◌≡◌, ◌≢◌, if◌then◌else◌, Bool};
+ghost use Rattle.std.specs.Prelude.{◌↔◌, ℕ, ◌+◌, ◌-◌, ◌<◌, ◌≤◌, IsTrue, IfNone, MatchOption, Option, Some, None, true, length, slice_index, not, false, ◌&&◌, ◌||◌, ◌==◌, ◌≡◌, ◌≢◌, if◌then◌else◌, Bool};
 ghost use Rattle.glob_matcher.specs.Bytes.{HasByte, IsEscaped, is_path, open_bracket, close_bracket, backslash, colon, dash, slash};
 ghost use Rattle.glob_matcher.specs.Sets.{BeginsRange, BeginsClass, IsFirstFrom, IsSign, IsUpperEnd};
 ghost use Rattle.glob_matcher.specs.Private.Takes.{Takes};
@@ -94,8 +94,7 @@ impl<'c, 'a, S: Ledger, L: Ledger, M: Match> Engine<'c, 'a, S, L, M> {
     /// The byte that the backslash at this place escapes.
     pub fn escaped_at(&mut self, place: usize) -> Option<u8>
         requires { HasByte M.pattern place backslash }
-        ensures found { IfSome result (λ byte. IsEscaped M.pattern place byte) }
-        ensures none { IfNone result ((byte : ℕ) → ¬ IsEscaped M.pattern place byte) }
+        ensures byte { MatchOption result ((byte : ℕ) → ¬ IsEscaped M.pattern place byte) (IsEscaped M.pattern place) }
         ensures count { Takes self.old self.new 0 1 }
         ensures free { IfNone result (Takes self.old self.new 0 0) }
     {
@@ -105,11 +104,9 @@ impl<'c, 'a, S: Ledger, L: Ledger, M: Match> Engine<'c, 'a, S, L, M> {
     /// The upper end of a range at this place, and the place after it.
     fn upper_end(&mut self, place: usize) -> Option<(u8, usize)>
         requires { place < length M.pattern }
-        ensures found { IfSome result (λ end. IsUpperEnd M.pattern place end.0 end.1) }
-        ensures inside { IfSome result (λ end. (place < end.1) × (end.1 ≤ length M.pattern)) }
-        ensures none { IfNone result ((high j : ℕ) → ¬ IsUpperEnd M.pattern place high j) }
-        ensures count { IfSome result (λ end. LookedOver 1 self.old self.new place end.1) }
-        ensures broken { IfNone result (Takes self.old self.new 0 1) }
+        ensures end { MatchOption result ((high j : ℕ) → ¬ IsUpperEnd M.pattern place high j)
+            (λ end. IsUpperEnd M.pattern place end.0 end.1 × (place < end.1) × (end.1 ≤ length M.pattern)) }
+        ensures count { MatchOption result (Takes self.old self.new 0 1) (λ end. LookedOver 1 self.old self.new place end.1) }
     {
         let byte = self.pattern_byte(place);
         if byte != b'\\' {
@@ -124,10 +121,10 @@ impl<'c, 'a, S: Ledger, L: Ledger, M: Match> Engine<'c, 'a, S, L, M> {
     /// The first closing bracket from a place on.
     fn first_close(&mut self, from: usize) -> Option<usize>
         requires { from ≤ length M.pattern }
-        ensures found { IfSome result (λ close. IsFirstFrom M.pattern from close_bracket close) }
-        ensures none { IfNone result ((j : ℕ) → from ≤ j → ¬ HasByte M.pattern j close_bracket) }
-        ensures count { IfSome result (λ close. LookedOver 1 self.old self.new from (close + 1)) }
-        ensures broken { IfNone result (LookedOver 1 self.old self.new from (length M.pattern)) }
+        ensures close { MatchOption result ((j : ℕ) → from ≤ j → ¬ HasByte M.pattern j close_bracket)
+            (IsFirstFrom M.pattern from close_bracket) }
+        ensures count { MatchOption result (LookedOver 1 self.old self.new from (length M.pattern))
+            (λ close. LookedOver 1 self.old self.new from (close + 1)) }
     {
         let mut place = from;
         'bytes: while let Some(byte) = self.look_at(place) {
@@ -143,11 +140,11 @@ impl<'c, 'a, S: Ledger, L: Ledger, M: Match> Engine<'c, 'a, S, L, M> {
     fn class_close(&mut self, place: usize, close: Option<usize>) -> Option<usize>
         requires begins { BeginsClass M.pattern place }
         requires known { IsKnown M.pattern place close }
-        ensures found { IfSome result (λ j. IsFirstFrom M.pattern (place + 2) close_bracket j) }
-        ensures none { IfNone result ((j : ℕ) → place + 2 ≤ j → ¬ HasByte M.pattern j close_bracket) }
+        ensures close { MatchOption result ((j : ℕ) → place + 2 ≤ j → ¬ HasByte M.pattern j close_bracket)
+            (IsFirstFrom M.pattern (place + 2) close_bracket) }
         ensures steps { self.new.steps ≡ self.old.steps }
-        ensures looks { IfSome result (λ j. self.new.looks + search_front close place ≤ self.old.looks + j) }
-        ensures broken { IfNone result (LookedOver 1 self.old self.new (place + 2) (length M.pattern)) }
+        ensures looks { MatchOption result (LookedOver 1 self.old self.new (place + 2) (length M.pattern))
+            (λ j. self.new.looks + search_front close place ≤ self.old.looks + j) }
     {
         let Some(known) = close else {
             return self.first_close(place + 2);
@@ -202,8 +199,8 @@ impl<'c, 'a, S: Ledger, L: Ledger, M: Match> Engine<'c, 'a, S, L, M> {
     /// none.
     fn range_from(&mut self, low: Option<u8>, place: usize) -> Option<u8>
         requires { HasByte M.pattern place dash }
-        ensures found { IfSome result (λ from. (low ≡ Some from) × BeginsRange M.pattern (Some from) place) }
-        ensures none { IfNone result (¬ BeginsRange M.pattern low place) }
+        ensures low { MatchOption result (¬ BeginsRange M.pattern low place)
+            (λ from. (low ≡ Some from) × BeginsRange M.pattern (Some from) place) }
         ensures count { Takes self.old self.new 0 1 }
     {
         let Some(member) = low else {

@@ -1,6 +1,6 @@
 -- What the reader of a set keeps of its looks: what is known of a closing bracket stays known further on, and how far it was looked for.
 use Rattle.std.proofs.lemmas.Bool.{cases_lt}
-use Rattle.std.proofs.Common.{◌≡◌, ℕ, Bool, false, ◌||◌, ◌+◌, ◌*◌, ◌<◌, ◌≤◌, List, length, Option, Some, None, IfSome, inl, inr, refl, sym, subst, arith}
+use Rattle.std.proofs.Common.{◌≡◌, ℕ, Bool, false, ◌||◌, ◌+◌, ◌*◌, ◌<◌, ◌≤◌, List, length, Option, Some, None, MatchOption, inl, inr, refl, sym, subst, arith}
 use Rattle.glob_matcher.specs.declared.wildmatch.items.Item.{Item}
 use Rattle.glob_matcher.specs.declared.wildmatch.sets.Spelled.{Spelled}
 use Rattle.glob_matcher.specs.declared.wildmatch.sets.Cursor.{Cursor}
@@ -49,11 +49,11 @@ pub search_front_passed : (known : Option ℕ) (m i : ℕ) → known ≡ Some m 
 search_front_passed known m i is near = subst (λ (x : Option ℕ). search_front x i ≤ i + 1) (sym is) (omega arith)
 
 -- the looks of a new search, behind the two bytes of a `[:`
-pub search_front_anew : (result known : Option ℕ) (before after : Counts) (i : ℕ) → search_front known i ≤ i + 1
-    → IfSome result (λ m. LookedOver 1 before after (i + 2) (m + 1))
-    → IfSome result (λ m. after.looks + search_front known i ≤ before.looks + m)
-search_front_anew None known before after i near over = tt
-search_front_anew (Some m) known before after i near over = omega (arith, near, over.looks)
+pub search_front_anew : (result known : Option ℕ) (before after : Counts) (i n : ℕ) → search_front known i ≤ i + 1
+    → MatchOption result (LookedOver 1 before after (i + 2) n) (λ m. LookedOver 1 before after (i + 2) (m + 1))
+    → MatchOption result (LookedOver 1 before after (i + 2) n) (λ m. after.looks + search_front known i ≤ before.looks + m)
+search_front_anew None known before after i n near over = over
+search_front_anew (Some m) known before after i n near over = omega (arith, near, over.looks)
 
 -- what is known of the closing bracket is as before
 pub paid_same : {before after : Counts} {i : ℕ} {s : Spelled} (spare : ℕ) → after.steps ≡ before.steps → i ≤ s.next

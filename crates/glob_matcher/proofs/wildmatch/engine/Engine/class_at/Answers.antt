@@ -5,7 +5,7 @@ use Rattle.glob_matcher.proofs.wildmatch.engine.Engine.class_at.Goals as goal
 pub returns-then-not-ends_class : goal.returns-then-not-ends_class
 returns-then-not-ends_class g c =
     let takes = c.ends_class.ensures.count in
-    let far = c.in-Some.ensures.found.low in
+    let far = c.in-Some.ensures.close.low in
     λ low. record {
       answer = search rules;
       paid = record {
@@ -19,7 +19,7 @@ returns-in_default-class_named g c =
     let takes = c.ends_class.ensures.count in
     let over = c.class_named.ensures.count in
     let from = search_front_low c.args.close c.args.place in
-    let first = c.in-Some.ensures.found in
+    let first = c.in-Some.ensures.close in
     λ low. record {
       answer = search rules;
       paid = record {
@@ -32,7 +32,7 @@ pub returns : goal.returns
 returns g c =
     let takes = c.ends_class.ensures.count in
     let over = c.class_named.ensures.count in
-    let far = c.in-Some.ensures.found.low in
+    let far = c.in-Some.ensures.close.low in
     λ low. record {
       answer = search rules;
       paid = record {

@@ -5,12 +5,12 @@ use Rattle.glob_matcher.proofs.wildmatch.engine.Engine.range_at.Goals as goal
 
 pub returns-in_default : goal.returns-in_default
 returns-in_default g c = record {
-  answer = no_item_without_end g.M.Match.pattern (Some c.args.from) c.args.place c.requires.begins c.in_default.ensures.none;
+  answer = no_item_without_end g.M.Match.pattern (Some c.args.from) c.args.place c.requires.begins c.in_default.ensures.end;
   paid = search rules;
 }
 
 pub returns : goal.returns
 returns g c =
-    let inside = c.in-Some.ensures.inside in
+    let past = c.in-Some.ensures.end.1 in
     let over = c.in-Some.ensures.count in
-    record { answer = search rules; paid = paid_same 2 over.steps (omega (arith, inside.0)) (omega (arith, inside.0, over.looks)) }
+    record { answer = search rules; paid = paid_same 2 over.steps (omega (arith, past)) (omega (arith, past, over.looks)) }

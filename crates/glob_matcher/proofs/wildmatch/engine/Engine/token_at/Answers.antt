@@ -6,13 +6,13 @@ use Rattle.glob_matcher.proofs.wildmatch.engine.Engine.token_at.Goals as goal
 
 pub returns-in-Some-clause-token : goal.returns-in-Some-clause-token
 returns-in-Some-clause-token g c =
-    escaped_token g.M.Match.mode g.M.Match.pattern c.args.place c.in-Some.byte c.in-Some.ensures.found
+    escaped_token g.M.Match.mode g.M.Match.pattern c.args.place c.in-Some.byte c.in-Some.ensures.byte
 
 pub returns-in-None-clause-token : goal.returns-in-None-clause-token
 returns-in-None-clause-token g c =
     subst (λ (n : ℕ). IsToken g.M.Match.mode g.M.Match.pattern c.args.place kind.Nothing n) (sym c.pattern_len.ensures)
     (broken_token g.M.Match.mode g.M.Match.pattern c.args.place c.requires
-    (lone_backslash g.M.Match.pattern c.args.place (record { inside = c.requires; is = sym c.pattern_byte.ensures.here ∙ c.in-92.is }) c.in-None.ensures.none))
+    (lone_backslash g.M.Match.pattern c.args.place (record { inside = c.requires; is = sym c.pattern_byte.ensures.here ∙ c.in-92.is }) c.in-None.ensures.byte))
 
 pub returns-in-63-clause-token : goal.returns-in-63-clause-token
 returns-in-63-clause-token g c = any_token g.M.Match.mode g.M.Match.pattern c.args.place (record { inside = c.requires; is = sym c.pattern_byte.ensures.here ∙ c.in-63.is })
