@@ -167,7 +167,7 @@ pub fn attempt(
                 if at == value.len() {
                     return Answer::AbortAll;
                 }
-                if !kind.takes(pattern, place, value[at], mode) {
+                if !kind.fits_at(pattern, place, value[at], mode) {
                     return Answer::NoMatch;
                 }
                 place = next;

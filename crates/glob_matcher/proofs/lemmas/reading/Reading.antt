@@ -63,7 +63,7 @@ dirs_run mode p i j path run bounded at_slash =
     let inside : j < length p = at_slash.inside in
     record {
       token = Dirs;
-      here = record { path = path; at = j; run = run; bounded = bounded; slash = at_slash; after = refl };
+      here = record { path = path; run_end = j; run = run; bounded = bounded; slash = at_slash; after = refl };
       same_kind = refl;
       past = omega arith;
       inside = omega arith;

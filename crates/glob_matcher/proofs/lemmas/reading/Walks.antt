@@ -1,8 +1,8 @@
 -- What the reader of a set keeps as it goes from item to item.
 use Rattle.std.proofs.Common.{◌≡◌, ◌↔◌, inl, inr, ℕ, ◌+◌, ◌<◌, ◌≤◌, Bool, true, false, not, ◌&&◌, ◌||◌, ◌==◌, IsTrue, List, [], ◌∷◌, length, Option, None, refl, sym, ◌∙◌, ap, subst, arith, if◌then◌else◌}
 use Rattle.std.specs.List.{list_any}
-use Rattle.glob_matcher.specs.declared.wildmatch.sets.Item.{Item}
-use Rattle.glob_matcher.specs.declared.wildmatch.sets.Item.TheVariants as item
+use Rattle.glob_matcher.specs.declared.wildmatch.items.Item.{Item}
+use Rattle.glob_matcher.specs.declared.wildmatch.items.Item.TheVariants as item
 use Rattle.glob_matcher.specs.declared.wildmatch.mode.Mode.{Mode}
 use Rattle.glob_matcher.specs.Bytes.{HasByte, is_path, open_bracket, close_bracket, slash}
 use Rattle.glob_matcher.specs.Sets.{Set, SetAt, ItemAt, ItemsAt, IsSign, item_holds, member_of, set_holds}

@@ -5,7 +5,7 @@ use Rattle.glob_matcher.specs.declared.wildmatch.mode.Mode.{Mode}
 use Rattle.glob_matcher.specs.declared.wildmatch.tokens.TokenKind.{TokenKind}
 use Rattle.glob_matcher.specs.Steps.{Counts, step_limit, look_limit}
 use Rattle.glob_matcher.specs.Tokens.{Token, TokenAt, From}
-use Rattle.glob_matcher.specs.Private.Takes.{Takes}
+use Rattle.glob_matcher.specs.Private.Takes.{Takes, TakesExactly}
 use Rattle.glob_matcher.specs.Private.Reader.{IsToken, kind_of, is_star}
 use Rattle.glob_matcher.specs.Private.Components.{ends, separates, next_component}
 use Rattle.glob_matcher.specs.Private.SizedTokens.{SizedToken, sized, SizedTokensFrom}
@@ -30,6 +30,10 @@ pub amount-same : (measure : Measure) (n : ℕ) → amount measure n n ≡ n
 unfolding amount
 amount-same Steps n = refl
 amount-same Looks n = refl
+
+-- what is taken exactly is taken at most
+pub TakesExactly-at_most : {x y : Counts} {a b : ℕ} → TakesExactly x y a b → Takes x y a b
+TakesExactly-at_most t = record { steps = t.steps; looks = omega (arith, t.looks) }
 
 -- what was taken is within a price
 pub Takes-within : (measure : Measure) {x y : Counts} (s a b : ℕ) {c d e f : ℕ} → amount_of measure x ≤ s + amount measure a b → Takes x y c d

@@ -2,7 +2,7 @@ use Rattle.std.proofs.Common.{◌+◌, ◌-◌, ◌*◌, ℕ, ap, arith}
 use Rattle.glob_matcher.proofs.lemmas.two_marks.States.{Stands-places}
 use Rattle.glob_matcher.proofs.lemmas.two_marks.MovedMarks.{stands_free_moved}
 use Rattle.glob_matcher.proofs.lemmas.two_marks.StuckMarks.{free_stuck}
-use Rattle.glob_matcher.proofs.lemmas.two_marks.Prices.{amount-same, move-price, scan-price, Takes-both}
+use Rattle.glob_matcher.proofs.lemmas.two_marks.Prices.{Takes-both, TakesExactly-at_most, amount-same, move-price, scan-price}
 use Rattle.glob_matcher.proofs.lemmas.two_marks.Budget.{Allows-places, allows_less}
 use Rattle.glob_matcher.proofs.lemmas.two_marks.MovedMarkCosts.{allows_free_moved, free_stuck_counts}
 use Rattle.glob_matcher.proofs.lemmas.two_marks.Scans.{stands_free_skipped, allows_free_skipped, free_found, free_found_counts}
@@ -12,7 +12,7 @@ pub returns-in_default : goal.returns-in_default
 returns-in_default g c =
     record {
       meaning = free_stuck c.requires c.in_default.ensures.unable;
-      allows = λ measure n a. omega (arith, free_stuck_counts a, move-price measure c.pass.ensures.count (omega arith) (omega arith));
+      allows = λ measure n a. omega (arith, free_stuck_counts a, move-price measure (TakesExactly-at_most c.pass.ensures.count) (omega arith) (omega arith));
       progress = tt;
     }
 
@@ -29,7 +29,7 @@ returns-in-Undecided g c =
           c.place.ensures c.at.ensures;
       allows = λ measure n a.
           Allows-places
-          (allows_less (omega (arith, amount-same measure 0, scan-price measure passed 0 0 (Takes-both c.pass.ensures.count so.takes) (omega arith) (omega arith)))
+          (allows_less (omega (arith, amount-same measure 0, scan-price measure passed 0 0 (Takes-both (TakesExactly-at_most c.pass.ensures.count) so.takes) (omega arith) (omega arith)))
           (allows_free_skipped to (allows_free_moved x moved.2 moved.0 moved.1 a) so.same so.low so.inside))
           c.place.ensures c.at.ensures;
       progress = omega (arith, so.takes.steps, c.pass.ensures.count.steps);
@@ -49,7 +49,7 @@ returns-in-Found g c =
           (ap (λ (n : ℕ). n + 1) c.place-in-Found.ensures) (ap (λ (n : ℕ). n + 1) c.at-in-Found.ensures);
       allows = λ measure n a.
           Allows-places
-          (allows_less (scan-price measure passed 1 8 (Takes-both c.pass.ensures.count so.takes) (omega arith) (omega arith))
+          (allows_less (scan-price measure passed 1 8 (Takes-both (TakesExactly-at_most c.pass.ensures.count) so.takes) (omega arith) (omega arith))
           (free_found_counts (allows_free_skipped to (allows_free_moved x moved.2 moved.0 moved.1 a) so.same so.low so.inside) so.met))
           (ap (λ (n : ℕ). n + 1) c.place-in-Found.ensures) (ap (λ (n : ℕ). n + 1) c.at-in-Found.ensures);
       progress = omega (arith, so.takes.steps, c.pass.ensures.count.steps);

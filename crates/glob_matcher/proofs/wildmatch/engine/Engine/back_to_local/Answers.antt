@@ -1,7 +1,7 @@
 use Rattle.std.proofs.Common.{◌+◌, ◌-◌, ◌*◌, ℕ, inr, ap, refl, arith}
 use Rattle.glob_matcher.proofs.lemmas.two_marks.States.{Stands-places, miss_of}
 use Rattle.glob_matcher.proofs.lemmas.two_marks.StuckMarks.{left_stuck, left_without}
-use Rattle.glob_matcher.proofs.lemmas.two_marks.Prices.{amount-same, move-over, move-price, scan-price, Takes-both}
+use Rattle.glob_matcher.proofs.lemmas.two_marks.Prices.{Takes-both, TakesExactly-at_most, amount-same, move-over, move-price, scan-price}
 use Rattle.glob_matcher.proofs.lemmas.two_marks.Budget.{Allows-places, allows_less, allows_missed, left_less}
 use Rattle.glob_matcher.proofs.lemmas.two_marks.MovedMarkCosts.{left_missed, left_stuck_counts}
 use Rattle.glob_matcher.proofs.lemmas.two_marks.Scans.{IsLocalPast, local_found, local_found_counts, local_scanned, local_scanned_counts, none_of}
@@ -19,7 +19,7 @@ returns-in_default g c =
 pub returns-in_default-pass_within_or_end : goal.returns-in_default-pass_within_or_end
 returns-in_default-pass_within_or_end g c =
     let stuck = c.in_default-pass_within_or_end.ensures.unable in
-    let pass = c.pass_within_or_end.ensures.count in
+    let pass = TakesExactly-at_most c.pass_within_or_end.ensures.count in
     record {
       meaning = left_stuck c.requires c.in-Some.is stuck;
       allows = λ measure n a.
@@ -34,7 +34,7 @@ returns-in-Blocked g c =
     let so = c.in-Blocked.ensures.meaning in
     let bare = c.in-Blocked.ensures.bare in
     let passed = 2 * (c.in-Blocked.field-0.at - c.in-Some-pass_within_or_end.moved.at) in
-    let pass = c.pass_within_or_end.ensures.count in
+    let pass = TakesExactly-at_most c.pass_within_or_end.ensures.count in
     let reached = local_scanned c.requires c.in-Some.is moved.2 moved.3 moved.0 moved.1 so bare in
     record {
       meaning = left_stuck (miss_of reached so.met.2) refl (inr so.met.1);
@@ -52,7 +52,7 @@ returns-in-Undecided g c =
     let so = c.in-Undecided.ensures.meaning in
     let bare = c.in-Undecided.ensures.bare in
     let passed = 2 * (c.in-Undecided.reached.at - c.in-Some-pass_within_or_end.moved.at) in
-    let pass = c.pass_within_or_end.ensures.count in
+    let pass = TakesExactly-at_most c.pass_within_or_end.ensures.count in
     record {
       meaning =
           Stands-places (local_scanned c.requires c.in-Some.is moved.2 moved.3 moved.0 moved.1 so bare) c.place.ensures c.at.ensures;
@@ -71,7 +71,7 @@ returns-in-Found g c =
     let so = c.in-Found.ensures.meaning in
     let bare = c.in-Found.ensures.bare in
     let passed = 2 * (c.in-Found.found.at - c.in-Some-pass_within_or_end.moved.at) in
-    let pass = c.pass_within_or_end.ensures.count in
+    let pass = TakesExactly-at_most c.pass_within_or_end.ensures.count in
     let local : IsLocalPast g.M.Match.pattern c.in-Found.found c.local_past.result = record { at_slash = c.local_past.ensures.at_slash; at_other = c.local_past.ensures.at_other } in
     let all = Takes-both (Takes-both pass so.takes) c.local_past.ensures.count in
     let reached = local_scanned c.requires c.in-Some.is moved.2 moved.3 moved.0 moved.1 so bare in

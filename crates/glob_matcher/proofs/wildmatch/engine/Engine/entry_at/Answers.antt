@@ -10,4 +10,4 @@ pub returns-in-None-clause-entry : goal.returns-in-None-clause-entry
 returns-in-None-clause-entry g c =
     no_items_here g.M.Match.pattern c.args.cursor.is_first c.args.cursor.low c.args.cursor.place
     (λ later here. let wrong : false ≡ true = c.if-closes.ensures.1 (later, sym c.in-Some.ensures.here.is ∙ here.is) in cc)
-    c.in-None.ensures.none
+    c.in-None.ensures.answer

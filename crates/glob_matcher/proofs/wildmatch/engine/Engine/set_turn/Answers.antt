@@ -30,8 +30,8 @@ returns-in_default g c =
       progress = tt;
     }
 
-pub returns-then-not-takes : goal.returns-then-not-takes
-returns-then-not-takes g c =
+pub returns-then-not-fits : goal.returns-then-not-fits
+returns-then-not-fits g c =
     let m = g.M.Match in
     let found = c.in-Some.ensures.found in
     let paid = c.in-Some.ensures.count in
@@ -42,7 +42,7 @@ returns-then-not-takes g c =
         stands = c.requires.stands;
         missed =
             misses_byte m.value c.args.state.at x refl c.requires.stands.inside
-            (λ fits. let held : c.in-Some.takes ≡ true = found.answer.1 fits in let other = c.if-not-takes.true in cc);
+            (λ fits. let held : c.in-Some.fits ≡ true = found.answer.1 fits in let other = c.if-not-fits.true in cc);
       };
       allows = λ measure s n low a. record {
         before = s;
@@ -61,7 +61,7 @@ returns g c =
     let paid = c.in-Some.ensures.count in
     let x : IsToken m.mode m.pattern c.args.state.place kind.Set c.in-Some.after =
     record { token = OneOf found.set; here = found.here; same_kind = refl; past = found.past; inside = found.inside } in
-    let fits = found.answer.0 c.if-not-takes.false in
+    let fits = found.answer.0 c.if-not-fits.false in
     record {
       meaning = stands_on c.requires.stands x refl fits.0 fits.1 (λ is. cc);
       allows = λ measure s n low a.
