@@ -20,14 +20,14 @@ lowercase_slash c is = by (cases_lt c 65) (cases_lt 90 c) where
   by (inr from) (inr to) = let letter : to_ascii_lowercase c ≡ c + 32 = (lowercase_is c).0 (from, to) in omega arith
 
 -- a slash folds to itself, and nothing else does
-pub fold-slash : (mode : Mode) → fold mode slash ≡ slash
-fold-slash mode = by (folds mode) where
+pub slash_is_folded : (mode : Mode) → fold mode slash ≡ slash
+slash_is_folded mode = by (folds mode) where
   by : (b : Bool) → (if b then to_ascii_lowercase slash else slash) ≡ slash
   by true = refl
   by false = refl
 
 pub fold_slash : (mode : Mode) (c : ℕ) → fold mode c ≡ fold mode slash → c ≡ slash
-fold_slash mode c is = by (folds mode) (is ∙ fold-slash mode) where
+fold_slash mode c is = by (folds mode) (is ∙ slash_is_folded mode) where
   by : (b : Bool) → (if b then to_ascii_lowercase c else c) ≡ slash → c ≡ slash
   by true e = lowercase_slash c e
   by false e = e

@@ -18,7 +18,7 @@ use Rattle.glob_matcher.specs.Private.States.{FreeKnown, IsNextDirectory}
 use Rattle.glob_matcher.specs.Private.Pieces.{Piece, piece, PiecesFrom}
 use Rattle.glob_matcher.specs.Private.Prices.{Measure, amount, move, test, each, trial, left, cost, hop, stretch}
 use Rattle.glob_matcher.specs.Private.Budget.{FreeRest, DirsRest, LocalRest, WithinRest, Owes, Allows, OwesLeft, AllowsLeft, Tested, Missed}
-use Rattle.glob_matcher.proofs.lemmas.two_marks.Components.{IsInner, separates-fits, slash_ends, ends_or_not, next-end, next-past, next-inner, next_past, next_high, next_before_end}
+use Rattle.glob_matcher.proofs.lemmas.two_marks.Components.{IsInner, separates-fits, slash_ends, ends_or_not, next-end, next-outside, next-inner, next_past, next_high, next_before_end}
 use Rattle.glob_matcher.proofs.lemmas.two_marks.Prices.{apart_or_joined, cost-apart, cost-joined, cost_hop, cost_limit, cost_mono, each_of_star, hop-apart, hop-joined, left_is, pieces_head, settle_pieces, stretch-joined, stretch_left, stretch_step, test_each, test_one, test_star, times_less, times_mono, trial_is, trial_left, trial_some, trial_stretch}
 
 -- the engine at its start, after the look at the last byte
@@ -255,10 +255,10 @@ star_met {measure} {mode} {p} {v} {i} t j {k} {s = s} {n} here star joined insid
     }
 
 -- where a run of stars crosses slashes, each look at what follows begins one place on
-free_skips : {mode : Mode} {p v : List ℕ} {i : ℕ} (measure : Measure) (xs : List Piece) → PiecesFrom mode p i xs → i ≢ length p
+free_hops : {mode : Mode} {p v : List ℕ} {i : ℕ} (measure : Measure) (xs : List Piece) → PiecesFrom mode p i xs → i ≢ length p
     → FreeKnown mode p v i → (k : ℕ) → hop mode v xs k ≡ k + 1
-free_skips measure [] read more known k = absurd (more read)
-free_skips {mode} {v = v} {i} measure (x ∷ xs) read more known k = elim (apart_or_joined mode x.token) [
+free_hops measure [] read more known k = absurd (more read)
+free_hops {mode} {v = v} {i} measure (x ∷ xs) read more known k = elim (apart_or_joined mode x.token) [
   | inl apart ↦ hop-apart measure mode v x xs k apart
   | inr joined ↦
       let low : next_component mode v k ≤ k + 1 = known.far k (k + 1) (omega arith) x.token (i + x.width) read.0 joined in
@@ -274,7 +274,7 @@ allows_free {measure} {mode} {p} {v} {i} {j} {k} {c} {l} m {r} {s} {n} here more
       owes : Owes measure mode p v i k c l s n → Owes measure mode p v j k (crossing.Free m) None (s + test measure (piece i Free j)) n
       owes o =
           let star = star_met Free j here refl refl inside o in
-          let skips = free_skips measure star.pieces star.read more known in
+          let skips = free_hops measure star.pieces star.read more known in
           let hopped : cost measure mode v star.pieces (hop mode v star.pieces k) ≡ cost measure mode v star.pieces (k + 1) =
           ap (cost measure mode v star.pieces) (skips k) in
           let past : k < next_component mode v k = next_past mode v k in
@@ -393,10 +393,10 @@ left_missed inside a = record {
 }
 
 stuck_next : (mode : Mode) (v : List ℕ) (k : ℕ) → (length v ≤ k) ⊎ (get_or v k 0 ≡ slash) → next_component mode v k ≡ k + 1
-stuck_next mode v k (inl past) = next-past mode v k past
+stuck_next mode v k (inl past) = next-outside mode v k past
 stuck_next mode v k (inr is) = elim (cases_lt k (length v)) [
   | inl inside ↦ next-end mode v k inside (slash_ends mode (get_or v k 0) is)
-  | inr past ↦ next-past mode v k past
+  | inr past ↦ next-outside mode v k past
 ]
 
 -- The token does not fit here, and the local mark cannot move.

@@ -1,7 +1,7 @@
 -- Components of a value: where one ends, and where the next begins. In plain mode each byte is a component of its own.
 use Rattle.std.proofs.Common.{◌≡◌, ◌≢◌, ◌⊎◌, inl, inr, ℕ, zero, suc, ◌+◌, ◌-◌, ◌<◌, ◌≤◌, Bool, true, false, not, ◌==◌, IsTrue, List, [], ◌∷◌, length, get_or, drop, refl, sym, ◌∙◌, ap, subst, arith, add-one, add-zero, drop-cons, if◌then◌else◌, eq-eqb, eqb-true, ne_eqb, ◌&&◌, length-drop, Option, Some, None}
 use Rattle.std.proofs.Math.ListN.{drop_of_length-le}
-use Rattle.std.proofs.lemmas.Bool.{cases_lt}
+use Rattle.std.proofs.lemmas.Bool.{cases_Bool, cases_lt}
 use Rattle.std.proofs.lemmas.Bool.Decides.{eqb_tells}
 use Rattle.glob_matcher.specs.declared.wildmatch.mode.Mode.{Mode}
 use Rattle.glob_matcher.specs.declared.wildmatch.engine.Mark.{Mark}
@@ -42,10 +42,7 @@ pub slash_ends : (mode : Mode) (b : ℕ) → b ≡ slash → ends mode b ≡ tru
 slash_ends mode b is = slash_ends_by (is_path mode) b is
 
 pub ends_or_not : (mode : Mode) (b : ℕ) → (ends mode b ≡ true) ⊎ (ends mode b ≡ false)
-ends_or_not mode b = cases (ends mode b) where
-  cases : (e : Bool) → (e ≡ true) ⊎ (e ≡ false)
-  cases true = inl refl
-  cases false = inr refl
+ends_or_not mode b = cases_Bool (ends mode b)
 
 same_end : (path : Bool) (b c : ℕ) → (b ≡ slash → c ≡ slash) → (c ≡ slash → b ≡ slash) → ends_by path b ≡ ends_by path c
 same_end false b c to from = refl
@@ -102,9 +99,9 @@ pub next-end : (mode : Mode) (v : List ℕ) (k : ℕ) → k < length v → ends 
 next-end mode v k inside end =
     next_at mode v k inside ∙ ap (λ (b : Bool). k + (if b then 1 else suc (reach mode (drop (suc k) v)))) end
 
-pub next-past : (mode : Mode) (v : List ℕ) (k : ℕ) → length v ≤ k → next_component mode v k ≡ k + 1
+pub next-outside : (mode : Mode) (v : List ℕ) (k : ℕ) → length v ≤ k → next_component mode v k ≡ k + 1
 unfolding next_component reach
-next-past mode v k past = ap (λ (bs : List ℕ). k + reach mode bs) (drop_of_length-le v past)
+next-outside mode v k past = ap (λ (bs : List ℕ). k + reach mode bs) (drop_of_length-le v past)
 
 next-inner_suc : (mode : Mode) (v : List ℕ) (k : ℕ) → k < length v → ends mode (get_or v k 0) ≡ false
     → next_component mode v (suc k) ≡ next_component mode v k
@@ -155,7 +152,7 @@ next_mono_one mode v k = elim (cases_lt k (length v)) [
     | inr within ↦ let same : next_component mode v (k + 1) ≡ next_component mode v k = next-inner mode v k inside within in omega arith
   ]
   | inr outside ↦
-      let here : next_component mode v k ≡ k + 1 = next-past mode v k outside in
+      let here : next_component mode v k ≡ k + 1 = next-outside mode v k outside in
       let past : k + 1 < next_component mode v (k + 1) = next_past mode v (k + 1) in omega arith
 ]
 
@@ -188,5 +185,5 @@ next_before_end mode v k e low inside end =
 pub next_plain : (mode : Mode) (v : List ℕ) (k : ℕ) → is_path mode ≡ false → next_component mode v k ≡ k + 1
 next_plain mode v k plain = elim (cases_lt k (length v)) [
   | inl inside ↦ next-end mode v k inside (ends_plain mode (get_or v k 0) plain)
-  | inr outside ↦ next-past mode v k outside
+  | inr outside ↦ next-outside mode v k outside
 ]

@@ -1,6 +1,6 @@
 -- The scans from a mark: what they pass over, the engine need not test in turn.
-use Rattle.std.proofs.Common.{◌≡◌, ◌≢◌, ◌⊎◌, inl, inr, ℕ, zero, suc, ◌+◌, ◌-◌, ◌*◌, ◌<◌, ◌≤◌, Bool, true, false, IsTrue, List, length, get_or, Option, Some, None, refl, sym, ◌∙◌, ap, subst, arith, if◌then◌else◌}
-use Rattle.std.proofs.lemmas.Bool.{cases_lt}
+use Rattle.std.proofs.Common.{◌≡◌, ◌≢◌, inl, inr, ℕ, zero, suc, ◌+◌, ◌-◌, ◌*◌, ◌<◌, ◌≤◌, Bool, true, false, IsTrue, List, length, get_or, Option, Some, None, refl, sym, ◌∙◌, ap, subst, arith, if◌then◌else◌}
+use Rattle.std.proofs.lemmas.Bool.{cases_eq, cases_lt}
 use Rattle.std.specs.Char.{to_ascii_lowercase}
 use Rattle.glob_matcher.specs.declared.wildmatch.mode.Mode.{Mode}
 use Rattle.glob_matcher.specs.declared.wildmatch.engine.Mark.{Mark}
@@ -22,19 +22,11 @@ use Rattle.glob_matcher.specs.Steps.{Counts}
 use Rattle.glob_matcher.specs.Private.Took.{Took}
 use Rattle.glob_matcher.specs.Private.Prices.{Measure, amount, move}
 use Rattle.glob_matcher.specs.Private.Budget.{Allows, Missed}
+use Rattle.glob_matcher.proofs.lemmas.reading.Reading.{literal_token}
 use Rattle.glob_matcher.proofs.lemmas.two_marks.Components.{inner}
-use Rattle.glob_matcher.proofs.lemmas.two_marks.States.{end_missed, free_moved, inner_of, left_without, literal_token, local_moved, mark_of, mark_eq, misses_byte, stands_on, stands_past_slash}
+use Rattle.glob_matcher.proofs.lemmas.two_marks.States.{end_missed, free_moved, inner_of, left_without, local_moved, mark_of, mark_eq, misses_byte, stands_on, stands_past_slash}
 use Rattle.glob_matcher.proofs.lemmas.two_marks.Budget.{allows_free_moved, allows_less, allows_local_moved, allows_missed, allows_on, allows_past_slash, left_missed}
 use Rattle.glob_matcher.proofs.lemmas.two_marks.Prices.{amount_mono, move_some, took_on}
-
-same_or_not : (a b : ℕ) → (a ≡ b) ⊎ (a ≢ b)
-same_or_not a b = elim (cases_lt a b) [
-  | inl below ↦ inr (λ same. omega arith)
-  | inr high ↦ elim (cases_lt b a) [
-    | inl above ↦ inr (λ same. omega arith)
-    | inr low ↦ inl (omega arith)
-  ]
-]
 
 fold_exact : (mode : Mode) (b : ℕ) → folds mode ≡ false → fold mode b ≡ b
 fold_exact mode b off = ap (λ (on : Bool). if on then to_ascii_lowercase b else b) off
@@ -203,7 +195,7 @@ pub free_found : {mode : Mode} {p v : List ℕ} {m : Mark} → Stands mode p v m
     → IsMet mode p v (scan.Found m) → Stands mode p v (m.place + 1) (m.at + 1) (crossing.Free m) None
 free_found {mode} {p} {m} st met =
     let token = literal_token mode p m.place met.0 met.1 in
-    elim (same_or_not (get_or p m.place 0) slash) [
+    elim (cases_eq (get_or p m.place 0) slash) [
       | inl is ↦
           stands_past_slash st token refl met.2 met.3 (ap Byte is)
       | inr other ↦
@@ -230,7 +222,7 @@ pub local_found : {mode : Mode} {p v : List ℕ} {c : Crossing} {m : Mark} {l : 
     → IsMet mode p v (scan.Found m) → IsLocalPast p m l → Stands mode p v (m.place + 1) (m.at + 1) c l
 local_found {mode} {p} {v} {c} {m} st met mark =
     let token = literal_token mode p m.place met.0 met.1 in
-    elim (same_or_not (get_or p m.place 0) slash) [
+    elim (cases_eq (get_or p m.place 0) slash) [
       | inl is ↦
           subst (λ (x : Option Mark). Stands mode p v (m.place + 1) (m.at + 1) c x) (sym (mark.at_slash is))
           (stands_past_slash st token refl met.2 met.3 (ap Byte is))
@@ -244,7 +236,7 @@ pub local_found_counts : {measure : Measure} {mode : Mode} {p v : List ℕ} {c :
     → IsLocalPast p m l → Allows measure mode p v (m.place + 1) (m.at + 1) c l (s + amount measure 1 8) n
 local_found_counts {measure} {mode} {p} {v} {c} {m} {l} {s} {n} st a met mark =
     let token = literal_token mode p m.place met.0 met.1 in
-    elim (same_or_not (get_or p m.place 0) slash) [
+    elim (cases_eq (get_or p m.place 0) slash) [
       | inl is ↦
           subst (λ (x : Option Mark). Allows measure mode p v (m.place + 1) (m.at + 1) c x (s + amount measure 1 8) n) (sym (mark.at_slash is))
           (allows_past_slash token refl (byte_price measure m.place s) met.2 met.3 a)

@@ -3,22 +3,21 @@ use Rattle.std.proofs.Common.{◌≡◌, ◌≢◌, ◌⊎◌, inl, inr, ℕ, �
 use Rattle.std.proofs.lemmas.Bool.{cases_lt}
 use Rattle.glob_matcher.specs.declared.wildmatch.mode.Mode.{Mode}
 use Rattle.glob_matcher.specs.declared.wildmatch.tokens.TokenKind.{TokenKind}
-use Rattle.glob_matcher.specs.declared.wildmatch.tokens.TokenKind.TheVariants as kind
 use Rattle.glob_matcher.specs.declared.wildmatch.engine.Mark.{Mark}
 use Rattle.glob_matcher.specs.declared.wildmatch.state.Crossing.{Crossing}
 use Rattle.glob_matcher.specs.declared.wildmatch.state.Crossing.TheVariants as crossing
-use Rattle.glob_matcher.specs.Bytes.{HasByte, NoSlash, StandsForItself, close_bracket, is_path, question_mark, slash, star}
-use Rattle.glob_matcher.specs.Tokens.{Token, Byte, Any, OneOf, Free, Local, Dirs, Nothing, TokenAt, IsRun, IsAfterSlash, IsBeforeSlash}
+use Rattle.glob_matcher.specs.Bytes.{NoSlash, is_path, slash, star}
+use Rattle.glob_matcher.specs.Tokens.{Token, Byte, Free, Local, Dirs, Nothing, TokenAt, IsRun, IsAfterSlash, IsBeforeSlash}
 use Rattle.glob_matcher.specs.Matching.{Splits, SplitsFrom}
 use Rattle.glob_matcher.specs.Private.Reader.{IsToken, Fits, AfterSlash, is_star}
 use Rattle.glob_matcher.specs.Private.Components.{ends, separates, next_component}
 use Rattle.glob_matcher.specs.Private.States.{LaterFree, LaterDirs, LaterLocal, LaterCrossing, LaterWithin, Ahead, Far, Near, FreeKnown, LocalKnown, WithinKnown, Stands, IsLeft, IsNextDirectory}
-use Rattle.glob_matcher.proofs.lemmas.reading.SetLemmas.{HasByte-unique, two_bytes}
+use Rattle.glob_matcher.proofs.lemmas.reading.SetLemmas.{two_bytes}
 use Rattle.glob_matcher.proofs.lemmas.reading.TokenLemmas.{TokenAt-unique}
-use Rattle.glob_matcher.proofs.lemmas.cutting.CutLemmas.{free_in, free_out, local_in, local_out, dirs_in_empty, dirs_in, dirs_out, nothing_out, end_in, end_out}
+use Rattle.glob_matcher.proofs.lemmas.cutting.CutLemmas.{fits_one, free_in, free_out, local_in, local_out, dirs_in_empty, dirs_in, dirs_out, nothing_out, end_in, end_out}
+use Rattle.glob_matcher.proofs.lemmas.cutting.SplitLemmas.{dirs_before, free_before, no_slash_join}
 use Rattle.glob_matcher.proofs.lemmas.cutting.Engines.{byte_in, byte_out}
-use Rattle.glob_matcher.proofs.lemmas.reading.Existence.{items_close}
-use Rattle.glob_matcher.proofs.lemmas.cutting.SlashLemmas.{fold_slash}
+use Rattle.glob_matcher.proofs.lemmas.cutting.SlashLemmas.{ends_in_slash_byte, fold_slash}
 use Rattle.glob_matcher.proofs.lemmas.two_marks.Components.{IsInner, separates-fits, separates-slash, inner, slash_ends, ends_or_not, next-inner, next_past, next_before_end, next_plain}
 
 -- the engine at its start
@@ -34,29 +33,6 @@ stands_start mode p v = record {
   crossing = tt;
   local = tt;
 }
-
-has_byte_at : {p : List ℕ} {i j b : ℕ} → i ≡ j → HasByte p i b → HasByte p j b
-has_byte_at {p} {b} same h = subst (λ (n : ℕ). HasByte p n b) same h
-
--- a token of one byte whose spelling ends in a slash is the slash
-pub slash_token : (mode : Mode) {p : List ℕ} (i : ℕ) (t : Token) (j c : ℕ) → TokenAt mode p i t j → Fits mode t c
-    → HasByte p (j - 1) slash → t ≡ Byte slash
-slash_token mode {p} i (Byte b) j c (inl e) fits h =
-    let place : i + 1 ≡ j - 1 = omega (arith, e.1) in
-    ap Byte (HasByte-unique p (j - 1) b slash (has_byte_at place e.0.byte) h)
-slash_token mode {p} i (Byte b) j c (inr e) fits h =
-    let place : i ≡ j - 1 = omega (arith, e.2) in
-    ap Byte (HasByte-unique p (j - 1) b slash (has_byte_at place e.0) h)
-slash_token mode {p} i Any j c e fits h =
-    let place : i ≡ j - 1 = omega (arith, e.1) in
-    absurd (two_bytes p (j - 1) question_mark slash (has_byte_at place e.0) h (λ same. omega arith))
-slash_token mode {p} i (OneOf s) j c e fits h =
-    let place : e.close ≡ j - 1 = omega (arith, e.after) in
-    absurd (two_bytes p (j - 1) close_bracket slash (has_byte_at place (items_close p _ _ _ _ _ e.items)) h (λ same. omega arith))
-slash_token mode i Free j c e fits h = absurd fits
-slash_token mode i Local j c e fits h = absurd fits
-slash_token mode i Dirs j c e fits h = absurd fits
-slash_token mode i Nothing j c e fits h = absurd fits
 
 -- a run of stars does not end in a slash
 pub run_end_not_after : {p : List ℕ} {i j : ℕ} → IsRun p i j → ¬ IsAfterSlash p j
@@ -95,7 +71,7 @@ ahead_on {mode} {p} {v} {i} {s} {j} {k} x single inside fits a =
           → Fits mode x.token (get_or v e 0) → IsAfterSlash p j → get_or v (e + 1 - 1) 0 ≡ slash
       after_byte mode p v i s j e x fits (inl zero_place) = let past : i < j = x.past in absurd (omega arith)
       after_byte mode p v i s j e x fits (inr h) =
-          let is : x.token ≡ Byte slash = slash_token mode i x.token j (get_or v e 0) x.here fits h in
+          let is : x.token ≡ Byte slash = ends_in_slash_byte mode p i x.token j (fits_one mode x.token (get_or v e 0) fits) x.here h in
           let byte : Fits mode (Byte slash) (get_or v e 0) = subst (λ (t : Token). Fits mode t (get_or v e 0)) is fits in
           let place : e + 1 - 1 ≡ e = omega arith in
           ap (λ (n : ℕ). get_or v n 0) place ∙ fold_slash mode (get_or v e 0) byte
@@ -145,7 +121,7 @@ within_on {mode} {p} v {i} {j} k c (Some m) x single fits other known = record {
 } where
   not_after : IsAfterSlash p j → ⊥
   not_after (inl zero_place) = let past : i < j = x.past in omega arith
-  not_after (inr h) = other (slash_token mode i x.token j (get_or v k 0) x.here fits h)
+  not_after (inr h) = other (ends_in_slash_byte mode p i x.token j (fits_one mode x.token (get_or v k 0) fits) x.here h)
 
 -- The token takes the byte here, and is no slash: both marks stay.
 pub stands_on : {mode : Mode} {p v : List ℕ} {i : ℕ} {s : TokenKind} {j k : ℕ} {c : Crossing} {l : Option Mark}
@@ -284,12 +260,6 @@ mark_of place at = record { place = place; at = at }
 pub mark_eq : (m : Mark) (place at : ℕ) → m.place ≡ place → m.at ≡ at → mark_of place at ≡ m
 mark_eq m place at same_place same_at = sym (ap (λ (n : ℕ). mark_of n m.at) same_place ∙ ap (λ (n : ℕ). mark_of place n) same_at)
 
-free_from : {mode : Mode} {p : List ℕ} (v : List ℕ) {i j : ℕ} (k e : ℕ) → TokenAt mode p i Free j → k ≤ e → e ≤ length v
-    → SplitsFrom v e p i mode → SplitsFrom v k p i mode
-free_from {mode} {p} v {i} {j} k e here low inside all =
-    let out = free_out mode p v i j e here inside all in
-    free_in mode p v i j k out.0 here (omega (arith, out.1)) out.2 out.3
-
 -- A run of stars that crosses slashes: both marks are forgotten, and one is set.
 pub free_met : {mode : Mode} {p v : List ℕ} {i j k : ℕ} {c : Crossing} {l : Option Mark} (m : Mark) → Stands mode p v i k c l
     → TokenAt mode p i Free j → j ≤ length p → j ≢ length p → m.place ≡ j → m.at ≡ k → Stands mode p v j k (crossing.Free m) None
@@ -300,8 +270,8 @@ free_met {mode} {p} {v} {i} {j} {k} m st here j_low more same_place same_at =
 
       through : Splits v p mode → SplitsFrom v k p i mode
       through = comes_here st
-          (λ n. free_from v k n.e here n.low n.inside n.splits)
-          (λ a. free_from v k a.e here (omega (arith, a.past)) a.inside a.splits)
+          (λ n. free_before here n.low n.inside n.splits)
+          (λ a. free_before here (omega (arith, a.past)) a.inside a.splits)
 
       split : (e : ℕ) → k ≤ e → e ≤ length v → SplitsFrom v e p j mode
           → SplitsFrom v k p j mode ⊎ (⊥ ⊎ LaterFree mode p v j k)
@@ -330,17 +300,6 @@ free_met {mode} {p} {v} {i} {j} {k} m st here j_low more same_place same_at =
         local = tt;
       }
 
--- A double star takes what ends in a slash, also up to a place from which it takes more.
-dirs_from : {mode : Mode} {p v : List ℕ} {i j k e : ℕ} → TokenAt mode p i Dirs j → AfterSlash v k e
-    → SplitsFrom v e p i mode → SplitsFrom v k p i mode
-dirs_from {mode} {p} {v} {i} {j} {k} {e} here after all =
-    let out = dirs_out mode p v i j e here after.inside all in dirs_join out.0 out.1 out.2 where
-      dirs_join : (f : ℕ) → (f ≡ e) ⊎ AfterSlash v e f → SplitsFrom v f p j mode → SplitsFrom v k p i mode
-      dirs_join f (inl same) rest = dirs_in mode p v i j k e here after (subst (λ (n : ℕ). SplitsFrom v n p j mode) same rest)
-      dirs_join f (inr more) rest =
-          dirs_in mode p v i j k f here
-          (record { past = omega (arith, after.past, more.past); inside = more.inside; slash = more.slash }) rest
-
 -- a later success of a local mark would need a slash before it
 no_local_after_slash : (mode : Mode) (p v : List ℕ) (i k : ℕ) (c : Crossing) (l : Option Mark) → WithinKnown mode p v i k c l
     → IsAfterSlash p i → LaterWithin mode p v l → ⊥
@@ -361,7 +320,7 @@ dirs_met {mode} {p} {v} {i} {j} {k} {c} {l} m st here j_low same_place same_at =
         | inr (inl later) ↦ absurd (no_local_after_slash mode p v i k c l st.local after_slash later)
         | inr (inr later) ↦
             let a = st.ahead later in
-            dirs_from here (record { past = a.past; inside = a.inside; slash = a.after after_slash }) a.splits
+            dirs_before here a.past a.inside (a.after after_slash) a.splits
       ]
 
       split : (e : ℕ) → (e ≡ k) ⊎ AfterSlash v k e → SplitsFrom v e p j mode → SplitsFrom v k p j mode ⊎ (⊥ ⊎ LaterDirs mode p v j k)
@@ -381,15 +340,6 @@ dirs_met {mode} {p} {v} {i} {j} {k} {c} {l} m st here j_low same_place same_at =
         local = tt;
       }
 
--- two stretches without slash, one after the other
-pub bare_on : {v : List ℕ} {a b c : ℕ} → NoSlash v a b → NoSlash v b c → NoSlash v a c
-bare_on {b} x y = record {
-  at = λ m low below. elim (cases_lt m b) [
-    | inl before ↦ x.at m low before
-    | inr later ↦ y.at m later below
-  ];
-}
-
 -- A run of stars within a component: its mark is set, and the crossing mark stays.
 pub local_met : {mode : Mode} {p v : List ℕ} {i j k : ℕ} {c : Crossing} {l : Option Mark} (m : Mark) → Stands mode p v i k c l
     → TokenAt mode p i Local j → j ≤ length p → m.place ≡ j → m.at ≡ k → Stands mode p v j k c (Some m)
@@ -405,7 +355,7 @@ local_met {mode} {p} {v} {i} {j} {k} {c} {l} m st here j_low same_place same_at 
       from_near : Near mode p v i k → SplitsFrom v k p j mode ⊎ (LaterLocal mode p v j k ⊎ LaterCrossing mode p v c)
       from_near n =
           let out = local_out mode p v i j n.e here n.inside n.splits in
-          split out.0 (omega (arith, n.low, out.1)) out.2 (bare_on n.bare out.3) out.4
+          split out.0 (omega (arith, n.low, out.1)) out.2 (no_slash_join n.bare out.3) out.4
 
       far : LaterCrossing mode p v c → Far mode p v j k
       far later =
@@ -453,20 +403,12 @@ local_moved {mode} {p} {v} {i} {k} {c} {m} n st miss inside other same_place sam
       bare_one : NoSlash v m.at (m.at + 1)
       bare_one = record { at = λ x from below. let same : m.at ≡ x = omega arith in subst (λ (y : ℕ). get_or v y 0 ≢ slash) same other }
 
-      bare_from : (e : ℕ) → NoSlash v (m.at + 1) e → NoSlash v m.at e
-      bare_from e bare = record {
-        at = λ x from below. elim (cases_lt x (m.at + 1)) [
-          | inl before ↦ bare_one.at x from before
-          | inr later ↦ bare.at x later below
-        ];
-      }
-
       wider : LaterLocal mode p v m.place (m.at + 1) → LaterLocal mode p v m.place m.at
       wider later = record {
         e = later.e;
         past = omega (arith, later.past);
         inside = later.inside;
-        bare = bare_from later.e later.bare;
+        bare = no_slash_join bare_one later.bare;
         splits = later.splits;
       }
 
@@ -652,17 +594,6 @@ pub inner_of : (mode : Mode) (p v : List ℕ) (i k : ℕ) (c : Crossing) (l : Op
 inner_of mode p v i k c None t known fits other = tt
 inner_of mode p v i k c (Some m) t known fits other =
     inner mode (get_or v k 0) known.path (not_slash_here mode t (get_or v k 0) known.path fits other)
-
--- A byte that begins no other token is a token by itself.
-abbrev pub literal_token : (mode : Mode) (p : List ℕ) (i : ℕ) → i < length p → StandsForItself (get_or p i 0)
-    → IsToken mode p i (kind.Byte (get_or p i 0)) (i + 1)
-literal_token mode p i inside plain = record {
-  token = Byte (get_or p i 0);
-  here = inr (record { inside = inside; is = refl }, plain, refl);
-  same_kind = refl;
-  past = omega arith;
-  inside = omega arith;
-}
 
 -- the local mark, where it is known which it is
 pub known_local : {mode : Mode} {p v : List ℕ} {i k : ℕ} {c : Crossing} {other l : Option Mark} → other ≡ l → Stands mode p v i k c other

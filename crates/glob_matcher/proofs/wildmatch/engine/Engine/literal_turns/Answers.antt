@@ -4,7 +4,8 @@ use Rattle.glob_matcher.specs.Tokens.{Byte}
 use Rattle.glob_matcher.specs.Private.Reader.{Fits}
 use Rattle.glob_matcher.specs.Private.Prices.{amount, counted}
 use Rattle.glob_matcher.specs.Bytes.{StandsForItself}
-use Rattle.glob_matcher.proofs.lemmas.two_marks.States.{inner_of, literal_token, misses_byte, stands_on}
+use Rattle.glob_matcher.proofs.lemmas.reading.Reading.{literal_token}
+use Rattle.glob_matcher.proofs.lemmas.two_marks.States.{inner_of, misses_byte, stands_on}
 use Rattle.glob_matcher.proofs.lemmas.two_marks.Prices.{amount_mono, amount_same, amount_sum, took_both, took_on, took_within}
 use Rattle.glob_matcher.proofs.lemmas.two_marks.Budget.{allows_less, allows_on, tested}
 use Rattle.glob_matcher.proofs.lemmas.two_marks.Scans.{byte_of}

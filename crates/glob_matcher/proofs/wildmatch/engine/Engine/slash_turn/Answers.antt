@@ -1,7 +1,8 @@
 use Rattle.std.proofs.Common.{◌≡◌, ◌<◌, ℕ, length, get_or, false, true, ap, refl, sym, subst, arith}
 use Rattle.glob_matcher.specs.Tokens.{Byte}
 use Rattle.glob_matcher.specs.Private.Reader.{Fits}
-use Rattle.glob_matcher.proofs.lemmas.two_marks.States.{literal_token, misses_byte, stands_past_slash}
+use Rattle.glob_matcher.proofs.lemmas.reading.Reading.{literal_token}
+use Rattle.glob_matcher.proofs.lemmas.two_marks.States.{misses_byte, stands_past_slash}
 use Rattle.glob_matcher.proofs.lemmas.two_marks.Prices.{took_within}
 use Rattle.glob_matcher.proofs.lemmas.two_marks.Budget.{allows_past_slash, tested}
 use Rattle.glob_matcher.proofs.lemmas.two_marks.Scans.{slash_is_itself}
