@@ -32,7 +32,8 @@ fold_slash mode c is = by (folds mode) (is ∙ slash_is_folded mode) where
   by true e = lowercase_slash c e
   by false e = e
 
-no_slash_in_set : (mode : Mode) (s : Set) → IsTrue (is_path mode) → IsTrue (set_holds mode s slash) → ⊥
+-- in path mode no set holds a slash
+pub no_slash_in_set : (mode : Mode) (s : Set) → IsTrue (is_path mode) → IsTrue (set_holds mode s slash) → ⊥
 no_slash_in_set mode s path holds = search (rules, tests)
 
 -- in path mode a token of one byte that takes a slash takes nothing else
