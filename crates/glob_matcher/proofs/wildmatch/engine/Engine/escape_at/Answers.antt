@@ -5,4 +5,4 @@ use Rattle.glob_matcher.proofs.wildmatch.engine.Engine.escape_at.Goals as goal
 pub returns-clause-count : goal.returns-clause-count
 returns-clause-count g c =
     let took = c.escaped_at.ensures.count in
-    paid_same 1 (omega (arith, took.steps)) (omega arith) (omega (arith, took.looks))
+    paid_same {after = c.escaped_at.new.self} 1 (omega (arith, took.steps)) (omega arith) (omega (arith, took.looks))

@@ -11,4 +11,4 @@ pub returns-clause-count : goal.returns-clause-count
 returns-clause-count g c =
     let inside = c.in-Some.ensures.inside in
     let over = c.in-Some.ensures.count in
-    paid_same 2 over.steps (omega (arith, inside.0)) (omega (arith, inside.0, over.looks))
+    paid_same {after = c.upper_end.new.self} 2 over.steps (omega (arith, inside.0)) (omega (arith, inside.0, over.looks))

@@ -1,6 +1,6 @@
 use Rattle.std.proofs.Common.{◌≡◌, ◌∙◌, ap, subst, arith}
 use Rattle.glob_matcher.specs.declared.wildmatch.mode.Mode.{Mode}
-use Rattle.glob_matcher.specs.Sets.{set_holds}
+use Rattle.glob_matcher.specs.Sets.{item_holds, set_holds}
 use Rattle.glob_matcher.proofs.lemmas.reading.Walks.{set_closed, set_broken}
 use Rattle.glob_matcher.proofs.lemmas.reading.LookLemmas.{reading_first, reading_next, searched_here, searched_inside}
 use Rattle.glob_matcher.proofs.wildmatch.engine.Engine.set_at.Goals as goal
@@ -8,7 +8,7 @@ use Rattle.glob_matcher.proofs.wildmatch.engine.Engine.set_at.Goals as goal
 pub items-init : goal.items-init
 items-init g c =
     let begin = c.opened-is_negated.ensures in
-    reading_first begin.begin begin.inside.0 begin.inside.1 begin.count
+    reading_first {test = item_holds c.mode-mode.result c.args.byte} begin.begin begin.inside.0 begin.inside.1 begin.count
 
 pub items-preserved : goal.items-preserved
 items-preserved g c =
