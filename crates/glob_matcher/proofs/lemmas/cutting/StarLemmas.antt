@@ -338,7 +338,7 @@ module _ {mode : Mode} {p v : List ℕ} {i j k depth : ℕ} {answer : Answer} wh
         component = λ room so m low high none s.
             let out = local_out mode p v i j m here high s in
             let later : m ≤ out.0 = out.1 in
-            let all : NoSlash v k out.0 = no_slash_join v k m out.0 none out.3 in
+            let all : NoSlash v k out.0 = no_slash_join none out.3 in
             x.lost (room_after here is_star room) (component_no_match answer so) out.0 (omega arith) out.2 all out.4;
         limit = λ room. x.limit (room_after here is_star room);
         crossing = λ b. absurd (local_not_crossing here b);

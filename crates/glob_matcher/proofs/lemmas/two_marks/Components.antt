@@ -1,14 +1,15 @@
 -- Components of a value: where one ends, and where the next begins. In plain mode each byte is a component of its own.
-use Rattle.std.proofs.Common.{◌≡◌, ◌≢◌, ◌⊎◌, inl, inr, ℕ, zero, suc, ◌+◌, ◌-◌, ◌<◌, ◌≤◌, Bool, true, false, not, ◌==◌, IsTrue, List, [], ◌∷◌, length, get_or, drop, refl, sym, ◌∙◌, ap, subst, arith, add-one, add-zero, drop-cons, if◌then◌else◌, eq-eqb, eqb-true, ne_eqb, ◌&&◌, length-drop, Option, Some, None}
+use Rattle.std.proofs.Common.{◌≡◌, ◌≢◌, ◌⊎◌, inl, inr, ℕ, zero, suc, ◌+◌, ◌-◌, ◌<◌, ◌≤◌, Bool, true, false, not, IsTrue, List, [], ◌∷◌, length, get_or, drop, refl, sym, ◌∙◌, ap, subst, arith, add-one, add-zero, drop-cons, if◌then◌else◌, eq-eqb, eqb-true, ne_eqb, length-drop, Option, Some, None}
 use Rattle.std.proofs.Math.ListN.{drop_of_length-le}
-use Rattle.std.proofs.lemmas.Bool.{cases_lt}
+use Rattle.std.proofs.lemmas.Bool.{cases_Bool, cases_lt}
 use Rattle.std.proofs.lemmas.Bool.Decides.{eqb_tells}
 use Rattle.glob_matcher.specs.declared.wildmatch.mode.Mode.{Mode}
 use Rattle.glob_matcher.specs.declared.wildmatch.engine.Mark.{Mark}
 use Rattle.glob_matcher.specs.Bytes.{fold, is_path, slash}
+use Rattle.glob_matcher.specs.Sets.{set_holds}
 use Rattle.glob_matcher.specs.Tokens.{Token, Byte, Any, OneOf, Free, Local, Dirs, Nothing}
 use Rattle.glob_matcher.specs.Private.Reader.{Fits}
-use Rattle.glob_matcher.proofs.lemmas.cutting.SlashLemmas.{fold_slash}
+use Rattle.glob_matcher.proofs.lemmas.cutting.SlashLemmas.{fold_slash, no_slash_in_set}
 use Rattle.glob_matcher.specs.Private.Components.{ends_by, ends, separates_by, separates, reach, next_component}
 
 -- with a local mark: the byte here ends no component
@@ -42,10 +43,7 @@ pub ends-at_slash : (mode : Mode) (b : ℕ) → b ≡ slash → ends mode b ≡ 
 ends-at_slash mode b is = ends_by-at_slash (is_path mode) b is
 
 pub ends-or_not : (mode : Mode) (b : ℕ) → (ends mode b ≡ true) ⊎ (ends mode b ≡ false)
-ends-or_not mode b = cases (ends mode b) where
-  cases : (e : Bool) → (e ≡ true) ⊎ (e ≡ false)
-  cases true = inl refl
-  cases false = inr refl
+ends-or_not mode b = cases_Bool (ends mode b)
 
 ends_by-same : (path : Bool) (b c : ℕ) → (b ≡ slash → c ≡ slash) → (c ≡ slash → b ≡ slash) → ends_by path b ≡ ends_by path c
 ends_by-same false b c to from = refl
@@ -58,13 +56,6 @@ ends_by-wild : (path : Bool) (c : ℕ) → (IsTrue path → c ≢ slash) → not
 ends_by-wild true c other = sym (ne_eqb c slash (other refl))
 ends_by-wild false c other = refl
 
-set_not_slash : (path : Bool) (c : ℕ) (held : Bool) → IsTrue (not (path && c == slash) && held) → IsTrue path → c ≢ slash
-set_not_slash true c held holds path is =
-    let same : (c == slash) ≡ true = eq-eqb c slash is in
-    let wrong : not (true && (c == slash)) && held ≡ true = holds in
-    let out : false ≡ true = subst (λ (b : Bool). not (true && b) && held ≡ true) same wrong in cc
-set_not_slash false c held holds path is = let wrong : false ≡ true = path in cc
-
 -- Where a token takes a byte, both end a component or neither does.
 pub separates-fits : (mode : Mode) (t : Token) (c : ℕ) → Fits mode t c → separates mode t ≡ ends mode c
 separates-fits mode (Byte b) c fits =
@@ -72,7 +63,8 @@ separates-fits mode (Byte b) c fits =
     (λ is. fold_slash mode c (subst (λ (x : ℕ). fold mode c ≡ fold mode x) is fits))
     (λ is. fold_slash mode b (sym (subst (λ (x : ℕ). fold mode x ≡ fold mode b) is fits)))
 separates-fits mode Any c fits = ends_by-wild (is_path mode) c fits
-separates-fits mode (OneOf s) c fits = ends_by-wild (is_path mode) c (set_not_slash (is_path mode) c _ fits)
+separates-fits mode (OneOf s) c fits =
+    ends_by-wild (is_path mode) c (λ path is. no_slash_in_set mode s path (subst (λ (b : ℕ). IsTrue (set_holds mode s b)) is fits))
 separates-fits mode Free c fits = absurd fits
 separates-fits mode Local c fits = absurd fits
 separates-fits mode Dirs c fits = absurd fits

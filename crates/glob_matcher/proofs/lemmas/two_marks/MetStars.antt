@@ -15,8 +15,9 @@ use Rattle.glob_matcher.specs.Private.States.{LaterFree, LaterDirs, LaterLocal, 
 use Rattle.glob_matcher.proofs.lemmas.reading.SetLemmas.{two_bytes}
 use Rattle.glob_matcher.proofs.lemmas.reading.TokenLemmas.{TokenAt-unique}
 use Rattle.glob_matcher.proofs.lemmas.cutting.CutLemmas.{free_in, free_out, local_in, local_out, dirs_in_empty, dirs_in, dirs_out, end_in}
+use Rattle.glob_matcher.proofs.lemmas.cutting.SplitLemmas.{dirs_before, free_before, no_slash_join}
 use Rattle.glob_matcher.proofs.lemmas.two_marks.Components.{ends-at_slash, next-plain}
-use Rattle.glob_matcher.proofs.lemmas.two_marks.States.{bare_on, comes_here, dirs_ahead, far_ahead, local_near, mark_eq, mark_of, state_of}
+use Rattle.glob_matcher.proofs.lemmas.two_marks.States.{comes_here, dirs_ahead, far_ahead, local_near, mark_eq, mark_of, state_of}
 
 -- a run of stars does not end in a slash
 run_end_not_after : {p : List ℕ} {i j : ℕ} → IsRun p i j → ¬ IsAfterSlash p j
@@ -60,12 +61,6 @@ module _ {mode : Mode} {p v : List ℕ} where
   free_last {state} {j} st here last =
       st.sound (free_in mode p v state.place j state.at (length v) here st.inside (omega arith) (end_in mode p v j (length v) last (omega arith)))
 
-  -- A run of stars that crosses slashes splits from before each place from which it splits.
-  free_from : {i : ℕ} (j k e : ℕ) → TokenAt mode p i Free j → k ≤ e → e ≤ length v → SplitsFrom v e p i mode → SplitsFrom v k p i mode
-  free_from {i} j k e here low inside all =
-      let out = free_out mode p v i j e here inside all in
-      free_in mode p v i j k out.0 here (omega (arith, out.1)) out.2 out.3
-
   -- A run of stars that crosses slashes: both marks are forgotten, and one is set.
   pub stands_free_met : {state : State} {j : ℕ} (m : Mark) → StandsAt mode p v state → TokenAt mode p state.place Free j
       → j ≤ length p → j ≢ length p → m.place ≡ j → m.at ≡ state.at → StandsAt mode p v (state_of j state.at (crossing.Free m) None)
@@ -74,8 +69,8 @@ module _ {mode : Mode} {p v : List ℕ} where
       (made (free_known v here j_low more)) where
         through : Splits v p mode → SplitsFrom v state.at p state.place mode
         through = comes_here st
-            (λ n. free_from j state.at n.e here n.low n.inside n.splits)
-            (λ a. free_from j state.at a.e here (omega (arith, a.past)) a.inside a.splits)
+            (λ n. free_before here n.low n.inside n.splits)
+            (λ a. free_before here (omega (arith, a.past)) a.inside a.splits)
 
         split : (e : ℕ) → state.at ≤ e → e ≤ length v → SplitsFrom v e p j mode
             → SplitsFrom v state.at p j mode ⊎ (⊥ ⊎ LaterFree mode p v j state.at)
@@ -106,16 +101,6 @@ module _ {mode : Mode} {p v : List ℕ} where
           local = tt;
         }
 
-  -- A double star takes what ends in a slash, also up to a place from which it takes more.
-  dirs_from : {i j k e : ℕ} → TokenAt mode p i Dirs j → AfterSlash v k e → SplitsFrom v e p i mode → SplitsFrom v k p i mode
-  dirs_from {i} {j} {k} {e} here after all =
-      let out = dirs_out mode p v i j e here after.inside all in dirs_join out.0 out.1 out.2 where
-        dirs_join : (f : ℕ) → (f ≡ e) ⊎ AfterSlash v e f → SplitsFrom v f p j mode → SplitsFrom v k p i mode
-        dirs_join f (inl same) rest = dirs_in mode p v i j k e here after (subst (λ (n : ℕ). SplitsFrom v n p j mode) same rest)
-        dirs_join f (inr more) rest =
-            dirs_in mode p v i j k f here
-            (record { past = omega (arith, after.past, more.past); inside = more.inside; slash = more.slash }) rest
-
   -- A double star with its slash: both marks are forgotten, and one is set.
   pub stands_dirs_met : {state : State} {j : ℕ} (m : Mark) → StandsAt mode p v state → TokenAt mode p state.place Dirs j
       → j ≤ length p → m.place ≡ j → m.at ≡ state.at → StandsAt mode p v (state_of j state.at (crossing.Dirs m) None)
@@ -131,7 +116,7 @@ module _ {mode : Mode} {p v : List ℕ} where
               absurd (no_local_by mode p v state.place state.at state.crossing state.local st.local after_slash later)
           | inr (inr later) ↦
               let a = st.ahead later in
-              dirs_from here (record { past = a.past; inside = a.inside; slash = a.after after_slash }) a.splits
+              dirs_before here a.past a.inside (a.after after_slash) a.splits
         ]
 
         split : (e : ℕ) → (e ≡ state.at) ⊎ AfterSlash v state.at e → SplitsFrom v e p j mode
@@ -169,7 +154,7 @@ module _ {mode : Mode} {p v : List ℕ} where
             → SplitsFrom v state.at p j mode ⊎ (LaterLocal mode p v j state.at ⊎ LaterCrossing mode p v state.crossing)
         from_near n =
             let out = local_out mode p v state.place j n.e here n.inside n.splits in
-            split out.0 (omega (arith, n.low, out.1)) out.2 (bare_on n.bare out.3) out.4
+            split out.0 (omega (arith, n.low, out.1)) out.2 (no_slash_join n.bare out.3) out.4
 
         far : LaterCrossing mode p v state.crossing → SuccessFar mode p v j state.at
         far later =

@@ -9,8 +9,9 @@ use Rattle.glob_matcher.specs.Bytes.{NoSlash, slash}
 use Rattle.glob_matcher.specs.Matching.{SplitsFrom}
 use Rattle.glob_matcher.specs.Private.Components.{next_component}
 use Rattle.glob_matcher.specs.Private.States.{LaterFree, LaterDirs, LaterLocal, LaterCrossing, SuccessFar, FreeKnown, LocalKnown, StandsAt, IsLeft, IsMiss, IsNextDirectory}
+use Rattle.glob_matcher.proofs.lemmas.cutting.SplitLemmas.{no_slash_join}
 use Rattle.glob_matcher.proofs.lemmas.two_marks.Components.{ends-inner, next-inner}
-use Rattle.glob_matcher.proofs.lemmas.two_marks.States.{Stands-local, bare_on, dirs_ahead, far_ahead, mark_eq, mark_of, state_of}
+use Rattle.glob_matcher.proofs.lemmas.two_marks.States.{Stands-local, dirs_ahead, far_ahead, mark_eq, mark_of, state_of}
 
 module _ {mode : Mode} {p v : List ℕ} where
   -- The local mark moves by one byte that is no slash.
@@ -32,7 +33,7 @@ module _ {mode : Mode} {p v : List ℕ} where
           e = later.e;
           past = omega (arith, later.past);
           inside = later.inside;
-          bare = bare_on bare_one later.bare;
+          bare = no_slash_join bare_one later.bare;
           splits = later.splits;
         }
 

@@ -1,5 +1,6 @@
 -- The engine with two marks: what the tokens of a pattern may take of its steps, or of its looks.
 use Rattle.std.proofs.Common.{◌≡◌, ◌⊎◌, inl, inr, ℕ, ◌+◌, ◌-◌, ◌*◌, ◌<◌, ◌≤◌, Bool, true, false, List, [], ◌∷◌, length, get_or, refl, sym, ◌∙◌, ap, subst, arith, if◌then◌else◌}
+use Rattle.std.proofs.lemmas.Bool.{cases_Bool}
 use Rattle.std.proofs.Math.Nat.{mul-le-mul_left, mul-le-mul}
 use Rattle.glob_matcher.specs.declared.wildmatch.mode.Mode.{Mode}
 use Rattle.glob_matcher.specs.declared.wildmatch.tokens.TokenKind.{TokenKind}
@@ -198,10 +199,7 @@ onward-mono mode v true k e low = next-mono mode v k e low
 onward-mono mode v false k e low = low
 
 pub separates-or_not : (mode : Mode) (t : Token) → (separates mode t ≡ true) ⊎ (separates mode t ≡ false)
-separates-or_not mode t = cases (separates mode t) where
-  cases : (b : Bool) → (b ≡ true) ⊎ (b ≡ false)
-  cases true = inl refl
-  cases false = inr refl
+separates-or_not mode t = cases_Bool (separates mode t)
 
 limit-high : (measure : Measure) (p v n : ℕ) → n ≤ (amount measure 2 8 * p + 1) * (v + 1) → n + amount measure 1 2 ≤ amount measure (step_limit p v) (look_limit p v)
 unfolding amount

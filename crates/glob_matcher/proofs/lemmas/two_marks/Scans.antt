@@ -22,9 +22,10 @@ use Rattle.glob_matcher.specs.Steps.{Counts}
 use Rattle.glob_matcher.specs.Private.Takes.{Takes}
 use Rattle.glob_matcher.specs.Private.Prices.{Measure, amount, move}
 use Rattle.glob_matcher.specs.Private.Budget.{AllowsAt, AllowsMiss}
+use Rattle.glob_matcher.proofs.lemmas.reading.Reading.{literal_token}
 use Rattle.glob_matcher.proofs.lemmas.two_marks.Components.{ends-inner}
 use Rattle.glob_matcher.proofs.lemmas.two_marks.States.{end_missed, mark_of, mark_eq, miss_of, state_of}
-use Rattle.glob_matcher.proofs.lemmas.two_marks.TakenBytes.{inner_of, literal_token, misses_byte, stands_on, stands_past_slash}
+use Rattle.glob_matcher.proofs.lemmas.two_marks.TakenBytes.{inner_of, misses_byte, stands_on, stands_past_slash}
 use Rattle.glob_matcher.proofs.lemmas.two_marks.MovedMarks.{stands_free_moved, stands_local_moved}
 use Rattle.glob_matcher.proofs.lemmas.two_marks.StuckMarks.{left_without}
 use Rattle.glob_matcher.proofs.lemmas.two_marks.Budget.{allows_less, allows_missed}

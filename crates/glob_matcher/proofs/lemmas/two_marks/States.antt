@@ -1,12 +1,10 @@
 -- The engine with two marks: what its state means. A match is found here, or at a later place of a mark.
 use Rattle.std.proofs.Common.{◌≡◌, inl, inr, ℕ, ◌+◌, ◌-◌, ◌<◌, ◌≤◌, true, List, length, get_or, Option, Some, None, sym, ◌∙◌, ap, subst, arith}
-use Rattle.std.proofs.lemmas.Bool.{cases_lt}
 use Rattle.glob_matcher.specs.declared.wildmatch.mode.Mode.{Mode}
 use Rattle.glob_matcher.specs.declared.wildmatch.engine.Mark.{Mark}
 use Rattle.glob_matcher.specs.declared.wildmatch.state.Crossing.{Crossing}
 use Rattle.glob_matcher.specs.declared.wildmatch.state.Crossing.TheVariants as crossing
 use Rattle.glob_matcher.specs.declared.wildmatch.state.State.{State}
-use Rattle.glob_matcher.specs.Bytes.{NoSlash}
 use Rattle.glob_matcher.specs.Tokens.{Nothing, TokenAt, IsAfterSlash}
 use Rattle.glob_matcher.specs.Matching.{Splits, SplitsFrom}
 use Rattle.glob_matcher.specs.Private.Components.{ends, next_component}
@@ -35,15 +33,6 @@ stands_start mode p v = record {
   ahead = λ none. absurd none;
   crossing = tt;
   local = tt;
-}
-
--- two texts without slash, one after the other
-pub bare_on : {v : List ℕ} {a b c : ℕ} → NoSlash v a b → NoSlash v b c → NoSlash v a c
-bare_on {b} x y = record {
-  at = λ m low below. elim (cases_lt m b) [
-    | inl before ↦ x.at m low before
-    | inr later ↦ y.at m later below
-  ];
 }
 
 -- the pattern's end, where the value goes on

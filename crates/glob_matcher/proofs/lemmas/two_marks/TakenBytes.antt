@@ -1,49 +1,27 @@
 -- The engine with two marks at a token of one byte: where it stands once the token takes the byte, and that it misses otherwise.
-use Rattle.std.proofs.Common.{◌≡◌, ◌≢◌, inl, inr, ℕ, ◌+◌, ◌-◌, ◌<◌, ◌≤◌, true, false, IsTrue, List, length, get_or, Option, Some, None, refl, sym, ◌∙◌, ap, subst, arith}
+use Rattle.std.proofs.Common.{◌≡◌, ◌≢◌, inl, inr, ℕ, ◌+◌, ◌-◌, ◌<◌, ◌≤◌, true, false, IsTrue, List, length, get_or, Option, Some, None, sym, ◌∙◌, ap, subst, arith}
 use Rattle.std.proofs.lemmas.Bool.{cases_lt}
 use Rattle.glob_matcher.specs.declared.wildmatch.mode.Mode.{Mode}
 use Rattle.glob_matcher.specs.declared.wildmatch.tokens.TokenKind.{TokenKind}
-use Rattle.glob_matcher.specs.declared.wildmatch.tokens.TokenKind.TheVariants as kind
 use Rattle.glob_matcher.specs.declared.wildmatch.engine.Mark.{Mark}
 use Rattle.glob_matcher.specs.declared.wildmatch.state.Crossing.{Crossing}
 use Rattle.glob_matcher.specs.declared.wildmatch.state.State.{State}
-use Rattle.glob_matcher.specs.Bytes.{NoSlash, StandsForItself, is_path, slash}
-use Rattle.glob_matcher.specs.Tokens.{Token, Byte, Any, OneOf, Free, Local, Dirs, Nothing, IsAfterSlash}
+use Rattle.glob_matcher.specs.Bytes.{NoSlash, is_path, slash}
+use Rattle.glob_matcher.specs.Tokens.{Token, Byte, IsAfterSlash}
 use Rattle.glob_matcher.specs.Matching.{SplitsFrom}
 use Rattle.glob_matcher.specs.Private.Reader.{IsToken, Fits, is_star}
 use Rattle.glob_matcher.specs.Private.Components.{ends, separates, next_component}
 use Rattle.glob_matcher.specs.Private.States.{SuccessAhead, SuccessNear, LocalKnownIfSet, StandsAt}
-use Rattle.glob_matcher.proofs.lemmas.cutting.CutLemmas.{IsOne}
+use Rattle.glob_matcher.proofs.lemmas.cutting.CutLemmas.{fits_one}
 use Rattle.glob_matcher.proofs.lemmas.cutting.Engines.{byte_in, byte_out}
 use Rattle.glob_matcher.proofs.lemmas.cutting.SlashLemmas.{ends_in_slash_byte, fold_slash}
 use Rattle.glob_matcher.proofs.lemmas.two_marks.Components.{IsInner, separates-fits, separates-slash, ends-inner, ends-at_slash, ends-or_not, next-inner, next-before_end}
 use Rattle.glob_matcher.proofs.lemmas.two_marks.States.{local_near}
 
--- what takes a byte is a token of one byte
-fits_one : (mode : Mode) (t : Token) (c : ℕ) → Fits mode t c → IsOne t
-fits_one mode (Byte b) c fits = tt
-fits_one mode Any c fits = tt
-fits_one mode (OneOf s) c fits = tt
-fits_one mode Free c fits = absurd fits
-fits_one mode Local c fits = absurd fits
-fits_one mode Dirs c fits = absurd fits
-fits_one mode Nothing c fits = absurd fits
-
 -- a byte that is no slash, taken by a token
 not_slash_here : (mode : Mode) (t : Token) (c : ℕ) → IsTrue (is_path mode) → Fits mode t c → t ≢ Byte slash → c ≢ slash
 not_slash_here mode t c path fits other is =
     other (separates-slash mode t path (separates-fits mode t c fits ∙ ends-at_slash mode c is))
-
--- A byte that begins no other token is a token by itself.
-abbrev pub literal_token : (mode : Mode) (p : List ℕ) (i : ℕ) → i < length p → StandsForItself (get_or p i 0)
-    → IsToken mode p i (kind.Byte (get_or p i 0)) (i + 1)
-literal_token mode p i inside plain = record {
-  token = Byte (get_or p i 0);
-  here = inr (record { inside = inside; is = refl }, plain, refl);
-  same_kind = refl;
-  past = omega arith;
-  inside = omega arith;
-}
 
 -- a text without slash that goes on by one byte
 bare_more : (v : List ℕ) (k e : ℕ) → NoSlash v k e → get_or v e 0 ≢ slash → NoSlash v (k + 1) (e + 1)

@@ -4,7 +4,8 @@ use Rattle.glob_matcher.specs.Tokens.{Byte}
 use Rattle.glob_matcher.specs.Private.Reader.{Fits}
 use Rattle.glob_matcher.specs.Private.Prices.{amount, amount_of}
 use Rattle.glob_matcher.specs.Bytes.{StandsForItself}
-use Rattle.glob_matcher.proofs.lemmas.two_marks.TakenBytes.{inner_of, literal_token, misses_byte, stands_on}
+use Rattle.glob_matcher.proofs.lemmas.reading.Reading.{literal_token}
+use Rattle.glob_matcher.proofs.lemmas.two_marks.TakenBytes.{inner_of, misses_byte, stands_on}
 use Rattle.glob_matcher.proofs.lemmas.two_marks.Prices.{Takes-both, Takes-on, Takes-within, TakesExactly-at_most, amount-mono, amount-same, amount-sum}
 use Rattle.glob_matcher.proofs.lemmas.two_marks.Budget.{allows_less, test_of_token}
 use Rattle.glob_matcher.proofs.lemmas.two_marks.TakenByteCosts.{allows_on}

@@ -1,6 +1,7 @@
 use Rattle.std.proofs.Common.{ℕ, inr, sym, ◌∙◌, subst, arith}
 use Rattle.glob_matcher.specs.declared.wildmatch.tokens.TokenKind.TheVariants as kind
 use Rattle.glob_matcher.specs.Private.Reader.{IsToken}
+use Rattle.glob_matcher.proofs.lemmas.reading.TokenLemmas.{stands_for_itself}
 use Rattle.glob_matcher.proofs.lemmas.reading.Reading.{escaped_token, bare_token, any_token, set_token, broken_token, lone_backslash}
 use Rattle.glob_matcher.proofs.wildmatch.engine.Engine.token_at.Goals as goal
 
@@ -32,4 +33,4 @@ pub returns-in_default-clause-token : goal.returns-in_default-clause-token
 returns-in_default-clause-token g c =
     bare_token g.M.Match.mode g.M.Match.pattern c.args.place c.pattern_byte.result
     (record { inside = c.requires; is = sym c.pattern_byte.ensures.here })
-    (λ e. omega arith) (λ e. omega arith) (λ e. omega arith) (λ e. omega arith)
+    (stands_for_itself c.pattern_byte.result (λ e. omega arith) (λ e. omega arith) (λ e. omega arith) (λ e. omega arith))
