@@ -12,7 +12,7 @@ ghost use Rattle.glob_matcher.specs.Tokens.{Token, Byte};
 ghost use Rattle.glob_matcher.specs.Private.Reader.{kind_of, Fits, IsSetRead, IsSetTested, IsToken};
 ghost use Rattle.glob_matcher.specs.Matching.{Splits};
 ghost use Rattle.glob_matcher.specs.Private.Looks.{LookedOver, IsSetPaid, read_end};
-ghost use Rattle.glob_matcher.specs.Private.Takes.{Takes, TakesExactly};
+ghost use Rattle.glob_matcher.specs.Private.Takes.{Takes, TakesExactly, looks_at};
 ghost use Rattle.glob_matcher.specs.Steps.{look_limit, step_limit};
 
 use super::counts::Counts;
@@ -164,11 +164,8 @@ impl<'c, 'a, S: Ledger, L: Ledger, M: Match> Engine<'c, 'a, S, L, M> {
     /// Looks at the byte at a place of the pattern; `None` past its end, where there is nothing to look at.
     #[inline(always)]
     pub fn look_at(&mut self, place: usize) -> Option<u8>
-        ensures here { IfSome result (λ byte. HasByte M.pattern place byte) }
-        ensures end { IfNone result (length M.pattern ≤ place) }
-        ensures count { Takes self.old self.new 0 1 }
-        ensures look { IfSome result (λ _. self.new.looks ≡ self.old.looks + 1) }
-        ensures free { IfNone result (Takes self.old self.new 0 0) }
+        ensures byte { MatchOption result (length M.pattern ≤ place) (HasByte M.pattern place) }
+        ensures count { TakesExactly self.old self.new 0 (looks_at result) }
     {
         if place >= self.pattern.len() {
             return None;
@@ -248,10 +245,8 @@ impl<'c, 'a, S: Ledger, L: Ledger, M: Match> Engine<'c, 'a, S, L, M> {
     /// Looks at the byte at a place of the value, which the caller counts as a step; `None` where the value ends.
     #[inline(always)]
     fn value_at(&mut self, at: usize) -> Option<u8>
-        ensures here { IfSome result (λ byte. HasByte M.value at byte) }
-        ensures end { IfNone result (length M.value ≤ at) }
-        ensures count { Takes self.old self.new 0 1 }
-        ensures look { IfSome result (λ _. self.new.looks ≡ self.old.looks + 1) }
+        ensures byte { MatchOption result (length M.value ≤ at) (HasByte M.value at) }
+        ensures count { TakesExactly self.old self.new 0 (looks_at result) }
     {
         if at >= self.value.len() {
             return None;

@@ -2,10 +2,10 @@
 //!
 //! Each `[:` wants to know where the first `]` after it is. That one stays the first for each later `[:` before it, so it is
 //! looked for only where it isn't known.
-ghost use Rattle.std.specs.Prelude.{◌↔◌, ℕ, ◌+◌, ◌-◌, ◌<◌, ◌≤◌, IsTrue, IfNone, MatchOption, Option, Some, None, true, length, slice_index, not, false, ◌&&◌, ◌||◌, ◌==◌, ◌≡◌, ◌≢◌, if◌then◌else◌, Bool};
+ghost use Rattle.std.specs.Prelude.{◌↔◌, ℕ, ◌+◌, ◌-◌, ◌<◌, ◌≤◌, IsTrue, MatchOption, Option, Some, None, true, length, slice_index, not, false, ◌&&◌, ◌||◌, ◌==◌, ◌≡◌, ◌≢◌, if◌then◌else◌, Bool};
 ghost use Rattle.glob_matcher.specs.Bytes.{HasByte, IsEscaped, is_path, open_bracket, close_bracket, backslash, colon, dash, slash};
 ghost use Rattle.glob_matcher.specs.Sets.{BeginsRange, BeginsClass, IsFirstFrom, IsSign, IsUpperEnd};
-ghost use Rattle.glob_matcher.specs.Private.Takes.{Takes};
+ghost use Rattle.glob_matcher.specs.Private.Takes.{Takes, TakesExactly, looks_at};
 ghost use Rattle.glob_matcher.specs.Private.Looks.{LookedOver, IsItemRead, IsKnown, IsPaidFor, read_end, search_front};
 ghost use Rattle.glob_matcher.specs.Private.Reader.{IsEntry, IsSetRead, after_item, at_first, first_item};
 
@@ -95,8 +95,7 @@ impl<'c, 'a, S: Ledger, L: Ledger, M: Match> Engine<'c, 'a, S, L, M> {
     pub fn escaped_at(&mut self, place: usize) -> Option<u8>
         requires { HasByte M.pattern place backslash }
         ensures byte { MatchOption result ((byte : ℕ) → ¬ IsEscaped M.pattern place byte) (IsEscaped M.pattern place) }
-        ensures count { Takes self.old self.new 0 1 }
-        ensures free { IfNone result (Takes self.old self.new 0 0) }
+        ensures count { TakesExactly self.old self.new 0 (looks_at result) }
     {
         self.look_at(place + 1)
     }

@@ -9,8 +9,13 @@ use Rattle.glob_matcher.specs.Steps.{Counts}
 use Rattle.glob_matcher.specs.Bytes.{HasByte, close_bracket}
 use Rattle.glob_matcher.specs.Private.Looks.{IsItemRead, IsKnown, IsPaid, LookedOver, search_front}
 use Rattle.glob_matcher.specs.Private.Reader.{IsEntry, after_item, at_first}
-use Rattle.glob_matcher.specs.Private.Takes.{Takes}
+use Rattle.glob_matcher.specs.Private.Takes.{Takes, TakesExactly, looks_at}
 use Rattle.glob_matcher.proofs.lemmas.reading.Walks.{IsUnderway, underway_first, underway_next}
+
+-- at most one look is taken at a place
+pub one_look : {before after : Counts} (byte : Option ℕ) → TakesExactly before after 0 (looks_at byte) → Takes before after 0 1
+one_look None exact = record { steps = exact.steps; looks = omega (arith, exact.looks) }
+one_look (Some b) exact = record { steps = exact.steps; looks = omega (arith, exact.looks) }
 
 pub search_front_on : (known : Option ℕ) (i j : ℕ) → i ≤ j → search_front known i ≤ search_front known j
 search_front_on None i j low = low
