@@ -40,12 +40,12 @@ allows_start measure mode p v before = record {
 }
 
 -- what is within a limit of each measure is within the limits
-pub limits_kept : (p v : List ℕ) (before after : Counts)
+pub within_limits : (p v : List ℕ) (before after : Counts)
     → ((measure : Measure) → amount_of measure after
     ≤ amount_of measure before + amount measure (step_limit (length p) (length v) - 1) (look_limit (length p) (length v) - 2))
     → IsWithinLimits (length p) (length v) before after
 unfolding amount_of amount
-limits_kept p v before after low = record { steps = omega (arith, low Steps); looks = omega (arith, low Looks) }
+within_limits p v before after low = record { steps = omega (arith, low Steps); looks = omega (arith, low Looks) }
 
 -- a count that is no higher
 local_rest_less : (measure : Measure) (mode : Mode) (p v : List ℕ) (xs : List SizedToken) (k rest : ℕ) (l : Option Mark) (less spent limit : ℕ)

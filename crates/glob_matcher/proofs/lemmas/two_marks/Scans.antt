@@ -120,16 +120,16 @@ scan_for {mode} {p} {f = f} {g} {from = from} same looked found same_place follo
     (subst (λ (i : ℕ). Follows mode p i f) same_place follows)) looked found
 
 -- what holds at a place and goes on by one place holds at each place after it
-kept_by : (Q : ℕ → Type 0) (a d : ℕ) → Q a → ((k : ℕ) → a ≤ k → k < a + d → Q k → Q (k + 1)) → Q (a + d)
-kept_by Q a zero here on = let same : a ≡ a + 0 = omega arith in subst Q same here
-kept_by Q a (suc d) here on =
+holds_after : (Q : ℕ → Type 0) (a d : ℕ) → Q a → ((k : ℕ) → a ≤ k → k < a + d → Q k → Q (k + 1)) → Q (a + d)
+holds_after Q a zero here on = let same : a ≡ a + 0 = omega arith in subst Q same here
+holds_after Q a (suc d) here on =
     let same : a + d + 1 ≡ a + suc d = omega arith in
-    subst Q same (on (a + d) (omega arith) (omega arith) (kept_by Q a d here (λ k low below. on k low (omega arith))))
+    subst Q same (on (a + d) (omega arith) (omega arith) (holds_after Q a d here (λ k low below. on k low (omega arith))))
 
-kept : (Q : ℕ → Type 0) (a b : ℕ) → a ≤ b → Q a → ((k : ℕ) → a ≤ k → k < b → Q k → Q (k + 1)) → Q b
-kept Q a b low here on =
+holds_later : (Q : ℕ → Type 0) (a b : ℕ) → a ≤ b → Q a → ((k : ℕ) → a ≤ k → k < b → Q k → Q (k + 1)) → Q b
+holds_later Q a b low here on =
     let same : a + (b - a) ≡ b = omega arith in
-    subst Q same (kept_by Q a (b - a) here (λ k from below. on k from (omega arith)))
+    subst Q same (holds_after Q a (b - a) here (λ k from below. on k from (omega arith)))
 
 module _ {mode : Mode} {p v : List ℕ} where
   -- The crossing mark of a run of stars moves on over places from which the rest of the pattern splits nothing.
@@ -138,7 +138,7 @@ module _ {mode : Mode} {p v : List ℕ} where
       → StandsAt mode p v (state_of x.place x.at (crossing.Free x) None)
   stands_free_skipped {m} x st same low inside missed =
       subst (λ (y : Mark). StandsAt mode p v (state_of y.place y.at (crossing.Free y) None)) (mark_eq x m.place x.at same refl)
-      (kept (λ k. StandsAt mode p v (state_of m.place k (crossing.Free (mark_of m.place k)) None)) m.at x.at low st
+      (holds_later (λ k. StandsAt mode p v (state_of m.place k (crossing.Free (mark_of m.place k)) None)) m.at x.at low st
       (λ k from below at.
       stands_free_moved (mark_of m.place (k + 1)) (left_without (miss_of at (missed k from below)) refl) (omega arith) refl refl))
 
@@ -148,7 +148,7 @@ module _ {mode : Mode} {p v : List ℕ} where
       → ((k : ℕ) → m.at ≤ k → k < x.at → ¬ SplitsFrom v k p m.place mode) → StandsAt mode p v (state_of x.place x.at c (Some x))
   stands_local_skipped {c} {m} x st same low inside bare missed =
       subst (λ (y : Mark). StandsAt mode p v (state_of y.place y.at c (Some y))) (mark_eq x m.place x.at same refl)
-      (kept (λ k. StandsAt mode p v (state_of m.place k c (Some (mark_of m.place k)))) m.at x.at low st
+      (holds_later (λ k. StandsAt mode p v (state_of m.place k c (Some (mark_of m.place k)))) m.at x.at low st
       (λ k from below at.
       stands_local_moved (mark_of m.place (k + 1)) (miss_of at (missed k from below)) refl (omega arith)
       (bare.at k from below) refl refl))
@@ -160,7 +160,7 @@ module _ {measure : Measure} {mode : Mode} {p v : List ℕ} where
   allows_free_skipped {m} x {spent} {limit} a same low inside =
       subst (λ (y : Mark). AllowsAt measure mode p v (state_of y.place y.at (crossing.Free y) None) (spent + 2 * (x.at - m.at)) limit)
       (mark_eq x m.place x.at same refl)
-      (kept (λ k. AllowsAt measure mode p v (state_of m.place k (crossing.Free (mark_of m.place k)) None) (spent + 2 * (k - m.at)) limit)
+      (holds_later (λ k. AllowsAt measure mode p v (state_of m.place k (crossing.Free (mark_of m.place k)) None) (spent + 2 * (k - m.at)) limit)
       m.at x.at low (allows_less (omega arith) a)
       (λ k from below a.
       allows_less (omega (arith, move-some measure))
@@ -173,7 +173,7 @@ module _ {measure : Measure} {mode : Mode} {p v : List ℕ} where
   allows_local_skipped {c} {m} x {spent} {limit} path a same low inside bare =
       subst (λ (y : Mark). AllowsAt measure mode p v (state_of y.place y.at c (Some y)) (spent + 2 * (x.at - m.at)) limit)
       (mark_eq x m.place x.at same refl)
-      (kept (λ k. AllowsAt measure mode p v (state_of m.place k c (Some (mark_of m.place k))) (spent + 2 * (k - m.at)) limit)
+      (holds_later (λ k. AllowsAt measure mode p v (state_of m.place k c (Some (mark_of m.place k))) (spent + 2 * (k - m.at)) limit)
       m.at x.at low (allows_less (omega arith) a)
       (λ k from below a.
       allows_less (omega (arith, move-some measure))

@@ -1,7 +1,7 @@
 use Rattle.std.proofs.Common.{arith}
 use Rattle.glob_matcher.specs.Private.Prices.{Steps, amount, amount_of}
 use Rattle.glob_matcher.proofs.lemmas.two_marks.States.{stands_start}
-use Rattle.glob_matcher.proofs.lemmas.two_marks.Budget.{allows_one, allows_start, limits_kept}
+use Rattle.glob_matcher.proofs.lemmas.two_marks.Budget.{allows_one, allows_start, within_limits}
 use Rattle.glob_matcher.proofs.wildmatch.engine.Engine.search.Goals as goal
 
 pub turns-init : goal.turns-init
@@ -29,17 +29,17 @@ turns-smaller g c =
 pub returns-in-Match-clause-limits : goal.returns-in-Match-clause-limits
 returns-in-Match-clause-limits g c =
     let m = g.M.Match in
-    limits_kept m.pattern m.value c.args.self.now c.take_turn.new.self
+    within_limits m.pattern m.value c.args.self.now c.take_turn.new.self
     (λ measure. c.in-Match.ensures.allows measure _ _ (omega arith) (c.turns.invariant.allows measure))
 
 pub returns-in-NoMatch-clause-limits : goal.returns-in-NoMatch-clause-limits
 returns-in-NoMatch-clause-limits g c =
     let m = g.M.Match in
-    limits_kept m.pattern m.value c.args.self.now c.take_turn.new.self
+    within_limits m.pattern m.value c.args.self.now c.take_turn.new.self
     (λ measure. c.in-NoMatch.ensures.allows measure _ _ (omega arith) (c.turns.invariant.allows measure))
 
 pub returns-in-None-clause-limits : goal.returns-in-None-clause-limits
 returns-in-None-clause-limits g c =
     let m = g.M.Match in
-    limits_kept m.pattern m.value c.args.self.now c.backtrack.new.self
+    within_limits m.pattern m.value c.args.self.now c.backtrack.new.self
     (λ measure. c.in-None.ensures.allows measure _ (c.in-Miss.ensures.allows measure _ _ (omega arith) (c.turns.invariant.allows measure)))
