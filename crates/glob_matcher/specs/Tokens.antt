@@ -58,14 +58,14 @@ pub record LocalAt (mode : Mode) (pattern : List ℕ) (i j : ℕ) : Type 0 where
   pub run : IsRun pattern i j
   pub unbounded : ¬ IsBounded pattern i j
 
--- a run with its slash: in path mode, a bounded run up to place `at`, and the bare slash there
+-- a run with its slash: in path mode, a bounded run, and the bare slash at its end
 pub record DirsAt (mode : Mode) (pattern : List ℕ) (i j : ℕ) : Type 0 where
   pub path : IsTrue (is_path mode)
-  pub at : ℕ
-  pub run : IsRun pattern i at
-  pub bounded : IsBounded pattern i at
-  pub slash : HasByte pattern at slash
-  pub after : j ≡ at + 1
+  pub run_end : ℕ
+  pub run : IsRun pattern i run_end
+  pub bounded : IsBounded pattern i run_end
+  pub slash : HasByte pattern run_end slash
+  pub after : j ≡ run_end + 1
 
 -- nothing can match from place i on: a backslash without a byte after it, or a bracket that begins no set
 abbrev pub IsBroken : List ℕ → ℕ → Type 0

@@ -1,11 +1,13 @@
 //! Matching of bytes against a glob pattern: the mode, and the matcher.
 ghost use Rattle.std.specs.Prelude.{◌≡◌, ◌↔◌, ◌<◌, IsTrue};
 ghost use Rattle.glob_matcher.specs.Matching.{Splits};
+ghost use Rattle.glob_matcher.specs.Steps.{IsBlankOf};
 
 mod advance;
 mod backtrack;
 mod counts;
 mod engine;
+mod items;
 mod mode;
 mod needle;
 #[cfg(test)]
@@ -46,12 +48,8 @@ fn with_new_counts<S: Ledger, L: Ledger>(
     steps: Blank,
     looks: Blank,
 ) -> bool
-    requires steps_name { steps.name ≡ S.name }
-    requires steps_parts { steps.parts ≡ S.parts }
-    requires steps_some { 0 < steps.parts }
-    requires looks_name { looks.name ≡ L.name }
-    requires looks_parts { looks.parts ≡ L.parts }
-    requires looks_some { 0 < looks.parts }
+    requires steps { IsBlankOf S.name S.parts steps }
+    requires looks { IsBlankOf L.name L.parts looks }
     ensures { IsTrue result ↔ Splits value.now pattern.now mode }
 {
     marked(pattern, value, mode, &mut Counts::<S, L>::new(steps, looks))

@@ -1,7 +1,14 @@
 pub mod Components
 pub mod States
+pub mod TakenBytes
+pub mod MetStars
+pub mod MovedMarks
+pub mod StuckMarks
 pub mod Prices
 pub mod Budget
+pub mod TakenByteCosts
+pub mod MetStarCosts
+pub mod MovedMarkCosts
 pub mod Scans
 pub mod Turns
 pub mod Texts

@@ -1,6 +1,7 @@
 -- What the readers of the pattern say of their looks to one another: a set is read in one pass, with at most four looks for
 -- each byte of its spelling. Nothing public cites it.
-use Rattle.std.specs.Prelude.{◌≡◌, ℕ, ◌+◌, ◌*◌, ◌<◌, ◌≤◌, List, Option, None, Some, max, length}
+use Rattle.std.specs.Prelude.{◌≡◌, ℕ, ◌+◌, ◌*◌, ◌<◌, ◌≤◌, Bool, List, Option, None, Some, MatchOption, max, length}
+use Rattle.glob_matcher.specs.declared.wildmatch.items.Item.{Item}
 use Rattle.glob_matcher.specs.declared.wildmatch.sets.Spelled.{Spelled}
 use Rattle.glob_matcher.specs.declared.wildmatch.sets.Entry.{Entry}
 use Rattle.glob_matcher.specs.declared.wildmatch.sets.Entry.TheVariants as entry
@@ -46,6 +47,17 @@ pub record IsPaid (spare : ℕ) (before after : Counts) (i : ℕ) (known : Optio
 pub record IsPaidToEnd (spare : ℕ) (before after : Counts) (text : List ℕ) (i : ℕ) : Type 0 where
   pub steps : after.steps ≡ before.steps
   pub looks : after.looks + spare + 2 * i ≤ before.looks + 2 * length text
+
+-- What is read at place i, after the member `low` or none, where so much is known of the closing bracket: the item that is spelled
+-- there, or that none is. As many looks as `spare` are left over.
+pub record IsItemRead (spare : ℕ) (before after : Counts) (text : List ℕ) (low : Option ℕ) (i : ℕ) (known : Option ℕ) (item : Option Spelled) : Type 0 where
+  pub answer : MatchOption item ((x : Item) (j : ℕ) → ¬ ItemAt text low i x j) (IsSpelled text low i)
+  pub paid : MatchOption item (IsPaidToEnd spare before after text i) (IsPaid spare before after i known)
+
+-- how far a set is read: up to its end, or where none begins, up to the text's
+abbrev pub read_end : List ℕ → Option (ℕ × Bool) → ℕ
+read_end text None = length text
+read_end text (Some found) = found.0
 
 -- the looks at what stands at place i
 abbrev pub IsPaidFor : Counts → Counts → List ℕ → ℕ → Option ℕ → Entry → Type 0

@@ -1,6 +1,6 @@
 -- What the reader of a pattern answers: the items of a set and the tokens, each with the place after it.
-use Rattle.std.specs.Prelude.{◌≡◌, ◌≢◌, ◌↔◌, ◌⊎◌, ℕ, ◌+◌, ◌-◌, ◌*◌, ◌<◌, ◌≤◌, ⊤, Bool, true, false, not, IsTrue, List, [], length, slice_index, Option, None, if◌then◌else◌}
-use Rattle.glob_matcher.specs.declared.wildmatch.sets.Item.{Item}
+use Rattle.std.specs.Prelude.{◌≡◌, ◌≢◌, ◌↔◌, ◌⊎◌, ℕ, ◌+◌, ◌-◌, ◌*◌, ◌<◌, ◌≤◌, ⊤, Bool, true, false, not, IsTrue, List, [], length, slice_index, Option, None, MatchOption, if◌then◌else◌}
+use Rattle.glob_matcher.specs.declared.wildmatch.items.Item.{Item}
 use Rattle.glob_matcher.specs.declared.wildmatch.sets.Cursor.{Cursor}
 use Rattle.glob_matcher.specs.declared.wildmatch.sets.Spelled.{Spelled}
 use Rattle.glob_matcher.specs.declared.wildmatch.sets.Entry.{Entry}
@@ -20,6 +20,19 @@ IsEntry text first low i (entry.Item s) =
     (IsTrue (not first) → ¬ HasByte text i close_bracket) × IsSpelled text low i s
 IsEntry text first low i entry.Close = ItemsAt text first low i [] i × (i < length text)
 IsEntry text first low i entry.Broken = (xs : List Item) (j : ℕ) → ¬ ItemsAt text first low i xs j
+
+-- A set is spelled from place i up to place j, past i and inside the text, and this tells whether it holds byte b.
+pub record IsSetThatHolds (mode : Mode) (text : List ℕ) (i b j : ℕ) (holds : Bool) : Type 0 where
+  pub set : Set
+  pub here : SetAt text i set j
+  pub past : i < j
+  pub inside : j ≤ length text
+  pub answer : holds ≡ set_holds mode set b
+
+-- What is read at place i: where the set ends that begins there, and whether it holds byte b; or that none begins.
+abbrev pub IsSetRead : Mode → List ℕ → ℕ → ℕ → Option (ℕ × Bool) → Type 0
+IsSetRead mode text i b found =
+    MatchOption found ((set : Set) (j : ℕ) → ¬ SetAt text i set j) (λ set. IsSetThatHolds mode text i b set.0 set.1)
 
 -- where the items of the set begin whose bracket stands at place i
 abbrev pub first_item : Bool → ℕ → ℕ

@@ -1,5 +1,5 @@
 -- What a function of the engine with two marks takes. Nothing public cites it.
-use Rattle.std.specs.Prelude.{◌≡◌, ℕ, ◌+◌, ◌≤◌}
+use Rattle.std.specs.Prelude.{◌≡◌, ℕ, ◌+◌, ◌≤◌, Option, None, Some}
 use Rattle.glob_matcher.specs.Steps.{Counts}
 
 -- from one state of the counts to another: s steps, and at most l looks
@@ -11,3 +11,8 @@ pub record Takes (before after : Counts) (s l : ℕ) : Type 0 where
 pub record TakesExactly (before after : Counts) (s l : ℕ) : Type 0 where
   pub steps : after.steps ≡ before.steps + s
   pub looks : after.looks ≡ before.looks + l
+
+-- the looks at a place: one where there is a byte, and none where there isn't
+abbrev pub looks_at : Option ℕ → ℕ
+looks_at None = 0
+looks_at (Some byte) = 1

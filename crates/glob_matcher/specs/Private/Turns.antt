@@ -9,23 +9,24 @@ use Rattle.glob_matcher.specs.Private.States.{IsOutcome, Resumes, ResumesLocal}
 use Rattle.glob_matcher.specs.Private.Prices.{Measure, amount, amount_of}
 use Rattle.glob_matcher.specs.Private.Budget.{AllowsAt, AllowsMiss, AllowsOutcome, AllowsResumed, AllowsLocal, CountsOutcome}
 
--- A turn from a state at whose token so many looks were taken already.
-pub record IsTurn (mode : Mode) (p v : List ℕ) (state : State) (looked : ℕ) (turn : Turn) (before after : Counts) : Type 0 where
-  pub meaning : IsOutcome mode p v turn
-  pub allows : (measure : Measure) (s n : ℕ) → amount_of measure before ≤ s + amount measure 0 looked → AllowsAt measure mode p v state s n
-      → AllowsOutcome measure mode p v turn (amount_of measure after) n
-  pub progress : CountsOutcome turn before.steps after.steps
+module _ (mode : Mode) (p v : List ℕ) where
+  -- A turn from a state at whose token so many looks were taken already.
+  pub record IsTurn (state : State) (looked : ℕ) (turn : Turn) (before after : Counts) : Type 0 where
+    pub meaning : IsOutcome mode p v turn
+    pub allows : (measure : Measure) (spent limit : ℕ) → amount_of measure before ≤ spent + amount measure 0 looked
+        → AllowsAt measure mode p v state spent limit → AllowsOutcome measure mode p v turn (amount_of measure after) limit
+    pub progress : CountsOutcome turn before.steps after.steps
 
--- A way back to a mark, where so much is allowed before.
-pub record IsBacktrack (mode : Mode) (p v : List ℕ) (allowed : Measure → ℕ → Type 0) (next : Option State) (before after : Counts) : Type 0 where
-  pub meaning : Resumes mode p v next
-  pub allows : (measure : Measure) (n : ℕ) → allowed measure n → AllowsResumed measure mode p v next (amount_of measure after) n
-  pub progress : OnSome next (before.steps < after.steps)
+  -- A way back to a mark, where so much is allowed before.
+  pub record IsBacktrack (allowed : Measure → ℕ → Type 0) (next : Option State) (before after : Counts) : Type 0 where
+    pub meaning : Resumes mode p v next
+    pub allows : (measure : Measure) (limit : ℕ) → allowed measure limit → AllowsResumed measure mode p v next (amount_of measure after) limit
+    pub progress : OnSome next (before.steps < after.steps)
 
--- A way back to the local mark of a state at which the token does not fit.
-pub record IsBacktrackLocal (mode : Mode) (p v : List ℕ) (state : State) (next : Option State) (before after : Counts) : Type 0 where
-  pub meaning : ResumesLocal mode p v state.crossing next
-  pub allows : (measure : Measure) (n : ℕ) → AllowsMiss measure mode p v state (amount_of measure before) n
-      → AllowsLocal measure mode p v state.crossing next (amount_of measure after) n
-  pub progress : OnSome next (before.steps < after.steps)
-  pub low : before.steps ≤ after.steps
+  -- A way back to the local mark of a state at which the token does not fit.
+  pub record IsBacktrackLocal (state : State) (next : Option State) (before after : Counts) : Type 0 where
+    pub meaning : ResumesLocal mode p v state.crossing next
+    pub allows : (measure : Measure) (limit : ℕ) → AllowsMiss measure mode p v state (amount_of measure before) limit
+        → AllowsLocal measure mode p v state.crossing next (amount_of measure after) limit
+    pub progress : OnSome next (before.steps < after.steps)
+    pub low : before.steps ≤ after.steps

@@ -24,7 +24,7 @@ impl<'c, 'a, S: Ledger, L: Ledger, M: Match> Engine<'c, 'a, S, L, M> {
         requires place { state.place < length M.pattern }
         ensures { IsTurn M.mode M.pattern M.value state (8 * (after - state.place) - 1) result self.old self.new }
     {
-        if !self.takes(kind, state.at) {
+        if !self.fits(kind, state.at) {
             return Turn::Miss(state);
         }
         let next = State {
@@ -48,10 +48,10 @@ impl<'c, 'a, S: Ledger, L: Ledger, M: Match> Engine<'c, 'a, S, L, M> {
         requires bracket { HasByte M.pattern state.place open_bracket }
         ensures { IsTurn M.mode M.pattern M.value state 1 result self.old self.new }
     {
-        let Some((after, takes)) = self.takes_set(state.place, state.at) else {
+        let Some((after, fits)) = self.fits_set(state.place, state.at) else {
             return Turn::NoMatch;
         };
-        if !takes {
+        if !fits {
             return Turn::Miss(state);
         }
         Turn::On(State {
@@ -143,7 +143,7 @@ impl<'c, 'a, S: Ledger, L: Ledger, M: Match> Engine<'c, 'a, S, L, M> {
         requires is { slice_index M.pattern state.place ≡ slash }
         ensures { IsTurn M.mode M.pattern M.value state 1 result self.old self.new }
     {
-        if !self.has(state.at, b'/') {
+        if !self.fits_byte(state.at, b'/') {
             return Turn::Miss(state);
         }
         Turn::On(State {
@@ -170,7 +170,7 @@ impl<'c, 'a, S: Ledger, L: Ledger, M: Match> Engine<'c, 'a, S, L, M> {
             if byte == b'/' || !stands_for_itself(byte) {
                 break;
             }
-            if !self.has(at, byte) {
+            if !self.fits_byte(at, byte) {
                 return Turn::Miss(State { place, at, ..state });
             }
             place += 1;

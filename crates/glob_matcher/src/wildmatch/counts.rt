@@ -1,6 +1,7 @@
 //! The counts of what a match takes: contracts see them, and they take no bytes.
 ghost use Rattle.std.specs.Prelude.{◌≡◌, ◌+◌, ◌<◌};
 ghost use Rattle.glob_matcher.specs.Private.Takes.{TakesExactly};
+ghost use Rattle.glob_matcher.specs.Steps.{IsBlankOf};
 
 use std::marker::Model;
 use std::sync::ledger::{Blank, Book, Ledger, Share};
@@ -25,9 +26,7 @@ impl<L: Ledger> Model for Count<L> {
 impl<L: Ledger> Count<L> {
     /// A count of nothing, in a ledger that nothing counts in yet.
     fn new(blank: Blank) -> Count<L>
-        requires name { blank.name ≡ L.name }
-        requires parts { blank.parts ≡ L.parts }
-        requires some { 0 < blank.parts }
+        requires { IsBlankOf L.name L.parts blank }
         ensures { result ≡ 0 }
     {
         let (book, share) = blank.open::<L>();
@@ -65,12 +64,8 @@ impl<S: Ledger, L: Ledger> Model for Counts<S, L> {
 impl<S: Ledger, L: Ledger> Counts<S, L> {
     /// Counts of nothing, in two ledgers that nothing counts in yet: `Blank::new(1)` makes one.
     pub fn new(steps: Blank, looks: Blank) -> Counts<S, L>
-        requires steps_name { steps.name ≡ S.name }
-        requires steps_parts { steps.parts ≡ S.parts }
-        requires steps_some { 0 < steps.parts }
-        requires looks_name { looks.name ≡ L.name }
-        requires looks_parts { looks.parts ≡ L.parts }
-        requires looks_some { 0 < looks.parts }
+        requires steps { IsBlankOf S.name S.parts steps }
+        requires looks { IsBlankOf L.name L.parts looks }
         ensures steps { result.steps ≡ 0 }
         ensures looks { result.looks ≡ 0 }
     {

@@ -2,23 +2,21 @@
 //! value.
 //!
 //! The bytes of both texts are read by the methods of this module alone: each counts a look for a byte that it reads and, for
-//! one of the value, a step. So no other module can read a byte without a count, or count in another place. `holds` looks at
-//! the length alone, and counts none.
-ghost use Rattle.std.specs.Prelude.{◌≡◌, ◌≢◌, ◌↔◌, ◌⊎◌, ℕ, ◌+◌, ◌-◌, ◌^◌, ◌<◌, ◌≤◌, IsTrue, IfSome, IfNone, length, slice_index, slice_range, take};
-ghost use Rattle.glob_matcher.specs.declared.wildmatch.sets.Class.{Class};
+//! one of the value, a step, which for a set comes after the look, if a set begins at all. So no other module can read a byte
+//! without a count, or count in another place. `has_left` looks at the length alone, and counts none.
 ghost use Rattle.glob_matcher.specs.Bytes.{HasByte, folds, is_path, open_bracket, slash};
-ghost use Rattle.glob_matcher.specs.Sets.{Set, SetAt, name_of, set_holds};
+ghost use Rattle.glob_matcher.specs.Sets.{Set, SetAt, name_of};
 ghost use Rattle.glob_matcher.specs.Tokens.{Token, Byte};
-ghost use Rattle.glob_matcher.specs.Private.Reader.{kind_of, Fits, IsSetTested, IsToken};
+ghost use Rattle.glob_matcher.specs.Private.Reader.{kind_of, Fits, IsSetRead, IsSetTested, IsToken};
 ghost use Rattle.glob_matcher.specs.Matching.{Splits};
-ghost use Rattle.glob_matcher.specs.Private.Looks.{LookedOver, IsSetPaid};
-ghost use Rattle.glob_matcher.specs.Private.Takes.{Takes};
+ghost use Rattle.glob_matcher.specs.Private.Looks.{LookedOver, IsSetPaid, read_end};
+ghost use Rattle.glob_matcher.specs.Private.Takes.{Takes, TakesExactly, looks_at};
 ghost use Rattle.glob_matcher.specs.Steps.{look_limit, step_limit};
 
 use super::counts::Counts;
+use super::items::Class;
 use super::mode::Mode;
 use super::needle::Needle;
-use super::sets::Class;
 use super::tokens::TokenKind;
 use std::marker::{Brand, Model, PhantomData};
 use std::sync::ledger::Ledger;
@@ -106,6 +104,29 @@ impl Mark {
 }
 
 impl<'c, 'a, S: Ledger, L: Ledger, M: Match> Engine<'c, 'a, S, L, M> {
+    /// The engine of a match, over the counts of what it takes.
+    #[inline(always)]
+    fn new(
+        pattern: &'a [u8],
+        value: &'a [u8],
+        mode: Mode,
+        counts: &'c mut Counts<S, L>,
+    ) -> Engine<'c, 'a, S, L, M>
+        requires pattern { pattern.now ≡ M.pattern }
+        requires value { value.now ≡ M.value }
+        requires mode { mode ≡ M.mode }
+        requires counts { counts.ghost_name ≡ M.counts }
+        ensures { result ≡ counts.old }
+    {
+        Engine {
+            pattern,
+            value,
+            mode,
+            counts,
+            of: PhantomData,
+        }
+    }
+
     /// How many bytes the pattern has.
     #[inline(always)]
     pub fn pattern_len(&self) -> usize
@@ -141,11 +162,8 @@ impl<'c, 'a, S: Ledger, L: Ledger, M: Match> Engine<'c, 'a, S, L, M> {
     /// Looks at the byte at a place of the pattern; `None` past its end, where there is nothing to look at.
     #[inline(always)]
     pub fn look_at(&mut self, place: usize) -> Option<u8>
-        ensures here { IfSome result (λ byte. HasByte M.pattern place byte) }
-        ensures end { IfNone result (length M.pattern ≤ place) }
-        ensures count { Takes self.old self.new 0 1 }
-        ensures look { IfSome result (λ _. self.new.looks ≡ self.old.looks + 1) }
-        ensures free { IfNone result (Takes self.old self.new 0 0) }
+        ensures byte { MatchOption result (length M.pattern ≤ place) (HasByte M.pattern place) }
+        ensures count { TakesExactly self.old self.new 0 (looks_at result) }
     {
         if place >= self.pattern.len() {
             return None;
@@ -159,8 +177,7 @@ impl<'c, 'a, S: Ledger, L: Ledger, M: Match> Engine<'c, 'a, S, L, M> {
     pub fn pattern_byte(&mut self, place: usize) -> u8
         requires { place < length M.pattern }
         ensures here { result ≡ slice_index M.pattern place }
-        ensures count { Takes self.old self.new 0 1 }
-        ensures look { self.new.looks ≡ self.old.looks + 1 }
+        ensures count { TakesExactly self.old self.new 0 1 }
     {
         self.counts.look();
         self.pattern[place]
@@ -170,8 +187,8 @@ impl<'c, 'a, S: Ledger, L: Ledger, M: Match> Engine<'c, 'a, S, L, M> {
     pub fn class_named(&mut self, from: usize, to: usize) -> Option<Class>
         requires order { from ≤ to }
         requires inside { to ≤ length M.pattern }
-        ensures found { IfSome result (λ class. slice_range M.pattern from to ≡ name_of class) }
-        ensures none { IfNone result ((class : Class) → ¬ (slice_range M.pattern from to ≡ name_of class)) }
+        ensures class { MatchOption result ((class : Class) → ¬ (slice_range M.pattern from to ≡ name_of class))
+            (λ class. slice_range M.pattern from to ≡ name_of class) }
         ensures count { LookedOver 1 self.old self.new from to }
         ensures looks { self.new.looks + from ≡ self.old.looks + to }
     {
@@ -191,35 +208,33 @@ impl<'c, 'a, S: Ledger, L: Ledger, M: Match> Engine<'c, 'a, S, L, M> {
 
     /// Tests a token of one byte that is this byte.
     #[inline(always)]
-    pub fn has(&mut self, at: usize, wanted: u8) -> bool
+    pub fn fits_byte(&mut self, at: usize, wanted: u8) -> bool
         ensures answer { IsTrue result ↔ ((at < length M.value) × Fits M.mode (Byte wanted) (slice_index M.value at)) }
-        ensures count { Takes self.old self.new 1 1 }
-        ensures look { self.new.looks ≡ self.old.looks + 1 }
+        ensures count { TakesExactly self.old self.new 1 1 }
     {
         self.counts.step_with_look();
         at < self.value.len() && self.mode.alike(self.value[at], wanted)
     }
 
-    /// Tests the pattern's last token, where it is this byte: whether it takes the value's last byte.
+    /// Tests the pattern's last token, where it is this byte: whether it fits the value's last byte.
     #[inline(always)]
     pub fn ends_in(&mut self, wanted: u8) -> bool
         ensures answer { IsTrue result ↔ ((0 < length M.value) × Fits M.mode (Byte wanted) (slice_index M.value (length M.value - 1))) }
-        ensures count { Takes self.old self.new 1 1 }
-        ensures look { self.new.looks ≡ self.old.looks + 1 }
+        ensures count { TakesExactly self.old self.new 1 1 }
     {
         self.counts.step_with_look();
         let len = self.value.len();
+        // Most values end in another byte: `alike`, which tests first whether two bytes are equal, would only add a test.
         len > 0 && self.mode.fold(self.value[len - 1]) == self.mode.fold(wanted)
     }
 
     /// Tests a token of this kind, which is no set.
     #[inline(always)]
-    pub fn takes(&mut self, kind: TokenKind, at: usize) -> bool
+    pub fn fits(&mut self, kind: TokenKind, at: usize) -> bool
         requires { kind ≢ TokenKind.Set }
         ensures answer { (token : Token) → kind ≡ kind_of token
             → IsTrue result ↔ ((at < length M.value) × Fits M.mode token (slice_index M.value at)) }
-        ensures count { Takes self.old self.new 1 1 }
-        ensures look { self.new.looks ≡ self.old.looks + 1 }
+        ensures count { TakesExactly self.old self.new 1 1 }
     {
         self.counts.step_with_look();
         at < self.value.len() && kind.fits(self.value[at], self.mode)
@@ -228,10 +243,8 @@ impl<'c, 'a, S: Ledger, L: Ledger, M: Match> Engine<'c, 'a, S, L, M> {
     /// Looks at the byte at a place of the value, which the caller counts as a step; `None` where the value ends.
     #[inline(always)]
     fn value_at(&mut self, at: usize) -> Option<u8>
-        ensures here { IfSome result (λ byte. HasByte M.value at byte) }
-        ensures end { IfNone result (length M.value ≤ at) }
-        ensures count { Takes self.old self.new 0 1 }
-        ensures look { IfSome result (λ _. self.new.looks ≡ self.old.looks + 1) }
+        ensures byte { MatchOption result (length M.value ≤ at) (HasByte M.value at) }
+        ensures count { TakesExactly self.old self.new 0 (looks_at result) }
     {
         if at >= self.value.len() {
             return None;
@@ -245,19 +258,16 @@ impl<'c, 'a, S: Ledger, L: Ledger, M: Match> Engine<'c, 'a, S, L, M> {
     #[inline(always)]
     fn set_apart(&mut self, place: usize, byte: u8) -> Option<(usize, bool)>
         requires { HasByte M.pattern place open_bracket }
-        ensures found { IfSome result (λ found. (set : Set) × SetAt M.pattern place set found.0 × (found.1 ≡ set_holds M.mode set byte)) }
-        ensures inside { IfSome result (λ found. (place < found.0) × (found.0 ≤ length M.pattern)) }
-        ensures none { IfNone result ((set : Set) (end : ℕ) → ¬ SetAt M.pattern place set end) }
-        ensures count { IfSome result (λ found. LookedOver 4 self.old self.new place found.0) }
-        ensures broken { IfNone result (LookedOver 4 self.old self.new place (length M.pattern)) }
+        ensures read { IsSetRead M.mode M.pattern place byte result }
+        ensures count { LookedOver 4 self.old self.new place (read_end M.pattern result) }
     {
         read_set::<S, L, Brand>(self.pattern, place, byte, self.mode, &mut *self.counts).0
     }
 
-    /// Tests the set whose bracket stands at a place of the pattern: the place after it, and whether it takes the byte of the
+    /// Tests the set whose bracket stands at a place of the pattern: the place after it, and whether it fits the byte of the
     /// value. Where the value ends, any byte will do. `None` where no set begins, which is no step.
     #[inline(always)]
-    pub fn takes_set(&mut self, place: usize, at: usize) -> Option<(usize, bool)>
+    pub fn fits_set(&mut self, place: usize, at: usize) -> Option<(usize, bool)>
         requires { HasByte M.pattern place open_bracket }
         ensures found { IfSome result (λ found. IsSetTested M.mode M.pattern M.value place at found.0 found.1) }
         ensures none { IfNone result ((set : Set) (end : ℕ) → ¬ SetAt M.pattern place set end) }
@@ -288,8 +298,7 @@ impl<'c, 'a, S: Ledger, L: Ledger, M: Match> Engine<'c, 'a, S, L, M> {
     pub fn pass(&mut self, mark: Mark) -> Option<(Mark, u8)>
         ensures moved { IfSome result (λ x. (x.0.place ≡ mark.place) × (x.0.at ≡ mark.at + 1) × (mark.at < length M.value) × (slice_index M.value mark.at ≡ x.1)) }
         ensures unable { IfNone result (length M.value ≤ mark.at) }
-        ensures count { Takes self.old self.new 1 1 }
-        ensures look { self.new.looks ≡ self.old.looks + 1 }
+        ensures count { TakesExactly self.old self.new 1 1 }
     {
         self.counts.step_with_look();
         if mark.at >= self.value.len() {
@@ -323,8 +332,7 @@ impl<'c, 'a, S: Ledger, L: Ledger, M: Match> Engine<'c, 'a, S, L, M> {
         requires { mark.at < length M.value }
         ensures moved { IfSome result (λ x. (x.place ≡ mark.place) × (x.at ≡ mark.at + 1) × (mark.at < length M.value) × (slice_index M.value mark.at ≢ slash)) }
         ensures unable { IfNone result (slice_index M.value mark.at ≡ slash) }
-        ensures count { Takes self.old self.new 1 1 }
-        ensures look { self.new.looks ≡ self.old.looks + 1 }
+        ensures count { TakesExactly self.old self.new 1 1 }
     {
         self.counts.step_with_look();
         if self.value[mark.at] == b'/' {
@@ -341,8 +349,7 @@ impl<'c, 'a, S: Ledger, L: Ledger, M: Match> Engine<'c, 'a, S, L, M> {
     pub fn pass_within_or_end(&mut self, mark: Mark) -> Option<Mark>
         ensures moved { IfSome result (λ x. (x.place ≡ mark.place) × (x.at ≡ mark.at + 1) × (mark.at < length M.value) × (slice_index M.value mark.at ≢ slash)) }
         ensures unable { IfNone result ((length M.value ≤ mark.at) ⊎ (slice_index M.value mark.at ≡ slash)) }
-        ensures count { Takes self.old self.new 1 1 }
-        ensures look { self.new.looks ≡ self.old.looks + 1 }
+        ensures count { TakesExactly self.old self.new 1 1 }
     {
         if mark.at >= self.value.len() {
             self.counts.step_with_look();
@@ -353,7 +360,7 @@ impl<'c, 'a, S: Ledger, L: Ledger, M: Match> Engine<'c, 'a, S, L, M> {
 
     /// Whether the value has so many bytes from the mark on. No byte is read.
     #[inline(always)]
-    pub fn holds(&self, mark: Mark, count: usize) -> bool
+    pub fn has_left(&self, mark: Mark, count: usize) -> bool
         requires { mark.at ≤ length M.value }
         ensures { IsTrue result ↔ (mark.at + count ≤ length M.value) }
     {
@@ -365,8 +372,7 @@ impl<'c, 'a, S: Ledger, L: Ledger, M: Match> Engine<'c, 'a, S, L, M> {
     pub fn suits<N: Needle>(&mut self, mark: Mark, needle: N) -> bool
         requires { mark.at < length M.value }
         ensures answer { IsTrue result ↔ N.suits needle (slice_index M.value mark.at) }
-        ensures count { Takes self.old self.new 1 1 }
-        ensures look { self.new.looks ≡ self.old.looks + 1 }
+        ensures count { TakesExactly self.old self.new 1 1 }
     {
         self.counts.step_with_look();
         needle.takes(self.value[mark.at])
@@ -390,13 +396,7 @@ fn refuses<'c, 'a, S: Ledger, L: Ledger, M: Match>(
     ensures steps { result.1.now.steps ≤ counts.old.steps + 1 }
     ensures looks { result.1.now.looks ≤ counts.old.looks + 2 }
 {
-    let mut ends = Engine::<'c, 'a, S, L, M> {
-        pattern,
-        value,
-        mode,
-        counts,
-        of: PhantomData,
-    };
+    let mut ends = Engine::<'c, 'a, S, L, M>::new(pattern, value, mode, counts);
     let answer = ends.ends_otherwise();
     let Engine { counts, .. } = ends;
     (answer, counts)
@@ -405,7 +405,7 @@ fn refuses<'c, 'a, S: Ledger, L: Ledger, M: Match>(
 /// Whether the search says that the pattern matches the value, and the counts of what it took. It is not inlined, so that a
 /// value that the last bytes refuse doesn't pay for the registers of the search.
 #[inline(never)]
-fn searched<'c, 'a, S: Ledger, L: Ledger, M: Match>(
+fn search_whole<'c, 'a, S: Ledger, L: Ledger, M: Match>(
     pattern: &'a [u8],
     value: &'a [u8],
     mode: Mode,
@@ -420,13 +420,7 @@ fn searched<'c, 'a, S: Ledger, L: Ledger, M: Match>(
     ensures steps { result.1.now.steps + 1 ≤ counts.old.steps + step_limit (length pattern.now) (length value.now) }
     ensures looks { result.1.now.looks + 2 ≤ counts.old.looks + look_limit (length pattern.now) (length value.now) }
 {
-    let mut engine = Engine::<'c, 'a, S, L, M> {
-        pattern,
-        value,
-        mode,
-        counts,
-        of: PhantomData,
-    };
+    let mut engine = Engine::<'c, 'a, S, L, M>::new(pattern, value, mode, counts);
     let answer = engine.search();
     let Engine { counts, .. } = engine;
     (answer, counts)
@@ -453,7 +447,7 @@ pub fn run<'c, 'a, S: Ledger, L: Ledger, M: Match>(
     if is_refused {
         return (false, counts);
     }
-    searched::<S, L, M>(pattern, value, mode, counts)
+    search_whole::<S, L, M>(pattern, value, mode, counts)
 }
 
 /// The token at a place of the pattern, and the place after it, by an engine that reads no value; and the counts.
@@ -471,13 +465,7 @@ pub fn read_token<'c, 'a, S: Ledger, L: Ledger, M: Match>(
     requires inside { place < length pattern.now }
     ensures { IsToken mode pattern.now place result.0.0 result.0.1 }
 {
-    let mut engine = Engine::<'c, 'a, S, L, M> {
-        pattern,
-        value: pattern,
-        mode,
-        counts,
-        of: PhantomData,
-    };
+    let mut engine = Engine::<'c, 'a, S, L, M>::new(pattern, pattern, mode, counts);
     let answer = engine.token_at(place);
     let Engine { counts, .. } = engine;
     (answer, counts)
@@ -499,20 +487,11 @@ pub fn read_set<'c, 'a, S: Ledger, L: Ledger, M: Match>(
     requires mode { mode ≡ M.mode }
     requires counts { counts.ghost_name ≡ M.counts }
     requires bracket { HasByte pattern.now place open_bracket }
-    ensures found { IfSome result.0 (λ found. (set : Set) × SetAt pattern.now place set found.0 × (found.1 ≡ set_holds mode set byte)) }
-    ensures inside { IfSome result.0 (λ found. (place < found.0) × (found.0 ≤ length pattern.now)) }
-    ensures none { IfNone result.0 ((set : Set) (end : ℕ) → ¬ SetAt pattern.now place set end) }
+    ensures read { IsSetRead mode pattern.now place byte result.0 }
     ensures same { result.1.ghost_name ≡ counts.entry.ghost_name }
-    ensures count { IfSome result.0 (λ found. LookedOver 4 counts.old result.1.now place found.0) }
-    ensures broken { IfNone result.0 (LookedOver 4 counts.old result.1.now place (length pattern.now)) }
+    ensures count { LookedOver 4 counts.old result.1.now place (read_end pattern.now result.0) }
 {
-    let mut engine = Engine::<'c, 'a, S, L, M> {
-        pattern,
-        value: pattern,
-        mode,
-        counts,
-        of: PhantomData,
-    };
+    let mut engine = Engine::<'c, 'a, S, L, M>::new(pattern, pattern, mode, counts);
     let answer = engine.set_at(place, byte);
     let Engine { counts, .. } = engine;
     (answer, counts)

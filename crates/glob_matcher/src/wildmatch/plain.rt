@@ -56,7 +56,7 @@ pub fn splits_from(pattern: &[u8], place: usize, value: &[u8], at: usize, mode: 
     if at == value.len() {
         return false;
     }
-    if !kind.takes(pattern, place, value[at], mode) {
+    if !kind.fits_at(pattern, place, value[at], mode) {
         return false;
     }
     splits_from(pattern, next, value, at + 1, mode)

@@ -160,7 +160,7 @@ impl<'a> Level<'a> {
                     if at == self.value.len() {
                         return Answer::AbortAll;
                     }
-                    if !kind.takes(self.pattern, place, self.value[at], self.mode) {
+                    if !kind.fits_at(self.pattern, place, self.value[at], self.mode) {
                         return Answer::NoMatch;
                     }
                     place = next;

@@ -63,8 +63,8 @@ impl<'c, 'a, S: Ledger, L: Ledger, M: Match> Engine<'c, 'a, S, L, M> {
         ensures free { IsUnblocked result }
     {
         let mut reached = mark;
-        'bytes: while self.holds(reached, 1) {
-            let scan = if self.holds(reached, STRIDE) {
+        'bytes: while self.has_left(reached, 1) {
+            let scan = if self.has_left(reached, STRIDE) {
                 self.glance_on(reached, needle)
             } else {
                 self.glance(reached, needle)
@@ -121,8 +121,8 @@ impl<'c, 'a, S: Ledger, L: Ledger, M: Match> Engine<'c, 'a, S, L, M> {
         ensures bare { NoSlash M.value mark.at (reached_by result).at }
     {
         let mut reached = mark;
-        'component: while self.holds(reached, 1) {
-            let scan = if self.holds(reached, STRIDE) {
+        'component: while self.has_left(reached, 1) {
+            let scan = if self.has_left(reached, STRIDE) {
                 self.look_on(reached, needle)
             } else {
                 self.look(reached, needle)

@@ -2,149 +2,17 @@
 //!
 //! Each `[:` wants to know where the first `]` after it is. That one stays the first for each later `[:` before it, so it is
 //! looked for only where it isn't known.
-ghost use Rattle.std.specs.Prelude.{◌↔◌, ℕ, ◌+◌, ◌-◌, ◌<◌, ◌≤◌, IsTrue, IfSome, IfNone, Option, Some, None, true, length, slice_index, not, false, ◌&&◌, ◌||◌, ◌==◌, ◌≡◌, ◌≢◌, if◌then◌else◌, Bool};
-ghost use Rattle.glob_matcher.specs.declared.wildmatch.sets.Class.{Class};
-ghost use Rattle.glob_matcher.specs.declared.wildmatch.sets.Item.{Item};
+ghost use Rattle.std.specs.Prelude.{◌↔◌, ℕ, ◌+◌, ◌-◌, ◌<◌, ◌≤◌, IsTrue, MatchOption, Option, Some, None, true, length, slice_index, not, false, ◌&&◌, ◌||◌, ◌==◌, ◌≡◌, ◌≢◌, if◌then◌else◌, Bool};
 ghost use Rattle.glob_matcher.specs.Bytes.{HasByte, IsEscaped, is_path, open_bracket, close_bracket, backslash, colon, dash, slash};
-ghost use Rattle.glob_matcher.specs.Sets.{BeginsRange, BeginsClass, IsFirstFrom, IsSign, IsUpperEnd, ItemAt, Set, SetAt, member_of, name_of};
-ghost use Rattle.glob_matcher.specs.Sets.{class_holds, item_holds};
-ghost use Rattle.glob_matcher.specs.Sets.{set_holds as held_by, range_holds as in_range, is_between as between};
-ghost use Rattle.glob_matcher.specs.Private.Takes.{Takes};
-ghost use Rattle.glob_matcher.specs.Private.Looks.{LookedOver, IsKnown, IsSpelled, IsPaid, IsPaidToEnd, IsPaidFor, search_front};
-ghost use Rattle.glob_matcher.specs.Private.Reader.{IsEntry, after_item, at_first, first_item};
+ghost use Rattle.glob_matcher.specs.Sets.{BeginsRange, BeginsClass, IsFirstFrom, IsSign, IsUpperEnd};
+ghost use Rattle.glob_matcher.specs.Private.Takes.{Takes, TakesExactly, looks_at};
+ghost use Rattle.glob_matcher.specs.Private.Looks.{LookedOver, IsItemRead, IsKnown, IsPaidFor, read_end, search_front};
+ghost use Rattle.glob_matcher.specs.Private.Reader.{IsEntry, IsSetRead, after_item, at_first, first_item};
 
 use super::engine::{Engine, Match};
+use super::items::Item;
 use super::mode::Mode;
 use std::sync::ledger::Ledger;
-
-/// A class of bytes that a set names between `[:` and `:]`.
-#[derive(Debug, Copy, Clone, Eq, PartialEq)]
-pub enum Class {
-    Alnum,
-    Alpha,
-    Blank,
-    Cntrl,
-    Digit,
-    Graph,
-    Lower,
-    Print,
-    Punct,
-    Space,
-    Upper,
-    Xdigit,
-}
-
-/// An item of a set.
-#[derive(Debug, Copy, Clone, Eq, PartialEq)]
-pub enum Item {
-    /// One byte.
-    Member(u8),
-    /// The bytes from a lower to an upper end.
-    Range(u8, u8),
-    /// The bytes of a class.
-    Class(Class),
-}
-
-impl Class {
-    /// The class of a name, where there is one.
-    pub fn named(name: &[u8]) -> Option<Class>
-        ensures found { IfSome result (λ class. name.now ≡ name_of class) }
-        ensures none { IfNone result ((class : Class) → ¬ (name.now ≡ name_of class)) }
-    {
-        match name {
-            b"alnum" => Some(Class::Alnum),
-            b"alpha" => Some(Class::Alpha),
-            b"blank" => Some(Class::Blank),
-            b"cntrl" => Some(Class::Cntrl),
-            b"digit" => Some(Class::Digit),
-            b"graph" => Some(Class::Graph),
-            b"lower" => Some(Class::Lower),
-            b"print" => Some(Class::Print),
-            b"punct" => Some(Class::Punct),
-            b"space" => Some(Class::Space),
-            b"upper" => Some(Class::Upper),
-            b"xdigit" => Some(Class::Xdigit),
-            _ => None,
-        }
-    }
-}
-
-impl Class {
-    /// Whether the class holds a byte, which is folded already where the mode asks for it.
-    fn holds(self, byte: u8, mode: Mode) -> bool
-        ensures { result ≡ class_holds mode self byte }
-    {
-        match self {
-            Class::Alnum => byte.is_ascii_alphanumeric(),
-            Class::Alpha => byte.is_ascii_alphabetic(),
-            Class::Blank => byte == b' ' || byte == b'\t',
-            Class::Cntrl => byte.is_ascii_control(),
-            Class::Digit => byte.is_ascii_digit(),
-            Class::Graph => byte.is_ascii_graphic(),
-            Class::Lower => byte.is_ascii_lowercase(),
-            Class::Print => byte == b' ' || byte.is_ascii_graphic(),
-            Class::Punct => byte.is_ascii_punctuation(),
-            Class::Space => (byte == b' ' || byte == b'\t') || (byte == b'\n' || byte == b'\r'),
-            Class::Upper => byte.is_ascii_uppercase()
-                || (mode.folds() && byte.is_ascii_lowercase()),
-            Class::Xdigit => byte.is_ascii_hexdigit(),
-        }
-    }
-}
-
-/// Whether a number lies between two others, in either order.
-fn is_between(a: u8, b: u8, n: u8) -> bool
-    ensures { result ≡ between a b n }
-{
-    (a <= n && n <= b) || (b <= n && n <= a)
-}
-
-/// Whether a range holds a byte. Where case doesn't count, the ends in uppercase count too.
-fn range_holds(low: u8, high: u8, byte: u8, mode: Mode) -> bool
-    ensures { result ≡ in_range mode low high byte }
-{
-    let (low, high, byte) = (mode.fold(low), mode.fold(high), mode.fold(byte));
-    (low <= byte && byte <= high)
-        || (mode.folds()
-            && byte.is_ascii_lowercase()
-            && is_between(
-                low.to_ascii_uppercase(),
-                high.to_ascii_uppercase(),
-                byte.to_ascii_uppercase(),
-            ))
-}
-
-impl Item {
-    /// Whether the item holds a byte.
-    fn holds(self, byte: u8, mode: Mode) -> bool
-        ensures { result ≡ item_holds mode byte self }
-    {
-        match self {
-            Item::Member(member) => mode.fold(byte) == mode.fold(member),
-            Item::Range(low, high) => range_holds(low, high, byte, mode),
-            Item::Class(class) => class.holds(mode.fold(byte), mode),
-        }
-    }
-
-    /// Whether the item holds a byte, or one before it does.
-    fn holds_too(self, is_held: bool, byte: u8, mode: Mode) -> bool
-        ensures { result ≡ (is_held || item_holds mode byte self) }
-    {
-        is_held || self.holds(byte, mode)
-    }
-}
-
-impl Item {
-    /// The member that a range after this item begins from.
-    fn member(self) -> Option<u8>
-        ensures { result ≡ member_of self }
-    {
-        match self {
-            Item::Member(byte) => Some(byte),
-            Item::Range(..) | Item::Class(_) => None,
-        }
-    }
-}
 
 /// An item as it is spelled.
 #[derive(Clone, Copy)]
@@ -216,7 +84,7 @@ impl Cursor {
 }
 
 /// Whether a set holds a byte: where it is negated, if none of its items does, but in path mode never a slash.
-fn takes(mode: Mode, is_negated: bool, byte: u8, is_held: bool) -> bool
+fn set_holds(mode: Mode, is_negated: bool, byte: u8, is_held: bool) -> bool
     ensures { result ≡ (not (is_path mode && byte == slash) && (if is_negated then not is_held else is_held)) }
 {
     !(mode.is_path() && byte == b'/') && is_held != is_negated
@@ -226,10 +94,8 @@ impl<'c, 'a, S: Ledger, L: Ledger, M: Match> Engine<'c, 'a, S, L, M> {
     /// The byte that the backslash at this place escapes.
     pub fn escaped_at(&mut self, place: usize) -> Option<u8>
         requires { HasByte M.pattern place backslash }
-        ensures found { IfSome result (λ byte. IsEscaped M.pattern place byte) }
-        ensures none { IfNone result ((byte : ℕ) → ¬ IsEscaped M.pattern place byte) }
-        ensures count { Takes self.old self.new 0 1 }
-        ensures free { IfNone result (Takes self.old self.new 0 0) }
+        ensures byte { MatchOption result ((byte : ℕ) → ¬ IsEscaped M.pattern place byte) (IsEscaped M.pattern place) }
+        ensures count { TakesExactly self.old self.new 0 (looks_at result) }
     {
         self.look_at(place + 1)
     }
@@ -237,11 +103,9 @@ impl<'c, 'a, S: Ledger, L: Ledger, M: Match> Engine<'c, 'a, S, L, M> {
     /// The upper end of a range at this place, and the place after it.
     fn upper_end(&mut self, place: usize) -> Option<(u8, usize)>
         requires { place < length M.pattern }
-        ensures found { IfSome result (λ end. IsUpperEnd M.pattern place end.0 end.1) }
-        ensures inside { IfSome result (λ end. (place < end.1) × (end.1 ≤ length M.pattern)) }
-        ensures none { IfNone result ((high j : ℕ) → ¬ IsUpperEnd M.pattern place high j) }
-        ensures count { IfSome result (λ end. LookedOver 1 self.old self.new place end.1) }
-        ensures broken { IfNone result (Takes self.old self.new 0 1) }
+        ensures end { MatchOption result ((high j : ℕ) → ¬ IsUpperEnd M.pattern place high j)
+            (λ end. IsUpperEnd M.pattern place end.0 end.1 × (place < end.1) × (end.1 ≤ length M.pattern)) }
+        ensures count { MatchOption result (Takes self.old self.new 0 1) (λ end. LookedOver 1 self.old self.new place end.1) }
     {
         let byte = self.pattern_byte(place);
         if byte != b'\\' {
@@ -256,10 +120,10 @@ impl<'c, 'a, S: Ledger, L: Ledger, M: Match> Engine<'c, 'a, S, L, M> {
     /// The first closing bracket from a place on.
     fn first_close(&mut self, from: usize) -> Option<usize>
         requires { from ≤ length M.pattern }
-        ensures found { IfSome result (λ close. IsFirstFrom M.pattern from close_bracket close) }
-        ensures none { IfNone result ((j : ℕ) → from ≤ j → ¬ HasByte M.pattern j close_bracket) }
-        ensures count { IfSome result (λ close. LookedOver 1 self.old self.new from (close + 1)) }
-        ensures broken { IfNone result (LookedOver 1 self.old self.new from (length M.pattern)) }
+        ensures close { MatchOption result ((j : ℕ) → from ≤ j → ¬ HasByte M.pattern j close_bracket)
+            (IsFirstFrom M.pattern from close_bracket) }
+        ensures count { MatchOption result (LookedOver 1 self.old self.new from (length M.pattern))
+            (λ close. LookedOver 1 self.old self.new from (close + 1)) }
     {
         let mut place = from;
         'bytes: while let Some(byte) = self.look_at(place) {
@@ -275,11 +139,11 @@ impl<'c, 'a, S: Ledger, L: Ledger, M: Match> Engine<'c, 'a, S, L, M> {
     fn class_close(&mut self, place: usize, close: Option<usize>) -> Option<usize>
         requires begins { BeginsClass M.pattern place }
         requires known { IsKnown M.pattern place close }
-        ensures found { IfSome result (λ j. IsFirstFrom M.pattern (place + 2) close_bracket j) }
-        ensures none { IfNone result ((j : ℕ) → place + 2 ≤ j → ¬ HasByte M.pattern j close_bracket) }
+        ensures close { MatchOption result ((j : ℕ) → place + 2 ≤ j → ¬ HasByte M.pattern j close_bracket)
+            (IsFirstFrom M.pattern (place + 2) close_bracket) }
         ensures steps { self.new.steps ≡ self.old.steps }
-        ensures looks { IfSome result (λ j. self.new.looks + search_front close place ≤ self.old.looks + j) }
-        ensures broken { IfNone result (LookedOver 1 self.old self.new (place + 2) (length M.pattern)) }
+        ensures looks { MatchOption result (LookedOver 1 self.old self.new (place + 2) (length M.pattern))
+            (λ j. self.new.looks + search_front close place ≤ self.old.looks + j) }
     {
         let Some(known) = close else {
             return self.first_close(place + 2);
@@ -308,10 +172,7 @@ impl<'c, 'a, S: Ledger, L: Ledger, M: Match> Engine<'c, 'a, S, L, M> {
     fn class_at(&mut self, place: usize, close: Option<usize>) -> Option<Spelled>
         requires begins { BeginsClass M.pattern place }
         requires known { IsKnown M.pattern place close }
-        ensures found { IfSome result (λ s. (low : Option ℕ) → IsSpelled M.pattern low place s) }
-        ensures none { IfNone result ((low : Option ℕ) (x : Item) (j : ℕ) → ¬ ItemAt M.pattern low place x j) }
-        ensures count { IfSome result (λ s. IsPaid 2 self.old self.new place close s) }
-        ensures broken { IfNone result (IsPaidToEnd 2 self.old self.new M.pattern place) }
+        ensures { (low : Option ℕ) → IsItemRead 2 self.old self.new M.pattern low place close result }
     {
         let Some(end) = self.class_close(place, close) else {
             return None;
@@ -337,8 +198,8 @@ impl<'c, 'a, S: Ledger, L: Ledger, M: Match> Engine<'c, 'a, S, L, M> {
     /// none.
     fn range_from(&mut self, low: Option<u8>, place: usize) -> Option<u8>
         requires { HasByte M.pattern place dash }
-        ensures found { IfSome result (λ from. (low ≡ Some from) × BeginsRange M.pattern (Some from) place) }
-        ensures none { IfNone result (¬ BeginsRange M.pattern low place) }
+        ensures low { MatchOption result (¬ BeginsRange M.pattern low place)
+            (λ from. (low ≡ Some from) × BeginsRange M.pattern (Some from) place) }
         ensures count { Takes self.old self.new 0 1 }
     {
         let Some(member) = low else {
@@ -357,10 +218,7 @@ impl<'c, 'a, S: Ledger, L: Ledger, M: Match> Engine<'c, 'a, S, L, M> {
     fn range_at(&mut self, from: u8, place: usize, close: Option<usize>) -> Option<Spelled>
         requires begins { BeginsRange M.pattern (Some from) place }
         requires known { IsKnown M.pattern place close }
-        ensures found { IfSome result (λ s. IsSpelled M.pattern (Some from) place s) }
-        ensures none { IfNone result ((x : Item) (j : ℕ) → ¬ ItemAt M.pattern (Some from) place x j) }
-        ensures count { IfSome result (λ s. IsPaid 2 self.old self.new place close s) }
-        ensures broken { IfNone result (IsPaidToEnd 2 self.old self.new M.pattern place) }
+        ensures { IsItemRead 2 self.old self.new M.pattern (Some from) place close result }
     {
         let Some((high, next)) = self.upper_end(place + 1) else {
             return None;
@@ -376,10 +234,7 @@ impl<'c, 'a, S: Ledger, L: Ledger, M: Match> Engine<'c, 'a, S, L, M> {
     fn dash_at(&mut self, low: Option<u8>, place: usize, close: Option<usize>) -> Option<Spelled>
         requires here { HasByte M.pattern place dash }
         requires known { IsKnown M.pattern place close }
-        ensures found { IfSome result (λ s. IsSpelled M.pattern low place s) }
-        ensures none { IfNone result ((x : Item) (j : ℕ) → ¬ ItemAt M.pattern low place x j) }
-        ensures count { IfSome result (λ s. IsPaid 1 self.old self.new place close s) }
-        ensures broken { IfNone result (IsPaidToEnd 1 self.old self.new M.pattern place) }
+        ensures { IsItemRead 1 self.old self.new M.pattern low place close result }
     {
         match self.range_from(low, place) {
             Some(from) => self.range_at(from, place, close),
@@ -404,10 +259,7 @@ impl<'c, 'a, S: Ledger, L: Ledger, M: Match> Engine<'c, 'a, S, L, M> {
     fn bracket_at(&mut self, low: Option<u8>, place: usize, close: Option<usize>) -> Option<Spelled>
         requires here { HasByte M.pattern place open_bracket }
         requires known { IsKnown M.pattern place close }
-        ensures found { IfSome result (λ s. IsSpelled M.pattern low place s) }
-        ensures none { IfNone result ((x : Item) (j : ℕ) → ¬ ItemAt M.pattern low place x j) }
-        ensures count { IfSome result (λ s. IsPaid 1 self.old self.new place close s) }
-        ensures broken { IfNone result (IsPaidToEnd 1 self.old self.new M.pattern place) }
+        ensures { IsItemRead 1 self.old self.new M.pattern low place close result }
     {
         if self.begins_class(place) {
             return self.class_at(place, close);
@@ -423,10 +275,7 @@ impl<'c, 'a, S: Ledger, L: Ledger, M: Match> Engine<'c, 'a, S, L, M> {
     fn escape_at(&mut self, place: usize, close: Option<usize>) -> Option<Spelled>
         requires here { HasByte M.pattern place backslash }
         requires known { IsKnown M.pattern place close }
-        ensures found { IfSome result (λ s. (low : Option ℕ) → IsSpelled M.pattern low place s) }
-        ensures none { IfNone result ((low : Option ℕ) (x : Item) (j : ℕ) → ¬ ItemAt M.pattern low place x j) }
-        ensures count { IfSome result (λ s. IsPaid 1 self.old self.new place close s) }
-        ensures broken { IfNone result (IsPaidToEnd 1 self.old self.new M.pattern place) }
+        ensures { (low : Option ℕ) → IsItemRead 1 self.old self.new M.pattern low place close result }
     {
         let Some(byte) = self.escaped_at(place) else {
             return None;
@@ -442,10 +291,7 @@ impl<'c, 'a, S: Ledger, L: Ledger, M: Match> Engine<'c, 'a, S, L, M> {
     fn item_at(&mut self, cursor: Cursor, byte: u8) -> Option<Spelled>
         requires here { HasByte M.pattern cursor.place byte }
         requires known { IsKnown M.pattern cursor.place cursor.close }
-        ensures found { IfSome result (λ s. IsSpelled M.pattern cursor.low cursor.place s) }
-        ensures none { IfNone result ((x : Item) (j : ℕ) → ¬ ItemAt M.pattern cursor.low cursor.place x j) }
-        ensures count { IfSome result (λ s. IsPaid 1 self.old self.new cursor.place cursor.close s) }
-        ensures broken { IfNone result (IsPaidToEnd 1 self.old self.new M.pattern cursor.place) }
+        ensures { IsItemRead 1 self.old self.new M.pattern cursor.low cursor.place cursor.close result }
     {
         match byte {
             b'\\' => self.escape_at(cursor.place, cursor.close),
@@ -505,11 +351,8 @@ impl<'c, 'a, S: Ledger, L: Ledger, M: Match> Engine<'c, 'a, S, L, M> {
     #[inline(always)]
     pub fn set_at(&mut self, place: usize, byte: u8) -> Option<(usize, bool)>
         requires { HasByte M.pattern place open_bracket }
-        ensures found { IfSome result (λ found. (set : Set) × SetAt M.pattern place set found.0 × (found.1 ≡ held_by M.mode set byte)) }
-        ensures inside { IfSome result (λ found. (place < found.0) × (found.0 ≤ length M.pattern)) }
-        ensures none { IfNone result ((set : Set) (end : ℕ) → ¬ SetAt M.pattern place set end) }
-        ensures count { IfSome result (λ found. LookedOver 4 self.old self.new place found.0) }
-        ensures broken { IfNone result (LookedOver 4 self.old self.new place (length M.pattern)) }
+        ensures read { IsSetRead M.mode M.pattern place byte result }
+        ensures count { LookedOver 4 self.old self.new place (read_end M.pattern result) }
     {
         let mode = self.mode();
         let (is_negated, first) = self.opened(place);
@@ -522,7 +365,7 @@ impl<'c, 'a, S: Ledger, L: Ledger, M: Match> Engine<'c, 'a, S, L, M> {
                     cursor = spelled.onward();
                 }
                 Entry::Close => {
-                    let holds = takes(mode, is_negated, byte, is_held);
+                    let holds = set_holds(mode, is_negated, byte, is_held);
                     return Some((cursor.place + 1, holds));
                 }
                 Entry::Broken => return None,

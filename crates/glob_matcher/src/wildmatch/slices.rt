@@ -1,9 +1,9 @@
 //! The readers of tokens over slices, for what counts nothing: each asks an engine with new counts that no one looks at.
-ghost use Rattle.std.specs.Prelude.{◌≡◌, ◌↔◌, ℕ, ◌<◌, IsTrue, IfSome, IfNone, length};
+ghost use Rattle.std.specs.Prelude.{◌≡◌, ◌↔◌, ℕ, ◌<◌, IsTrue, length};
 ghost use Rattle.glob_matcher.specs.Bytes.{HasByte, open_bracket};
-ghost use Rattle.glob_matcher.specs.Sets.{Set, SetAt, set_holds};
 ghost use Rattle.glob_matcher.specs.Tokens.{Token, TokenAt};
-ghost use Rattle.glob_matcher.specs.Private.Reader.{IsToken, kind_of, Fits};
+ghost use Rattle.glob_matcher.specs.Private.Reader.{IsSetRead, IsToken, kind_of, Fits};
+ghost use Rattle.glob_matcher.specs.Steps.{IsBlankOf};
 
 use super::counts::Counts;
 use super::engine::{is_short, read_set, read_token};
@@ -29,12 +29,8 @@ fn token_with_counts<S: Ledger, L: Ledger>(
     steps: Blank,
     looks: Blank,
 ) -> (TokenKind, usize)
-    requires steps_name { steps.name ≡ S.name }
-    requires steps_parts { steps.parts ≡ S.parts }
-    requires steps_some { 0 < steps.parts }
-    requires looks_name { looks.name ≡ L.name }
-    requires looks_parts { looks.parts ≡ L.parts }
-    requires looks_some { 0 < looks.parts }
+    requires steps { IsBlankOf S.name S.parts steps }
+    requires looks { IsBlankOf L.name L.parts looks }
     requires inside { place < length pattern.now }
     ensures { IsToken mode pattern.now place result.0 result.1 }
 {
@@ -45,8 +41,7 @@ fn token_with_counts<S: Ledger, L: Ledger>(
 /// The set whose bracket stands at this place: the place after it, and whether it holds a byte. `None` where no set begins.
 fn set_at(pattern: &[u8], place: usize, byte: u8, mode: Mode) -> Option<(usize, bool)>
     requires { HasByte pattern.now place open_bracket }
-    ensures found { IfSome result (λ found. (set : Set) × SetAt pattern.now place set found.0 × (found.1 ≡ set_holds mode set byte)) }
-    ensures none { IfNone result ((set : Set) (end : ℕ) → ¬ SetAt pattern.now place set end) }
+    ensures { IsSetRead mode pattern.now place byte result }
 {
     set_with_counts::<Brand, Brand>(pattern, place, byte, mode, Blank::new(1), Blank::new(1))
 }
@@ -61,23 +56,18 @@ fn set_with_counts<S: Ledger, L: Ledger>(
     steps: Blank,
     looks: Blank,
 ) -> Option<(usize, bool)>
-    requires steps_name { steps.name ≡ S.name }
-    requires steps_parts { steps.parts ≡ S.parts }
-    requires steps_some { 0 < steps.parts }
-    requires looks_name { looks.name ≡ L.name }
-    requires looks_parts { looks.parts ≡ L.parts }
-    requires looks_some { 0 < looks.parts }
+    requires steps { IsBlankOf S.name S.parts steps }
+    requires looks { IsBlankOf L.name L.parts looks }
     requires bracket { HasByte pattern.now place open_bracket }
-    ensures found { IfSome result (λ found. (set : Set) × SetAt pattern.now place set found.0 × (found.1 ≡ set_holds mode set byte)) }
-    ensures none { IfNone result ((set : Set) (end : ℕ) → ¬ SetAt pattern.now place set end) }
+    ensures { IsSetRead mode pattern.now place byte result }
 {
     is_short(pattern);
     read_set::<S, L, Brand>(pattern, place, byte, mode, &mut Counts::new(steps, looks)).0
 }
 
 impl TokenKind {
-    /// Whether the token of this kind at a place of the pattern is one of a single byte and takes that byte.
-    pub fn takes(self, pattern: &[u8], place: usize, byte: u8, mode: Mode) -> bool
+    /// Whether the token of this kind at a place of the pattern is one of a single byte and fits that byte.
+    pub fn fits_at(self, pattern: &[u8], place: usize, byte: u8, mode: Mode) -> bool
         requires { place < length pattern.now }
         ensures { (token : Token) (end : ℕ) → TokenAt mode pattern.now place token end → self ≡ kind_of token → IsTrue result ↔ Fits mode token byte }
     {

@@ -45,14 +45,14 @@ impl TokenKind {
         matches!(self, TokenKind::Byte(b'/'))
     }
 
-    /// Whether a token of this kind, which is no set, is one of a single byte and takes that byte.
+    /// Whether a token of this kind, which is no set, is one of a single byte and fits that byte.
     #[inline(always)]
     pub fn fits(self, byte: u8, mode: Mode) -> bool
         requires { self ≢ kind.Set }
         ensures { (token : Token) → self ≡ kind_of token → IsTrue result ↔ Fits mode token byte }
     {
         match self {
-            TokenKind::Byte(wanted) => mode.fold(byte) == mode.fold(wanted),
+            TokenKind::Byte(wanted) => mode.alike(byte, wanted),
             TokenKind::Any => !(mode.is_path() && byte == b'/'),
             TokenKind::Set
             | TokenKind::Free

@@ -10,6 +10,7 @@ ghost use Rattle.std.specs.Prelude.{◌≢◌, ◌↔◌, ◌+◌, ◌<◌, ◌�
 ghost use Rattle.glob_matcher.specs.Bytes.{close_bracket, question_mark, slash, star};
 ghost use Rattle.glob_matcher.specs.Matching.{Splits};
 ghost use Rattle.glob_matcher.specs.Steps.{look_limit, step_bound, step_limit};
+ghost use Rattle.glob_matcher.specs.Private.Budget.{IsWithinLimits};
 
 use super::counts::Counts;
 use super::engine::{Engine, Match, is_short, run};
@@ -46,8 +47,7 @@ impl<'c, 'a, S: Ledger, L: Ledger, M: Match> Engine<'c, 'a, S, L, M> {
     #[inline(always)]
     pub fn search(&mut self) -> bool
         ensures exact { IsTrue result ↔ Splits M.value M.pattern M.mode }
-        ensures steps { self.new.steps + 1 ≤ self.old.steps + step_limit (length M.pattern) (length M.value) }
-        ensures looks { self.new.looks + 2 ≤ self.old.looks + look_limit (length M.pattern) (length M.value) }
+        ensures limits { IsWithinLimits (length M.pattern) (length M.value) self.old self.new }
     {
         let mut state = State {
             place: 0,

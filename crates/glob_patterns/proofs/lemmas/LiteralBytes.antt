@@ -31,9 +31,9 @@ module _ (mode : Mode) (p v : List ℕ) (i b : ℕ) (clean : IsUnescapedUpTo p i
   covers j e k Free low past inside x all = absurd (not_joining star (x.run.stars i low past) refl)
   covers j e k Local low past inside x all = absurd (not_joining star (x.run.stars i low past) refl)
   covers j e k Dirs low past inside x all = ⊎_elim
-      (λ (before : i < x.at). absurd (not_joining star (x.run.stars i low before) refl))
-      (λ (after : x.at ≤ i). absurd (not_joining slash (at_place slash x.at (omega (arith, x.after)) x.slash) refl))
-      (cases_lt i x.at)
+      (λ (before : i < x.run_end). absurd (not_joining star (x.run.stars i low before) refl))
+      (λ (after : x.run_end ≤ i). absurd (not_joining slash (at_place slash x.run_end (omega (arith, x.after)) x.slash) refl))
+      (cases_lt i x.run_end)
   covers j e k Nothing low past inside (inl x, end) all = absurd (clean.no_escape j low x.0)
   covers j e k Nothing low past inside (inr x, end) all = absurd (clean.no_set j low x.0)
 

@@ -3,7 +3,7 @@ ghost use Rattle.std.specs.Prelude.{◌≡◌, ◌↔◌, ◌+◌, ◌<◌, ◌�
 ghost use Rattle.std.specs.Option.{ForSome};
 ghost use Rattle.glob_matcher.specs.Bytes.{HasByte, slash};
 ghost use Rattle.glob_matcher.specs.Matching.{Splits};
-ghost use Rattle.glob_matcher.specs.Steps.{pattern_look_limit, step_limit};
+ghost use Rattle.glob_matcher.specs.Steps.{IsBlankOf, pattern_look_limit, step_limit};
 ghost use Rattle.glob_patterns.specs.Patterns.{HasReading, IsPattern, Reads};
 ghost use Rattle.glob_patterns.specs.RepositoryPaths.{Answers, IsAfterLastSlash, subject};
 
@@ -85,12 +85,8 @@ impl<'a> PatternView<'a> {
         steps: Blank,
         looks: Blank,
     ) -> bool
-        requires steps_name { steps.name ≡ S.name }
-        requires steps_parts { steps.parts ≡ S.parts }
-        requires steps_some { 0 < steps.parts }
-        requires looks_name { looks.name ≡ L.name }
-        requires looks_parts { looks.parts ≡ L.parts }
-        requires looks_some { 0 < looks.parts }
+        requires steps { IsBlankOf S.name S.parts steps }
+        requires looks { IsBlankOf L.name L.parts looks }
         ensures { IsPattern self.entry.text.now self.entry.mode self.entry.first_wildcard_pos →
             IsTrue result ↔ Splits value.now self.entry.text.now mode }
     {

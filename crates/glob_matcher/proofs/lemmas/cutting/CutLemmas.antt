@@ -28,8 +28,8 @@ piece_of v k piece rest inside cut =
     (record { low = omega arith; high = omega arith; joined = cut ∙ ap (λ (xs : List ℕ). piece ++ xs) after; long = omega arith }, after)
 
 -- each stretch of the value is a piece
-stretch : (v : List ℕ) (k e : ℕ) → k ≤ e → e ≤ length v → IsPiece v k e (take (e - k) (drop k v))
-stretch v k e low high =
+stretch_is_piece : (v : List ℕ) (k e : ℕ) → k ≤ e → e ≤ length v → IsPiece v k e (take (e - k) (drop k v))
+stretch_is_piece v k e low high =
     let sum : k + (e - k) ≡ e = omega arith in
     let joined : drop k v ≡ take (e - k) (drop k v) ++ drop e v =
     sym (take-append-drop (e - k) (drop k v))
@@ -65,6 +65,15 @@ IsOne (Byte b) = Unit {0}
 IsOne Any = Unit {0}
 IsOne (OneOf set) = Unit {0}
 IsOne _ = ⊥
+
+pub fits_one : (mode : Mode) (t : Token) (c : ℕ) → Fits mode t c → IsOne t
+fits_one mode (Byte b) c fits = tt
+fits_one mode Any c fits = tt
+fits_one mode (OneOf set) c fits = tt
+fits_one mode Free c fits = absurd fits
+fits_one mode Local c fits = absurd fits
+fits_one mode Dirs c fits = absurd fits
+fits_one mode Nothing c fits = absurd fits
 
 pub lang_is_one : (mode : Mode) (t : Token) (piece : List ℕ) → IsOne t → Lang mode t piece → OneByte (Fits mode t) piece
 lang_is_one mode (Byte b) piece one w = w
@@ -159,7 +168,7 @@ one_out mode p v i j k t one here all = out all.tokens all.read all.cut where
 pub free_in : (mode : Mode) (p v : List ℕ) (i j k e : ℕ) → TokenAt mode p i Free j → k ≤ e → e ≤ length v
     → SplitsFrom v e p j mode → SplitsFrom v k p i mode
 free_in mode p v i j k e here low high later =
-    step_in mode p v i j k e Free (take (e - k) (drop k v)) here (stretch v k e low high) tt later
+    step_in mode p v i j k e Free (take (e - k) (drop k v)) here (stretch_is_piece v k e low high) tt later
 
 pub free_out : (mode : Mode) (p v : List ℕ) (i j k : ℕ) → TokenAt mode p i Free j → k ≤ length v
     → SplitsFrom v k p i mode → (e : ℕ) × (k ≤ e) × (e ≤ length v) × SplitsFrom v e p j mode
@@ -170,7 +179,7 @@ free_out mode p v i j k here inside all =
 pub local_in : (mode : Mode) (p v : List ℕ) (i j k e : ℕ) → TokenAt mode p i Local j → k ≤ e → e ≤ length v → NoSlash v k e
     → SplitsFrom v e p j mode → SplitsFrom v k p i mode
 local_in mode p v i j k e here low high none later =
-    let x = stretch v k e low high in
+    let x = stretch_is_piece v k e low high in
     let bare : NoSlash (take (e - k) (drop k v)) 0 (length (take (e - k) (drop k v))) = record {
       at = λ m low_in_piece below.
           let long = x.long in
@@ -237,7 +246,7 @@ dirs_in_empty mode p v i j k here inside later =
 pub dirs_in : (mode : Mode) (p v : List ℕ) (i j k e : ℕ) → TokenAt mode p i Dirs j → AfterSlash v k e
     → SplitsFrom v e p j mode → SplitsFrom v k p i mode
 dirs_in mode p v i j k e here after later =
-    let x = stretch v k e (omega (arith, after.past)) after.inside in
+    let x = stretch_is_piece v k e (omega (arith, after.past)) after.inside in
     step_in mode p v i j k e Dirs (take (e - k) (drop k v)) here x (inr (ends_in_slash v k e after)) later
 
 pub dirs_out : (mode : Mode) (p v : List ℕ) (i j k : ℕ) → TokenAt mode p i Dirs j → k ≤ length v

@@ -33,7 +33,7 @@ last_token mode p i (OneOf s) j e end alone =
     absurd (alone.2 (last_is p e.close close_bracket (omega (arith, e.after)) (items_close p _ _ _ _ _ e.items)))
 last_token mode p i Free j e end alone = absurd (alone.0 (run_last p i j e.run end))
 last_token mode p i Local j e end alone = absurd (alone.0 (run_last p i j e.run end))
-last_token mode p i Dirs j e end alone = absurd (alone.3 (last_is p e.at slash (omega (arith, e.after)) e.slash))
+last_token mode p i Dirs j e end alone = absurd (alone.3 (last_is p e.run_end slash (omega (arith, e.after)) e.slash))
 last_token mode p i Nothing j e end alone = inr refl
 
 -- the value ends in the pattern's last byte

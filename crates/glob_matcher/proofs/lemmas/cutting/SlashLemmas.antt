@@ -20,19 +20,20 @@ lowercase_slash c is = by (cases_lt c 65) (cases_lt 90 c) where
   by (inr from) (inr to) = let letter : to_ascii_lowercase c ≡ c + 32 = (lowercase_is c).0 (from, to) in omega arith
 
 -- a slash folds to itself, and nothing else does
-pub fold-slash : (mode : Mode) → fold mode slash ≡ slash
-fold-slash mode = by (folds mode) where
+pub slash_is_folded : (mode : Mode) → fold mode slash ≡ slash
+slash_is_folded mode = by (folds mode) where
   by : (b : Bool) → (if b then to_ascii_lowercase slash else slash) ≡ slash
   by true = refl
   by false = refl
 
 pub fold_slash : (mode : Mode) (c : ℕ) → fold mode c ≡ fold mode slash → c ≡ slash
-fold_slash mode c is = by (folds mode) (is ∙ fold-slash mode) where
+fold_slash mode c is = by (folds mode) (is ∙ slash_is_folded mode) where
   by : (b : Bool) → (if b then to_ascii_lowercase c else c) ≡ slash → c ≡ slash
   by true e = lowercase_slash c e
   by false e = e
 
-no_slash_in_set : (mode : Mode) (s : Set) → IsTrue (is_path mode) → IsTrue (set_holds mode s slash) → ⊥
+-- in path mode no set holds a slash
+pub no_slash_in_set : (mode : Mode) (s : Set) → IsTrue (is_path mode) → IsTrue (set_holds mode s slash) → ⊥
 no_slash_in_set mode s path holds = search (rules, tests)
 
 -- in path mode a token of one byte that takes a slash takes nothing else

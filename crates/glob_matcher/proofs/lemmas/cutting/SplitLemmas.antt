@@ -1,5 +1,5 @@
 -- What begins with a star token is split at earlier places too, and how many star tokens a pattern has.
-use Rattle.std.proofs.Common.{◌≡◌, ◌≢◌, ◌⊎◌, inl, inr, ℕ, zero, suc, ◌+◌, ◌-◌, ◌<◌, ◌≤◌, List, [], ◌∷◌, length, get_or, refl, sym, ◌∙◌, ap, subst, arith}
+use Rattle.std.proofs.Common.{◌≡◌, ◌⊎◌, inl, inr, ℕ, zero, suc, ◌+◌, ◌-◌, ◌<◌, ◌≤◌, List, [], ◌∷◌, length, get_or, refl, sym, ◌∙◌, ap, subst, arith}
 use Rattle.std.proofs.lemmas.Bool.{cases_lt}
 use Rattle.glob_matcher.specs.declared.wildmatch.mode.Mode.{Mode}
 use Rattle.glob_matcher.specs.Bytes.{HasByte, NoSlash, backslash, open_bracket, question_mark, slash, star}
@@ -12,11 +12,13 @@ use Rattle.glob_matcher.proofs.lemmas.reading.TokenLemmas.{IsRun-unique, not_spe
 use Rattle.glob_matcher.proofs.lemmas.cutting.CutLemmas.{free_in, free_out, local_in, local_out, dirs_in, dirs_out}
 
 -- two stretches without slash, one after the other
-pub no_slash_join : (v : List ℕ) (i j k : ℕ) → NoSlash v i j → NoSlash v j k → NoSlash v i k
-no_slash_join v i j k x y = record { at = λ m low below. at m low below (cases_lt m j) } where
-  at : (m : ℕ) → i ≤ m → m < k → (m < j) ⊎ (j ≤ m) → get_or v m 0 ≢ slash
-  at m low below (inl before) = x.at m low before
-  at m low below (inr after) = y.at m after below
+pub no_slash_join : {v : List ℕ} {k m e : ℕ} → NoSlash v k m → NoSlash v m e → NoSlash v k e
+no_slash_join {m} x y = record {
+  at = λ place low below. elim (cases_lt place m) [
+    | inl before ↦ x.at place low before
+    | inr later ↦ y.at place later below
+  ];
+}
 
 module _ {mode : Mode} {p v : List ℕ} {i j k e : ℕ} where
   pub free_before : TokenAt mode p i Free j → k ≤ e → e ≤ length v
@@ -31,7 +33,7 @@ module _ {mode : Mode} {p v : List ℕ} {i j k e : ℕ} where
   local_before here low inside none all =
       let out = local_out mode p v i j e here inside all in
       let later : e ≤ out.0 = out.1 in
-      local_in mode p v i j k out.0 here (omega arith) out.2 (no_slash_join v k e out.0 none out.3) out.4
+      local_in mode p v i j k out.0 here (omega arith) out.2 (no_slash_join none out.3) out.4
 
   pub dirs_before : TokenAt mode p i Dirs j → k < e → e ≤ length v
       → get_or v (e - 1) 0 ≡ slash → SplitsFrom v e p i mode → SplitsFrom v k p i mode
@@ -75,7 +77,7 @@ star_or_other mode p i (OneOf s) j e =
     inr (record { alike = λ m. e; counts = λ ts. refl; no_star = λ h. two_bytes p i open_bracket star e.bracket h (λ is. omega arith) })
 star_or_other mode p i Free j e = inl (record { stop = j; run = e.run; after = inl refl; counts = λ ts. refl })
 star_or_other mode p i Local j e = inl (record { stop = j; run = e.run; after = inl refl; counts = λ ts. refl })
-star_or_other mode p i Dirs j e = inl (record { stop = e.at; run = e.run; after = inr (e.slash, e.after); counts = λ ts. refl })
+star_or_other mode p i Dirs j e = inl (record { stop = e.run_end; run = e.run; after = inr (e.slash, e.after); counts = λ ts. refl })
 star_or_other mode p i Nothing j e =
     inr (record { alike = λ m. e; counts = λ ts. refl; no_star = broken_no_star p i e.0 })
 

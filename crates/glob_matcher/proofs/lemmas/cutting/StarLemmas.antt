@@ -59,7 +59,7 @@ first_token_by mode p i wanted (OneOf s) j bare here is =
     record { token = OneOf s; after = j; here = here; one_or_nothing = inl tt; asks = λ c so. let same : None ≡ Some c = sym is ∙ so in cc }
 first_token_by mode p i wanted Free j bare here is = absurd (bare (run_lead p i j here.run))
 first_token_by mode p i wanted Local j bare here is = absurd (bare (run_lead p i j here.run))
-first_token_by mode p i wanted Dirs j bare here is = absurd (bare (run_lead p i here.at here.run))
+first_token_by mode p i wanted Dirs j bare here is = absurd (bare (run_lead p i here.run_end here.run))
 first_token_by mode p i wanted Nothing j bare here is =
     record { token = Nothing; after = j; here = here; one_or_nothing = inr refl; asks = λ c so. let same : None ≡ Some c = sym is ∙ so in cc }
 
@@ -338,7 +338,7 @@ module _ {mode : Mode} {p v : List ℕ} {i j k depth : ℕ} {answer : Answer} wh
         component = λ room so m low high none s.
             let out = local_out mode p v i j m here high s in
             let later : m ≤ out.0 = out.1 in
-            let all : NoSlash v k out.0 = no_slash_join v k m out.0 none out.3 in
+            let all : NoSlash v k out.0 = no_slash_join none out.3 in
             x.lost (room_after here is_star room) (component_no_match answer so) out.0 (omega arith) out.2 all out.4;
         limit = λ room. x.limit (room_after here is_star room);
         crossing = λ b. absurd (local_not_crossing here b);
@@ -348,7 +348,7 @@ module _ {mode : Mode} {p v : List ℕ} {i j k depth : ℕ} {answer : Answer} wh
       → IsDescent answer p i j v k mode depth → AtStar answer p i v k mode depth
   dirs_star here inside x =
       let is_star : IsStarToken p i Dirs j =
-      record { stop = here.at; run = here.run; after = inr (here.slash, here.after); counts = λ ts. refl } in record {
+      record { stop = here.run_end; run = here.run; after = inr (here.slash, here.after); counts = λ ts. refl } in record {
         token = Dirs;
         after = j;
         here = here;

@@ -22,7 +22,7 @@ crossing_star : (mode : Mode) (p : List ℕ) (i : ℕ) → BeginsCrossing p i mo
 crossing_star mode p i x = by x.token where
   by : TokenAt mode p i Free x.after ⊎ TokenAt mode p i Dirs x.after → HasByte p i star
   by (inl so) = run_lead p i x.after so.run
-  by (inr so) = run_lead p i so.at so.run
+  by (inr so) = run_lead p i so.run_end so.run
 
 module _ {mode : Mode} {p v : List ℕ} {i k j e : ℕ} (x : Aligned mode p v i k j e) where
   -- the start itself leads here

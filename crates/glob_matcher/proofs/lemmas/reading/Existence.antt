@@ -4,8 +4,8 @@ use Rattle.std.proofs.Common.{◌≡◌, inl, inr, ℕ, zero, suc, ◌+◌, ◌<
 use Rattle.std.proofs.lemmas.Bool.{cases_lt}
 use Rattle.std.proofs.lemmas.Bool.Decides.{eqb_tells}
 use Rattle.glob_matcher.specs.declared.wildmatch.mode.Mode.{Mode}
-use Rattle.glob_matcher.specs.declared.wildmatch.sets.Item.{Item}
-use Rattle.glob_matcher.specs.declared.wildmatch.sets.Item.TheVariants as item
+use Rattle.glob_matcher.specs.declared.wildmatch.items.Item.{Item}
+use Rattle.glob_matcher.specs.declared.wildmatch.items.Item.TheVariants as item
 use Rattle.glob_matcher.specs.Bytes.{HasByte, is_path, star, question_mark, open_bracket, close_bracket, backslash}
 use Rattle.glob_matcher.specs.Sets.{Set, SetAt, ItemAt, ItemsAt, IsUpperEnd, member_of}
 use Rattle.glob_matcher.specs.Tokens.{Token, Byte, Any, OneOf, Free, Local, Dirs, Nothing, TokenAt, IsRun, IsBounded, From, Tokens}
@@ -59,7 +59,7 @@ TokenAt-past mode p i Any j e = omega (arith, e.1)
 TokenAt-past mode p i (OneOf s) j e = set_past p i s j e
 TokenAt-past mode p i Free j e = e.run.some
 TokenAt-past mode p i Local j e = e.run.some
-TokenAt-past mode p i Dirs j e = let some : i < e.at = e.run.some in let after : j ≡ e.at + 1 = e.after in omega arith
+TokenAt-past mode p i Dirs j e = let some : i < e.run_end = e.run.some in let after : j ≡ e.run_end + 1 = e.after in omega arith
 TokenAt-past mode p i Nothing j e =
     let inside : i < length p = TokenAt-inside mode p i Nothing j e in let at_end : j ≡ length p = e.1 in omega arith
 
@@ -108,7 +108,7 @@ star_token mode p i j run inside none = by_mode (is_path mode) refl where
           both,
           λ h.
               let before : j < length p = h.inside in
-              none Dirs (j + 1) (record { path = path; at = j; run = run; bounded = both; slash = h; after = refl }) (omega arith),
+              none Dirs (j + 1) (record { path = path; run_end = j; run = run; bounded = both; slash = h; after = refl }) (omega arith),
         );
       })
       inside

@@ -1,16 +1,21 @@
 -- What the reader of a set keeps of its looks: what is known of a closing bracket stays known further on, and how far it was looked for.
 use Rattle.std.proofs.lemmas.Bool.{cases_lt}
-use Rattle.std.proofs.Common.{◌≡◌, ℕ, Bool, false, ◌||◌, ◌+◌, ◌*◌, ◌<◌, ◌≤◌, List, length, Option, Some, None, IfSome, inl, inr, refl, sym, subst, arith}
-use Rattle.glob_matcher.specs.declared.wildmatch.sets.Item.{Item}
+use Rattle.std.proofs.Common.{◌≡◌, ℕ, Bool, false, ◌||◌, ◌+◌, ◌*◌, ◌<◌, ◌≤◌, List, length, Option, Some, None, MatchOption, inl, inr, refl, sym, subst, arith}
+use Rattle.glob_matcher.specs.declared.wildmatch.items.Item.{Item}
 use Rattle.glob_matcher.specs.declared.wildmatch.sets.Spelled.{Spelled}
 use Rattle.glob_matcher.specs.declared.wildmatch.sets.Cursor.{Cursor}
 use Rattle.glob_matcher.specs.declared.wildmatch.sets.Entry.TheVariants as entry
 use Rattle.glob_matcher.specs.Steps.{Counts}
 use Rattle.glob_matcher.specs.Bytes.{HasByte, close_bracket}
-use Rattle.glob_matcher.specs.Private.Looks.{IsKnown, IsPaid, LookedOver, search_front}
+use Rattle.glob_matcher.specs.Private.Looks.{IsItemRead, IsKnown, IsPaid, LookedOver, search_front}
 use Rattle.glob_matcher.specs.Private.Reader.{IsEntry, after_item, at_first}
-use Rattle.glob_matcher.specs.Private.Takes.{Takes}
+use Rattle.glob_matcher.specs.Private.Takes.{Takes, TakesExactly, looks_at}
 use Rattle.glob_matcher.proofs.lemmas.reading.Walks.{IsUnderway, underway_first, underway_next}
+
+-- at most one look is taken at a place
+pub one_look : {before after : Counts} (byte : Option ℕ) → TakesExactly before after 0 (looks_at byte) → Takes before after 0 1
+one_look None exact = record { steps = exact.steps; looks = omega (arith, exact.looks) }
+one_look (Some b) exact = record { steps = exact.steps; looks = omega (arith, exact.looks) }
 
 pub search_front_on : (known : Option ℕ) (i j : ℕ) → i ≤ j → search_front known i ≤ search_front known j
 search_front_on None i j low = low
@@ -49,17 +54,29 @@ pub search_front_passed : (known : Option ℕ) (m i : ℕ) → known ≡ Some m 
 search_front_passed known m i is near = subst (λ (x : Option ℕ). search_front x i ≤ i + 1) (sym is) (omega arith)
 
 -- the looks of a new search, behind the two bytes of a `[:`
-pub search_front_anew : (result known : Option ℕ) (before after : Counts) (i : ℕ) → search_front known i ≤ i + 1
-    → IfSome result (λ m. LookedOver 1 before after (i + 2) (m + 1))
-    → IfSome result (λ m. after.looks + search_front known i ≤ before.looks + m)
-search_front_anew None known before after i near over = tt
-search_front_anew (Some m) known before after i near over = omega (arith, near, over.looks)
+pub search_front_anew : (result known : Option ℕ) (before after : Counts) (i n : ℕ) → search_front known i ≤ i + 1
+    → MatchOption result (LookedOver 1 before after (i + 2) n) (λ m. LookedOver 1 before after (i + 2) (m + 1))
+    → MatchOption result (LookedOver 1 before after (i + 2) n) (λ m. after.looks + search_front known i ≤ before.looks + m)
+search_front_anew None known before after i n near over = over
+search_front_anew (Some m) known before after i n near over = omega (arith, near, over.looks)
 
 -- what is known of the closing bracket is as before
 pub paid_same : {before after : Counts} {i : ℕ} {s : Spelled} (spare : ℕ) → after.steps ≡ before.steps → i ≤ s.next
     → after.looks + spare + 3 * i ≤ before.looks + 3 * s.next → IsPaid spare before after i s.close s
 paid_same {i = i} {s = s} spare steps low looks =
     record { steps = steps; looks = let more = search_front_on s.close i s.next low in omega (arith, looks, more) }
+
+-- one of the looks that were left over was taken before
+pub spare_taken : {before between after : Counts} {text : List ℕ} {low : Option ℕ} {i : ℕ} {known : Option ℕ} {item : Option Spelled}
+    → Takes before between 0 1 → IsItemRead 2 between after text low i known item → IsItemRead 1 before after text low i known item
+spare_taken {item = None} takes read = record {
+  answer = read.answer;
+  paid = record { steps = omega (arith, takes.steps, read.paid.steps); looks = omega (arith, takes.looks, read.paid.looks) };
+}
+spare_taken {item = Some s} takes read = record {
+  answer = read.answer;
+  paid = record { steps = omega (arith, takes.steps, read.paid.steps); looks = omega (arith, takes.looks, read.paid.looks) };
+}
 
 -- The reader of a set stands at this cursor: the items so far, and those from here on, are the set's; what is known of the closing
 -- bracket; and what pays the looks.

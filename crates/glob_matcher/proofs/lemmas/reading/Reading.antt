@@ -1,23 +1,26 @@
 -- What the reader of tokens answers, token by token.
-use Rattle.std.proofs.Common.{◌≡◌, ◌≢◌, inl, inr, ℕ, ◌+◌, ◌<◌, ◌≤◌, false, IsTrue, List, length, refl, arith}
+use Rattle.std.proofs.Common.{◌≡◌, inl, inr, ℕ, ◌+◌, ◌<◌, ◌≤◌, false, IsTrue, List, length, get_or, refl, arith}
 use Rattle.glob_matcher.specs.declared.wildmatch.mode.Mode.{Mode}
 use Rattle.glob_matcher.specs.declared.wildmatch.tokens.TokenKind.TheVariants as kind
-use Rattle.glob_matcher.specs.Bytes.{HasByte, IsEscaped, is_path, star, question_mark, open_bracket, backslash, slash}
+use Rattle.glob_matcher.specs.Bytes.{HasByte, IsEscaped, StandsForItself, is_path, question_mark, backslash, slash}
 use Rattle.glob_matcher.specs.Sets.{Set, SetAt}
 use Rattle.glob_matcher.specs.Tokens.{Byte, Any, OneOf, Free, Local, Dirs, Nothing, IsRun, IsBounded, IsBroken}
 use Rattle.glob_matcher.specs.Private.Reader.{IsToken}
-use Rattle.glob_matcher.proofs.lemmas.reading.TokenLemmas.{stands_for_itself}
 
 pub escaped_token : (mode : Mode) (p : List ℕ) (i b : ℕ) → IsEscaped p i b → IsToken mode p i (kind.Byte b) (i + 2)
 escaped_token mode p i b e =
     let inside : i + 1 < length p = e.byte.inside in
     record { token = Byte b; here = inl (e, refl); same_kind = refl; past = omega arith; inside = omega arith }
 
-pub bare_token : (mode : Mode) (p : List ℕ) (i b : ℕ) → HasByte p i b → b ≢ star → b ≢ question_mark → b ≢ open_bracket
-    → b ≢ backslash → IsToken mode p i (kind.Byte b) (i + 1)
-bare_token mode p i b e s q o t =
+abbrev pub bare_token : (mode : Mode) (p : List ℕ) (i b : ℕ) → HasByte p i b → StandsForItself b → IsToken mode p i (kind.Byte b) (i + 1)
+bare_token mode p i b e plain =
     let inside : i < length p = e.inside in
-    record { token = Byte b; here = inr (e, stands_for_itself b s q o t, refl); same_kind = refl; past = omega arith; inside = omega arith }
+    record { token = Byte b; here = inr (e, plain, refl); same_kind = refl; past = omega arith; inside = omega arith }
+
+-- the byte at a place, where it stands for itself
+abbrev pub literal_token : (mode : Mode) (p : List ℕ) (i : ℕ) → i < length p → StandsForItself (get_or p i 0)
+    → IsToken mode p i (kind.Byte (get_or p i 0)) (i + 1)
+literal_token mode p i inside plain = bare_token mode p i (get_or p i 0) (record { inside = inside; is = refl }) plain
 
 pub any_token : (mode : Mode) (p : List ℕ) (i : ℕ) → HasByte p i question_mark → IsToken mode p i kind.Any (i + 1)
 any_token mode p i e =
@@ -63,7 +66,7 @@ dirs_run mode p i j path run bounded at_slash =
     let inside : j < length p = at_slash.inside in
     record {
       token = Dirs;
-      here = record { path = path; at = j; run = run; bounded = bounded; slash = at_slash; after = refl };
+      here = record { path = path; run_end = j; run = run; bounded = bounded; slash = at_slash; after = refl };
       same_kind = refl;
       past = omega arith;
       inside = omega arith;

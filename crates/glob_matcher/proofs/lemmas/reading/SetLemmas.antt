@@ -1,9 +1,9 @@
 -- A set's text is read in one way: items, their places and what they hold follow from the pattern.
 use Rattle.std.proofs.Common.{◌≡◌, ◌≢◌, inl, inr, ℕ, ◌+◌, ◌-◌, ◌≤◌, Bool, true, false, IsTrue, ◌↔◌, if◌then◌else◌, List, [], ◌∷◌, get_or, ◌*◌, ◌==◌, slice_range, Option, Some, None, refl, sym, ◌∙◌, ap, subst, arith}
-use Rattle.glob_matcher.specs.declared.wildmatch.sets.Class.{Class}
-use Rattle.glob_matcher.specs.declared.wildmatch.sets.Class.TheVariants as class
-use Rattle.glob_matcher.specs.declared.wildmatch.sets.Item.{Item}
-use Rattle.glob_matcher.specs.declared.wildmatch.sets.Item.TheVariants as item
+use Rattle.glob_matcher.specs.declared.wildmatch.items.Class.{Class}
+use Rattle.glob_matcher.specs.declared.wildmatch.items.Class.TheVariants as class
+use Rattle.glob_matcher.specs.declared.wildmatch.items.Item.{Item}
+use Rattle.glob_matcher.specs.declared.wildmatch.items.Item.TheVariants as item
 use Rattle.glob_matcher.specs.Bytes.{HasByte, IsEscaped, open_bracket, close_bracket, backslash, dash}
 use Rattle.glob_matcher.specs.Sets.{BeginsRange, NamesClass, NamesNoClass, IsUpperEnd, IsFirstFrom, ItemAt, ItemsAt, SetAt, Set, member_of, name_of, IsSign}
 

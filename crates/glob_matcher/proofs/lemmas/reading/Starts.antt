@@ -28,8 +28,8 @@ token_end mode p i (OneOf s) j e =
 token_end mode p i Free j e = run_inside p i j e.run
 token_end mode p i Local j e = run_inside p i j e.run
 token_end mode p i Dirs j e =
-    let inside : e.at < length p = e.slash.inside in
-    let after : j ≡ e.at + 1 = e.after in
+    let inside : e.run_end < length p = e.slash.inside in
+    let after : j ≡ e.run_end + 1 = e.after in
     omega arith
 token_end mode p i Nothing j e = let after : j ≡ length p = e.1 in omega arith
 
@@ -53,8 +53,8 @@ boundary_inside {mode} {p} {i} x = spells_inside mode p 0 x.tokens i (omega arit
 -- the slash of a double star's token
 pub dirs_slash : (mode : Mode) (p : List ℕ) (i j : ℕ) → DirsAt mode p i (j + 1) → HasByte p j slash
 dirs_slash mode p i j e =
-    let after : j + 1 ≡ e.at + 1 = e.after in
-    let same : e.at ≡ j = omega arith in
+    let after : j + 1 ≡ e.run_end + 1 = e.after in
+    let same : e.run_end ≡ j = omega arith in
     subst (λ (n : ℕ). HasByte p n slash) same e.slash
 
 pub start_inside : {mode : Mode} {p : List ℕ} {i : ℕ} → IsStart p i mode → i ≤ length p
@@ -125,8 +125,8 @@ scan_end {mode} {p} {from} {place} x stopped start = by start.place where
   by (inr y) =
       let on = x.slash_ahead y in
       let forward : place ≤ y.begin = spells_forward mode p place on.0 y.begin on.1 in
-      let after : from + 1 ≡ y.dirs.at + 1 = y.dirs.after in
-      let longer : y.begin < y.dirs.at = y.dirs.run.some in
+      let after : from + 1 ≡ y.dirs.run_end + 1 = y.dirs.after in
+      let longer : y.begin < y.dirs.run_end = y.dirs.run.some in
       let inside : y.begin < length p = TokenAt-inside mode p y.begin Dirs (from + 1) y.dirs in
       let past : length p ≤ place = stopped (omega arith) in
       omega arith

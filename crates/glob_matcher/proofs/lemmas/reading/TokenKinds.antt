@@ -75,4 +75,4 @@ dirs_boundary {mode} {p} {i} {j} x here = by x.place where
   by : IsBoundary p i mode ⊎ IsDirsSlash p i mode → IsBoundary p i mode
   by (inl at) = at
   by (inr at) =
-      absurd (two_bytes p i slash star (dirs_slash mode p at.begin i at.dirs) (run_lead p i here.at here.run) (λ h. omega arith))
+      absurd (two_bytes p i slash star (dirs_slash mode p at.begin i at.dirs) (run_lead p i here.run_end here.run) (λ h. omega arith))

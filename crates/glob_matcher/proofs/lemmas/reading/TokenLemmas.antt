@@ -76,12 +76,12 @@ free_or_local mode p i j m e f =
 
 free_or_dirs : (mode : Mode) (p : List ℕ) (i j m : ℕ) → FreeAt mode p i j → DirsAt mode p i m → ⊥
 free_or_dirs mode p i j m e f =
-    let same : f.at ≡ j = IsRun-unique p i f.at j f.run e.run in
+    let same : f.run_end ≡ j = IsRun-unique p i f.run_end j f.run e.run in
     (e.bounded f.path).1 (subst (λ (n : ℕ). HasByte p n slash) same f.slash)
 
 local_or_dirs : (mode : Mode) (p : List ℕ) (i j m : ℕ) → LocalAt mode p i j → DirsAt mode p i m → ⊥
 local_or_dirs mode p i j m e f =
-    let same : f.at ≡ j = IsRun-unique p i f.at j f.run e.run in
+    let same : f.run_end ≡ j = IsRun-unique p i f.run_end j f.run e.run in
     e.unbounded (subst (λ (n : ℕ). IsBounded p i n) same f.bounded)
 
 -- A place decides its token, and where that ends.
@@ -92,21 +92,21 @@ TokenAt-unique mode p i (Byte b) Any j m e f = absurd (byte_lead p i b j questio
 TokenAt-unique mode p i (Byte b) (OneOf t) j m e f = absurd (byte_lead p i b j open_bracket e f.bracket (inr (inr refl)))
 TokenAt-unique mode p i (Byte b) Free j m e f = absurd (byte_lead p i b j star e (run_lead p i m f.run) (inl refl))
 TokenAt-unique mode p i (Byte b) Local j m e f = absurd (byte_lead p i b j star e (run_lead p i m f.run) (inl refl))
-TokenAt-unique mode p i (Byte b) Dirs j m e f = absurd (byte_lead p i b j star e (run_lead p i f.at f.run) (inl refl))
+TokenAt-unique mode p i (Byte b) Dirs j m e f = absurd (byte_lead p i b j star e (run_lead p i f.run_end f.run) (inl refl))
 TokenAt-unique mode p i (Byte b) Nothing j m e f = absurd (byte_or_broken p i b j e f.0)
 TokenAt-unique mode p i Any (Byte c) j m e f = absurd (byte_lead p i c m question_mark f e.0 (inr (inl refl)))
 TokenAt-unique mode p i Any Any j m e f = (refl, e.1 ∙ sym f.1)
 TokenAt-unique mode p i Any (OneOf t) j m e f = absurd (two_bytes p i question_mark open_bracket e.0 f.bracket (λ h. omega arith))
 TokenAt-unique mode p i Any Free j m e f = absurd (two_bytes p i question_mark star e.0 (run_lead p i m f.run) (λ h. omega arith))
 TokenAt-unique mode p i Any Local j m e f = absurd (two_bytes p i question_mark star e.0 (run_lead p i m f.run) (λ h. omega arith))
-TokenAt-unique mode p i Any Dirs j m e f = absurd (two_bytes p i question_mark star e.0 (run_lead p i f.at f.run) (λ h. omega arith))
+TokenAt-unique mode p i Any Dirs j m e f = absurd (two_bytes p i question_mark star e.0 (run_lead p i f.run_end f.run) (λ h. omega arith))
 TokenAt-unique mode p i Any Nothing j m e f = absurd (broken_lead p i question_mark f.0 e.0 (inr refl))
 TokenAt-unique mode p i (OneOf s) (Byte c) j m e f = absurd (byte_lead p i c m open_bracket f e.bracket (inr (inr refl)))
 TokenAt-unique mode p i (OneOf s) Any j m e f = absurd (two_bytes p i open_bracket question_mark e.bracket f.0 (λ h. omega arith))
 TokenAt-unique mode p i (OneOf s) (OneOf t) j m e f = let same = SetAt-unique p i s t j m e f in (ap OneOf same.0, same.1)
 TokenAt-unique mode p i (OneOf s) Free j m e f = absurd (two_bytes p i open_bracket star e.bracket (run_lead p i m f.run) (λ h. omega arith))
 TokenAt-unique mode p i (OneOf s) Local j m e f = absurd (two_bytes p i open_bracket star e.bracket (run_lead p i m f.run) (λ h. omega arith))
-TokenAt-unique mode p i (OneOf s) Dirs j m e f = absurd (two_bytes p i open_bracket star e.bracket (run_lead p i f.at f.run) (λ h. omega arith))
+TokenAt-unique mode p i (OneOf s) Dirs j m e f = absurd (two_bytes p i open_bracket star e.bracket (run_lead p i f.run_end f.run) (λ h. omega arith))
 TokenAt-unique mode p i (OneOf s) Nothing j m e f = absurd (set_or_broken p i s j e f.0)
 TokenAt-unique mode p i Free (Byte c) j m e f = absurd (byte_lead p i c m star f (run_lead p i j e.run) (inl refl))
 TokenAt-unique mode p i Free Any j m e f = absurd (two_bytes p i star question_mark (run_lead p i j e.run) f.0 (λ h. omega arith))
@@ -122,19 +122,19 @@ TokenAt-unique mode p i Local Free j m e f = absurd (free_or_local mode p i m j 
 TokenAt-unique mode p i Local Local j m e f = (refl, IsRun-unique p i j m e.run f.run)
 TokenAt-unique mode p i Local Dirs j m e f = absurd (local_or_dirs mode p i j m e f)
 TokenAt-unique mode p i Local Nothing j m e f = absurd (broken_lead p i star f.0 (run_lead p i j e.run) (inl refl))
-TokenAt-unique mode p i Dirs (Byte c) j m e f = absurd (byte_lead p i c m star f (run_lead p i e.at e.run) (inl refl))
-TokenAt-unique mode p i Dirs Any j m e f = absurd (two_bytes p i star question_mark (run_lead p i e.at e.run) f.0 (λ h. omega arith))
-TokenAt-unique mode p i Dirs (OneOf t) j m e f = absurd (two_bytes p i star open_bracket (run_lead p i e.at e.run) f.bracket (λ h. omega arith))
+TokenAt-unique mode p i Dirs (Byte c) j m e f = absurd (byte_lead p i c m star f (run_lead p i e.run_end e.run) (inl refl))
+TokenAt-unique mode p i Dirs Any j m e f = absurd (two_bytes p i star question_mark (run_lead p i e.run_end e.run) f.0 (λ h. omega arith))
+TokenAt-unique mode p i Dirs (OneOf t) j m e f = absurd (two_bytes p i star open_bracket (run_lead p i e.run_end e.run) f.bracket (λ h. omega arith))
 TokenAt-unique mode p i Dirs Free j m e f = absurd (free_or_dirs mode p i m j f e)
 TokenAt-unique mode p i Dirs Local j m e f = absurd (local_or_dirs mode p i m j f e)
-TokenAt-unique mode p i Dirs Dirs j m e f = (refl, e.after ∙ (ap (λ (n : ℕ). n + 1) (IsRun-unique p i e.at f.at e.run f.run) ∙ sym f.after))
-TokenAt-unique mode p i Dirs Nothing j m e f = absurd (broken_lead p i star f.0 (run_lead p i e.at e.run) (inl refl))
+TokenAt-unique mode p i Dirs Dirs j m e f = (refl, e.after ∙ (ap (λ (n : ℕ). n + 1) (IsRun-unique p i e.run_end f.run_end e.run f.run) ∙ sym f.after))
+TokenAt-unique mode p i Dirs Nothing j m e f = absurd (broken_lead p i star f.0 (run_lead p i e.run_end e.run) (inl refl))
 TokenAt-unique mode p i Nothing (Byte c) j m e f = absurd (byte_or_broken p i c m f e.0)
 TokenAt-unique mode p i Nothing Any j m e f = absurd (broken_lead p i question_mark e.0 f.0 (inr refl))
 TokenAt-unique mode p i Nothing (OneOf t) j m e f = absurd (set_or_broken p i t m f e.0)
 TokenAt-unique mode p i Nothing Free j m e f = absurd (broken_lead p i star e.0 (run_lead p i m f.run) (inl refl))
 TokenAt-unique mode p i Nothing Local j m e f = absurd (broken_lead p i star e.0 (run_lead p i m f.run) (inl refl))
-TokenAt-unique mode p i Nothing Dirs j m e f = absurd (broken_lead p i star e.0 (run_lead p i f.at f.run) (inl refl))
+TokenAt-unique mode p i Nothing Dirs j m e f = absurd (broken_lead p i star e.0 (run_lead p i f.run_end f.run) (inl refl))
 TokenAt-unique mode p i Nothing Nothing j m e f = (refl, e.1 ∙ sym f.1)
 
 -- a token begins inside the pattern
@@ -145,7 +145,7 @@ TokenAt-inside mode p i Any j e = e.0.inside
 TokenAt-inside mode p i (OneOf s) j e = e.bracket.inside
 TokenAt-inside mode p i Free j e = (run_lead p i j e.run).inside
 TokenAt-inside mode p i Local j e = (run_lead p i j e.run).inside
-TokenAt-inside mode p i Dirs j e = (run_lead p i e.at e.run).inside
+TokenAt-inside mode p i Dirs j e = (run_lead p i e.run_end e.run).inside
 TokenAt-inside mode p i Nothing j (inl e, after) = e.0.inside
 TokenAt-inside mode p i Nothing j (inr e, after) = e.0.inside
 

@@ -1,8 +1,8 @@
 -- What the reader of a set keeps as it goes from item to item.
 use Rattle.std.proofs.Common.{◌≡◌, ◌↔◌, inl, inr, ℕ, ◌+◌, ◌<◌, ◌≤◌, Bool, true, false, not, ◌&&◌, ◌||◌, ◌==◌, IsTrue, List, [], ◌∷◌, length, Option, None, refl, sym, ◌∙◌, ap, subst, arith, if◌then◌else◌}
 use Rattle.std.specs.List.{list_any}
-use Rattle.glob_matcher.specs.declared.wildmatch.sets.Item.{Item}
-use Rattle.glob_matcher.specs.declared.wildmatch.sets.Item.TheVariants as item
+use Rattle.glob_matcher.specs.declared.wildmatch.items.Item.{Item}
+use Rattle.glob_matcher.specs.declared.wildmatch.items.Item.TheVariants as item
 use Rattle.glob_matcher.specs.declared.wildmatch.mode.Mode.{Mode}
 use Rattle.glob_matcher.specs.Bytes.{HasByte, is_path, open_bracket, close_bracket, slash}
 use Rattle.glob_matcher.specs.Sets.{Set, SetAt, ItemAt, ItemsAt, IsSign, item_holds, member_of, set_holds}
@@ -40,12 +40,12 @@ pub underway_first : (text : List ℕ) (start : ℕ) (test : Item → Bool) → 
 underway_first text start test = record { forth = λ xs close e. (xs, e, refl); back = λ ys close e. (ys, e) }
 
 -- what follows an item that stands here
-after_item : (text : List ℕ) (first : Bool) (low : Option ℕ) (i : ℕ) (x : Item) (j : ℕ)
+items_after : (text : List ℕ) (first : Bool) (low : Option ℕ) (i : ℕ) (x : Item) (j : ℕ)
     → (IsTrue (not first) → ¬ HasByte text i close_bracket) → ItemAt text low i x j
     → (xs : List Item) (close : ℕ) → ItemsAt text first low i xs close
     → (ys : List Item) × (xs ≡ x ∷ ys) × ItemsAt text false (member_of x) j ys close
-after_item text first low i x j open_yet here [] close e = absurd (open_yet e.0 e.1)
-after_item text first low i x j open_yet here (y ∷ ys) close e =
+items_after text first low i x j open_yet here [] close e = absurd (open_yet e.0 e.1)
+items_after text first low i x j open_yet here (y ∷ ys) close e =
     let same = ItemAt-unique text low i y x e.1 j e.2 here in
     let moved : ItemsAt text false (member_of x) j ys close =
     subst (λ (z : Item). ItemsAt text false (member_of z) j ys close) same.0
@@ -65,7 +65,7 @@ underway_next {text = text} {test = test} {held = held} {first = first} {low = l
       (all.0, all.1, or_assoc held (test x) (list_any test xs) ∙ all.2);
   back = λ ys close e.
       let now = so_far.back ys close e in
-      let later = after_item text first low i x j open_yet here now.0 close now.1 in
+      let later = items_after text first low i x j open_yet here now.0 close now.1 in
       (later.0, later.2);
 }
 

@@ -1,14 +1,15 @@
 -- Components of a value: where one ends, and where the next begins. In plain mode each byte is a component of its own.
-use Rattle.std.proofs.Common.{◌≡◌, ◌≢◌, ◌⊎◌, inl, inr, ℕ, zero, suc, ◌+◌, ◌-◌, ◌<◌, ◌≤◌, Bool, true, false, not, ◌==◌, IsTrue, List, [], ◌∷◌, length, get_or, drop, refl, sym, ◌∙◌, ap, subst, arith, add-one, add-zero, drop-cons, if◌then◌else◌, eq-eqb, eqb-true, ne_eqb, ◌&&◌, length-drop, Option, Some, None}
+use Rattle.std.proofs.Common.{◌≡◌, ◌≢◌, ◌⊎◌, inl, inr, ℕ, zero, suc, ◌+◌, ◌-◌, ◌<◌, ◌≤◌, Bool, true, false, not, IsTrue, List, [], ◌∷◌, length, get_or, drop, refl, sym, ◌∙◌, ap, subst, arith, add-one, add-zero, drop-cons, if◌then◌else◌, eq-eqb, eqb-true, ne_eqb, length-drop, Option, Some, None}
 use Rattle.std.proofs.Math.ListN.{drop_of_length-le}
-use Rattle.std.proofs.lemmas.Bool.{cases_lt}
+use Rattle.std.proofs.lemmas.Bool.{cases_Bool, cases_lt}
 use Rattle.std.proofs.lemmas.Bool.Decides.{eqb_tells}
 use Rattle.glob_matcher.specs.declared.wildmatch.mode.Mode.{Mode}
 use Rattle.glob_matcher.specs.declared.wildmatch.engine.Mark.{Mark}
 use Rattle.glob_matcher.specs.Bytes.{fold, is_path, slash}
+use Rattle.glob_matcher.specs.Sets.{set_holds}
 use Rattle.glob_matcher.specs.Tokens.{Token, Byte, Any, OneOf, Free, Local, Dirs, Nothing}
 use Rattle.glob_matcher.specs.Private.Reader.{Fits}
-use Rattle.glob_matcher.proofs.lemmas.cutting.SlashLemmas.{fold_slash}
+use Rattle.glob_matcher.proofs.lemmas.cutting.SlashLemmas.{fold_slash, no_slash_in_set}
 use Rattle.glob_matcher.specs.Private.Components.{ends_by, ends, separates_by, separates, reach, next_component}
 
 -- with a local mark: the byte here ends no component
@@ -42,10 +43,7 @@ pub ends-at_slash : (mode : Mode) (b : ℕ) → b ≡ slash → ends mode b ≡ 
 ends-at_slash mode b is = ends_by-at_slash (is_path mode) b is
 
 pub ends-or_not : (mode : Mode) (b : ℕ) → (ends mode b ≡ true) ⊎ (ends mode b ≡ false)
-ends-or_not mode b = cases (ends mode b) where
-  cases : (e : Bool) → (e ≡ true) ⊎ (e ≡ false)
-  cases true = inl refl
-  cases false = inr refl
+ends-or_not mode b = cases_Bool (ends mode b)
 
 ends_by-same : (path : Bool) (b c : ℕ) → (b ≡ slash → c ≡ slash) → (c ≡ slash → b ≡ slash) → ends_by path b ≡ ends_by path c
 ends_by-same false b c to from = refl
@@ -58,13 +56,6 @@ ends_by-wild : (path : Bool) (c : ℕ) → (IsTrue path → c ≢ slash) → not
 ends_by-wild true c other = sym (ne_eqb c slash (other refl))
 ends_by-wild false c other = refl
 
-set_not_slash : (path : Bool) (c : ℕ) (held : Bool) → IsTrue (not (path && c == slash) && held) → IsTrue path → c ≢ slash
-set_not_slash true c held holds path is =
-    let same : (c == slash) ≡ true = eq-eqb c slash is in
-    let wrong : not (true && (c == slash)) && held ≡ true = holds in
-    let out : false ≡ true = subst (λ (b : Bool). not (true && b) && held ≡ true) same wrong in cc
-set_not_slash false c held holds path is = let wrong : false ≡ true = path in cc
-
 -- Where a token takes a byte, both end a component or neither does.
 pub separates-fits : (mode : Mode) (t : Token) (c : ℕ) → Fits mode t c → separates mode t ≡ ends mode c
 separates-fits mode (Byte b) c fits =
@@ -72,7 +63,8 @@ separates-fits mode (Byte b) c fits =
     (λ is. fold_slash mode c (subst (λ (x : ℕ). fold mode c ≡ fold mode x) is fits))
     (λ is. fold_slash mode b (sym (subst (λ (x : ℕ). fold mode x ≡ fold mode b) is fits)))
 separates-fits mode Any c fits = ends_by-wild (is_path mode) c fits
-separates-fits mode (OneOf s) c fits = ends_by-wild (is_path mode) c (set_not_slash (is_path mode) c _ fits)
+separates-fits mode (OneOf s) c fits =
+    ends_by-wild (is_path mode) c (λ path is. no_slash_in_set mode s path (subst (λ (b : ℕ). IsTrue (set_holds mode s b)) is fits))
 separates-fits mode Free c fits = absurd fits
 separates-fits mode Local c fits = absurd fits
 separates-fits mode Dirs c fits = absurd fits
@@ -93,32 +85,6 @@ separates_by-slash path Nothing is apart = cc
 pub separates-slash : (mode : Mode) (t : Token) → IsTrue (is_path mode) → separates mode t ≡ true → t ≡ Byte slash
 separates-slash mode t path apart = separates_by-slash (is_path mode) t path apart
 
-next-here : (mode : Mode) (v : List ℕ) (k : ℕ) → k < length v
-    → next_component mode v k ≡ k + (if ends mode (get_or v k 0) then 1 else suc (reach mode (drop (suc k) v)))
-unfolding next_component reach
-next-here mode v k inside = ap (λ (bs : List ℕ). k + reach mode bs) (drop-cons v k 0 inside)
-
-pub next-end : (mode : Mode) (v : List ℕ) (k : ℕ) → k < length v → ends mode (get_or v k 0) ≡ true → next_component mode v k ≡ k + 1
-next-end mode v k inside end =
-    next-here mode v k inside ∙ ap (λ (b : Bool). k + (if b then 1 else suc (reach mode (drop (suc k) v)))) end
-
-pub next-outside : (mode : Mode) (v : List ℕ) (k : ℕ) → length v ≤ k → next_component mode v k ≡ k + 1
-unfolding next_component reach
-next-outside mode v k past = ap (λ (bs : List ℕ). k + reach mode bs) (drop_of_length-le v past)
-
-next-inner_suc : (mode : Mode) (v : List ℕ) (k : ℕ) → k < length v → ends mode (get_or v k 0) ≡ false
-    → next_component mode v (suc k) ≡ next_component mode v k
-unfolding next_component
-next-inner_suc mode v k inside within =
-    let here : next_component mode v k ≡ k + suc (reach mode (drop (suc k) v)) =
-    next-here mode v k inside ∙ ap (λ (b : Bool). k + (if b then 1 else suc (reach mode (drop (suc k) v)))) within in
-    let there : next_component mode v (suc k) ≡ suc k + reach mode (drop (suc k) v) = refl in
-    omega arith
-
-pub next-inner : (mode : Mode) (v : List ℕ) (k : ℕ) → k < length v → ends mode (get_or v k 0) ≡ false
-    → next_component mode v (k + 1) ≡ next_component mode v k
-next-inner mode v k inside within = rw add-one (next-inner_suc mode v k inside within)
-
 reach-some : (mode : Mode) (bs : List ℕ) → 1 ≤ reach mode bs
 unfolding reach
 reach-some mode [] = omega arith
@@ -126,10 +92,6 @@ reach-some mode (b ∷ bs) = cases (ends mode b) where
   cases : (e : Bool) → 1 ≤ (if e then 1 else suc (reach mode bs))
   cases true = omega arith
   cases false = omega arith
-
-pub next-above : (mode : Mode) (v : List ℕ) (k : ℕ) → k < next_component mode v k
-unfolding next_component
-next-above mode v k = let some : 1 ≤ reach mode (drop k v) = reach-some mode (drop k v) in omega arith
 
 reach-high : (mode : Mode) (bs : List ℕ) → reach mode bs ≤ suc (length bs)
 unfolding reach
@@ -139,54 +101,85 @@ reach-high mode (b ∷ bs) = cases (ends mode b) (reach-high mode bs) where
   cases true h = omega arith
   cases false h = omega arith
 
-pub next-high : (mode : Mode) (v : List ℕ) (k : ℕ) → k ≤ length v → next_component mode v k ≤ length v + 1
-unfolding next_component
-next-high mode v k inside =
-    let high : reach mode (drop k v) ≤ suc (length (drop k v)) = reach-high mode (drop k v) in
-    let long : length (drop k v) ≡ length v - k = length-drop k v in
-    omega arith
+module _ (mode : Mode) (v : List ℕ) where
+  next-here : (k : ℕ) → k < length v
+      → next_component mode v k ≡ k + (if ends mode (get_or v k 0) then 1 else suc (reach mode (drop (suc k) v)))
+  unfolding next_component reach
+  next-here k inside = ap (λ (bs : List ℕ). k + reach mode bs) (drop-cons v k 0 inside)
 
-next-mono_one : (mode : Mode) (v : List ℕ) (k : ℕ) → next_component mode v k ≤ next_component mode v (k + 1)
-next-mono_one mode v k = elim (cases_lt k (length v)) [
-  | inl inside ↦ elim (ends-or_not mode (get_or v k 0)) [
-    | inl end ↦
-        let here : next_component mode v k ≡ k + 1 = next-end mode v k inside end in
-        let past : k + 1 < next_component mode v (k + 1) = next-above mode v (k + 1) in omega arith
-    | inr within ↦ let same : next_component mode v (k + 1) ≡ next_component mode v k = next-inner mode v k inside within in omega arith
+  pub next-end : (k : ℕ) → k < length v → ends mode (get_or v k 0) ≡ true → next_component mode v k ≡ k + 1
+  next-end k inside end =
+      next-here k inside ∙ ap (λ (b : Bool). k + (if b then 1 else suc (reach mode (drop (suc k) v)))) end
+
+  pub next-outside : (k : ℕ) → length v ≤ k → next_component mode v k ≡ k + 1
+  unfolding next_component reach
+  next-outside k past = ap (λ (bs : List ℕ). k + reach mode bs) (drop_of_length-le v past)
+
+  next-inner_suc : (k : ℕ) → k < length v → ends mode (get_or v k 0) ≡ false
+      → next_component mode v (suc k) ≡ next_component mode v k
+  unfolding next_component
+  next-inner_suc k inside within =
+      let here : next_component mode v k ≡ k + suc (reach mode (drop (suc k) v)) =
+      next-here k inside ∙ ap (λ (b : Bool). k + (if b then 1 else suc (reach mode (drop (suc k) v)))) within in
+      let there : next_component mode v (suc k) ≡ suc k + reach mode (drop (suc k) v) = refl in
+      omega arith
+
+  pub next-inner : (k : ℕ) → k < length v → ends mode (get_or v k 0) ≡ false
+      → next_component mode v (k + 1) ≡ next_component mode v k
+  next-inner k inside within = rw add-one (next-inner_suc k inside within)
+
+  pub next-above : (k : ℕ) → k < next_component mode v k
+  unfolding next_component
+  next-above k = let some : 1 ≤ reach mode (drop k v) = reach-some mode (drop k v) in omega arith
+
+  pub next-high : (k : ℕ) → k ≤ length v → next_component mode v k ≤ length v + 1
+  unfolding next_component
+  next-high k inside =
+      let high : reach mode (drop k v) ≤ suc (length (drop k v)) = reach-high mode (drop k v) in
+      let long : length (drop k v) ≡ length v - k = length-drop k v in
+      omega arith
+
+  next-mono_one : (k : ℕ) → next_component mode v k ≤ next_component mode v (k + 1)
+  next-mono_one k = elim (cases_lt k (length v)) [
+    | inl inside ↦ elim (ends-or_not mode (get_or v k 0)) [
+      | inl end ↦
+          let here : next_component mode v k ≡ k + 1 = next-end k inside end in
+          let past : k + 1 < next_component mode v (k + 1) = next-above (k + 1) in omega arith
+      | inr within ↦ let same : next_component mode v (k + 1) ≡ next_component mode v k = next-inner k inside within in omega arith
+    ]
+    | inr outside ↦
+        let here : next_component mode v k ≡ k + 1 = next-outside k outside in
+        let past : k + 1 < next_component mode v (k + 1) = next-above (k + 1) in omega arith
   ]
-  | inr outside ↦
-      let here : next_component mode v k ≡ k + 1 = next-outside mode v k outside in
-      let past : k + 1 < next_component mode v (k + 1) = next-above mode v (k + 1) in omega arith
-]
 
-next-mono_by : (mode : Mode) (v : List ℕ) (k d : ℕ) → next_component mode v k ≤ next_component mode v (k + d)
-next-mono_by mode v k zero = let same : next_component mode v k ≡ next_component mode v (k + 0) = ap (next_component mode v) (sym (add-zero k)) in omega arith
-next-mono_by mode v k (suc d) =
-    let so_far : next_component mode v k ≤ next_component mode v (k + d) = next-mono_by mode v k d in
-    let one : next_component mode v (k + d) ≤ next_component mode v (k + d + 1) = next-mono_one mode v (k + d) in
-    let place : k + d + 1 ≡ k + suc d = omega arith in
-    let same : next_component mode v (k + d + 1) ≡ next_component mode v (k + suc d) = ap (next_component mode v) place in
-    omega arith
+  next-mono_by : (k d : ℕ) → next_component mode v k ≤ next_component mode v (k + d)
+  next-mono_by k zero = let same : next_component mode v k ≡ next_component mode v (k + 0) = ap (next_component mode v) (sym (add-zero k)) in omega arith
+  next-mono_by k (suc d) =
+      let so_far : next_component mode v k ≤ next_component mode v (k + d) = next-mono_by k d in
+      let one : next_component mode v (k + d) ≤ next_component mode v (k + d + 1) = next-mono_one (k + d) in
+      let place : k + d + 1 ≡ k + suc d = omega arith in
+      let same : next_component mode v (k + d + 1) ≡ next_component mode v (k + suc d) = ap (next_component mode v) place in
+      omega arith
 
--- A later place is before no earlier component.
-pub next-mono : (mode : Mode) (v : List ℕ) (k e : ℕ) → k ≤ e → next_component mode v k ≤ next_component mode v e
-next-mono mode v k e low =
-    let so_far : next_component mode v k ≤ next_component mode v (k + (e - k)) = next-mono_by mode v k (e - k) in
-    let place : k + (e - k) ≡ e = omega arith in
-    let same : next_component mode v (k + (e - k)) ≡ next_component mode v e = ap (next_component mode v) place in
-    omega arith
+  -- A later place is before no earlier component.
+  pub next-mono : (k e : ℕ) → k ≤ e → next_component mode v k ≤ next_component mode v e
+  next-mono k e low =
+      let so_far : next_component mode v k ≤ next_component mode v (k + (e - k)) = next-mono_by k (e - k) in
+      let place : k + (e - k) ≡ e = omega arith in
+      let same : next_component mode v (k + (e - k)) ≡ next_component mode v e = ap (next_component mode v) place in
+      omega arith
 
--- What ends a component at a later place ends this one or a later one.
-pub next-before_end : (mode : Mode) (v : List ℕ) (k e : ℕ) → k ≤ e → e < length v → ends mode (get_or v e 0) ≡ true
-    → next_component mode v k ≤ e + 1
-next-before_end mode v k e low inside end =
-    let so_far : next_component mode v k ≤ next_component mode v e = next-mono mode v k e low in
-    let here : next_component mode v e ≡ e + 1 = next-end mode v e inside end in
-    omega arith
+  -- What ends a component at a later place ends this one or a later one.
+  pub next-before_end : (k e : ℕ) → k ≤ e → e < length v → ends mode (get_or v e 0) ≡ true
+      → next_component mode v k ≤ e + 1
+  next-before_end k e low inside end =
+      let so_far : next_component mode v k ≤ next_component mode v e = next-mono k e low in
+      let here : next_component mode v e ≡ e + 1 = next-end e inside end in
+      omega arith
 
--- in plain mode each byte is a component
-pub next-plain : (mode : Mode) (v : List ℕ) (k : ℕ) → is_path mode ≡ false → next_component mode v k ≡ k + 1
-next-plain mode v k plain = elim (cases_lt k (length v)) [
-  | inl inside ↦ next-end mode v k inside (ends-plain mode (get_or v k 0) plain)
-  | inr outside ↦ next-outside mode v k outside
-]
+  -- in plain mode each byte is a component
+  pub next-plain : (k : ℕ) → is_path mode ≡ false → next_component mode v k ≡ k + 1
+  next-plain k plain = elim (cases_lt k (length v)) [
+    | inl inside ↦ next-end k inside (ends-plain mode (get_or v k 0) plain)
+    | inr outside ↦ next-outside k outside
+  ]

@@ -1,11 +1,12 @@
 -- The engine with two marks: what the tokens of a pattern may take of its steps, or of its looks.
 use Rattle.std.proofs.Common.{◌≡◌, ◌⊎◌, inl, inr, ℕ, ◌+◌, ◌-◌, ◌*◌, ◌<◌, ◌≤◌, Bool, true, false, List, [], ◌∷◌, length, get_or, refl, sym, ◌∙◌, ap, subst, arith, if◌then◌else◌}
+use Rattle.std.proofs.lemmas.Bool.{cases_Bool}
 use Rattle.std.proofs.Math.Nat.{mul-le-mul_left, mul-le-mul}
 use Rattle.glob_matcher.specs.declared.wildmatch.mode.Mode.{Mode}
 use Rattle.glob_matcher.specs.declared.wildmatch.tokens.TokenKind.{TokenKind}
 use Rattle.glob_matcher.specs.Steps.{Counts, step_limit, look_limit}
 use Rattle.glob_matcher.specs.Tokens.{Token, TokenAt, From}
-use Rattle.glob_matcher.specs.Private.Takes.{Takes}
+use Rattle.glob_matcher.specs.Private.Takes.{Takes, TakesExactly}
 use Rattle.glob_matcher.specs.Private.Reader.{IsToken, kind_of, is_star}
 use Rattle.glob_matcher.specs.Private.Components.{ends, separates, next_component}
 use Rattle.glob_matcher.specs.Private.SizedTokens.{SizedToken, sized, SizedTokensFrom}
@@ -30,6 +31,10 @@ pub amount-same : (measure : Measure) (n : ℕ) → amount measure n n ≡ n
 unfolding amount
 amount-same Steps n = refl
 amount-same Looks n = refl
+
+-- what is taken exactly is taken at most
+pub TakesExactly-at_most : {x y : Counts} {a b : ℕ} → TakesExactly x y a b → Takes x y a b
+TakesExactly-at_most t = record { steps = t.steps; looks = omega (arith, t.looks) }
 
 -- what was taken is within a price
 pub Takes-within : (measure : Measure) {x y : Counts} (s a b : ℕ) {c d e f : ℕ} → amount_of measure x ≤ s + amount measure a b → Takes x y c d
@@ -180,16 +185,21 @@ left-times_mono m v k e low = mul-le-mul_left m (omega (arith, left-is v k, left
 pub left-times_less : (m : ℕ) (v : List ℕ) (k e : ℕ) → k ≤ length v → k < e → m * left v e + m ≤ m * left v k
 left-times_less m v k e inside past = omega (arith, left-times_next m v k inside, left-times_mono m v (k + 1) e (omega arith))
 
+-- the moves over the places from one to another
+pub moves_between : (measure : Measure) (v : List ℕ) (k e : ℕ) → k ≤ length v + 1 → e ≤ length v + 1
+    → move measure * left v k + move measure * k ≡ move measure * left v e + move measure * e
+moves_between measure v k e low high =
+    let sum : left v k + k ≡ left v e + e = omega (arith, left-is v k, left-is v e) in
+    let times : move measure * (left v k + k) ≡ move measure * (left v e + e) = ap (λ (y : ℕ). move measure * y) sum in
+    omega arith
+
 onward-mono : (mode : Mode) (v : List ℕ) (apart : Bool) (k e : ℕ) → k ≤ e → onward mode v apart k ≤ onward mode v apart e
 unfolding onward
 onward-mono mode v true k e low = next-mono mode v k e low
 onward-mono mode v false k e low = low
 
 pub separates-or_not : (mode : Mode) (t : Token) → (separates mode t ≡ true) ⊎ (separates mode t ≡ false)
-separates-or_not mode t = cases (separates mode t) where
-  cases : (b : Bool) → (b ≡ true) ⊎ (b ≡ false)
-  cases true = inl refl
-  cases false = inr refl
+separates-or_not mode t = cases_Bool (separates mode t)
 
 limit-high : (measure : Measure) (p v n : ℕ) → n ≤ (amount measure 2 8 * p + 1) * (v + 1) → n + amount measure 1 2 ≤ amount measure (step_limit p v) (look_limit p v)
 unfolding amount

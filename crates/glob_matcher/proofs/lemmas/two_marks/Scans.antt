@@ -1,14 +1,14 @@
 -- The scans from a mark: what they pass over, the engine need not test in turn.
-use Rattle.std.proofs.Common.{◌≡◌, ◌≢◌, ◌⊎◌, inl, inr, ℕ, zero, suc, ◌+◌, ◌-◌, ◌*◌, ◌<◌, ◌≤◌, Bool, true, false, IsTrue, List, length, get_or, Option, Some, None, refl, sym, ◌∙◌, ap, subst, arith, if◌then◌else◌}
-use Rattle.std.proofs.lemmas.Bool.{cases_lt}
+use Rattle.std.proofs.Common.{◌≡◌, ◌≢◌, inl, inr, ℕ, zero, suc, ◌+◌, ◌-◌, ◌*◌, ◌<◌, ◌≤◌, Bool, true, false, IsTrue, List, length, get_or, Option, Some, None, refl, sym, ◌∙◌, ap, subst, arith, if◌then◌else◌}
+use Rattle.std.proofs.lemmas.Bool.{cases_eq, cases_lt}
 use Rattle.std.specs.Char.{to_ascii_lowercase}
+use Rattle.std.specs.Prelude.{OnSome}
 use Rattle.glob_matcher.specs.declared.wildmatch.mode.Mode.{Mode}
 use Rattle.glob_matcher.specs.declared.wildmatch.engine.Mark.{Mark}
 use Rattle.glob_matcher.specs.declared.wildmatch.needle.Follow.{Follow}
 use Rattle.glob_matcher.specs.declared.wildmatch.needle.Follow.TheVariants as follow
 use Rattle.glob_matcher.specs.declared.wildmatch.scan.Scan.{Scan}
 use Rattle.glob_matcher.specs.declared.wildmatch.scan.Scan.TheVariants as scan
-use Rattle.std.specs.Prelude.{OnSome}
 use Rattle.glob_matcher.specs.declared.wildmatch.state.State.{State}
 use Rattle.glob_matcher.specs.declared.wildmatch.state.Crossing.{Crossing}
 use Rattle.glob_matcher.specs.declared.wildmatch.state.Crossing.TheVariants as crossing
@@ -17,24 +17,21 @@ use Rattle.glob_matcher.specs.Tokens.{Byte}
 use Rattle.glob_matcher.specs.Matching.{SplitsFrom}
 use Rattle.glob_matcher.specs.Private.Reader.{Fits}
 use Rattle.glob_matcher.specs.Private.Scans.{Follows, IsScan, HasPassed, reached_by}
-use Rattle.glob_matcher.specs.Private.States.{IsMet, IsScanFor, Stands}
+use Rattle.glob_matcher.specs.Private.States.{IsMet, IsMiss, IsScanFor, StandsAt}
 use Rattle.glob_matcher.specs.Steps.{Counts}
 use Rattle.glob_matcher.specs.Private.Takes.{Takes}
 use Rattle.glob_matcher.specs.Private.Prices.{Measure, amount, move}
-use Rattle.glob_matcher.specs.Private.Budget.{Allows, Misses}
+use Rattle.glob_matcher.specs.Private.Budget.{AllowsAt, AllowsMiss}
+use Rattle.glob_matcher.proofs.lemmas.reading.Reading.{literal_token}
 use Rattle.glob_matcher.proofs.lemmas.two_marks.Components.{ends-inner}
-use Rattle.glob_matcher.proofs.lemmas.two_marks.States.{end_missed, stands_free_moved, inner_of, left_without, literal_token, stands_local_moved, mark_of, mark_eq, misses_byte, stands_on, stands_past_slash}
-use Rattle.glob_matcher.proofs.lemmas.two_marks.Budget.{allows_free_moved, allows_less, allows_local_moved, allows_missed, allows_on, allows_past_slash, left_missed}
+use Rattle.glob_matcher.proofs.lemmas.two_marks.States.{end_missed, mark_of, mark_eq, miss_of, state_of}
+use Rattle.glob_matcher.proofs.lemmas.two_marks.TakenBytes.{inner_of, misses_byte, stands_on, stands_past_slash}
+use Rattle.glob_matcher.proofs.lemmas.two_marks.MovedMarks.{stands_free_moved, stands_local_moved}
+use Rattle.glob_matcher.proofs.lemmas.two_marks.StuckMarks.{left_without}
+use Rattle.glob_matcher.proofs.lemmas.two_marks.Budget.{allows_less, allows_missed}
+use Rattle.glob_matcher.proofs.lemmas.two_marks.TakenByteCosts.{allows_on, allows_past_slash}
+use Rattle.glob_matcher.proofs.lemmas.two_marks.MovedMarkCosts.{allows_free_moved, allows_local_moved, left_missed}
 use Rattle.glob_matcher.proofs.lemmas.two_marks.Prices.{amount-mono, move-some, Takes-on}
-
-same_or_not : (a b : ℕ) → (a ≡ b) ⊎ (a ≢ b)
-same_or_not a b = elim (cases_lt a b) [
-  | inl below ↦ inr (λ same. omega arith)
-  | inr high ↦ elim (cases_lt b a) [
-    | inl above ↦ inr (λ same. omega arith)
-    | inr low ↦ inl (omega arith)
-  ]
-]
 
 fold-exact : (mode : Mode) (b : ℕ) → folds mode ≡ false → fold mode b ≡ b
 fold-exact mode b off = ap (λ (on : Bool). if on then to_ascii_lowercase b else b) off
@@ -78,10 +75,10 @@ misses_what_follows mode p v i k (follow.Folded b) is inside other =
 misses_what_follows mode p v i k follow.End is inside other = end_missed mode p v i k is (λ past. omega arith)
 
 -- A scan for what follows is a scan for the rest of the pattern, after the look at what follows.
-pub scan_for : (mode : Mode) (p : List ℕ) {v : List ℕ} (f : Follow) {from : Mark} {s : Scan} {before between after : Counts}
+scan_for_mark : (mode : Mode) (p : List ℕ) {v : List ℕ} (f : Follow) {from : Mark} {s : Scan} {before between after : Counts}
     → Follows mode p from.place f → Takes before between 0 1 → IsScan v (Suits f) from s between after
     → IsScanFor mode p v from s before after
-scan_for mode p {v} f {from} {s = scan.Found m} is looked found =
+scan_for_mark mode p {v} f {from} {s = scan.Found m} is looked found =
     let so = found.meaning in
     let here : Follows mode p m.place f = subst (λ (i : ℕ). Follows mode p i f) (sym so.0.same) is in
     let fits = fits_what_follows mode p m.place f (get_or v m.at 0) here so.2 in
@@ -93,7 +90,7 @@ scan_for mode p {v} f {from} {s = scan.Found m} is looked found =
       met = (fits.0, fits.1, so.1, fits.2);
       takes = Takes-on looked found.takes (omega arith) (omega arith);
     }
-scan_for mode p {v} f {from} {s = scan.Blocked m} is looked found =
+scan_for_mark mode p {v} f {from} {s = scan.Blocked m} is looked found =
     let so = found.meaning in
     let here : Follows mode p m.place f = subst (λ (i : ℕ). Follows mode p i f) (sym so.0.same) is in
     record {
@@ -104,7 +101,7 @@ scan_for mode p {v} f {from} {s = scan.Blocked m} is looked found =
       met = (so.1, so.3, misses_what_follows mode p v m.place m.at f here so.1 so.2);
       takes = Takes-on looked found.takes (omega arith) (omega arith);
     }
-scan_for mode p {v} f {from} {s = scan.Undecided m} is looked found =
+scan_for_mark mode p {v} f {from} {s = scan.Undecided m} is looked found =
     let so = found.meaning in
     record {
       same = so.same;
@@ -115,144 +112,153 @@ scan_for mode p {v} f {from} {s = scan.Undecided m} is looked found =
       takes = Takes-on looked found.takes (omega arith) (omega arith);
     }
 
--- The crossing mark of a run of stars moves on over places from which the rest of the pattern splits nothing.
-free_skips : (d : ℕ) {mode : Mode} {p v : List ℕ} {m : Mark} (x : Mark) → Stands mode p v m.place m.at (crossing.Free m) None
-    → x.place ≡ m.place → x.at ≡ m.at + d → x.at ≤ length v
-    → ((k : ℕ) → m.at ≤ k → k < x.at → ¬ SplitsFrom v k p m.place mode) → Stands mode p v x.place x.at (crossing.Free x) None
-free_skips zero {mode} {p} {v} {m} x st same far inside missed =
-    let at : x.at ≡ m.at = omega arith in
-    subst (λ (y : Mark). Stands mode p v y.place y.at (crossing.Free y) None) (mark_eq x m.place m.at same at) st
-free_skips (suc d) {m} x st same far inside missed =
-    let next : Mark = mark_of m.place (m.at + 1) in
-    let left = left_without st (missed m.at (omega arith) (omega arith)) in
-    free_skips d x (stands_free_moved next left (omega arith) refl refl) same (omega arith) inside
-    (λ k low below. missed k (omega arith) below)
+pub scan_for : {mode : Mode} {p v : List ℕ} {f g : Follow} {i : ℕ} {from : Mark} {s : Scan} {before between after : Counts} → f ≡ g
+    → Takes before between 0 1 → IsScan v (Suits g) from s between after → i ≡ from.place → Follows mode p i f
+    → IsScanFor mode p v from s before after
+scan_for {mode} {p} {f = f} {g} {from = from} same looked found same_place follows =
+    scan_for_mark mode p g (subst (λ (x : Follow). Follows mode p from.place x) same
+    (subst (λ (i : ℕ). Follows mode p i f) same_place follows)) looked found
 
-pub stands_free_skipped : {mode : Mode} {p v : List ℕ} {m : Mark} (x : Mark) → Stands mode p v m.place m.at (crossing.Free m) None
-    → x.place ≡ m.place → m.at ≤ x.at → x.at ≤ length v
-    → ((k : ℕ) → m.at ≤ k → k < x.at → ¬ SplitsFrom v k p m.place mode) → Stands mode p v x.place x.at (crossing.Free x) None
-stands_free_skipped {m} x st same low inside missed =
-    free_skips (x.at - m.at) x st same (omega arith) inside missed
+-- what holds at a place and goes on by one place holds at each place after it
+holds_after : (Q : ℕ → Type 0) (a d : ℕ) → Q a → ((k : ℕ) → a ≤ k → k < a + d → Q k → Q (k + 1)) → Q (a + d)
+holds_after Q a zero here on = let same : a ≡ a + 0 = omega arith in subst Q same here
+holds_after Q a (suc d) here on =
+    let same : a + d + 1 ≡ a + suc d = omega arith in
+    subst Q same (on (a + d) (omega arith) (omega arith) (holds_after Q a d here (λ k low below. on k low (omega arith))))
 
-free_skips_counts : (d : ℕ) {measure : Measure} {mode : Mode} {p v : List ℕ} {m : Mark} (x : Mark) {s n : ℕ}
-    → Allows measure mode p v m.place m.at (crossing.Free m) None s n → x.place ≡ m.place → x.at ≡ m.at + d → x.at ≤ length v
-    → Allows measure mode p v x.place x.at (crossing.Free x) None (s + 2 * d) n
-free_skips_counts zero {measure} {mode} {p} {v} {m} x {s} {n} a same far inside =
-    let at : x.at ≡ m.at = omega arith in
-    allows_less (omega arith)
-    (subst (λ (y : Mark). Allows measure mode p v y.place y.at (crossing.Free y) None s n) (mark_eq x m.place m.at same at) a)
-free_skips_counts (suc d) {measure} {m = m} x a same far inside =
-    let next : Mark = mark_of m.place (m.at + 1) in
-    let left = left_missed (omega arith) (allows_missed a) in
-    allows_less (omega (arith, move-some measure))
-    (free_skips_counts d x (allows_free_moved next (omega arith) refl refl left) same (omega arith) inside)
+holds_later : (Q : ℕ → Type 0) (a b : ℕ) → a ≤ b → Q a → ((k : ℕ) → a ≤ k → k < b → Q k → Q (k + 1)) → Q b
+holds_later Q a b low here on =
+    let same : a + (b - a) ≡ b = omega arith in
+    subst Q same (holds_after Q a (b - a) here (λ k from below. on k from (omega arith)))
 
-pub allows_free_skipped : {measure : Measure} {mode : Mode} {p v : List ℕ} {m : Mark} (x : Mark) {s n : ℕ}
-    → Allows measure mode p v m.place m.at (crossing.Free m) None s n → x.place ≡ m.place → m.at ≤ x.at → x.at ≤ length v
-    → Allows measure mode p v x.place x.at (crossing.Free x) None (s + 2 * (x.at - m.at)) n
-allows_free_skipped {m = m} x a same low inside = free_skips_counts (x.at - m.at) x a same (omega arith) inside
+module _ {mode : Mode} {p v : List ℕ} where
+  -- The crossing mark of a run of stars moves on over places from which the rest of the pattern splits nothing.
+  pub stands_free_skipped : {m : Mark} (x : Mark) → StandsAt mode p v (state_of m.place m.at (crossing.Free m) None)
+      → x.place ≡ m.place → m.at ≤ x.at → x.at ≤ length v → ((k : ℕ) → m.at ≤ k → k < x.at → ¬ SplitsFrom v k p m.place mode)
+      → StandsAt mode p v (state_of x.place x.at (crossing.Free x) None)
+  stands_free_skipped {m} x st same low inside missed =
+      subst (λ (y : Mark). StandsAt mode p v (state_of y.place y.at (crossing.Free y) None)) (mark_eq x m.place x.at same refl)
+      (holds_later (λ k. StandsAt mode p v (state_of m.place k (crossing.Free (mark_of m.place k)) None)) m.at x.at low st
+      (λ k from below at.
+      stands_free_moved (mark_of m.place (k + 1)) (left_without (miss_of at (missed k from below)) refl) (omega arith) refl refl))
 
--- The local mark moves on within its component, over places from which the rest of the pattern splits nothing.
-local_skips : (d : ℕ) {mode : Mode} {p v : List ℕ} {c : Crossing} {m : Mark} (x : Mark) → Stands mode p v m.place m.at c (Some m)
-    → x.place ≡ m.place → x.at ≡ m.at + d → x.at ≤ length v → NoSlash v m.at x.at
-    → ((k : ℕ) → m.at ≤ k → k < x.at → ¬ SplitsFrom v k p m.place mode) → Stands mode p v x.place x.at c (Some x)
-local_skips zero {mode} {p} {v} {c} {m} x st same far inside bare missed =
-    let at : x.at ≡ m.at = omega arith in
-    subst (λ (y : Mark). Stands mode p v y.place y.at c (Some y)) (mark_eq x m.place m.at same at) st
-local_skips (suc d) {m} x st same far inside bare missed =
-    let next : Mark = mark_of m.place (m.at + 1) in
-    let moved =
-    stands_local_moved next st (missed m.at (omega arith) (omega arith)) (omega arith)
-    (bare.at m.at (omega arith) (omega arith)) refl refl in
-    local_skips d x moved same (omega arith) inside (record { at = λ k low below. bare.at k (omega arith) below })
-    (λ k low below. missed k (omega arith) below)
+  -- The local mark moves on within its component, over places from which the rest of the pattern splits nothing.
+  pub stands_local_skipped : {c : Crossing} {m : Mark} (x : Mark) → StandsAt mode p v (state_of m.place m.at c (Some m))
+      → x.place ≡ m.place → m.at ≤ x.at → x.at ≤ length v → NoSlash v m.at x.at
+      → ((k : ℕ) → m.at ≤ k → k < x.at → ¬ SplitsFrom v k p m.place mode) → StandsAt mode p v (state_of x.place x.at c (Some x))
+  stands_local_skipped {c} {m} x st same low inside bare missed =
+      subst (λ (y : Mark). StandsAt mode p v (state_of y.place y.at c (Some y))) (mark_eq x m.place x.at same refl)
+      (holds_later (λ k. StandsAt mode p v (state_of m.place k c (Some (mark_of m.place k)))) m.at x.at low st
+      (λ k from below at.
+      stands_local_moved (mark_of m.place (k + 1)) (miss_of at (missed k from below)) refl (omega arith)
+      (bare.at k from below) refl refl))
 
-pub stands_local_skipped : {mode : Mode} {p v : List ℕ} {c : Crossing} {m : Mark} (x : Mark) → Stands mode p v m.place m.at c (Some m)
-    → x.place ≡ m.place → m.at ≤ x.at → x.at ≤ length v → NoSlash v m.at x.at
-    → ((k : ℕ) → m.at ≤ k → k < x.at → ¬ SplitsFrom v k p m.place mode) → Stands mode p v x.place x.at c (Some x)
-stands_local_skipped {m} x st same low inside bare missed =
-    local_skips (x.at - m.at) x st same (omega arith) inside bare missed
+module _ {measure : Measure} {mode : Mode} {p v : List ℕ} where
+  pub allows_free_skipped : {m : Mark} (x : Mark) {spent limit : ℕ}
+      → AllowsAt measure mode p v (state_of m.place m.at (crossing.Free m) None) spent limit → x.place ≡ m.place → m.at ≤ x.at
+      → x.at ≤ length v → AllowsAt measure mode p v (state_of x.place x.at (crossing.Free x) None) (spent + 2 * (x.at - m.at)) limit
+  allows_free_skipped {m} x {spent} {limit} a same low inside =
+      subst (λ (y : Mark). AllowsAt measure mode p v (state_of y.place y.at (crossing.Free y) None) (spent + 2 * (x.at - m.at)) limit)
+      (mark_eq x m.place x.at same refl)
+      (holds_later (λ k. AllowsAt measure mode p v (state_of m.place k (crossing.Free (mark_of m.place k)) None) (spent + 2 * (k - m.at)) limit)
+      m.at x.at low (allows_less (omega arith) a)
+      (λ k from below a.
+      allows_less (omega (arith, move-some measure))
+      (allows_free_moved (mark_of m.place (k + 1)) (omega arith) refl refl (left_missed (omega arith) (allows_missed a)))))
 
-local_skips_counts : (d : ℕ) {measure : Measure} {mode : Mode} {p v : List ℕ} {c : Crossing} {m : Mark} (x : Mark) {s n : ℕ}
-    → IsTrue (is_path mode) → Allows measure mode p v m.place m.at c (Some m) s n → x.place ≡ m.place → x.at ≡ m.at + d
-    → x.at ≤ length v → NoSlash v m.at x.at → Allows measure mode p v x.place x.at c (Some x) (s + 2 * d) n
-local_skips_counts zero {measure} {mode} {p} {v} {c} {m} x {s} {n} path a same far inside bare =
-    let at : x.at ≡ m.at = omega arith in
-    allows_less (omega arith)
-    (subst (λ (y : Mark). Allows measure mode p v y.place y.at c (Some y) s n) (mark_eq x m.place m.at same at) a)
-local_skips_counts (suc d) {measure} {mode} {v = v} {m = m} x path a same far inside bare =
-    let next : Mark = mark_of m.place (m.at + 1) in
-    let within = ends-inner mode (get_or v m.at 0) path (bare.at m.at (omega arith) (omega arith)) in
-    allows_less (omega (arith, move-some measure))
-    (local_skips_counts d x path
-    (allows_local_moved next (omega arith) within refl refl (allows_missed a)) same (omega arith) inside
-    (record { at = λ k low below. bare.at k (omega arith) below }))
-
-pub allows_local_skipped : {measure : Measure} {mode : Mode} {p v : List ℕ} {c : Crossing} {m : Mark} (x : Mark) {s n : ℕ}
-    → IsTrue (is_path mode) → Allows measure mode p v m.place m.at c (Some m) s n → x.place ≡ m.place → m.at ≤ x.at
-    → x.at ≤ length v → NoSlash v m.at x.at → Allows measure mode p v x.place x.at c (Some x) (s + 2 * (x.at - m.at)) n
-allows_local_skipped {m = m} x path a same low inside bare =
-    local_skips_counts (x.at - m.at) x path a same (omega arith) inside bare
+  pub allows_local_skipped : {c : Crossing} {m : Mark} (x : Mark) {spent limit : ℕ} → IsTrue (is_path mode)
+      → AllowsAt measure mode p v (state_of m.place m.at c (Some m)) spent limit → x.place ≡ m.place → m.at ≤ x.at
+      → x.at ≤ length v → NoSlash v m.at x.at
+      → AllowsAt measure mode p v (state_of x.place x.at c (Some x)) (spent + 2 * (x.at - m.at)) limit
+  allows_local_skipped {c} {m} x {spent} {limit} path a same low inside bare =
+      subst (λ (y : Mark). AllowsAt measure mode p v (state_of y.place y.at c (Some y)) (spent + 2 * (x.at - m.at)) limit)
+      (mark_eq x m.place x.at same refl)
+      (holds_later (λ k. AllowsAt measure mode p v (state_of m.place k c (Some (mark_of m.place k))) (spent + 2 * (k - m.at)) limit)
+      m.at x.at low (allows_less (omega arith) a)
+      (λ k from below a.
+      allows_less (omega (arith, move-some measure))
+      (allows_local_moved (mark_of m.place (k + 1)) (allows_missed a) refl (omega arith)
+      (ends-inner mode (get_or v k 0) path (bare.at k from below)) refl refl)))
 
 -- a byte is known by its token
 pub byte_of : {b d : ℕ} → Byte b ≡ Byte d → b ≡ d
 byte_of e = cc
 
--- The byte after a run of stars that crosses slashes is found.
-pub free_found : {mode : Mode} {p v : List ℕ} {m : Mark} → Stands mode p v m.place m.at (crossing.Free m) None
-    → IsMet mode p v (scan.Found m) → Stands mode p v (m.place + 1) (m.at + 1) (crossing.Free m) None
-free_found {mode} {p} {m} st met =
-    let token = literal_token mode p m.place met.0 met.1 in
-    elim (same_or_not (get_or p m.place 0) slash) [
-      | inl is ↦
-          stands_past_slash st token refl met.2 met.3 (ap Byte is)
-      | inr other ↦
-          stands_on st token refl met.2 met.3 (λ is. other (byte_of is))
-    ]
-
-byte_price : (measure : Measure) (i s : ℕ) → s + amount measure 1 8 ≤ s + amount measure 1 (8 * (i + 1 - i))
-byte_price measure i s = let more : amount measure 1 8 ≤ amount measure 1 (8 * (i + 1 - i)) = amount-mono measure (omega arith) (omega arith) in omega arith
-
-pub free_found_counts : {measure : Measure} {mode : Mode} {p v : List ℕ} {m : Mark} {s n : ℕ}
-    → Allows measure mode p v m.place m.at (crossing.Free m) None s n → IsMet mode p v (scan.Found m)
-    → Allows measure mode p v (m.place + 1) (m.at + 1) (crossing.Free m) None (s + amount measure 1 8) n
-free_found_counts {measure} {mode} {p} {m = m} {s} a met =
-    let token = literal_token mode p m.place met.0 met.1 in
-    allows_past_slash token refl (byte_price measure m.place s) met.2 met.3 a
+byte_price : (measure : Measure) (i spent : ℕ) → spent + amount measure 1 8 ≤ spent + amount measure 1 (8 * (i + 1 - i))
+byte_price measure i spent =
+    let more : amount measure 1 8 ≤ amount measure 1 (8 * (i + 1 - i)) = amount-mono measure (omega arith) (omega arith) in omega arith
 
 -- what the local mark is past the byte after it
 pub record IsLocalPast (p : List ℕ) (m : Mark) (l : Option Mark) : Type 0 where
   pub at_slash : get_or p m.place 0 ≡ slash → l ≡ None
   pub at_other : get_or p m.place 0 ≢ slash → l ≡ Some m
 
--- The byte after a run of stars within a component is found.
-pub local_found : {mode : Mode} {p v : List ℕ} {c : Crossing} {m : Mark} {l : Option Mark} → Stands mode p v m.place m.at c (Some m)
-    → IsMet mode p v (scan.Found m) → IsLocalPast p m l → Stands mode p v (m.place + 1) (m.at + 1) c l
-local_found {mode} {p} {v} {c} {m} st met mark =
-    let token = literal_token mode p m.place met.0 met.1 in
-    elim (same_or_not (get_or p m.place 0) slash) [
-      | inl is ↦
-          subst (λ (x : Option Mark). Stands mode p v (m.place + 1) (m.at + 1) c x) (sym (mark.at_slash is))
-          (stands_past_slash st token refl met.2 met.3 (ap Byte is))
-      | inr other ↦
-          subst (λ (x : Option Mark). Stands mode p v (m.place + 1) (m.at + 1) c x) (sym (mark.at_other other))
-          (stands_on st token refl met.2 met.3 (λ is. other (byte_of is)))
-    ]
+module _ {mode : Mode} {p v : List ℕ} where
+  -- The byte after a run of stars that crosses slashes is found.
+  pub free_found : {m : Mark} → StandsAt mode p v (state_of m.place m.at (crossing.Free m) None) → IsMet mode p v (scan.Found m)
+      → StandsAt mode p v (state_of (m.place + 1) (m.at + 1) (crossing.Free m) None)
+  free_found {m} st met =
+      let token = literal_token mode p m.place met.0 met.1 in
+      elim (cases_eq (get_or p m.place 0) slash) [
+        | inl is ↦ stands_past_slash st token refl met.2 met.3 (ap Byte is)
+        | inr other ↦ stands_on st token refl met.2 met.3 (λ is. other (byte_of is))
+      ]
 
-pub local_found_counts : {measure : Measure} {mode : Mode} {p v : List ℕ} {c : Crossing} {m : Mark} {l : Option Mark} {s n : ℕ}
-    → Stands mode p v m.place m.at c (Some m) → Allows measure mode p v m.place m.at c (Some m) s n → IsMet mode p v (scan.Found m)
-    → IsLocalPast p m l → Allows measure mode p v (m.place + 1) (m.at + 1) c l (s + amount measure 1 8) n
-local_found_counts {measure} {mode} {p} {v} {c} {m} {l} {s} {n} st a met mark =
-    let token = literal_token mode p m.place met.0 met.1 in
-    elim (same_or_not (get_or p m.place 0) slash) [
-      | inl is ↦
-          subst (λ (x : Option Mark). Allows measure mode p v (m.place + 1) (m.at + 1) c x (s + amount measure 1 8) n) (sym (mark.at_slash is))
-          (allows_past_slash token refl (byte_price measure m.place s) met.2 met.3 a)
-      | inr other ↦
-          subst (λ (x : Option Mark). Allows measure mode p v (m.place + 1) (m.at + 1) c x (s + amount measure 1 8) n) (sym (mark.at_other other))
-          (allows_on token refl (byte_price measure m.place s) met.2 met.3
-          (inner_of mode p v m.place m.at c (Some m) token.token st.local met.3 (λ is. other (byte_of is))) a)
-    ]
+  -- The byte after a run of stars within a component is found.
+  pub local_found : {c : Crossing} {m : Mark} {l : Option Mark} → StandsAt mode p v (state_of m.place m.at c (Some m))
+      → IsMet mode p v (scan.Found m) → IsLocalPast p m l → StandsAt mode p v (state_of (m.place + 1) (m.at + 1) c l)
+  local_found {c} {m} st met mark =
+      let token = literal_token mode p m.place met.0 met.1 in
+      elim (cases_eq (get_or p m.place 0) slash) [
+        | inl is ↦
+            subst (λ (x : Option Mark). StandsAt mode p v (state_of (m.place + 1) (m.at + 1) c x)) (sym (mark.at_slash is))
+            (stands_past_slash st token refl met.2 met.3 (ap Byte is))
+        | inr other ↦
+            subst (λ (x : Option Mark). StandsAt mode p v (state_of (m.place + 1) (m.at + 1) c x)) (sym (mark.at_other other))
+            (stands_on st token refl met.2 met.3 (λ is. other (byte_of is)))
+      ]
+
+  -- A scan from the local mark, once it has moved: the engine stands where the scan has come to.
+  pub local_scanned : {state : State} {m x : Mark} {s : Scan} {before after : Counts} → IsMiss mode p v state → state.local ≡ Some m
+      → m.at < length v → get_or v m.at 0 ≢ slash → x.place ≡ m.place → x.at ≡ m.at + 1 → IsScanFor mode p v x s before after
+      → NoSlash v x.at (reached_by s).at
+      → StandsAt mode p v (state_of (reached_by s).place (reached_by s).at state.crossing (Some (reached_by s)))
+  local_scanned {x = x} {s} miss is inside other same at so bare =
+      stands_local_skipped (reached_by s) (stands_local_moved x miss is inside other same at) so.same so.low so.inside bare so.missed
+
+module _ {measure : Measure} {mode : Mode} {p v : List ℕ} where
+  pub free_found_counts : {m : Mark} {spent limit : ℕ}
+      → AllowsAt measure mode p v (state_of m.place m.at (crossing.Free m) None) spent limit → IsMet mode p v (scan.Found m)
+      → AllowsAt measure mode p v (state_of (m.place + 1) (m.at + 1) (crossing.Free m) None) (spent + amount measure 1 8) limit
+  free_found_counts {m} {spent} a met =
+      let token = literal_token mode p m.place met.0 met.1 in
+      allows_past_slash token refl (byte_price measure m.place spent) met.2 met.3 a
+
+  pub local_found_counts : {c : Crossing} {m : Mark} {l : Option Mark} {spent limit : ℕ}
+      → StandsAt mode p v (state_of m.place m.at c (Some m)) → AllowsAt measure mode p v (state_of m.place m.at c (Some m)) spent limit
+      → IsMet mode p v (scan.Found m) → IsLocalPast p m l
+      → AllowsAt measure mode p v (state_of (m.place + 1) (m.at + 1) c l) (spent + amount measure 1 8) limit
+  local_found_counts {c} {m} {spent = spent} {limit} st a met mark =
+      let token = literal_token mode p m.place met.0 met.1 in
+      elim (cases_eq (get_or p m.place 0) slash) [
+        | inl is ↦
+            subst (λ (x : Option Mark). AllowsAt measure mode p v (state_of (m.place + 1) (m.at + 1) c x) (spent + amount measure 1 8) limit) (sym (mark.at_slash is))
+            (allows_past_slash token refl (byte_price measure m.place spent) met.2 met.3 a)
+        | inr other ↦
+            subst (λ (x : Option Mark). AllowsAt measure mode p v (state_of (m.place + 1) (m.at + 1) c x) (spent + amount measure 1 8) limit) (sym (mark.at_other other))
+            (allows_on token refl (byte_price measure m.place spent) met.2 met.3
+            (inner_of token.token st met.3 (λ is. other (byte_of is))) a)
+      ]
+
+  pub local_scanned_counts : {state : State} {m x : Mark} {s : Scan} {before after : Counts} {spent limit : ℕ} → IsMiss mode p v state
+      → state.local ≡ Some m → m.at < length v → get_or v m.at 0 ≢ slash → x.place ≡ m.place → x.at ≡ m.at + 1
+      → IsScanFor mode p v x s before after → NoSlash v x.at (reached_by s).at → AllowsMiss measure mode p v state spent limit
+      → AllowsAt measure mode p v (state_of (reached_by s).place (reached_by s).at state.crossing (Some (reached_by s)))
+      (spent + move measure + 2 * ((reached_by s).at - x.at)) limit
+  local_scanned_counts {state} {m} {x} {s} miss is inside other same at so bare a =
+      let st : StandsAt mode p v (state_of x.place x.at state.crossing (Some x)) = stands_local_moved x miss is inside other same at in
+      let within = ends-inner mode (get_or v m.at 0) st.local.path other in
+      allows_local_skipped (reached_by s) st.local.path (allows_local_moved x a is inside within same at) so.same so.low so.inside bare
 
 -- scans, one after the other
 pub passed_on : {v : List ℕ} {P : ℕ → Type 0} {a b c : Mark} → HasPassed v P a b → HasPassed v P b c → HasPassed v P a c
@@ -286,24 +292,6 @@ scan_on {s = scan.Undecided m} x taken y = record {
 pub none_of : (l : Option Mark) → ((m : Mark) → l ≡ Some m → ⊥) → l ≡ None
 none_of None other = refl
 none_of (Some m) other = absurd (other m refl)
-
--- A scan from the local mark, once it has moved: the engine stands where the scan has come to.
-pub local_scanned : {mode : Mode} {p v : List ℕ} {i k : ℕ} {c : Crossing} {m x : Mark} {s : Scan} {before after : Counts}
-    → Stands mode p v i k c (Some m) → ¬ SplitsFrom v k p i mode → m.at < length v → get_or v m.at 0 ≢ slash → x.place ≡ m.place
-    → x.at ≡ m.at + 1 → IsScanFor mode p v x s before after → NoSlash v x.at (reached_by s).at
-    → Stands mode p v (reached_by s).place (reached_by s).at c (Some (reached_by s))
-local_scanned {x = x} {s} st miss inside other same at so bare =
-    stands_local_skipped (reached_by s) (stands_local_moved x st miss inside other same at) so.same so.low
-    so.inside bare so.missed
-
-pub local_scanned_counts : {measure : Measure} {mode : Mode} {p v : List ℕ} {i k : ℕ} {c : Crossing} {m x : Mark} {s : Scan} {before after : Counts} {w n : ℕ}
-    → Stands mode p v i k c (Some m) → m.at < length v → get_or v m.at 0 ≢ slash → x.place ≡ m.place → x.at ≡ m.at + 1
-    → IsScanFor mode p v x s before after → NoSlash v x.at (reached_by s).at → Misses measure mode p v i k c (Some m) w n
-    → Allows measure mode p v (reached_by s).place (reached_by s).at c (Some (reached_by s))
-    (w + move measure + 2 * ((reached_by s).at - x.at)) n
-local_scanned_counts {mode = mode} {v = v} {m = m} {x} {s} st inside other same at so bare a =
-    let within = ends-inner mode (get_or v m.at 0) st.local.path other in
-    allows_local_skipped (reached_by s) st.local.path (allows_local_moved x inside within same at a) so.same so.low so.inside bare
 
 -- the steps go on, from before a call as from after it
 pub progress_on : (x : Option State) (a b c : ℕ) → a ≤ b → OnSome x (b < c) → OnSome x (a < c)

@@ -1,8 +1,10 @@
-use Rattle.std.proofs.Common.{ℕ, List, IfNone, subst, sym}
-use Rattle.glob_matcher.specs.Sets.{Set, SetAt}
+use Rattle.std.proofs.Common.{ℕ, List, subst, sym}
+use Rattle.glob_matcher.specs.declared.wildmatch.mode.Mode.{Mode}
+use Rattle.glob_matcher.specs.Private.Reader.{IsSetRead}
 use Rattle.glob_matcher.proofs.wildmatch.engine.read_set.Goals as goal
 
-pub returns-clause-none : goal.returns-clause-none
-returns-clause-none g c =
-    subst (λ (p : List ℕ). IfNone c.set_at-answer.result ((set : Set) (end : ℕ) → ¬ SetAt p c.args.place set end)) (sym c.requires.pattern)
-    c.set_at-answer.ensures.none
+pub returns-clause-read : goal.returns-clause-read
+returns-clause-read g c =
+    let answer = c.set_at-answer in
+    subst (λ (x : Mode). IsSetRead x c.args.pattern.now c.args.place c.args.byte answer.result) (sym c.requires.mode)
+    (subst (λ (p : List ℕ). IsSetRead g.M.Match.mode p c.args.place c.args.byte answer.result) (sym c.requires.pattern) answer.ensures.read)

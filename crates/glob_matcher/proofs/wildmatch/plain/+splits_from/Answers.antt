@@ -38,21 +38,21 @@ returns-then-at-value t c = (
       absurd (omega (arith, out.0)),
 )
 
-pub returns-then-not-takes : goal.returns-then-not-takes
-returns-then-not-takes t c = (
+pub returns-then-not-fits_at : goal.returns-then-not-fits_at
+returns-then-not-fits_at t c = (
   λ yes. cc,
   λ all.
       let x = c.token_at-kind.ensures in
       let out = byte_out c.args.mode c.args.pattern.now c.args.value.now c.args.place c.token_at-kind.result.0
       c.token_at-kind.result.1 c.args.at x (sym c.if-is_star.ensures) c.requires.at all in
-      (c.if-not-takes.ensures x.token c.token_at-kind.result.1 x.here x.same_kind).1 out.1,
+      (c.if-not-fits_at.ensures x.token c.token_at-kind.result.1 x.here x.same_kind).1 out.1,
 )
 
 pub returns : goal.returns
 returns t c =
     let x = c.token_at-kind.ensures in
     let inside : c.args.at < length c.args.value.now = omega arith in
-    let fits = (c.if-not-takes.ensures x.token c.token_at-kind.result.1 x.here x.same_kind).0 refl in (
+    let fits = (c.if-not-fits_at.ensures x.token c.token_at-kind.result.1 x.here x.same_kind).0 refl in (
       λ yes.
           byte_in c.args.mode c.args.pattern.now c.args.value.now c.args.place c.token_at-kind.result.0
           c.token_at-kind.result.1 c.args.at x inside fits (c.splits_from-2.ensures.0 yes),

@@ -3,9 +3,12 @@ use Rattle.glob_matcher.specs.declared.wildmatch.state.Crossing.{Crossing}
 use Rattle.glob_matcher.specs.Private.Prices.{amount_of}
 use Rattle.glob_matcher.specs.Private.Budget.{AllowsLeft}
 use Rattle.glob_matcher.specs.Private.Turns.{IsBacktrack}
-use Rattle.glob_matcher.proofs.lemmas.two_marks.States.{IsLeft-crossing, Stands-places, stands_dirs_moved, dirs_stuck, unmet_left}
+use Rattle.glob_matcher.proofs.lemmas.two_marks.States.{IsLeft-crossing, Stands-places}
+use Rattle.glob_matcher.proofs.lemmas.two_marks.MovedMarks.{stands_dirs_moved}
+use Rattle.glob_matcher.proofs.lemmas.two_marks.StuckMarks.{dirs_stuck, unmet_left}
 use Rattle.glob_matcher.proofs.lemmas.two_marks.Prices.{moves-price}
-use Rattle.glob_matcher.proofs.lemmas.two_marks.Budget.{Allows-places, AllowsLeft-crossing, allows_left, allows_less, allows_dirs_moved, dirs_stuck_counts}
+use Rattle.glob_matcher.proofs.lemmas.two_marks.Budget.{Allows-places, AllowsLeft-crossing, allows_left, allows_less}
+use Rattle.glob_matcher.proofs.lemmas.two_marks.MovedMarkCosts.{allows_dirs_moved, dirs_stuck_counts}
 use Rattle.glob_matcher.proofs.wildmatch.engine.Engine.back_to_crossing.Goals as goal
 
 pub returns-in-Unmet : goal.returns-in-Unmet
@@ -38,9 +41,9 @@ returns-in-Some g c =
     let moved = c.in-Some.ensures.moved in
     let moves = c.in-Some.ensures.moves in
     record {
-      meaning = Stands-places c.place.ensures c.at.ensures (stands_dirs_moved left moved);
+      meaning = Stands-places (stands_dirs_moved left moved) c.place.ensures c.at.ensures;
       allows = λ measure n a.
-          Allows-places c.place.ensures c.at.ensures
-          (allows_less (moves-price measure moves) (allows_dirs_moved moved (AllowsLeft-crossing c.in-Dirs.is a)));
+          Allows-places (allows_less (moves-price measure moves) (allows_dirs_moved moved (AllowsLeft-crossing c.in-Dirs.is a)))
+          c.place.ensures c.at.ensures;
       progress = omega (arith, moved.after.past, moves.steps);
     }

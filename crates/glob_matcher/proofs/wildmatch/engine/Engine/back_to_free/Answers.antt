@@ -1,7 +1,10 @@
 use Rattle.std.proofs.Common.{◌+◌, ◌-◌, ◌*◌, ℕ, ap, arith}
-use Rattle.glob_matcher.proofs.lemmas.two_marks.States.{Stands-places, stands_free_moved, free_stuck}
-use Rattle.glob_matcher.proofs.lemmas.two_marks.Prices.{amount-same, move-price, scan-price, Takes-both}
-use Rattle.glob_matcher.proofs.lemmas.two_marks.Budget.{Allows-places, allows_free_moved, allows_less, free_stuck_counts}
+use Rattle.glob_matcher.proofs.lemmas.two_marks.States.{Stands-places}
+use Rattle.glob_matcher.proofs.lemmas.two_marks.MovedMarks.{stands_free_moved}
+use Rattle.glob_matcher.proofs.lemmas.two_marks.StuckMarks.{free_stuck}
+use Rattle.glob_matcher.proofs.lemmas.two_marks.Prices.{Takes-both, TakesExactly-at_most, amount-same, move-price, scan-price}
+use Rattle.glob_matcher.proofs.lemmas.two_marks.Budget.{Allows-places, allows_less}
+use Rattle.glob_matcher.proofs.lemmas.two_marks.MovedMarkCosts.{allows_free_moved, free_stuck_counts}
 use Rattle.glob_matcher.proofs.lemmas.two_marks.Scans.{stands_free_skipped, allows_free_skipped, free_found, free_found_counts}
 use Rattle.glob_matcher.proofs.wildmatch.engine.Engine.back_to_free.Goals as goal
 
@@ -9,7 +12,7 @@ pub returns-in_default : goal.returns-in_default
 returns-in_default g c =
     record {
       meaning = free_stuck c.requires c.in_default.ensures.unable;
-      allows = λ measure n a. omega (arith, free_stuck_counts a, move-price measure c.pass.ensures.count (omega arith) (omega arith));
+      allows = λ measure n a. omega (arith, free_stuck_counts a, move-price measure (TakesExactly-at_most c.pass.ensures.count) (omega arith) (omega arith));
       progress = tt;
     }
 
@@ -22,12 +25,13 @@ returns-in-Undecided g c =
     let passed = 2 * (to.at - x.at) in
     record {
       meaning =
-          Stands-places c.place.ensures c.at.ensures
-          (stands_free_skipped to (stands_free_moved x c.requires moved.2 moved.0 moved.1) so.same so.low so.inside so.missed);
+          Stands-places (stands_free_skipped to (stands_free_moved x c.requires moved.2 moved.0 moved.1) so.same so.low so.inside so.missed)
+          c.place.ensures c.at.ensures;
       allows = λ measure n a.
-          Allows-places c.place.ensures c.at.ensures
-          (allows_less (omega (arith, amount-same measure 0, scan-price measure passed 0 0 (Takes-both c.pass.ensures.count so.takes) (omega arith) (omega arith)))
-          (allows_free_skipped to (allows_free_moved x moved.2 moved.0 moved.1 a) so.same so.low so.inside));
+          Allows-places
+          (allows_less (omega (arith, amount-same measure 0, scan-price measure passed 0 0 (Takes-both (TakesExactly-at_most c.pass.ensures.count) so.takes) (omega arith) (omega arith)))
+          (allows_free_skipped to (allows_free_moved x moved.2 moved.0 moved.1 a) so.same so.low so.inside))
+          c.place.ensures c.at.ensures;
       progress = omega (arith, so.takes.steps, c.pass.ensures.count.steps);
     }
 
@@ -40,11 +44,13 @@ returns-in-Found g c =
     let passed = 2 * (to.at - x.at) in
     record {
       meaning =
-          Stands-places (ap (λ (n : ℕ). n + 1) c.place-in-Found.ensures) (ap (λ (n : ℕ). n + 1) c.at-in-Found.ensures)
-          (free_found (stands_free_skipped to (stands_free_moved x c.requires moved.2 moved.0 moved.1) so.same so.low so.inside so.missed) so.met);
+          Stands-places
+          (free_found (stands_free_skipped to (stands_free_moved x c.requires moved.2 moved.0 moved.1) so.same so.low so.inside so.missed) so.met)
+          (ap (λ (n : ℕ). n + 1) c.place-in-Found.ensures) (ap (λ (n : ℕ). n + 1) c.at-in-Found.ensures);
       allows = λ measure n a.
-          Allows-places (ap (λ (n : ℕ). n + 1) c.place-in-Found.ensures) (ap (λ (n : ℕ). n + 1) c.at-in-Found.ensures)
-          (allows_less (scan-price measure passed 1 8 (Takes-both c.pass.ensures.count so.takes) (omega arith) (omega arith))
-          (free_found_counts (allows_free_skipped to (allows_free_moved x moved.2 moved.0 moved.1 a) so.same so.low so.inside) so.met));
+          Allows-places
+          (allows_less (scan-price measure passed 1 8 (Takes-both (TakesExactly-at_most c.pass.ensures.count) so.takes) (omega arith) (omega arith))
+          (free_found_counts (allows_free_skipped to (allows_free_moved x moved.2 moved.0 moved.1 a) so.same so.low so.inside) so.met))
+          (ap (λ (n : ℕ). n + 1) c.place-in-Found.ensures) (ap (λ (n : ℕ). n + 1) c.at-in-Found.ensures);
       progress = omega (arith, so.takes.steps, c.pass.ensures.count.steps);
     }

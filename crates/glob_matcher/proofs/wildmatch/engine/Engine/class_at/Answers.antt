@@ -1,33 +1,42 @@
-use Rattle.std.proofs.Common.{arith}
+use Rattle.std.proofs.Common.{arith, rules}
 use Rattle.glob_matcher.proofs.lemmas.reading.LookLemmas.{search_front_low}
 use Rattle.glob_matcher.proofs.wildmatch.engine.Engine.class_at.Goals as goal
 
-pub returns-then-not-ends_class-clause-count : goal.returns-then-not-ends_class-clause-count
-returns-then-not-ends_class-clause-count g c =
+pub returns-then-not-ends_class : goal.returns-then-not-ends_class
+returns-then-not-ends_class g c =
     let takes = c.ends_class.ensures.count in
-    let far = c.in-Some.ensures.found.low in
-    record {
-      steps = omega (arith, takes.steps, c.class_close.ensures.steps);
-      looks = omega (arith, takes.looks, c.in-Some.ensures.looks, far);
+    let far = c.in-Some.ensures.close.low in
+    λ low. record {
+      answer = search rules;
+      paid = record {
+        steps = omega (arith, takes.steps, c.class_close.ensures.steps);
+        looks = omega (arith, takes.looks, c.in-Some.ensures.looks, far);
+      };
     }
 
-pub returns-in_default-class_named-clause-broken : goal.returns-in_default-class_named-clause-broken
-returns-in_default-class_named-clause-broken g c =
+pub returns-in_default-class_named : goal.returns-in_default-class_named
+returns-in_default-class_named g c =
     let takes = c.ends_class.ensures.count in
     let over = c.class_named.ensures.count in
     let from = search_front_low c.args.close c.args.place in
-    let first = c.in-Some.ensures.found in
-    record {
-      steps = omega (arith, takes.steps, over.steps, c.class_close.ensures.steps);
-      looks = omega (arith, takes.looks, over.looks, c.in-Some.ensures.looks, from, first.low, first.here.inside);
+    let first = c.in-Some.ensures.close in
+    λ low. record {
+      answer = search rules;
+      paid = record {
+        steps = omega (arith, takes.steps, over.steps, c.class_close.ensures.steps);
+        looks = omega (arith, takes.looks, over.looks, c.in-Some.ensures.looks, from, first.low, first.here.inside);
+      };
     }
 
-pub returns-clause-count : goal.returns-clause-count
-returns-clause-count g c =
+pub returns : goal.returns
+returns g c =
     let takes = c.ends_class.ensures.count in
     let over = c.class_named.ensures.count in
-    let far = c.in-Some.ensures.found.low in
-    record {
-      steps = omega (arith, takes.steps, over.steps, c.class_close.ensures.steps);
-      looks = omega (arith, takes.looks, over.looks, c.in-Some.ensures.looks, far);
+    let far = c.in-Some.ensures.close.low in
+    λ low. record {
+      answer = search rules;
+      paid = record {
+        steps = omega (arith, takes.steps, over.steps, c.class_close.ensures.steps);
+        looks = omega (arith, takes.looks, over.looks, c.in-Some.ensures.looks, far);
+      };
     }

@@ -1,7 +1,7 @@
 use Rattle.std.proofs.Common.{arith}
-use Rattle.glob_matcher.proofs.lemmas.two_marks.States.{stands_dirs_met}
+use Rattle.glob_matcher.proofs.lemmas.two_marks.MetStars.{stands_dirs_met}
 use Rattle.glob_matcher.proofs.lemmas.two_marks.Prices.{Takes-within}
-use Rattle.glob_matcher.proofs.lemmas.two_marks.Budget.{allows_dirs_met}
+use Rattle.glob_matcher.proofs.lemmas.two_marks.MetStarCosts.{allows_dirs_met}
 use Rattle.glob_matcher.proofs.wildmatch.engine.Engine.dirs_turn.Goals as goal
 
 pub returns : goal.returns

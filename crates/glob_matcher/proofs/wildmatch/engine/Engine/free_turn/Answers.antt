@@ -1,7 +1,7 @@
 use Rattle.std.proofs.Common.{◌≡◌, ◌≢◌, arith, length}
-use Rattle.glob_matcher.proofs.lemmas.two_marks.States.{free_last, free_known, stands_free_met}
+use Rattle.glob_matcher.proofs.lemmas.two_marks.MetStars.{free_last, free_known, stands_free_met}
 use Rattle.glob_matcher.proofs.lemmas.two_marks.Prices.{Takes-none, Takes-within}
-use Rattle.glob_matcher.proofs.lemmas.two_marks.Budget.{allows_free_met, free_last_counts}
+use Rattle.glob_matcher.proofs.lemmas.two_marks.MetStarCosts.{allows_free_met, free_last_counts}
 use Rattle.glob_matcher.proofs.wildmatch.engine.Engine.free_turn.Goals as goal
 
 pub returns-then-after-pattern_len : goal.returns-then-after-pattern_len

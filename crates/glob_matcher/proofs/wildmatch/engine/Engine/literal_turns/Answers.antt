@@ -4,15 +4,17 @@ use Rattle.glob_matcher.specs.Tokens.{Byte}
 use Rattle.glob_matcher.specs.Private.Reader.{Fits}
 use Rattle.glob_matcher.specs.Private.Prices.{amount, amount_of}
 use Rattle.glob_matcher.specs.Bytes.{StandsForItself}
-use Rattle.glob_matcher.proofs.lemmas.two_marks.States.{inner_of, literal_token, misses_byte, stands_on}
-use Rattle.glob_matcher.proofs.lemmas.two_marks.Prices.{amount-mono, amount-same, amount-sum, Takes-both, Takes-on, Takes-within}
-use Rattle.glob_matcher.proofs.lemmas.two_marks.Budget.{allows_less, allows_on, test_of_token}
+use Rattle.glob_matcher.proofs.lemmas.reading.Reading.{literal_token}
+use Rattle.glob_matcher.proofs.lemmas.two_marks.TakenBytes.{inner_of, misses_byte, stands_on}
+use Rattle.glob_matcher.proofs.lemmas.two_marks.Prices.{Takes-both, Takes-on, Takes-within, TakesExactly-at_most, amount-mono, amount-same, amount-sum}
+use Rattle.glob_matcher.proofs.lemmas.two_marks.Budget.{allows_less, test_of_token}
+use Rattle.glob_matcher.proofs.lemmas.two_marks.TakenByteCosts.{allows_on}
 use Rattle.glob_matcher.proofs.lemmas.two_marks.Scans.{byte_of}
 use Rattle.glob_matcher.proofs.wildmatch.engine.Engine.literal_turns.Goals as goal
 use Rattle.glob_matcher.proofs.wildmatch.engine.Engine.literal_turns.Goals.{then-byte-eq47-via-then-byte-eq47, then-byte-eq47-via-else-byte-eq47+then-not-stands_for_itself}
 
-pub returns-then-not-has : goal.returns-then-not-has
-returns-then-not-has g c =
+pub returns-then-not-fits_byte : goal.returns-then-not-fits_byte
+returns-then-not-fits_byte g c =
     let m = g.M.Match in
     let same : c.pattern_byte-byte.result ≡ get_or m.pattern c.bytes.place 0 = c.pattern_byte-byte.ensures.here in
     let inside : c.bytes.place < length m.pattern = omega (arith, c.bytes-test.true, c.pattern_len.ensures) in
@@ -23,14 +25,14 @@ returns-then-not-has g c =
         missed =
             misses_byte m.value c.bytes.at (literal_token m.mode m.pattern c.bytes.place inside own) refl c.bytes.invariant.stands.inside
             (λ fits.
-            let wrong : false ≡ true = c.if-not-has.ensures.answer.1
+            let wrong : false ≡ true = c.if-not-fits_byte.ensures.answer.1
             (subst (λ (b : ℕ). (c.bytes.at < length m.value) × Fits m.mode (Byte b) (get_or m.value c.bytes.at 0)) (sym same) fits) in
             cc);
       };
       allows = λ measure s n low a.
           let passed = c.bytes.place - c.args.state.place in
-          let one = Takes-both c.pattern_byte-byte.ensures.count c.has.ensures.count in
-          let all : amount_of measure c.has.new.self ≤ s + amount measure (passed + 1) (2 * passed + 3) =
+          let one = Takes-both (TakesExactly-at_most c.pattern_byte-byte.ensures.count) (TakesExactly-at_most c.fits_byte.ensures.count) in
+          let all : amount_of measure c.fits_byte.new.self ≤ s + amount measure (passed + 1) (2 * passed + 3) =
           Takes-within measure s 0 1 low (Takes-both c.bytes.invariant.count one) (omega arith) (omega arith) in
           let price : amount measure (passed + 1) (2 * passed + 3)
           ≤ amount measure passed (8 * passed) + amount measure 1 (8 * (c.bytes.place + 1 - c.bytes.place)) = amount-sum measure passed (8 * passed) 1 (8 * (c.bytes.place + 1 - c.bytes.place)) (omega arith) (omega arith) in
@@ -39,7 +41,7 @@ returns-then-not-has g c =
             tested = test_of_token (literal_token m.mode m.pattern c.bytes.place inside own) refl (omega arith);
             allows = c.bytes.invariant.allows measure s n a;
           };
-      progress = omega (arith, c.has.ensures.count.steps, c.pattern_byte-byte.ensures.count.steps, c.bytes.invariant.count.steps);
+      progress = omega (arith, c.fits_byte.ensures.count.steps, c.pattern_byte-byte.ensures.count.steps, c.bytes.invariant.count.steps);
     }
 
 pub bytes-preserved : goal.bytes-preserved
@@ -50,7 +52,7 @@ bytes-preserved g c =
     let own = subst StandsForItself same (c.if-not-stands_for_itself.ensures.0 refl) in
     let token = literal_token m.mode m.pattern c.bytes.place inside own in
     let fits = subst (λ (b : ℕ). (c.bytes.at < length m.value) × Fits m.mode (Byte b) (get_or m.value c.bytes.at 0)) same
-    (c.if-not-has.ensures.answer.0 refl) in
+    (c.if-not-fits_byte.ensures.answer.0 refl) in
     record {
       stands = stands_on c.bytes.invariant.stands token refl fits.0 fits.1 (λ is. c.if-byte-eq47.false (same ∙ byte_of is));
       allows = λ measure s n a.
@@ -58,13 +60,12 @@ bytes-preserved g c =
           let now = c.bytes.place + 1 - c.args.state.place in
           let price : amount measure now (8 * now) ≤ amount measure passed (8 * passed) + amount measure 1 (8 * (c.bytes.place + 1 - c.bytes.place)) =
           amount-sum measure passed (8 * passed) 1 (8 * (c.bytes.place + 1 - c.bytes.place)) (omega (arith, c.bytes.invariant.low)) (omega (arith, c.bytes.invariant.low)) in
-          allows_on {r = s + amount measure now (8 * now)} token refl (omega arith) fits.0 fits.1
-          (inner_of m.mode m.pattern m.value c.bytes.place c.bytes.at c.args.state.crossing c.args.state.local
-          token.token c.bytes.invariant.stands.local fits.1 (λ is. c.if-byte-eq47.false (same ∙ byte_of is)))
+          allows_on {after = s + amount measure now (8 * now)} token refl (omega arith) fits.0 fits.1
+          (inner_of token.token c.bytes.invariant.stands fits.1 (λ is. c.if-byte-eq47.false (same ∙ byte_of is)))
           (c.bytes.invariant.allows measure s n a);
       low = omega (arith, c.bytes.invariant.low);
       count =
-          Takes-on c.bytes.invariant.count (Takes-both c.pattern_byte-byte.ensures.count c.has.ensures.count)
+          Takes-on c.bytes.invariant.count (Takes-both (TakesExactly-at_most c.pattern_byte-byte.ensures.count) (TakesExactly-at_most c.fits_byte.ensures.count))
           (omega (arith, c.bytes.invariant.low)) (omega (arith, c.bytes.invariant.low));
     }
 
@@ -109,7 +110,7 @@ returns-then-byte-eq47 g c =
       meaning = c.bytes.invariant.stands;
       allows = λ measure s n low a.
           allows_less
-          (Takes-within measure s 0 1 low (Takes-both c.bytes.invariant.count c.pattern_byte-byte.ensures.count) (omega arith) (omega arith))
+          (Takes-within measure s 0 1 low (Takes-both c.bytes.invariant.count (TakesExactly-at_most c.pattern_byte-byte.ensures.count)) (omega arith) (omega arith))
           (c.bytes.invariant.allows measure s n a);
       progress = omega (arith, c.bytes.invariant.count.steps, c.pattern_byte-byte.ensures.count.steps);
     }

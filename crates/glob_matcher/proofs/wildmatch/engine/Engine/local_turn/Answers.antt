@@ -1,7 +1,7 @@
 use Rattle.std.proofs.Common.{arith}
-use Rattle.glob_matcher.proofs.lemmas.two_marks.States.{stands_local_met}
+use Rattle.glob_matcher.proofs.lemmas.two_marks.MetStars.{stands_local_met}
 use Rattle.glob_matcher.proofs.lemmas.two_marks.Prices.{Takes-within}
-use Rattle.glob_matcher.proofs.lemmas.two_marks.Budget.{allows_local_met}
+use Rattle.glob_matcher.proofs.lemmas.two_marks.MetStarCosts.{allows_local_met}
 use Rattle.glob_matcher.proofs.wildmatch.engine.Engine.local_turn.Goals as goal
 
 pub returns : goal.returns

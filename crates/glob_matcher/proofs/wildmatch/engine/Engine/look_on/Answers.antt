@@ -1,5 +1,5 @@
 use Rattle.std.proofs.Common.{arith}
-use Rattle.glob_matcher.proofs.lemmas.two_marks.States.{bare_on}
+use Rattle.glob_matcher.proofs.lemmas.cutting.SplitLemmas.{no_slash_join}
 use Rattle.glob_matcher.proofs.lemmas.two_marks.Prices.{Takes-on}
 use Rattle.glob_matcher.proofs.lemmas.two_marks.Scans.{passed_on, scan_on}
 use Rattle.glob_matcher.proofs.wildmatch.engine.Engine.look_on.Goals as goal
@@ -10,7 +10,7 @@ stride-preserved g c =
     let seen = c.in-Undecided.ensures.scan in
     record {
       passed = passed_on c.stride.invariant.passed seen.meaning;
-      bare = bare_on c.stride.invariant.bare c.in-Undecided.ensures.bare;
+      bare = no_slash_join c.stride.invariant.bare c.in-Undecided.ensures.bare;
       on = omega (arith, c.in-Undecided.ensures.onward, c.stride.invariant.on);
       count =
           Takes-on c.stride.invariant.count seen.takes (omega (arith, c.stride.invariant.on, seen.meaning.low))

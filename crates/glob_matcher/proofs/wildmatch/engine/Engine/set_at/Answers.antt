@@ -1,6 +1,6 @@
 use Rattle.std.proofs.Common.{◌≡◌, ◌∙◌, ap, subst, arith}
 use Rattle.glob_matcher.specs.declared.wildmatch.mode.Mode.{Mode}
-use Rattle.glob_matcher.specs.Sets.{set_holds}
+use Rattle.glob_matcher.specs.Sets.{item_holds, set_holds}
 use Rattle.glob_matcher.proofs.lemmas.reading.Walks.{set_closed, set_broken}
 use Rattle.glob_matcher.proofs.lemmas.reading.LookLemmas.{reading_first, reading_next, search_front_here, search_front_inside}
 use Rattle.glob_matcher.proofs.wildmatch.engine.Engine.set_at.Goals as goal
@@ -8,7 +8,7 @@ use Rattle.glob_matcher.proofs.wildmatch.engine.Engine.set_at.Goals as goal
 pub items-init : goal.items-init
 items-init g c =
     let begin = c.opened-is_negated.ensures in
-    reading_first begin.begin begin.inside.0 begin.inside.1 begin.count
+    reading_first {test = item_holds c.mode-mode.result c.args.byte} begin.begin begin.inside.0 begin.inside.1 begin.count
 
 pub items-preserved : goal.items-preserved
 items-preserved g c =
@@ -21,16 +21,21 @@ items-smaller g c =
     let here = c.in-Item.ensures.entry in
     omega (arith, on, here.1.past, here.1.inside)
 
-pub returns-in-Close-clause-found : goal.returns-in-Close-clause-found
-returns-in-Close-clause-found g c =
+pub returns-in-Close-clause-read : goal.returns-in-Close-clause-read
+returns-in-Close-clause-read g c =
     let begin = c.opened-is_negated in
+    let so_far = c.items.invariant in
+    let entry = c.in-Close.ensures.entry in
     let all =
-    set_closed c.mode-mode.result c.args.byte c.args.place begin.result.0 c.requires begin.ensures.sign c.items.invariant.underway
-    c.in-Close.ensures.entry.0 in (
-      all.0,
-      all.1,
-      subst (λ (m : Mode). c.takes-holds.result ≡ set_holds m all.0 c.args.byte) c.mode-mode.ensures (c.takes-holds.ensures ∙ all.2),
-    )
+    set_closed c.mode-mode.result c.args.byte c.args.place begin.result.0 c.requires begin.ensures.sign so_far.underway entry.0 in
+    record {
+      set = all.0;
+      here = all.1;
+      past = omega (arith, so_far.past);
+      inside = omega (arith, entry.1);
+      answer =
+          subst (λ (m : Mode). c.set_holds-holds.result ≡ set_holds m all.0 c.args.byte) c.mode-mode.ensures (c.set_holds-holds.ensures ∙ all.2);
+    }
 
 pub returns-in-Close-clause-count : goal.returns-in-Close-clause-count
 returns-in-Close-clause-count g c =
@@ -39,13 +44,13 @@ returns-in-Close-clause-count g c =
     let ahead = search_front_here g.M.Match.pattern c.items.cursor.place c.items.cursor.close so_far.known c.in-Close.ensures.entry.0.1 in
     record { steps = omega (arith, so_far.steps, takes.steps); looks = omega (arith, so_far.looks, takes.looks, ahead) }
 
-pub returns-in-Broken-clause-broken : goal.returns-in-Broken-clause-broken
-returns-in-Broken-clause-broken g c =
+pub returns-in-Broken-clause-count : goal.returns-in-Broken-clause-count
+returns-in-Broken-clause-count g c =
     let so_far = c.items.invariant in
     let paid = c.in-Broken.ensures.count in
     let ahead = search_front_inside g.M.Match.pattern c.items.cursor.place c.items.cursor.close so_far.known so_far.inside in
     record { steps = omega (arith, so_far.steps, paid.steps); looks = omega (arith, so_far.looks, paid.looks, ahead, so_far.inside) }
 
-pub returns-in-Broken-clause-none : goal.returns-in-Broken-clause-none
-returns-in-Broken-clause-none g c =
+pub returns-in-Broken-clause-read : goal.returns-in-Broken-clause-read
+returns-in-Broken-clause-read g c =
     set_broken c.args.place c.opened-is_negated.result.0 c.opened-is_negated.ensures.sign c.items.invariant.underway c.in-Broken.ensures.entry

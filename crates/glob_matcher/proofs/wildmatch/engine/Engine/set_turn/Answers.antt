@@ -2,10 +2,12 @@ use Rattle.std.proofs.Common.{◌≡◌, true, inr, length, refl, arith}
 use Rattle.glob_matcher.specs.declared.wildmatch.tokens.TokenKind.TheVariants as kind
 use Rattle.glob_matcher.specs.Tokens.{OneOf, Nothing}
 use Rattle.glob_matcher.specs.Private.Reader.{IsToken}
-use Rattle.glob_matcher.proofs.lemmas.two_marks.States.{inner_of, misses_byte, nothing_met, stands_on}
+use Rattle.glob_matcher.proofs.lemmas.two_marks.States.{nothing_met}
+use Rattle.glob_matcher.proofs.lemmas.two_marks.TakenBytes.{inner_of, misses_byte, stands_on}
 use Rattle.glob_matcher.proofs.lemmas.two_marks.Prices.{Takes-within}
 use Rattle.glob_matcher.proofs.lemmas.two_marks.Turns.{set_looks}
-use Rattle.glob_matcher.proofs.lemmas.two_marks.Budget.{allows_on, allows_test, test_of_token}
+use Rattle.glob_matcher.proofs.lemmas.two_marks.Budget.{allows_test, test_of_token}
+use Rattle.glob_matcher.proofs.lemmas.two_marks.TakenByteCosts.{allows_on}
 use Rattle.glob_matcher.proofs.wildmatch.engine.Engine.set_turn.Goals as goal
 
 pub returns-in_default : goal.returns-in_default
@@ -28,8 +30,8 @@ returns-in_default g c =
       progress = tt;
     }
 
-pub returns-then-not-takes : goal.returns-then-not-takes
-returns-then-not-takes g c =
+pub returns-then-not-fits : goal.returns-then-not-fits
+returns-then-not-fits g c =
     let m = g.M.Match in
     let found = c.in-Some.ensures.found in
     let paid = c.in-Some.ensures.count in
@@ -40,7 +42,7 @@ returns-then-not-takes g c =
         stands = c.requires.stands;
         missed =
             misses_byte m.value c.args.state.at x refl c.requires.stands.inside
-            (λ fits. let held : c.in-Some.takes ≡ true = found.answer.1 fits in let other = c.if-not-takes.true in cc);
+            (λ fits. let held : c.in-Some.fits ≡ true = found.answer.1 fits in let other = c.if-not-fits.true in cc);
       };
       allows = λ measure s n low a. record {
         before = s;
@@ -59,13 +61,12 @@ returns g c =
     let paid = c.in-Some.ensures.count in
     let x : IsToken m.mode m.pattern c.args.state.place kind.Set c.in-Some.after =
     record { token = OneOf found.set; here = found.here; same_kind = refl; past = found.past; inside = found.inside } in
-    let fits = found.answer.0 c.if-not-takes.false in
+    let fits = found.answer.0 c.if-not-fits.false in
     record {
       meaning = stands_on c.requires.stands x refl fits.0 fits.1 (λ is. cc);
       allows = λ measure s n low a.
           allows_on x refl
           (Takes-within measure s 0 1 low (set_looks (omega (arith, found.past)) paid) (omega arith) (omega (arith, found.past))) fits.0 fits.1
-          (inner_of m.mode m.pattern m.value c.args.state.place c.args.state.at c.args.state.crossing c.args.state.local x.token
-          c.requires.stands.local fits.1 (λ is. cc)) a;
+          (inner_of x.token c.requires.stands fits.1 (λ is. cc)) a;
       progress = omega (arith, paid.steps);
     }

@@ -1,14 +1,16 @@
 use Rattle.std.proofs.Common.{◌≡◌, ◌<◌, ℕ, length, get_or, false, true, ap, refl, sym, subst, arith}
 use Rattle.glob_matcher.specs.Tokens.{Byte}
 use Rattle.glob_matcher.specs.Private.Reader.{Fits}
-use Rattle.glob_matcher.proofs.lemmas.two_marks.States.{literal_token, misses_byte, stands_past_slash}
-use Rattle.glob_matcher.proofs.lemmas.two_marks.Prices.{Takes-within}
-use Rattle.glob_matcher.proofs.lemmas.two_marks.Budget.{allows_past_slash, test_of_token}
+use Rattle.glob_matcher.proofs.lemmas.reading.Reading.{literal_token}
+use Rattle.glob_matcher.proofs.lemmas.two_marks.TakenBytes.{misses_byte, stands_past_slash}
+use Rattle.glob_matcher.proofs.lemmas.two_marks.Prices.{Takes-within, TakesExactly-at_most}
+use Rattle.glob_matcher.proofs.lemmas.two_marks.Budget.{test_of_token}
+use Rattle.glob_matcher.proofs.lemmas.two_marks.TakenByteCosts.{allows_past_slash}
 use Rattle.glob_matcher.proofs.lemmas.two_marks.Scans.{slash_is_itself}
 use Rattle.glob_matcher.proofs.wildmatch.engine.Engine.slash_turn.Goals as goal
 
-pub returns-then-not-has : goal.returns-then-not-has
-returns-then-not-has g c =
+pub returns-then-not-fits_byte : goal.returns-then-not-fits_byte
+returns-then-not-fits_byte g c =
     let m = g.M.Match in
     record {
       meaning = record {
@@ -17,7 +19,7 @@ returns-then-not-has g c =
             misses_byte m.value c.args.state.at
             (literal_token m.mode m.pattern c.args.state.place c.requires.place (slash_is_itself _ c.requires.is)) refl
             c.requires.stands.inside (λ fits.
-            let wrong : false ≡ true = c.if-not-has.ensures.answer.1
+            let wrong : false ≡ true = c.if-not-fits_byte.ensures.answer.1
             (subst (λ (b : ℕ). (c.args.state.at < length m.value) × Fits m.mode (Byte b) (get_or m.value c.args.state.at 0)) c.requires.is fits) in
             cc);
       };
@@ -25,10 +27,10 @@ returns-then-not-has g c =
           let token = literal_token m.mode m.pattern c.args.state.place c.requires.place (slash_is_itself _ c.requires.is) in
           record {
             before = s;
-            tested = test_of_token token refl (Takes-within measure s 0 1 low c.has.ensures.count (omega arith) (omega arith));
+            tested = test_of_token token refl (Takes-within measure s 0 1 low (TakesExactly-at_most c.fits_byte.ensures.count) (omega arith) (omega arith));
             allows = a;
           };
-      progress = omega (arith, c.has.ensures.count.steps);
+      progress = omega (arith, c.fits_byte.ensures.count.steps);
     }
 
 pub returns : goal.returns
@@ -37,10 +39,10 @@ returns g c =
     let token = literal_token m.mode m.pattern c.args.state.place c.requires.place (slash_is_itself _ c.requires.is) in
     let fits =
     subst (λ (b : ℕ). (c.args.state.at < length m.value) × Fits m.mode (Byte b) (get_or m.value c.args.state.at 0)) (sym c.requires.is)
-    (c.if-not-has.ensures.answer.0 refl) in
+    (c.if-not-fits_byte.ensures.answer.0 refl) in
     record {
       meaning = stands_past_slash c.requires.stands token refl fits.0 fits.1 (ap Byte c.requires.is);
       allows = λ measure s n low a.
-          allows_past_slash token refl (Takes-within measure s 0 1 low c.has.ensures.count (omega arith) (omega arith)) fits.0 fits.1 a;
-      progress = omega (arith, c.has.ensures.count.steps);
+          allows_past_slash token refl (Takes-within measure s 0 1 low (TakesExactly-at_most c.fits_byte.ensures.count) (omega arith) (omega arith)) fits.0 fits.1 a;
+      progress = omega (arith, c.fits_byte.ensures.count.steps);
     }

@@ -1,7 +1,7 @@
 use Rattle.std.proofs.Common.{◌≡◌, ◌+◌, ◌≤◌, length, false, true, refl, arith}
 use Rattle.glob_matcher.specs.Private.Prices.{amount, amount_of}
 use Rattle.glob_matcher.proofs.lemmas.two_marks.States.{end_met, end_missed}
-use Rattle.glob_matcher.proofs.lemmas.two_marks.Prices.{amount-same, Takes-within}
+use Rattle.glob_matcher.proofs.lemmas.two_marks.Prices.{Takes-within, TakesExactly-at_most, amount-same}
 use Rattle.glob_matcher.proofs.lemmas.two_marks.Turns.{turn_on}
 use Rattle.glob_matcher.proofs.lemmas.two_marks.Budget.{allows_test, test_of_one}
 use Rattle.glob_matcher.proofs.wildmatch.engine.Engine.take_turn.Goals as goal
@@ -40,13 +40,13 @@ returns-then-state-pattern_len g c =
     }
 
 pub returns-then-byte-eq47 : goal.returns-then-byte-eq47
-returns-then-byte-eq47 g c = turn_on c.pattern_byte-byte.ensures.count (omega arith) c.slash_turn.ensures
+returns-then-byte-eq47 g c = turn_on (TakesExactly-at_most c.pattern_byte-byte.ensures.count) (omega arith) c.slash_turn.ensures
 
 pub returns-then-stands_for_itself : goal.returns-then-stands_for_itself
-returns-then-stands_for_itself g c = turn_on c.pattern_byte-byte.ensures.count (omega arith) c.literal_turns.ensures
+returns-then-stands_for_itself g c = turn_on (TakesExactly-at_most c.pattern_byte-byte.ensures.count) (omega arith) c.literal_turns.ensures
 
 pub returns-then-byte-eq91 : goal.returns-then-byte-eq91
-returns-then-byte-eq91 g c = turn_on c.pattern_byte-byte.ensures.count (omega arith) c.set_turn.ensures
+returns-then-byte-eq91 g c = turn_on (TakesExactly-at_most c.pattern_byte-byte.ensures.count) (omega arith) c.set_turn.ensures
 
 pub returns : goal.returns
-returns g c = turn_on c.pattern_byte-byte.ensures.count (omega arith) c.special_turn.ensures
+returns g c = turn_on (TakesExactly-at_most c.pattern_byte-byte.ensures.count) (omega arith) c.special_turn.ensures

@@ -46,12 +46,12 @@ attempt-returns-then-at-self t c =
     value_ends c.tokens.invariant (λ deep. omega arith)
     s.ensures.token s.result.1 one s.ensures.here c.if-at-self.true
 
-pub attempt-returns-then-not-takes : goal.attempt-returns-then-not-takes
-attempt-returns-then-not-takes t c =
+pub attempt-returns-then-not-fits_at : goal.attempt-returns-then-not-fits_at
+attempt-returns-then-not-fits_at t c =
     let s = c.token_at-kind in
     let one = is_one s.ensures c.in-Byte.is in
     let high : c.tokens.at ≤ length c.args.self.now.value.now = c.tokens.invariant.value_high in
-    let fits = c.if-not-takes.ensures s.ensures.token s.result.1 s.ensures.here s.ensures.same_kind in
+    let fits = c.if-not-fits_at.ensures s.ensures.token s.result.1 s.ensures.here s.ensures.same_kind in
     misses c.tokens.invariant (λ deep. omega arith)
     s.ensures.token s.result.1 one s.ensures.here (omega arith) (λ f. let never = fits.1 f in cc)
 
@@ -61,7 +61,7 @@ attempt-tokens-preserved t c =
     let s = c.token_at-kind in
     let one = is_one s.ensures c.in-Byte.is in
     let high : c.tokens.at ≤ length c.args.self.now.value.now = c.tokens.invariant.value_high in
-    let fits = c.if-not-takes.ensures s.ensures.token s.result.1 s.ensures.here s.ensures.same_kind in
+    let fits = c.if-not-fits_at.ensures s.ensures.token s.result.1 s.ensures.here s.ensures.same_kind in
     aligned_next s.ensures.token s.result.1 c.tokens.invariant one s.ensures.here s.ensures.past (omega arith) (fits.0 refl)
 
 pub attempt-returns : goal.attempt-returns
@@ -105,7 +105,7 @@ descend-returns-in-Match t c = λ i here. descent_here here c.requires.inside (c
 
 pub descend-returns-in_default : goal.descend-returns-in_default
 descend-returns-in_default t c = λ i here.
-    let after : c.args.place ≡ here.at + 1 = here.after in
+    let after : c.args.place ≡ here.run_end + 1 = here.after in
     descent_later here (omega arith) c.requires.inside c.attempt.ensures c.in_default.not-Match c.cross.ensures
 
 pub stay-returns-then-end-self : goal.stay-returns-then-end-self

@@ -1,0 +1,185 @@
+-- The budget of the engine with two marks at a star token that is newly met: its mark is set, and its moves are paid later.
+use Rattle.std.proofs.Common.{◌≡◌, ◌≢◌, inl, inr, ℕ, ◌+◌, ◌-◌, ◌*◌, ◌<◌, ◌≤◌, true, false, List, [], ◌∷◌, length, Some, None, refl, sym, ◌∙◌, ap, subst, arith}
+use Rattle.glob_matcher.specs.declared.wildmatch.mode.Mode.{Mode}
+use Rattle.glob_matcher.specs.declared.wildmatch.engine.Mark.{Mark}
+use Rattle.glob_matcher.specs.declared.wildmatch.state.Crossing.TheVariants as crossing
+use Rattle.glob_matcher.specs.declared.wildmatch.state.State.{State}
+use Rattle.glob_matcher.specs.Tokens.{Token, Free, Local, Dirs, TokenAt}
+use Rattle.glob_matcher.specs.Private.Reader.{kind_of, is_star}
+use Rattle.glob_matcher.specs.Private.Components.{separates, next_component}
+use Rattle.glob_matcher.specs.Private.States.{FreeKnown}
+use Rattle.glob_matcher.specs.Private.SizedTokens.{SizedToken, sized, SizedTokensFrom}
+use Rattle.glob_matcher.specs.Private.Prices.{Measure, amount, move, test, each, left, cost, hop}
+use Rattle.glob_matcher.specs.Private.Budget.{Owes, AllowsAt}
+use Rattle.glob_matcher.proofs.lemmas.two_marks.Components.{next-above, next-high}
+use Rattle.glob_matcher.proofs.lemmas.two_marks.Prices.{moves_between, separates-or_not, cost-joined, cost-hop, cost-mono, each-star, hop-apart, hop-joined, sized-head, sized-settle, test-star, left-times_less, left-times_mono}
+use Rattle.glob_matcher.proofs.lemmas.two_marks.States.{state_of}
+use Rattle.glob_matcher.proofs.lemmas.two_marks.Budget.{allows_less}
+
+-- A star token is met: what is left for the tokens after it, and for the moves of its mark.
+record OwesAfterStar (measure : Measure) (mode : Mode) (p v : List ℕ) (j k spent limit rest : ℕ) : Type 0 where
+  tokens : List SizedToken
+  read : SizedTokensFrom mode p j tokens
+  here : spent + move measure * left v k + cost measure mode v tokens k + rest
+      ≤ limit + move measure * left v (next_component mode v k) + cost measure mode v tokens (next_component mode v k)
+  later : move measure * left v (next_component mode v k) + cost measure mode v tokens (next_component mode v k) ≤ rest
+
+-- where a run of stars crosses slashes, each look at what follows begins one place on
+hop-after_free : {mode : Mode} {p v : List ℕ} {i : ℕ} (measure : Measure) (xs : List SizedToken) → SizedTokensFrom mode p i xs → i ≢ length p
+    → FreeKnown mode p v i → (k : ℕ) → hop mode v xs k ≡ k + 1
+hop-after_free measure [] read more known k = absurd (more read)
+hop-after_free {mode} {v = v} {i} measure (x ∷ xs) read more known k = elim (separates-or_not mode x.token) [
+  | inl apart ↦ hop-apart measure mode v x xs k apart
+  | inr joined ↦
+      let low : next_component mode v k ≤ k + 1 = known.far k (k + 1) (omega arith) x.token (i + x.width) read.0 joined in
+      omega (arith, hop-joined measure mode v x xs k joined, next-above mode v k)
+]
+
+module _ {measure : Measure} {mode : Mode} {p v : List ℕ} where
+  star_met : {state : State} (t : Token) (j : ℕ) {spent limit : ℕ} → TokenAt mode p state.place t j → is_star (kind_of t) ≡ true
+      → separates mode t ≡ false → state.at ≤ length v → (o : Owes measure mode p v state spent limit)
+      → OwesAfterStar measure mode p v j state.at (spent + test measure (sized state.place t j)) limit o.rest
+  star_met {state} t j {spent} {limit} here star joined inside o =
+      let head = sized-head state.place t j o.tokens o.read here in
+      let k = state.at in
+      let xs = head.0 in
+      let x = sized state.place t j in
+      let next = next_component mode v k in
+      let first : spent + cost measure mode v (x ∷ xs) k + o.rest ≤ limit + cost measure mode v (x ∷ xs) (hop mode v (x ∷ xs) k) =
+      subst (λ (ys : List SizedToken). spent + cost measure mode v ys k + o.rest ≤ limit + cost measure mode v ys (hop mode v ys k)) head.1 o.here in
+      let later : cost measure mode v (x ∷ xs) next ≤ o.rest =
+      subst (λ (ys : List SizedToken). cost measure mode v ys next ≤ o.rest) head.1 o.later in
+      let at : cost measure mode v (x ∷ xs) (hop mode v (x ∷ xs) k) ≡ cost measure mode v (x ∷ xs) next =
+      ap (cost measure mode v (x ∷ xs)) (hop-joined measure mode v x xs k joined) in
+      let both : (e : ℕ) → each measure x * left v e ≡ test measure x * left v e + move measure * left v e =
+      λ e. ap (λ (m : ℕ). m * left v e) (each-star measure x star) ∙ omega arith in
+      record {
+        tokens = xs;
+        read = head.2;
+        here =
+            omega (arith, both k, both next, left-times_less (test measure x) v k next inside (next-above mode v k), cost-joined measure mode v x xs k joined, cost-joined measure mode v x xs next joined);
+        later = omega (arith, both next, cost-joined measure mode v x xs next joined);
+      }
+
+  -- A star token is met, and its mark set: the looks that read it are paid by its test.
+  allows_met : {state next : State} (t : Token) (j : ℕ) {after spent limit : ℕ} → is_star (kind_of t) ≡ true
+      → after ≤ spent + amount measure 1 (8 * (j - state.place) - 4)
+      → (Owes measure mode p v state spent limit → Owes measure mode p v next (spent + test measure (sized state.place t j)) limit)
+      → AllowsAt measure mode p v state spent limit → AllowsAt measure mode p v next after limit
+  allows_met {state} t j star low owes a =
+      allows_less (omega (arith, test-star measure state.place t j star)) (record { all = λ xs read. owes (a.all xs read) })
+
+  -- A run of stars that crosses slashes ends the pattern.
+  pub free_last_counts : {state : State} {j after spent limit : ℕ} → TokenAt mode p state.place Free j → state.at ≤ length v
+      → after ≤ spent + amount measure 1 (8 * (j - state.place) - 4) → AllowsAt measure mode p v state spent limit → after ≤ limit
+  free_last_counts {state} {j} {after} {spent} {limit} here inside low a =
+      sized-settle mode p after limit (λ xs read.
+      let o = a.all xs read in
+      let star = star_met Free j here refl refl inside o in
+      let past = next-above mode v state.at in
+      omega (arith, star.here, star.later, test-star measure state.place Free j refl))
+
+  -- A run of stars that crosses slashes is met.
+  pub allows_free_met : {state : State} {j : ℕ} (m : Mark) {after spent limit : ℕ} → TokenAt mode p state.place Free j → j ≢ length p
+      → FreeKnown mode p v j → state.at ≤ length v → m.place ≡ j → m.at ≡ state.at
+      → after ≤ spent + amount measure 1 (8 * (j - state.place) - 4) → AllowsAt measure mode p v state spent limit
+      → AllowsAt measure mode p v (state_of j state.at (crossing.Free m) None) after limit
+  allows_free_met {state} {j} m {spent = spent} {limit} here more known inside same_place same_at low a = allows_met Free j refl low owes a where
+    owes : Owes measure mode p v state spent limit
+        → Owes measure mode p v (state_of j state.at (crossing.Free m) None) (spent + test measure (sized state.place Free j)) limit
+    owes o =
+        let star = star_met Free j here refl refl inside o in
+        let skips = hop-after_free measure star.tokens star.read more known in
+        let hopped : cost measure mode v star.tokens (hop mode v star.tokens state.at) ≡ cost measure mode v star.tokens (state.at + 1) =
+        ap (cost measure mode v star.tokens) (skips state.at) in
+        let past : state.at < next_component mode v state.at = next-above mode v state.at in
+        let next : cost measure mode v star.tokens (next_component mode v state.at) ≤ cost measure mode v star.tokens (state.at + 1) =
+        cost-mono measure mode v star.tokens (state.at + 1) (next_component mode v state.at) (omega arith) in
+        let costs : cost measure mode v star.tokens (m.at + 1) ≡ cost measure mode v star.tokens (state.at + 1) =
+        ap (λ (y : ℕ). cost measure mode v star.tokens (y + 1)) same_at in
+        let lefts : move measure * left v m.at ≡ move measure * left v state.at = ap (λ (y : ℕ). move measure * left v y) same_at in
+        record {
+          tokens = star.tokens;
+          read = star.read;
+          rest = cost measure mode v star.tokens (state.at + 1) + move measure * left v state.at;
+          crossing = record {
+            tokens = star.tokens;
+            read = subst (λ (y : ℕ). SizedTokensFrom mode p y star.tokens) (sym same_place) star.read;
+            inside = omega arith;
+            skips = skips;
+            enough = omega arith;
+          };
+          later = omega arith;
+          here = omega (arith, star.here, star.later);
+          local = tt;
+        }
+
+  -- A double star with its slash is met.
+  pub allows_dirs_met : {state : State} {j : ℕ} (m : Mark) {after spent limit : ℕ} → TokenAt mode p state.place Dirs j
+      → state.at ≤ length v → m.place ≡ j → m.at ≡ state.at
+      → after ≤ spent + amount measure 1 (8 * (j - state.place) - 4) → AllowsAt measure mode p v state spent limit
+      → AllowsAt measure mode p v (state_of j state.at (crossing.Dirs m) None) after limit
+  allows_dirs_met {state} {j} m {spent = spent} {limit} here inside same_place same_at low a = allows_met Dirs j refl low owes a where
+    owes : Owes measure mode p v state spent limit
+        → Owes measure mode p v (state_of j state.at (crossing.Dirs m) None) (spent + test measure (sized state.place Dirs j)) limit
+    owes o =
+        let star = star_met Dirs j here refl refl inside o in
+        let next = next_component mode v state.at in
+        let hopped : cost measure mode v star.tokens next ≤ cost measure mode v star.tokens (hop mode v star.tokens state.at) =
+        cost-hop measure mode v star.tokens state.at in
+        let costs : cost measure mode v star.tokens (next_component mode v m.at) ≡ cost measure mode v star.tokens next =
+        ap (λ (y : ℕ). cost measure mode v star.tokens (next_component mode v y)) same_at in
+        let lefts : move measure * left v m.at ≡ move measure * left v state.at = ap (λ (y : ℕ). move measure * left v y) same_at in
+        record {
+          tokens = star.tokens;
+          read = star.read;
+          rest = cost measure mode v star.tokens next + move measure * left v state.at;
+          crossing = record {
+            tokens = star.tokens;
+            read = subst (λ (y : ℕ). SizedTokensFrom mode p y star.tokens) (sym same_place) star.read;
+            inside = omega arith;
+            enough = omega arith;
+          };
+          later = omega arith;
+          here = omega (arith, star.here, star.later);
+          local = tt;
+        }
+
+  -- A run of stars within a component is met.
+  pub allows_local_met : {state : State} {j : ℕ} (m : Mark) {after spent limit : ℕ} → TokenAt mode p state.place Local j
+      → state.at ≤ length v → m.place ≡ j → m.at ≡ state.at
+      → after ≤ spent + amount measure 1 (8 * (j - state.place) - 4) → AllowsAt measure mode p v state spent limit
+      → AllowsAt measure mode p v (record state { place = j; local = Some m }) after limit
+  allows_local_met {state} {j} m {spent = spent} {limit} here inside same_place same_at low a = allows_met Local j refl low owes a where
+    owes : Owes measure mode p v state spent limit
+        → Owes measure mode p v (record state { place = j; local = Some m }) (spent + test measure (sized state.place Local j)) limit
+    owes o =
+        let k = state.at in
+        let star = star_met Local j here refl refl inside o in
+        let next = next_component mode v k in
+        let past : k < next = next-above mode v k in
+        let moves = moves_between measure v k next (omega arith) (next-high mode v k inside) in
+        let fewer : move measure * left v next ≤ move measure * left v k = left-times_mono (move measure) v k next (omega arith) in
+        let hopped : cost measure mode v star.tokens next ≤ cost measure mode v star.tokens (hop mode v star.tokens k) =
+        cost-hop measure mode v star.tokens k in
+        let ats : cost measure mode v star.tokens m.at ≡ cost measure mode v star.tokens k = ap (cost measure mode v star.tokens) same_at in
+        let laters : cost measure mode v star.tokens (next_component mode v m.at) ≡ cost measure mode v star.tokens next =
+        ap (λ (y : ℕ). cost measure mode v star.tokens (next_component mode v y)) same_at in
+        let moved : move measure * next_component mode v m.at ≡ move measure * next = ap (λ (y : ℕ). move measure * next_component mode v y) same_at in
+        let marked : move measure * m.at ≡ move measure * k = ap (λ (y : ℕ). move measure * y) same_at in
+        record {
+          tokens = star.tokens;
+          read = star.read;
+          rest = o.rest;
+          crossing = o.crossing;
+          later = omega (arith, star.later);
+          here = omega (arith, star.here);
+          local = record {
+            tokens = star.tokens;
+            read = subst (λ (y : ℕ). SizedTokensFrom mode p y star.tokens) (sym same_place) star.read;
+            inside = omega arith;
+            later = omega (arith, star.later);
+            here = omega (arith, star.here);
+            back = omega (arith, star.here, moves);
+          };
+        }

@@ -1,7 +1,0 @@
-use Rattle.glob_matcher.proofs.lemmas.reading.TokenKinds.{set_takes}
-use Rattle.glob_matcher.proofs.wildmatch.tokens.TokenKind.takes.Goals as goal
-
-pub returns-in-Some : goal.returns-in-Some
-returns-in-Some c =
-    let found = c.in-Some.ensures.found in
-    set_takes c.args.mode c.args.byte c.in-Set.is found.1 found.2
