@@ -12,8 +12,11 @@ fn file_always_fails(rt: HostRuntime) -> Result<(), Fail> {
     let mut buf = Vec::from_slice(rt.alloc(), b"old")?;
     let source = String::from_str(rt.alloc(), "/dev/null")?;
     let list = List::from_file(&rt, rt.alloc(), source, None, &mut buf, PlainLines)?;
-    assert!(rt; list.is_some_and(|list| list.patterns.is_empty()));
-    assert!(rt; buf.is_empty());
+    assert!(rt;
+        list.is_some_and(|list| list.patterns.is_empty()),
+        "no line is a pattern"
+    );
+    assert!(rt; buf.is_empty(), "what it had is gone");
     Ok(())
 }
 
@@ -32,13 +35,22 @@ fn file_always_none(rt: HostRuntime) -> Result<(), Fail> {
     let [first, second] = list.patterns.as_slice() else {
         return Err(Fail::new("not two mappings"));
     };
-    assert_eq!(rt; first.sequence_number, 1);
-    assert_eq!(rt; first.pattern.text(), b"*.rs".as_slice());
-    assert!(rt; first.pattern.mode() == Mode::NO_SUB_DIR.union(Mode::ENDS_WITH));
-    assert_eq!(rt; second.sequence_number, 3);
-    assert_eq!(rt; second.pattern.text(), b"src".as_slice());
-    assert!(rt; second.pattern.mode() == Mode::NO_SUB_DIR.union(Mode::MUST_BE_DIR));
+    for (mapping, number, text, mode) in [
+        (first, 1, b"*.rs".as_slice(), Mode::ENDS_WITH),
+        (second, 3, b"src", Mode::MUST_BE_DIR),
+    ] {
+        assert_eq!(rt; mapping.sequence_number, number, "line {number}");
+        assert_eq!(rt; mapping.pattern.text(), text, "line {number}");
+        assert!(rt;
+            mapping.pattern.mode() == Mode::NO_SUB_DIR.union(mode),
+            "line {number}"
+        );
+    }
     assert!(rt; list.base.is_none(), "there is no root");
-    assert_eq!(rt; buf.as_slice(), b"*.rs\n\nsrc/\n".as_slice());
+    assert_eq!(rt;
+        buf.as_slice(),
+        b"*.rs\n\nsrc/\n".as_slice(),
+        "the file's text"
+    );
     Ok(())
 }

@@ -4,6 +4,8 @@
 #[cfg(test)]
 mod decision_rows;
 #[cfg(test)]
+mod engines;
+#[cfg(test)]
 mod file_rows;
 #[cfg(test)]
 mod folding;

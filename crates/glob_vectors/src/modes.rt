@@ -24,11 +24,16 @@ pub fn path_fold() -> Mode {
 
 #[test]
 fn bits_are_kept(rt: HostRuntime) {
-    assert_eq!(rt; plain().bits(), 0);
-    assert_eq!(rt; path().bits(), 1);
-    assert_eq!(rt; fold().bits(), 2);
-    assert_eq!(rt; path_fold().bits(), 3);
-    assert_eq!(rt; Mode::from_bits_retain(0xfc).bits(), 0xfc);
-    assert_eq!(rt; Mode::default(), plain());
-    assert!(rt; path_fold().contains(fold()) && !path().contains(fold()));
+    for (mode, bits) in [
+        (plain(), 0),
+        (path(), 1),
+        (fold(), 2),
+        (path_fold(), 3),
+        (Mode::from_bits_retain(0xfc), 0xfc),
+    ] {
+        assert_eq!(rt; mode.bits(), bits, "{mode:?}");
+    }
+    assert_eq!(rt; Mode::default(), plain(), "no bit is the default");
+    assert!(rt; path_fold().contains(fold()), "both have the one");
+    assert!(rt; !path().contains(fold()), "the other hasn't");
 }

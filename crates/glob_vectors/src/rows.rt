@@ -1,6 +1,6 @@
 //! The rows that show each rule at work.
+use crate::engines::check;
 use crate::modes::{fold, path, plain};
-use gix_glob::wildmatch::{recursive, wildmatch};
 
 /// Pattern, value and answer, in plain mode.
 const PLAIN_ROWS: [(&str, &str, bool); 19] = [
@@ -53,68 +53,25 @@ const FOLD_ROWS: [(&str, &str, bool); 5] = [
     ("[[:ALPHA:]]", "a", false),
 ];
 
+/// Pattern, value and answer, in plain mode: byte 0 is a byte, and a form feed is no space.
+const CONTROL_ROWS: [(&str, &str, bool); 5] = [
+    ("*\0", "", false),
+    ("*\0", "\0", true),
+    ("\0", "\0", true),
+    ("\0", "", false),
+    ("[[:space:]]", "\x0c", false),
+];
+
 #[test]
-fn rows_in_plain_mode(rt: HostRuntime) {
-    for (pattern, value, answer) in PLAIN_ROWS {
-        assert_eq!(rt;
-            wildmatch(pattern.as_bytes(), value.as_bytes(), plain()),
-            answer,
-            "plain: {pattern} on {value}"
-        );
-        assert_eq!(rt;
-            recursive(pattern.as_bytes(), value.as_bytes(), plain()),
-            answer,
-            "recursive, plain: {pattern} on {value}"
-        );
+fn rows_in_each_mode(rt: HostRuntime) {
+    for (mode, rows) in [
+        (plain(), PLAIN_ROWS.as_slice()),
+        (plain(), &CONTROL_ROWS),
+        (path(), &PATH_ROWS),
+        (fold(), &FOLD_ROWS),
+    ] {
+        for (pattern, value, answer) in rows {
+            check(&rt, pattern, value, mode, *answer);
+        }
     }
-}
-
-#[test]
-fn rows_in_path_mode(rt: HostRuntime) {
-    for (pattern, value, answer) in PATH_ROWS {
-        assert_eq!(rt;
-            wildmatch(pattern.as_bytes(), value.as_bytes(), path()),
-            answer,
-            "path: {pattern} on {value}"
-        );
-        assert_eq!(rt;
-            recursive(pattern.as_bytes(), value.as_bytes(), path()),
-            answer,
-            "recursive, path: {pattern} on {value}"
-        );
-    }
-}
-
-#[test]
-fn rows_in_fold_mode(rt: HostRuntime) {
-    for (pattern, value, answer) in FOLD_ROWS {
-        assert_eq!(rt;
-            wildmatch(pattern.as_bytes(), value.as_bytes(), fold()),
-            answer,
-            "fold: {pattern} on {value}"
-        );
-        assert_eq!(rt;
-            recursive(pattern.as_bytes(), value.as_bytes(), fold()),
-            answer,
-            "recursive, fold: {pattern} on {value}"
-        );
-    }
-}
-
-#[test]
-fn byte_zero_is_a_byte(rt: HostRuntime) {
-    assert!(rt; !wildmatch(&[b'*', 0], b"", plain()));
-    assert!(rt; !recursive(&[b'*', 0], b"", plain()));
-    assert!(rt; wildmatch(&[b'*', 0], &[0], plain()));
-    assert!(rt; recursive(&[b'*', 0], &[0], plain()));
-    assert!(rt; wildmatch(&[0], &[0], plain()));
-    assert!(rt; recursive(&[0], &[0], plain()));
-    assert!(rt; !wildmatch(&[0], b"", plain()));
-    assert!(rt; !recursive(&[0], b"", plain()));
-}
-
-#[test]
-fn form_feed_is_no_space(rt: HostRuntime) {
-    assert!(rt; !wildmatch(b"[[:space:]]", &[12], plain()));
-    assert!(rt; !recursive(b"[[:space:]]", &[12], plain()));
 }

@@ -1,4 +1,5 @@
 //! Rows of bracket sets.
+use crate::engines::check;
 use crate::modes::{path, plain};
 use gix_glob::wildmatch::{recursive, wildmatch};
 use std::process::Abort;
@@ -55,16 +56,7 @@ const BYTE_ROWS: [([u8; 5], u8, bool); 6] = [
 /// Whether the pattern matches each of the values, in plain mode.
 fn answers(rt: &impl Abort, pattern: &str, values: &str, answer: bool) {
     for value in values.split_whitespace() {
-        assert_eq!(rt;
-            wildmatch(pattern.as_bytes(), value.as_bytes(), plain()),
-            answer,
-            "{pattern} on {value}"
-        );
-        assert_eq!(rt;
-            recursive(pattern.as_bytes(), value.as_bytes(), plain()),
-            answer,
-            "{pattern} on {value}"
-        );
+        check(rt, pattern, value, plain(), answer);
     }
 }
 
@@ -86,16 +78,9 @@ fn classes_and_broken_sets(rt: HostRuntime) {
 
 #[test]
 fn a_set_holds_no_slash_in_path_mode(rt: HostRuntime) {
-    assert!(rt; wildmatch(b"[--/]", b".", path()), "a byte of the range");
-    assert!(rt; recursive(b"[--/]", b".", path()), "a byte of the range");
-    assert!(rt;
-        !wildmatch(b"[--/]", b"/", path()),
-        "its upper end, a slash"
-    );
-    assert!(rt;
-        !recursive(b"[--/]", b"/", path()),
-        "its upper end, a slash"
-    );
+    // a byte of the range, and its upper end, a slash
+    check(&rt, "[--/]", ".", path(), true);
+    check(&rt, "[--/]", "/", path(), false);
 }
 
 #[test]

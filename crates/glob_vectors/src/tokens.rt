@@ -1,6 +1,6 @@
 //! Rows of tokens, in plain mode and in path mode.
+use crate::engines::check;
 use crate::modes::{path, plain};
-use gix_glob::wildmatch::{recursive, wildmatch};
 
 /// Pattern, value, and the answers in plain mode and in path mode.
 const ROWS: [(&str, &str, bool, bool); 22] = [
@@ -31,25 +31,7 @@ const ROWS: [(&str, &str, bool, bool); 22] = [
 #[test]
 fn tokens_in_both_modes(rt: HostRuntime) {
     for (pattern, value, in_plain, in_path) in ROWS {
-        assert_eq!(rt;
-            wildmatch(pattern.as_bytes(), value.as_bytes(), plain()),
-            in_plain,
-            "plain: {pattern} on {value}"
-        );
-        assert_eq!(rt;
-            recursive(pattern.as_bytes(), value.as_bytes(), plain()),
-            in_plain,
-            "recursive, plain: {pattern} on {value}"
-        );
-        assert_eq!(rt;
-            wildmatch(pattern.as_bytes(), value.as_bytes(), path()),
-            in_path,
-            "path: {pattern} on {value}"
-        );
-        assert_eq!(rt;
-            recursive(pattern.as_bytes(), value.as_bytes(), path()),
-            in_path,
-            "recursive, path: {pattern} on {value}"
-        );
+        check(&rt, pattern, value, plain(), in_plain);
+        check(&rt, pattern, value, path(), in_path);
     }
 }

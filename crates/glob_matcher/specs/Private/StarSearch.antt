@@ -7,12 +7,20 @@ use Rattle.glob_matcher.specs.declared.wildmatch.tokens.TokenKind.{TokenKind}
 use Rattle.glob_matcher.specs.declared.wildmatch.tokens.TokenKind.TheVariants as kind
 use Rattle.glob_matcher.specs.Bytes.{NoSlash, fold, slash}
 use Rattle.glob_matcher.specs.Matching.{SplitsFrom}
+use Rattle.glob_matcher.specs.Private.Reader.{IsToken}
 use Rattle.glob_matcher.specs.Pruning.{HasRoom}
 
 -- the byte that a token of this kind asks for, where it asks for one
 abbrev pub literal_of : TokenKind → Option ℕ
 literal_of (kind.Byte b) = Some b
 literal_of _ = None
+
+-- The token at place i of the pattern asks for this byte, or, where none is given, for none.
+pub record AsksFor (mode : Mode) (pattern : List ℕ) (i : ℕ) (wanted : Option ℕ) : Type 0 where
+  pub kind : TokenKind
+  pub after : ℕ
+  pub read : IsToken mode pattern i kind after
+  pub asks : wanted ≡ literal_of kind
 
 -- From place k up to place e the value has no byte that is the wanted one after folding. With none wanted, none is passed over.
 pub record Skips (mode : Mode) (value : List ℕ) (wanted : Option ℕ) (k e : ℕ) : Type 0 where

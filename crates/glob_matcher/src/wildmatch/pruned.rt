@@ -4,7 +4,7 @@ ghost use Rattle.glob_matcher.specs.Bytes.{HasByte, star};
 ghost use Rattle.glob_matcher.specs.Tokens.{DirsAt};
 ghost use Rattle.glob_matcher.specs.Matching.{Splits};
 ghost use Rattle.glob_matcher.specs.Pruning.{Holds, IsStart, IsBoundary, IsAttempt};
-ghost use Rattle.glob_matcher.specs.Private.StarSearch.{literal_of, Skips, IsComponentEnd, IsCrossing, IsWithin, IsDescent};
+ghost use Rattle.glob_matcher.specs.Private.StarSearch.{literal_of, AsksFor, Skips, IsComponentEnd, IsCrossing, IsWithin, IsDescent};
 
 #[cfg(test)]
 mod tests;
@@ -99,6 +99,16 @@ struct Level<'a> {
 }
 
 impl<'a> Level<'a> {
+    /// The byte that the token at a place of the pattern asks for, where it asks for one.
+    fn first_literal(&self, place: usize) -> Option<u8>
+        requires start { IsStart self.now.pattern.now place self.now.mode }
+        requires more { place ≢ length self.now.pattern.now }
+        ensures { AsksFor self.now.mode self.now.pattern.now place result }
+    {
+        let (kind, _) = token_at(self.pattern, place, self.mode);
+        kind.literal()
+    }
+
     /// The first place of the value, from one place on and before another, where the wanted byte stands; where none is wanted,
     /// the first.
     fn next_at(&self, at: usize, until: usize, wanted: Option<u8>) -> Option<usize>
@@ -183,8 +193,7 @@ impl<'a> Level<'a> {
         if place == self.pattern.len() {
             return Answer::Match;
         }
-        let (kind, _) = token_at(self.pattern, place, self.mode);
-        let wanted = kind.literal();
+        let wanted = self.first_literal(place);
         let below = Level {
             depth: self.depth + 1,
             ..*self
@@ -214,8 +223,7 @@ impl<'a> Level<'a> {
             }
             return Answer::Match;
         }
-        let (kind, _) = token_at(self.pattern, place, self.mode);
-        let wanted = kind.literal();
+        let wanted = self.first_literal(place);
         let until = self.value.len().min(end + 1);
         let below = Level {
             depth: self.depth + 1,

@@ -1,10 +1,10 @@
 //! The engines answer as the plain program does: on all short patterns and values, and on values of more than a stride of the
-//! scans, with what follows a star at each place.
+//! scans, with what follows a star at each place. Worked rows show what is rare among these.
 ghost use Rattle.std.specs.Prelude.{◌<◌, ◌≤◌, length};
 
 use super::mode::Mode;
 use super::plain::splits_from;
-use super::pruned::{Answer, attempt, is_start};
+use super::pruned::{Answer, attempt, is_start, recursive};
 use super::wildmatch;
 use bitflags::Flags;
 use std::process::Abort;
@@ -33,12 +33,12 @@ fn words(alphabet: &[u8], len: usize) -> usize {
 }
 
 /// What an answer says of one further place of the value, where it says anything.
-fn says_no(answer: &Answer, value: &[u8], at: usize, k: usize) -> bool
-    requires { k ≤ length value.now }
+fn says_no(answer: &Answer, value: &[u8], at: usize, later: usize) -> bool
+    requires { later ≤ length value.now }
 {
     match answer {
         Answer::AbortAll => true,
-        Answer::AbortToStarStar => at <= k && !value[at..k].contains(&b'/'),
+        Answer::AbortToStarStar => at <= later && !value[at..later].contains(&b'/'),
         _ => false,
     }
 }
@@ -86,10 +86,10 @@ fn aborts_rightly(
     if pattern.get(place) == Some(&b'*') {
         return;
     }
-    for k in at..value.len() + 1 {
+    for later in at..value.len() + 1 {
         assert!(rt;
-            !(says_no(answer, value, at, k) && splits_from(pattern, place, value, k, mode)),
-            "{pattern:?} from {place} on {value:?} at {at}, {answer:?}, but split at {k}"
+            !(says_no(answer, value, at, later) && splits_from(pattern, place, value, later, mode)),
+            "{pattern:?} from {place} on {value:?} at {at}, {answer:?}, but split at {later}"
         );
     }
 }
@@ -166,5 +166,34 @@ fn long_values_agree_with_the_plain_program(rt: HostRuntime) {
         for bits in 0..4u8 {
             agrees_on_long_values(&rt, pattern, Mode::from_bits_retain(bits));
         }
+    }
+}
+
+#[test]
+fn rows_of_both_engines(rt: HostRuntime) {
+    let mut stars = [b'*'; 126];
+    for star in 0..63 {
+        stars[2 * star + 1] = b'a';
+    }
+    let letters = [b'a'; 63];
+    let path = Mode::NO_MATCH_SLASH_LITERAL;
+    for (pattern, value, mode, answer) in [
+        // an abort at the value's start says nothing of a later place
+        (b"**/x".as_slice(), b"ax".as_slice(), path, false),
+        // a star that crosses slashes goes on where a component was lost
+        (b"**/a*c", b"x/ab/ac", path, true),
+        // as many star tokens as the pruned engine knows what to say of
+        (&stars, &letters, Mode::default(), true),
+    ] {
+        assert_eq!(rt;
+            wildmatch(pattern, value, mode),
+            answer,
+            "{pattern:?} on {value:?}, by two marks"
+        );
+        assert_eq!(rt;
+            recursive(pattern, value, mode),
+            answer,
+            "{pattern:?} on {value:?}, by attempts"
+        );
     }
 }

@@ -5,13 +5,12 @@ use Rattle.std.proofs.lemmas.Bool.{cases_lt}
 use Rattle.glob_matcher.specs.declared.wildmatch.mode.Mode.{Mode}
 use Rattle.glob_matcher.specs.declared.wildmatch.pruned.Answer.{Answer}
 use Rattle.glob_matcher.specs.declared.wildmatch.pruned.Answer.TheVariants.{Match, NoMatch, AbortAll, AbortToStarStar, RecursionLimitReached}
-use Rattle.glob_matcher.specs.declared.wildmatch.tokens.TokenKind.{TokenKind}
 use Rattle.glob_matcher.specs.Bytes.{HasByte, NoSlash, fold, is_path, slash, star}
 use Rattle.glob_matcher.specs.Tokens.{Token, Byte, Any, OneOf, Free, Local, Dirs, Nothing, TokenAt, DirsAt, From}
 use Rattle.glob_matcher.specs.Matching.{SplitsFrom}
-use Rattle.glob_matcher.specs.Private.Reader.{IsToken, AfterSlash, kind_of}
+use Rattle.glob_matcher.specs.Private.Reader.{AfterSlash, kind_of}
 use Rattle.glob_matcher.specs.Pruning.{HasRoom, BeginsCrossing, IsAttempt, star_count}
-use Rattle.glob_matcher.specs.Private.StarSearch.{literal_of, Skips, IsComponentEnd, IsCrossing, IsWithin, IsDescent}
+use Rattle.glob_matcher.specs.Private.StarSearch.{literal_of, AsksFor, Skips, IsComponentEnd, IsCrossing, IsWithin, IsDescent}
 use Rattle.glob_matcher.proofs.lemmas.reading.TokenLemmas.{TokenAt-unique, TokenAt-inside, run_lead}
 use Rattle.glob_matcher.proofs.lemmas.cutting.CutLemmas.{IsOne, one_in, one_out, free_in, free_out, local_in, local_out, dirs_in_empty, dirs_in, dirs_out, end_out, nothing_out}
 use Rattle.glob_matcher.proofs.lemmas.cutting.SplitLemmas.{IsStarToken, slash_token, no_slash_join}
@@ -63,10 +62,10 @@ first_token_by mode p i wanted Dirs j bare here is = absurd (bare (run_lead p i 
 first_token_by mode p i wanted Nothing j bare here is =
     record { token = Nothing; after = j; here = here; one_or_nothing = inr refl; asks = λ c so. let same : None ≡ Some c = sym is ∙ so in cc }
 
-pub first_token : {mode : Mode} {p : List ℕ} {i j : ℕ} {wanted : Option ℕ} {s : TokenKind} → ¬ HasByte p i star → IsToken mode p i s j
-    → wanted ≡ literal_of s → FirstToken mode p i wanted
-first_token {mode} {p} {i} {j} {wanted} bare x is =
-    first_token_by mode p i wanted x.token j bare x.here (is ∙ ap literal_of x.same_kind)
+pub first_token : {mode : Mode} {p : List ℕ} {i : ℕ} {wanted : Option ℕ} → ¬ HasByte p i star → AsksFor mode p i wanted
+    → FirstToken mode p i wanted
+first_token {mode} {p} {i} {wanted} bare x =
+    first_token_by mode p i wanted x.read.token x.after bare x.read.here (x.asks ∙ ap literal_of x.read.same_kind)
 
 module _ {mode : Mode} {p v : List ℕ} {i : ℕ} {wanted : Option ℕ} where
   -- no split begins at a place that a search passes over

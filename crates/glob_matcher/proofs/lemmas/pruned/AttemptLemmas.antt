@@ -31,8 +31,8 @@ module _ {mode : Mode} {p v : List ℕ} {i k j e : ℕ} (x : Aligned mode p v i 
       let low : k ≤ e = x.value_low in
       let high : e ≤ length v = x.value_high in
       let same : k + (e - k) ≡ e = omega arith in
-      let m : Moved mode p v i k j e k (k + (e - k)) = x.forth k (omega arith) (omega arith) s in
-      subst (λ (n : ℕ). SplitsFrom v n p j mode) same m.here
+      let moved : Moved mode p v i k j e k (k + (e - k)) = x.forth k (omega arith) (omega arith) s in
+      subst (λ (m : ℕ). SplitsFrom v m p j mode) same moved.here
 
   -- where a star begins at the start, the alignment hasn't moved
   star_at_start : HasByte p i star → i ≡ j
@@ -42,7 +42,7 @@ module _ {mode : Mode} {p v : List ℕ} {i k j e : ℕ} (x : Aligned mode p v i 
     by (inr same) = let low : i ≤ j = x.low in omega arith
 
   crossing_here : BeginsCrossing p i mode → BeginsCrossing p j mode
-  crossing_here b = subst (λ (n : ℕ). BeginsCrossing p n mode) (star_at_start (crossing_star mode p i b)) b
+  crossing_here b = subst (λ (m : ℕ). BeginsCrossing p m mode) (star_at_start (crossing_star mode p i b)) b
 
   flat_here : IsFlat p i mode → IsFlat p j mode
   flat_here f =
@@ -103,7 +103,7 @@ module _ {mode : Mode} {p v : List ℕ} {i k j e : ℕ} (x : Aligned mode p v i 
   ]
 
   -- at a token that nothing of the value from here on splits
-  lost : ((n : ℕ) → e ≤ n → n ≤ length v → ¬ SplitsFrom v n p j mode) → Excludes AbortAll p i v k mode
+  lost : ((m : ℕ) → e ≤ m → m ≤ length v → ¬ SplitsFrom v m p j mode) → Excludes AbortAll p i v k mode
   lost never = record {
     here = λ ne s. never e (omega arith) x.value_high (moved_here s);
     everywhere = λ so bare m low high s.
@@ -115,10 +115,10 @@ module _ {mode : Mode} {p v : List ℕ} {i k j e : ℕ} (x : Aligned mode p v i 
   }
 
   one_lost : (t : Token) (next : ℕ) → IsOne t → TokenAt mode p j t next → e ≡ length v
-      → (n : ℕ) → e ≤ n → n ≤ length v → ¬ SplitsFrom v n p j mode
-  one_lost t next one here all n low high s =
-      let out = one_out mode p v j next n t one here s in
-      let inside : n < length v = out.0 in
+      → (m : ℕ) → e ≤ m → m ≤ length v → ¬ SplitsFrom v m p j mode
+  one_lost t next one here all m low high s =
+      let out = one_out mode p v j next m t one here s in
+      let inside : m < length v = out.0 in
       omega arith
 
   -- the value ends before the list does
@@ -154,7 +154,7 @@ module _ {mode : Mode} {p v : List ℕ} {i k j e : ℕ} (x : Aligned mode p v i 
   pub nothing_here : {depth : ℕ} → depth ≢ 64 → (next : ℕ) → TokenAt mode p j Nothing next → IsAttempt AbortAll p i v k mode depth
   nothing_here shallow next here = record {
     split = λ so. cc;
-    excludes = λ room. lost (λ n low high s. nothing_out mode p v j next n here high s);
+    excludes = λ room. lost (λ m low high s. nothing_out mode p v j next m here high s);
     aborts = λ room. record {
       short = λ flat. absurd (flat_one Nothing next here (flat_here flat));
       long = λ flat. inl refl;
@@ -224,7 +224,7 @@ module _ {mode : Mode} {p v : List ℕ} {i k j e : ℕ} (x : Aligned mode p v i 
       by (inr less) =
           let low : i ≤ j = x.low in
           let same : j ≡ i = omega arith in
-          absurd (bare (subst (λ (n : ℕ). HasByte p n star) same at_star))
+          absurd (bare (subst (λ (m : ℕ). HasByte p m star) same at_star))
 
     not_flat : IsFlat p i mode → ⊥
     not_flat flat =

@@ -70,34 +70,21 @@ attempt-returns t c =
     let inside : c.tokens.place ≤ length p = start_inside c.tokens.invariant.start in
     end_here c.tokens.invariant (λ deep. omega arith) (omega arith) c.end_answer.ensures.ends c.end_answer.ensures.more
 
-pub cross-token_at-kind-requires : goal.cross-token_at-kind-requires
-cross-token_at-kind-requires t c =
-    let inside : c.args.place ≤ length c.args.self.now.pattern.now = start_inside c.requires.start in
-    omega arith
-
-pub stay-token_at-kind-requires : goal.stay-token_at-kind-requires
-stay-token_at-kind-requires t c =
-    let inside : c.args.place ≤ length c.args.self.now.pattern.now = start_inside c.requires.start in
-    omega arith
-
 pub cross-returns-in_default-attempt : goal.cross-returns-in_default-attempt
 cross-returns-in_default-attempt t c =
-    let s = c.token_at-kind in
-    let first = first_token c.requires.no_star s.ensures c.literal-wanted.ensures in
+    let first = first_token c.requires.no_star c.first_literal-wanted.ensures in
     cross_answer c.attempt.result c.requires.no_star c.places.invariant first c.in-Some.ensures.found c.in-Some.ensures.inside c.attempt.ensures
     c.in_default-attempt.not-NoMatch c.in_default-attempt.not-AbortToStarStar
 
 pub cross-places-preserved : goal.cross-places-preserved
 cross-places-preserved t c =
-    let s = c.token_at-kind in
-    let first = first_token c.requires.no_star s.ensures c.literal-wanted.ensures in
+    let first = first_token c.requires.no_star c.first_literal-wanted.ensures in
     tried_next c.places.invariant first c.in-Some.ensures.found c.in-Some.ensures.inside c.attempt.ensures
     (not_match c.attempt.result c.in-NoMatch.is)
 
 pub cross-returns : goal.cross-returns
 cross-returns t c =
-    let s = c.token_at-kind in
-    let first = first_token c.requires.no_star s.ensures c.literal-wanted.ensures in
+    let first = first_token c.requires.no_star c.first_literal-wanted.ensures in
     cross_none c.places.invariant first c.in_default.ensures.none
 
 pub descend-returns-in-Match : goal.descend-returns-in-Match
@@ -114,22 +101,19 @@ stay-returns-then-end-self t c =
 
 pub stay-places-preserved : goal.stay-places-preserved
 stay-places-preserved t c =
-    let s = c.token_at-kind in
-    let first = first_token c.requires.no_star s.ensures c.literal-wanted.ensures in
+    let first = first_token c.requires.no_star c.first_literal-wanted.ensures in
     tried_next c.places.invariant first c.in-Some.ensures.found c.in-Some.ensures.inside c.attempt.ensures
     (λ e. let same = c.in-NoMatch.is in cc)
 
 pub stay-returns-in_default-attempt : goal.stay-returns-in_default-attempt
 stay-returns-in_default-attempt t c =
-    let s = c.token_at-kind in
-    let first = first_token c.requires.no_star s.ensures c.literal-wanted.ensures in
+    let first = first_token c.requires.no_star c.first_literal-wanted.ensures in
     stay_answer c.attempt.result c.requires.no_star c.component_end-end.ensures c.min-until.ensures c.places.invariant first
     c.in-Some.ensures.found c.in-Some.ensures.inside c.attempt.ensures c.in_default-attempt.not-NoMatch
 
 pub stay-returns : goal.stay-returns
 stay-returns t c =
-    let s = c.token_at-kind in
-    let first = first_token c.requires.no_star s.ensures c.literal-wanted.ensures in
+    let first = first_token c.requires.no_star c.first_literal-wanted.ensures in
     stay_none c.component_end-end.ensures c.min-until.ensures c.places.invariant first c.in_default.ensures.none
 
 pub attempt-cross-requires : goal.attempt-cross-requires

@@ -1,0 +1,8 @@
+use Rattle.std.proofs.Common.{◌≤◌, length, arith}
+use Rattle.glob_matcher.proofs.lemmas.reading.Starts.{start_inside}
+use Rattle.glob_matcher.proofs.wildmatch.pruned.Level.first_literal.Goals as goal
+
+pub token_at-kind-requires : goal.token_at-kind-requires
+token_at-kind-requires c =
+    let inside : c.args.place ≤ length c.args.self.now.pattern.now = start_inside c.requires.start in
+    omega arith
