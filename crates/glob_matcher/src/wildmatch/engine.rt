@@ -4,6 +4,8 @@
 //! The bytes of both texts are read by the methods of this module alone: each counts a look for a byte that it reads and, for
 //! one of the value, a step, which for a set comes after the look, if a set begins at all. So no other module can read a byte
 //! without a count, or count in another place. `has_left` looks at the length alone, and counts none.
+ghost use Rattle.std.specs.Prelude.{◌≡◌, ◌≢◌, ◌↔◌, ◌⊎◌, ℕ, ◌+◌, ◌-◌, ◌^◌, ◌<◌, ◌≤◌, IsTrue, IfSome, IfNone, MatchOption, length, slice_index, slice_range, take};
+ghost use Rattle.glob_matcher.specs.declared.wildmatch.items.Class.{Class};
 ghost use Rattle.glob_matcher.specs.Bytes.{HasByte, folds, is_path, open_bracket, slash};
 ghost use Rattle.glob_matcher.specs.Sets.{Set, SetAt, name_of};
 ghost use Rattle.glob_matcher.specs.Tokens.{Token, Byte};
