@@ -21,8 +21,8 @@ second : (a b : Bool) → a && b ≡ true → b ≡ true
 second true b p = p
 second false b p = absurd (cc)
 
-pub all-three : (a b c : Bool) → a ≡ true → b ≡ true → c ≡ true → a && (b && c) ≡ true
-all-three a b c p q r = both a (b && c) p (both b c q r)
+pub all_three : (a b c : Bool) → a ≡ true → b ≡ true → c ≡ true → a && (b && c) ≡ true
+all_three a b c p q r = both a (b && c) p (both b c q r)
 
 -- lists that are equal at each place, with one more equal pair at the end
 pub pointwise-push : {A : Type 0} (E : A → A → Bool) (xs ys : List A) (x y : A) → pointwise E xs ys ≡ true → E x y ≡ true → pointwise E (xs ++ x ∷ []) (ys ++ y ∷ []) ≡ true

@@ -5,12 +5,12 @@ use Rattle.std.proofs.lemmas.Option.{same_Some}
 use Rattle.gix_glob.specs.declared.pattern.Case.{Case}
 use Rattle.gix_glob.specs.Deciding.{AnswersAt, AnswersUnder, PairAnswers}
 use Rattle.gix_glob.specs.Lists.{Entry}
-use Rattle.gix_glob.specs.Loaded.{Listed}
+use Rattle.gix_glob.specs.EntryLists.{EntryList}
 use Rattle.gix_glob.specs.Stripping.{NothingLeft}
 
-module _ {V : Type 0} (lists : List (Listed V)) (path : List ℕ) (is_dir : Bool) (case : Case) (i m : ℕ) (list : Listed V) (there : slice_get lists i ≡ Some list) where
+module _ {V : Type 0} (lists : List (EntryList V)) (path : List ℕ) (is_dir : Bool) (case : Case) (i m : ℕ) (list : EntryList V) (there : slice_get lists i ≡ Some list) where
   at_list : PairAnswers lists path is_dir case i m → AnswersAt list path is_dir case m
-  at_list h = subst (λ (l : Listed V). AnswersAt l path is_dir case m) (same_Some h.list list (sym h.there ∙ there)) h.answers
+  at_list h = subst (λ (l : EntryList V). AnswersAt l path is_dir case m) (same_Some h.list list (sym h.there ∙ there)) h.answers
 
   pub pair_nothing : NothingLeft case list.base path → ¬ PairAnswers lists path is_dir case i m
   pair_nothing none h = (let at = at_list h in none at.answers.rest at.answers.left)

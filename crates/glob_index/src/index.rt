@@ -1,7 +1,7 @@
 //! Lists of patterns with an index: which of them decides about a path.
 ghost use Rattle.std.specs.Prelude.{◌≡◌, ◌↔◌, ◌+◌, ◌<◌, IfOk, IsTrue, OnOk, length, map};
 ghost use Rattle.gix_glob.specs.Deciding.{BasesAreFolders, Decides, PairAnswers};
-ghost use Rattle.gix_glob.specs.Loaded.{listed};
+ghost use Rattle.gix_glob.specs.EntryLists.{entry_list_of};
 ghost use Rattle.gix_glob.specs.Paths.{IsPlainPath};
 ghost use Rattle.gix_glob.specs.RepositoryPaths.{IsBasenameStart};
 ghost use Rattle.glob_index.specs.Chains.{IsChained, classes_of, links_of};
@@ -66,8 +66,8 @@ impl<'a, T: search::Pattern> ListIndex<'a, T> {
     pub fn decide(&self, path: &[u8], is_dir: bool) -> Option<(usize, usize)>
         requires made { IsIndex T.seen self.now }
         requires plain { IsPlainPath path.now }
-        requires folders { BasesAreFolders (map (listed T.seen) self.now.lists.now) }
-        ensures { Decides (map (listed T.seen) self.now.lists.now) path.now is_dir self.now.case result }
+        requires folders { BasesAreFolders (map (entry_list_of T.seen) self.now.lists.now) }
+        ensures { Decides (map (entry_list_of T.seen) self.now.lists.now) path.now is_dir self.now.case result }
     {
         // a law does nothing: it is called for what it ensures
         laws::answering_patterns_pass();
@@ -96,8 +96,8 @@ impl<'a, T: search::Pattern> ListIndex<'a, T> {
     ) -> Result<Vec<(usize, usize)>, AllocError>
         requires made { IsIndex T.seen self.now }
         requires plain { IsPlainPath path.now }
-        requires folders { BasesAreFolders (map (listed T.seen) self.now.lists.now) }
-        ensures { IfOk result (λ found. AreMatches (map (listed T.seen) self.now.lists.now) path.now is_dir self.now.case found.items) }
+        requires folders { BasesAreFolders (map (entry_list_of T.seen) self.now.lists.now) }
+        ensures { IfOk result (λ found. AreMatches (map (entry_list_of T.seen) self.now.lists.now) path.now is_dir self.now.case found.items) }
     {
         // a law does nothing: it is called for what it ensures
         laws::answering_patterns_pass();
@@ -125,9 +125,9 @@ impl<'a, T: search::Pattern> ListIndex<'a, T> {
     ) -> bool
         requires plain { IsPlainPath path.now }
         requires basename { IsBasenameStart path.now position }
-        requires folders { BasesAreFolders (map (listed T.seen) self.now.lists.now) }
-        requires there { HasEntryAt (map (listed T.seen) self.now.lists.now) list mapping }
-        ensures { IsTrue result ↔ PairAnswers (map (listed T.seen) self.now.lists.now) path.now is_dir self.now.case list mapping }
+        requires folders { BasesAreFolders (map (entry_list_of T.seen) self.now.lists.now) }
+        requires there { HasEntryAt (map (entry_list_of T.seen) self.now.lists.now) list mapping }
+        ensures { IsTrue result ↔ PairAnswers (map (entry_list_of T.seen) self.now.lists.now) path.now is_dir self.now.case list mapping }
     {
         let list = &self.lists[list];
         let Some((rest, start)) = rest_of(list, path, position, self.case) else {
@@ -156,9 +156,9 @@ fn add_list<T: search::Pattern>(
     i: usize,
 ) -> Result<(), AllocError>
     requires inside { i < length lists.now }
-    requires rows { AreRowsUpTo (map (listed T.seen) lists.now) i 0 table.old.rows.items }
+    requires rows { AreRowsUpTo (map (entry_list_of T.seen) lists.now) i 0 table.old.rows.items }
     requires chained { IsChained (classes_of table.old.rows.items) (links_of table.old.rows.items) table.old.heads }
-    ensures rows { OnOk result (AreRowsUpTo (map (listed T.seen) lists.now) (i + 1) 0 table.new.rows.items) }
+    ensures rows { OnOk result (AreRowsUpTo (map (entry_list_of T.seen) lists.now) (i + 1) 0 table.new.rows.items) }
     ensures chained { OnOk result (IsChained (classes_of table.new.rows.items) (links_of table.new.rows.items) table.new.heads) }
 {
     let Ok(list_place) = u32::try_from(i) else {

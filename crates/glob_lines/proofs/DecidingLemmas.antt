@@ -5,11 +5,11 @@ use Rattle.std.proofs.lemmas.Bool.{cases_eq, cases_lt}
 use Rattle.gix_glob.specs.declared.pattern.Case.{Case}
 use Rattle.gix_glob.specs.Deciding.{AnswersAt, AnswersUnder, Decides, PairAnswers}
 use Rattle.gix_glob.specs.Lists.{Entry}
-use Rattle.gix_glob.specs.Loaded.{Listed}
+use Rattle.gix_glob.specs.EntryLists.{EntryList}
 
 -- ---- one list, from its end
 
-module _ {V : Type 0} (list : Listed V) (path : List ℕ) (is_dir : Bool) (case : Case) where
+module _ {V : Type 0} (list : EntryList V) (path : List ℕ) (is_dir : Bool) (case : Case) where
   -- no entry at this place or after it answers
   abbrev pub NoneFrom : ℕ → Type 0
   NoneFrom k = (m : ℕ) → k ≤ m → ¬ AnswersAt list path is_dir case m
@@ -42,24 +42,24 @@ module _ {V : Type 0} (list : Listed V) (path : List ℕ) (is_dir : Bool) (case 
 
 -- ---- all lists, from the last
 
-module _ {V : Type 0} (lists : List (Listed V)) (path : List ℕ) (is_dir : Bool) (case : Case) where
+module _ {V : Type 0} (lists : List (EntryList V)) (path : List ℕ) (is_dir : Bool) (case : Case) where
   -- no list at this place or after it has an entry that answers
   abbrev pub NoListFrom : ℕ → Type 0
   NoListFrom k = (i m : ℕ) → k ≤ i → ¬ PairAnswers lists path is_dir case i m
 
   -- an answer of the list at place j is one of this list
-  pub of_list : (j m : ℕ) (list : Listed V) → slice_get lists j ≡ Some list → PairAnswers lists path is_dir case j m → AnswersAt list path is_dir case m
+  pub of_list : (j m : ℕ) (list : EntryList V) → slice_get lists j ≡ Some list → PairAnswers lists path is_dir case j m → AnswersAt list path is_dir case m
   of_list j m list there h =
       let same : h.list ≡ list = (let chosen = h.there in cc) in
       subst (λ l. AnswersAt l path is_dir case m) same h.answers
 
-  pub NoListFrom-less : (k j : ℕ) (list : Listed V) → k ≡ j + 1 → slice_get lists j ≡ Some list → NoListFrom k
+  pub NoListFrom-less : (k j : ℕ) (list : EntryList V) → k ≡ j + 1 → slice_get lists j ≡ Some list → NoListFrom k
       → ((m : ℕ) → ¬ AnswersAt list path is_dir case m) → NoListFrom j
   NoListFrom-less k j list next there later none i m past h =
       ⊎_elim (λ (same : i ≡ j). none m (of_list j m list there (subst (λ i. PairAnswers lists path is_dir case i m) same h)))
       (λ (apart : i ≡ j → ⊥). later i m (omega arith) h) (cases_eq i j)
 
-  pub Decides-found : (k j last : ℕ) (list : Listed V) → k ≡ j + 1 → slice_get lists j ≡ Some list → NoListFrom k
+  pub Decides-found : (k j last : ℕ) (list : EntryList V) → k ≡ j + 1 → slice_get lists j ≡ Some list → NoListFrom k
       → LastOf list path is_dir case (Some last) → Decides lists path is_dir case (Some (j, last))
   Decides-found k j last list next there later found = record {
     answers = record { list = list; there = there; answers = found.0 };

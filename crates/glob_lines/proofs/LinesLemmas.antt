@@ -6,7 +6,7 @@ use Rattle.std.proofs.lemmas.Bool.Decides.{eqb_tells}
 use Rattle.std.proofs.lemmas.List.{drop_more, flat_map_more}
 use Rattle.std.proofs.lemmas.List.Elements.{AllZip-push}
 use Rattle.memchr.specs.Find.{IsFirstByte, is_byte}
-use Rattle.glob_lines.specs.Lines.{Lines, EndsOpen, HasNo, HasNoLineFeed, WritesEach, line_feed, lines_of, terminated}
+use Rattle.glob_lines.specs.Lines.{Lines, EndsOpen, HasNo, HasNoLineFeed, WritesEach, line_feed, lines_of, text_of_lines}
 
 -- ---- the equations, a line at a time
 
@@ -36,21 +36,21 @@ front_of_all : (front : List (List ℕ)) (last : List ℕ) → AllByRecursion Ha
 front_of_all [] last h = (tt, h.0)
 front_of_all (text ∷ front) last h = let rest = front_of_all front last h.1 in ((h.0, rest.0), rest.1)
 
-lines_of-terminated : (texts : List (List ℕ)) (rest : List ℕ) → AllByRecursion HasNoLineFeed texts → lines_of (terminated texts ++ rest) ≡ texts ++ lines_of rest
-lines_of-terminated [] rest h = refl
-lines_of-terminated (text ∷ texts) rest h =
-    ap lines_of (append_assoc (text ++ line_feed ∷ []) (terminated texts) rest ∙ append_assoc text (line_feed ∷ []) (terminated texts ++ rest))
-    ∙ lines_of-line text (terminated texts ++ rest) h.0
-    ∙ ap (λ l. text ∷ l) (lines_of-terminated texts rest h.1)
+lines_of-text_of_lines : (texts : List (List ℕ)) (rest : List ℕ) → AllByRecursion HasNoLineFeed texts → lines_of (text_of_lines texts ++ rest) ≡ texts ++ lines_of rest
+lines_of-text_of_lines [] rest h = refl
+lines_of-text_of_lines (text ∷ texts) rest h =
+    ap lines_of (append_assoc (text ++ line_feed ∷ []) (text_of_lines texts) rest ∙ append_assoc text (line_feed ∷ []) (text_of_lines texts ++ rest))
+    ∙ lines_of-line text (text_of_lines texts ++ rest) h.0
+    ∙ ap (λ l. text ∷ l) (lines_of-text_of_lines texts rest h.1)
 
-whole_is : (bytes : List ℕ) (texts : List (List ℕ)) → AllByRecursion HasNoLineFeed texts → bytes ≡ terminated texts → texts ≡ lines_of bytes
+whole_is : (bytes : List ℕ) (texts : List (List ℕ)) → AllByRecursion HasNoLineFeed texts → bytes ≡ text_of_lines texts → texts ≡ lines_of bytes
 whole_is bytes texts each is =
-    sym (ap lines_of (is ∙ sym (append-nil (terminated texts))) ∙ lines_of-terminated texts [] each ∙ append-nil texts)
+    sym (ap lines_of (is ∙ sym (append-nil (text_of_lines texts))) ∙ lines_of-text_of_lines texts [] each ∙ append-nil texts)
 
 open_is : (bytes : List ℕ) (texts : List (List ℕ)) → AllByRecursion HasNoLineFeed texts → EndsOpen bytes texts → texts ≡ lines_of bytes
 open_is bytes texts each h =
     let parts = front_of_all h.front h.last (subst (AllByRecursion HasNoLineFeed) h.is each) in
-    h.is ∙ sym (ap lines_of h.joined ∙ lines_of-terminated h.front h.last parts.0 ∙ ap (λ l. h.front ++ l) (lines_of-last h.last h.some parts.1))
+    h.is ∙ sym (ap lines_of h.joined ∙ lines_of-text_of_lines h.front h.last parts.0 ∙ ap (λ l. h.front ++ l) (lines_of-last h.last h.some parts.1))
 
 -- no other texts are the lines of the bytes
 pub Lines-only : (bytes : List ℕ) (texts : List (List ℕ)) → Lines bytes texts → texts ≡ lines_of bytes
@@ -75,7 +75,7 @@ ends_line bytes texts h = record {
 }
 
 -- the byte goes onto the first line, or is the only one
-open_more : (b : ℕ) (bytes text : List ℕ) (texts front : List (List ℕ)) (last : List ℕ) → last ≢ [] → text ∷ texts ≡ front ++ last ∷ [] → bytes ≡ terminated front ++ last
+open_more : (b : ℕ) (bytes text : List ℕ) (texts front : List (List ℕ)) (last : List ℕ) → last ≢ [] → text ∷ texts ≡ front ++ last ∷ [] → bytes ≡ text_of_lines front ++ last
     → EndsOpen (b ∷ bytes) ((b ∷ text) ∷ texts)
 open_more b bytes text texts [] last some is joined = record {
   front = [];

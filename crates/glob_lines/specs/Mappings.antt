@@ -6,7 +6,7 @@ use Rattle.gix_glob.specs.Paths.{Base}
 use Rattle.gix_glob.specs.RepositoryPaths.{Answers, IsBasenameStart}
 use Rattle.gix_glob.specs.Stripping.{NothingLeft, RestOf}
 use Rattle.glob_lines.specs.Lines.{Lines, WritesEach}
-use Rattle.glob_lines.specs.Numbers.{Picks, spaced}
+use Rattle.glob_lines.specs.Numbers.{Picks, text_of_numbers}
 use Rattle.glob_lines.specs.PathLines.{IsPlainPath, MarksDirectory}
 use Rattle.glob_lines.specs.Plain.{Plain, PlainEntry}
 use Rattle.glob_lines.specs.Transfers.{ReadsWhole}
@@ -21,7 +21,7 @@ pub record WritesNumbers (entries : List PlainEntry) (case : Case) (is_dir : Boo
   pub basename : IsBasenameStart rest position
   pub chosen : List PlainEntry
   pub picks : Picks (EntryAnswers case is_dir rest position) entries chosen
-  pub shown : written ≡ spaced (map (λ entry. entry.number) chosen)
+  pub shown : written ≡ text_of_numbers (map (λ entry. entry.number) chosen)
 
 -- The line for a path: nothing where it doesn't begin with the base.
 pub record WritesPath (entries : List PlainEntry) (base : Option (List ℕ)) (case : Case) (line written : List ℕ) : Type 0 where

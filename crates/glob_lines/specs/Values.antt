@@ -4,6 +4,7 @@ use Rattle.gix_glob.specs.declared.wildmatch.Mode.{Mode}
 use Rattle.gix_glob.specs.Matching.{Splits}
 use Rattle.glob_lines.specs.Lines.{Lines, WritesEach}
 
+-- the word for an answer
 abbrev pub word_of : Bool → List ℕ
 word_of answer = if answer then codes "yes" else codes "no"
 

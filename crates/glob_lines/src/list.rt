@@ -8,10 +8,9 @@ ghost use Rattle.gix_glob.specs.Lists.{entry_of};
 ghost use Rattle.gix_glob.specs.Paths.{IsFolder, IsPlainPath, has_file_part};
 ghost use Rattle.gix_glob.specs.RepositoryPaths.{IsBasenameStart};
 ghost use Rattle.gix_glob.specs.Watched.{has_failed, inner};
-ghost use Rattle.glob_index.specs.Index.{IsIndex};
 ghost use Rattle.glob_lines.specs.Mappings.{MappingsText, MatchesText, ReadsBoth, WritesMatches, WritesNumbers};
 ghost use Rattle.glob_lines.specs.Transfers.{AppendsFront, Run};
-ghost use Rattle.glob_lines.specs.Private.Answering.{WritesAnswering};
+ghost use Rattle.glob_lines.specs.Private.Answering.{WritesNumbersUnder};
 ghost use Rattle.glob_lines.specs.Private.Growing.{Adds};
 
 use crate::decimal::append_decimal;
@@ -146,7 +145,7 @@ fn append_found(
     requires plain { IsPlainPath path.now }
     requires folder { ForSome (option_map vec_items list.now.base) IsFolder }
     ensures { OnOk result (Adds
-        (WritesAnswering (map (entry_of (λ _. tt)) list.now.patterns.items) (option_map vec_items list.now.base) path.now is_dir index.now.case)
+        (WritesNumbersUnder (map (entry_of (λ _. tt)) list.now.patterns.items) (option_map vec_items list.now.base) path.now is_dir index.now.case)
         text.old.items text.new.items) }
 {
     let pairs = index.matches(alloc, path, is_dir)?;

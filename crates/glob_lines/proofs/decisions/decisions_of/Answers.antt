@@ -1,7 +1,7 @@
 -- What is written for a path line, and its line feed, is the next line of the text.
 use Rattle.std.proofs.Common.{◌≡◌, ◌++◌, ◌∷◌, [], ap, map, subst, sym, ◌∙◌, append_assoc}
 use Rattle.gix_glob.specs.Deciding.{BasesAreFolders}
-use Rattle.gix_glob.specs.Loaded.{listed}
+use Rattle.gix_glob.specs.EntryLists.{entry_list_of}
 use Rattle.glob_lines.specs.Lines.{lines_of}
 use Rattle.glob_lines.proofs.LinesLemmas.{IsWrittenUpTo-all, IsWrittenUpTo-more, IsWrittenUpTo-none, Lines-lines_of}
 use Rattle.glob_lines.proofs.decisions.decisions_of.Goals as goal
@@ -26,4 +26,4 @@ returns g c =
     }
 
 pub append_decision-requires-clause-folders : goal.append_decision-requires-clause-folders
-append_decision-requires-clause-folders g c = subst (λ lists. BasesAreFolders (map (listed g.T.Pattern.seen) lists)) (sym c.in_ok-index.ensures.0) c.requires
+append_decision-requires-clause-folders g c = subst (λ lists. BasesAreFolders (map (entry_list_of g.T.Pattern.seen) lists)) (sym c.in_ok-index.ensures.0) c.requires

@@ -1,9 +1,9 @@
 -- A candidate that doesn't match is passed over, and what was passed over before it doesn't match either.
 use Rattle.std.proofs.Common.{map}
 use Rattle.std.proofs.lemmas.Bool.{iff_false}
-use Rattle.gix_glob.specs.Loaded.{listed}
+use Rattle.gix_glob.specs.EntryLists.{entry_list_of}
 use Rattle.glob_index.specs.Private.Walking.{NonePasses}
-use Rattle.glob_index.proofs.RowLemmas.{last_answer, decides_none, entry_of_next, law_holds, none_of_passed, none_answers}
+use Rattle.glob_index.proofs.RowLemmas.{last_answer, decides_none, entry_of_next, law_holds, NoneAnswers-passed, none_answers}
 use Rattle.glob_index.proofs.index.ListIndex.decide.Goals as goal
 
 pub matches_at-requires-clause-there : goal.matches_at-requires-clause-there
@@ -25,9 +25,9 @@ candidates-preserved g c = record {
 
 pub returns : goal.returns
 returns g c =
-    let lists = map (listed g.T.Pattern.seen) c.args.self.now.lists.now in
+    let lists = map (entry_list_of g.T.Pattern.seen) c.args.self.now.lists.now in
     let none : NonePasses c.args.self.now.table.rows.items c.probe-probe.result 0 c.candidates.walk.end = rw c.in_default.is at c.next_pair.ensures.next in
     decides_none lists c.args.self.now.table.rows.items c.args.path.now c.args.is_dir c.args.self.now.case c.requires.made.rows
-    (none_of_passed lists c.args.self.now.table.rows.items c.args.path.now c.args.is_dir c.args.self.now.case c.probe-probe.result 0 c.candidates.walk.end c.requires.made.rows
+    (NoneAnswers-passed lists c.args.self.now.table.rows.items c.args.path.now c.args.is_dir c.args.self.now.case c.probe-probe.result 0 c.candidates.walk.end c.requires.made.rows
     (law_holds lists c.args.self.now.table.rows.items c.args.path.now c.args.is_dir c.args.self.now.case c.answering_patterns_pass.ensures c.probe-probe.result c.probe-probe.ensures.shows)
     none c.candidates.invariant.none)

@@ -1,7 +1,7 @@
 -- The lists' rows are added one list after the other.
 use Rattle.std.proofs.Common.{map, refl, arith}
 use Rattle.std.proofs.lemmas.List.{length-map}
-use Rattle.gix_glob.specs.Loaded.{listed}
+use Rattle.gix_glob.specs.EntryLists.{entry_list_of}
 use Rattle.glob_index.proofs.RowLemmas.{rows_all, rows_none}
 use Rattle.glob_index.proofs.index.ListIndex.new.Goals as goal
 
@@ -13,8 +13,8 @@ returns g c = (
   refl,
   refl,
   record {
-    rows = rows_all (map (listed g.T.Pattern.seen) c.args.lists.now) c.lists.table.rows.items c.lists.i
-        (let past = c.lists-test.false in let long = length-map c.args.lists.now (listed g.T.Pattern.seen) in omega arith) c.lists.invariant.rows;
+    rows = rows_all (map (entry_list_of g.T.Pattern.seen) c.args.lists.now) c.lists.table.rows.items c.lists.i
+        (let past = c.lists-test.false in let long = length-map c.args.lists.now (entry_list_of g.T.Pattern.seen) in omega arith) c.lists.invariant.rows;
     chained = c.lists.invariant.chained;
   },
 )
