@@ -1,6 +1,7 @@
 -- The base of a source by the parts that lie below the root.
 use Rattle.std.proofs.Common.{◌≡◌, ◌≢◌, ℕ, ◌-◌, ◌≤◌, List, [], ◌∷◌, ◌++◌, length, Option, Some, None, ◌⊎◌, inl, inr, refl, sym, ap, ◌∙◌, subst, arith, length-append, append_assoc, append-nil, codes, Bool, true, false, if◌then◌else◌, Result, IfOk, option_map, Vec, Global}
 use Rattle.std.specs.Vec.{vec_items}
+use Rattle.std.proofs.lemmas.List.{nil_from_length}
 use Rattle.std.proofs.lemmas.Result.{IfOk-weaker}
 use Rattle.std.proofs.lemmas.Slice.Eq.{bytes_eq-Decides}
 use Rattle.gix_glob.specs.Paths.{parts, without_last, folder, folders, LiesBetween, Base}
@@ -27,14 +28,10 @@ without_last-append [] p ps = refl
 without_last-append (f ∷ []) p ps = refl
 without_last-append (f ∷ g ∷ front) p ps = ap (λ qs. f ∷ qs) (without_last-append (g ∷ front) p ps)
 
-empty_of_length : (ps : List (List ℕ)) → length ps ≤ 0 → ps ≡ []
-empty_of_length [] none = refl
-empty_of_length (p ∷ ps) none = absurd (omega arith)
-
 -- nothing lies between a root and what has at most one part more
 none_between : (source root : List ℕ) (below between : List (List ℕ)) → parts source ≡ parts root ++ below → length below ≤ 1 → LiesBetween source root between → between ≡ []
 none_between source root below between joined short lies =
-    empty_of_length between (omega (arith, ap length joined, ap length lies.joined, length-without_last (parts source), length-append (parts root) below, length-append (parts root) between))
+    nil_from_length between (omega (arith, ap length joined, ap length lies.joined, length-without_last (parts source), length-append (parts root) below, length-append (parts root) between))
 
 -- the base of a source whose parts begin with those of the root
 pub Base-below : (source root : List ℕ) (below : List (List ℕ)) → parts source ≡ parts root ++ below → Base source (Some root) (base_below below)
@@ -50,7 +47,7 @@ Base-below source root (part ∷ next ∷ more) joined = record {
 -- there is no base where they do not
 pub Base-aside : (source root : List ℕ) → ((below : List (List ℕ)) → parts source ≢ parts root ++ below) → Base source (Some root) None
 Base-aside source root aside between lies = elim (last_cases (parts source)) [
-  | inl empty ↦ empty_of_length between (omega (arith, ap length lies.joined, ap length empty, length-without_last (parts source), length-append (parts root) between))
+  | inl empty ↦ nil_from_length between (omega (arith, ap length lies.joined, ap length empty, length-without_last (parts source), length-append (parts root) between))
   | inr end ↦ absurd (aside (between ++ end.0 ∷ []) (end.1 ∙ (ap (λ ps. ps ++ end.0 ∷ []) lies.joined ∙ append_assoc (parts root) between (end.0 ∷ []))))
 ]
 

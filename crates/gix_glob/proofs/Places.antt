@@ -14,7 +14,7 @@ use Rattle.gix_glob.specs.Paths.{IsFolder}
 use Rattle.gix_glob.proofs.Rests.{Rest-front, length-folding_by}
 
 -- a byte of the rest is a byte of the path, so much further on
-later_byte : (front rest : List ℕ) (i b : ℕ) → HasByte rest i b → HasByte (front ++ rest) (length front + i) b
+pub later_byte : (front rest : List ℕ) (i b : ℕ) → HasByte rest i b → HasByte (front ++ rest) (length front + i) b
 later_byte front rest i b has = record {
   inside = omega (arith, has.inside, length-append front rest);
   is = get_or-append-add front rest i 0 ∙ has.is;
@@ -53,8 +53,8 @@ start_in_rest case base path rest position r start =
     subst (λ n. IsBasenameStart rest (stripped_place n position)) (Rest-front case base path rest r)
     (start_behind_front r.front rest position (subst (λ p. IsBasenameStart p position) r.joined start))
 
--- folding makes no slash
-slash_of_lowercase : (b : ℕ) → to_ascii_lowercase b ≡ slash → b ≡ slash
+-- a byte whose lowercase form is a slash is one
+pub slash_of_lowercase : (b : ℕ) → to_ascii_lowercase b ≡ slash → b ≡ slash
 slash_of_lowercase b e = grind arith
 
 folding_by-slash : (case : Case) (text : List ℕ) (i : ℕ) → HasByte (folding_by case text) i slash → HasByte text i slash

@@ -11,6 +11,7 @@ use Rattle.glob_lines.specs.Lines.{HasNo, HasNoLineFeed, line_feed, lines_of}
 use Rattle.glob_lines.specs.Entries.{LineContent}
 use Rattle.glob_lines.specs.Private.Trimming.{ends_in_return, return_of}
 use Rattle.glob_lines.specs.Ignore.{BeginsWithLine, GivesTrimmed, Trims, byte_order_mark, carriage_return, is_comment, text_before_spaces, ignore_content, without_mark, without_returns}
+use Rattle.glob_lines.proofs.AllLemmas.{AllByRecursion-append_parts}
 use Rattle.glob_lines.proofs.LinesLemmas.{HasNo-take, last_line, lines_of-line, length-lines_of-le}
 use Rattle.glob_lines.proofs.EntriesLemmas.{Tells}
 use Rattle.glob_lines.proofs.TrimLemmas.{Trims-only, Trims-text_before_spaces}
@@ -66,20 +67,16 @@ last_of : (b : ℕ) (bytes : List ℕ) → HasLast (b ∷ bytes)
 last_of b [] = record { front = []; last = b; is = refl }
 last_of b (c ∷ bytes) = let h = last_of c bytes in record { front = b ∷ h.front; last = h.last; is = ap (λ l. b ∷ l) h.is }
 
-front-HasNo : (byte : ℕ) (front : List ℕ) (last : ℕ) → HasNo byte (front ++ last ∷ []) → HasNo byte front × (last ≢ byte)
-front-HasNo byte [] last h = (tt, h.0)
-front-HasNo byte (b ∷ front) last h = let more = front-HasNo byte front last h.1 in ((h.0, more.0), more.1)
-
 pub without_returns-other : (line rest : List ℕ) → HasNoLineFeed line → ((before : List ℕ) → line ≢ before ++ carriage_return ∷ []) → without_returns (line ++ line_feed ∷ rest) ≡ line ++ line_feed ∷ without_returns rest
 without_returns-other [] rest none other = refl
 without_returns-other (b ∷ bytes) rest none other =
     let h = last_of b bytes in
     let line = b ∷ bytes in
-    let parts = front-HasNo line_feed h.front h.last (subst (HasNo line_feed) h.is none) in
+    let parts = AllByRecursion-append_parts (λ b. b ≢ line_feed) h.front (h.last ∷ []) (subst (HasNo line_feed) h.is none) in
     let dark : h.last ≢ carriage_return = λ (is : h.last ≡ carriage_return). other h.front (h.is ∙ ap (λ x. h.front ++ x ∷ []) is) in
     ap (λ l. without_returns (l ++ line_feed ∷ rest)) h.is
     ∙ ap without_returns (append_assoc h.front (h.last ∷ []) (line_feed ∷ rest))
-    ∙ without_returns-last h.front h.last rest parts.0 parts.1 dark
+    ∙ without_returns-last h.front h.last rest parts.0 parts.1.0 dark
     ∙ sym (ap (λ l. l ++ line_feed ∷ without_returns rest) h.is)
 
 pub without_returns-none : (bytes : List ℕ) → HasNoLineFeed bytes → without_returns bytes ≡ bytes
@@ -105,7 +102,7 @@ IsCutAtFeed-found bytes end h =
 
 pub ignore_line-by_return : (bytes line text rest : List ℕ) → IsCutAtFeed bytes line rest → line ≡ text ++ carriage_return ∷ [] → lines_of (without_returns bytes) ≡ text ∷ lines_of (without_returns rest)
 ignore_line-by_return bytes line text rest h is =
-    let none = front-HasNo line_feed text carriage_return (subst (HasNo line_feed) is h.none) in
+    let none = AllByRecursion-append_parts (λ b. b ≢ line_feed) text (carriage_return ∷ []) (subst (HasNo line_feed) is h.none) in
     ap (λ l. lines_of (without_returns l)) (h.joined ∙ ap (λ l. l ++ line_feed ∷ rest) is)
     ∙ ap lines_of (without_returns-return text rest none.0)
     ∙ lines_of-line text (without_returns rest) none.0

@@ -1,3 +1,4 @@
+pub mod AllLemmas
 pub mod DecidingLemmas
 pub mod DecisionsLemmas
 pub mod EntriesLemmas

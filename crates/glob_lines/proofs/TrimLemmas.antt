@@ -5,12 +5,14 @@ use Rattle.std.specs.List.{AllByRecursion, concat, list_all}
 use Rattle.std.specs.Str.{bytes_eq}
 use Rattle.std.proofs.lemmas.Bool.{cases_Bool, false≢true, ne_eqb, eqb-true, eq-eqb}
 use Rattle.std.proofs.lemmas.Bool.Decides.{eqb_tells}
-use Rattle.std.proofs.lemmas.List.{take_more}
+use Rattle.std.proofs.lemmas.List.{nil_from_length, same_from_push, take_more}
 use Rattle.std.proofs.lemmas.List.Folds.{concat-append}
 use Rattle.std.proofs.lemmas.Slice.Eq.{bytes_eq-Decides}
+use Rattle.std.proofs.Paths.Components.{push_not-nil}
 use Rattle.gix_glob.specs.Bytes.{backslash}
 use Rattle.glob_lines.specs.Ignore.{Trims, units_before_spaces, space, text_before_spaces, units_of}
 use Rattle.glob_lines.specs.Private.Trimming.{StandsBefore, is_open}
+use Rattle.glob_lines.proofs.AllLemmas.{AllByRecursion-append_parts}
 
 -- ---- the last unit that is kept
 
@@ -50,16 +52,12 @@ record Keeps (units : List (List ℕ)) : Type 0 where
   each : Spaces spaces
   last : EndsOtherwise (units_before_spaces units)
 
-no_end : (before : List (List ℕ)) → [] ≢ before ++ space ∷ []
-no_end [] e = cc
-no_end (b ∷ before) e = cc
-
 keeps_none : (units : List (List ℕ)) → list_all (bytes_eq space) units ≡ true → units_before_spaces units ≡ [] → Keeps units
 keeps_none units all none = record {
   spaces = units;
   split = sym (ap (λ l. l ++ units) none);
   each = Spaces-list_all units all;
-  last = λ before is. no_end before (sym none ∙ is);
+  last = λ before is. push_not-nil before space (sym none ∙ is);
 }
 
 -- the unit before a row that ends otherwise, where not all of them are spaces
@@ -84,7 +82,7 @@ keeps_some unit units some h =
     }
 
 keeps : (units : List (List ℕ)) → Keeps units
-keeps [] = record { spaces = []; split = refl; each = tt; last = no_end }
+keeps [] = record { spaces = []; split = refl; each = tt; last = λ before. push_not-nil before space }
 keeps (unit ∷ units) =
     ⊎_elim
     (λ all. keeps_none (unit ∷ units) all (ap (λ b. cond b [] (unit ∷ units_before_spaces units)) all))
@@ -97,10 +95,6 @@ Trims-text_before_spaces line =
     let h = keeps (units_of line) in
     record { kept = units_before_spaces (units_of line); spaces = h.spaces; units = h.split; each = h.each; last = h.last; joined = refl }
 
-Spaces-front : (units more : List (List ℕ)) → Spaces (units ++ more) → Spaces units
-Spaces-front [] more h = tt
-Spaces-front (unit ∷ units) more h = (h.0, Spaces-front units more h.1)
-
 units_before_spaces-Spaces : (units : List (List ℕ)) → Spaces units → units_before_spaces units ≡ []
 units_before_spaces-Spaces [] h = refl
 units_before_spaces-Spaces (unit ∷ units) h = ap (λ b. cond b [] (unit ∷ units_before_spaces units)) (list_all-Spaces (unit ∷ units) h)
@@ -109,7 +103,7 @@ units_before_spaces-append : (kept spaces : List (List ℕ)) → Spaces spaces �
 units_before_spaces-append [] spaces each last = units_before_spaces-Spaces spaces each
 units_before_spaces-append (unit ∷ kept) spaces each last =
     ⊎_elim
-    (λ all. let end = spaces_end unit kept (Spaces-front (unit ∷ kept) spaces (Spaces-list_all (unit ∷ (kept ++ spaces)) all)) in absurd (last end.0 end.1))
+    (λ all. let end = spaces_end unit kept (AllByRecursion-append_parts (λ u. u ≡ space) (unit ∷ kept) spaces (Spaces-list_all (unit ∷ (kept ++ spaces)) all)).0 in absurd (last end.0 end.1))
     (λ some. ap (λ b. cond b [] (unit ∷ units_before_spaces (kept ++ spaces))) some ∙ ap (λ l. unit ∷ l) (units_before_spaces-append kept spaces each (λ before is. last (unit ∷ before) (ap (λ l. unit ∷ l) is))))
     (cases_Bool (list_all (bytes_eq space) (unit ∷ (kept ++ spaces))))
 
@@ -233,15 +227,6 @@ units_end : (front : List ℕ) → ((before : List ℕ) → front ≢ before ++ 
 units_end front other before is =
     other (concat before) (sym (concat-units_of front) ∙ ap concat is ∙ concat-append before (space ∷ []))
 
--- two rows that have the same last element
-last_same : (xs ys : List (List ℕ)) (x y : List ℕ) → xs ++ x ∷ [] ≡ ys ++ y ∷ [] → x ≡ y
-last_same [] [] x y e = cc
-last_same [] (b ∷ []) x y e = cc
-last_same [] (b ∷ c ∷ ys) x y e = cc
-last_same (a ∷ []) [] x y e = cc
-last_same (a ∷ c ∷ xs) [] x y e = cc
-last_same (a ∷ xs) (b ∷ ys) x y e = let rest : xs ++ x ∷ [] ≡ ys ++ y ∷ [] = cc in last_same xs ys x y rest
-
 pub Trims-closed : (line front : List ℕ) → StandsBefore 32 line front → is_open front ≡ false → Trims line front
 Trims-closed line front h closed = record {
   kept = units_of front;
@@ -252,14 +237,10 @@ Trims-closed line front h closed = record {
   joined = sym (concat-units_of front);
 }
 
-length_zero : (xs : List ℕ) → length xs ≡ 0 → xs ≡ []
-length_zero [] e = refl
-length_zero (x ∷ xs) e = absurd (omega arith)
-
 pub Trims-whole : (line front : List ℕ) → StandsBefore 32 line front → length line ≤ length front → Trims line front
 Trims-whole line front h whole =
     let none : length h.rest ≡ 0 = omega (arith, ap length h.joined, length-append front h.rest) in
-    let is : h.rest ≡ [] = length_zero h.rest none in
+    let is : h.rest ≡ [] = nil_from_length h.rest none in
     let same : line ≡ front = h.joined ∙ ap (λ l. front ++ l) is ∙ append-nil front in
     record {
       kept = units_of front;
@@ -282,7 +263,7 @@ Trims-escaped line front rest joined each open_ =
       spaces = units_of rest;
       units = ap units_of joined ∙ h.units rest;
       each = units_of-Are rest each;
-      last = λ before is. escaped_is_no_space 32 (last_same h.before before unit space is);
+      last = λ before is. escaped_is_no_space 32 (same_from_push h.before before unit space is).1;
       joined = sym (concat-units_of (front ++ 32 ∷ [])) ∙ ap concat (h.units [] ∙ append-nil (h.before ++ unit ∷ []));
     }
 
@@ -306,24 +287,11 @@ Are-drop byte [] (suc i) h = tt
 Are-drop byte (b ∷ bytes) zero h = (h 0 (omega arith) (omega arith), Are-drop byte bytes 0 (λ k low high. h (suc k) (omega arith) (omega arith)))
 Are-drop byte (b ∷ bytes) (suc i) h = Are-drop byte bytes i (λ k low high. h (suc k) (omega arith) (omega arith))
 
--- two rows of bytes that have the same last byte
-last_byte : (xs ys : List ℕ) (x y : ℕ) → xs ++ x ∷ [] ≡ ys ++ y ∷ [] → x ≡ y
-last_byte [] [] x y e = cc
-last_byte [] (b ∷ []) x y e = cc
-last_byte [] (b ∷ c ∷ ys) x y e = cc
-last_byte (a ∷ []) [] x y e = cc
-last_byte (a ∷ c ∷ xs) [] x y e = cc
-last_byte (a ∷ xs) (b ∷ ys) x y e = let rest : xs ++ x ∷ [] ≡ ys ++ y ∷ [] = cc in last_byte xs ys x y rest
-
-no_byte : (byte : ℕ) (before : List ℕ) → [] ≢ before ++ byte ∷ []
-no_byte byte [] e = cc
-no_byte byte (b ∷ before) e = cc
-
 -- a front that ends at place i doesn't end in another byte than the one there
 last_of_front : (byte : ℕ) (bytes : List ℕ) (i : ℕ) (before : List ℕ) → i < length bytes → get_or bytes i 0 ≢ byte → take (i + 1) bytes ≢ before ++ byte ∷ []
 last_of_front byte bytes i before inside other is =
     let parts : take i bytes ++ get_or bytes i 0 ∷ [] ≡ before ++ byte ∷ [] = sym (take_more bytes i 0 inside) ∙ is in
-    other (last_byte (take i bytes) before (get_or bytes i 0) byte parts)
+    other (same_from_push (take i bytes) before (get_or bytes i 0) byte parts).1
 
 pub StandsBefore-last : (byte : ℕ) (bytes : List ℕ) (i : ℕ) → i < length bytes → get_or bytes i 0 ≢ byte → ((k : ℕ) → i + 1 ≤ k → k < length bytes → get_or bytes k 0 ≡ byte) → StandsBefore byte bytes (take (i + 1) bytes)
 StandsBefore-last byte bytes i inside other after = record {
@@ -338,5 +306,5 @@ StandsBefore-none byte bytes all = record {
   rest = bytes;
   joined = refl;
   each = Are-drop byte bytes 0 (λ k low high. all k high);
-  last = no_byte byte;
+  last = λ before. push_not-nil before byte;
 }
