@@ -22,7 +22,7 @@ pub record WritesVerdict {V : Type 0} (lists : List (EntryList V)) (pair : ℕ �
   pub of_list : slice_get list.entries pair.1 ≡ Some entry
   pub shown : written ≡ verdict (pair.0 + 1) entry
 
--- The line for a path: what is said of the entry that decides, where there is one.
+-- The line for a path: what is said of the entry that decides, and `none` where no entry does.
 pub record WritesDecision {V : Type 0} (lists : List (EntryList V)) (case : Case) (line written : List ℕ) : Type 0 where
   pub path : List ℕ
   pub is_dir : Bool
@@ -31,12 +31,12 @@ pub record WritesDecision {V : Type 0} (lists : List (EntryList V)) (case : Case
   pub decides : Decides lists path is_dir case pair
   pub shown : MatchOption pair (written ≡ codes "none") (λ p. WritesVerdict lists p written)
 
--- The line for a path line: an exclamation mark where it is no plain path.
+-- The line for a path line: an exclamation mark where that is no plain path, and else the line for its path.
 abbrev pub WritesDecisions : {V : Type 0} → List (EntryList V) → Case → List ℕ → List ℕ → Type 0
 WritesDecisions lists case line written =
     (¬ IsPlainPath line × (written ≡ codes "!")) ⊎ (IsPlainPath line × WritesDecision lists case line written)
 
--- The text has a line for each path line.
+-- The text has a line for each path line, in order.
 pub record DecisionsText {V : Type 0} (lists : List (EntryList V)) (case : Case) (paths text : List ℕ) : Type 0 where
   pub lines : List (List ℕ)
   pub cut : Lines paths lines

@@ -18,7 +18,7 @@ pub record IsEntryOf {V : Type 0} (Gives : List ℕ → List ℕ → V → Type 
 pub record HasNoEntry {V : Type 0} (Gives : List ℕ → List ℕ → V → Type 0) (line : List ℕ) : Type 0 where
   pub none : (text : List ℕ) (value : V) → Gives line text value → ¬ HasReading text true
 
--- an entry for each line that has one, where the first line has this number
+-- the entries of lines, in order: one for each line that has one, where the first line has this number
 abbrev pub EntriesFrom : {V : Type 0} → (List ℕ → List ℕ → V → Type 0) → ℕ → List (List ℕ) → List (Entry V) → Type 0
 EntriesFrom Gives number [] entries = entries ≡ []
 EntriesFrom {V} Gives number (line ∷ lines) entries =

@@ -18,7 +18,7 @@ HasNoLineFeed text = HasNo line_feed text
 abbrev pub text_of_lines : List (List ℕ) → List ℕ
 text_of_lines texts = flat_map (λ text. text ++ line_feed ∷ []) texts
 
--- the bytes are the texts, each followed by a line feed but for the last, which isn't empty
+-- the bytes are the texts, each followed by a line feed but the last, which isn't empty
 pub record EndsOpen (bytes : List ℕ) (texts : List (List ℕ)) : Type 0 where
   pub front : List (List ℕ)
   pub last : List ℕ
@@ -37,7 +37,7 @@ abbrev pub lines_of : List ℕ → List (List ℕ)
 lines_of [] = []
 lines_of (b ∷ bytes) = if b == line_feed then [] ∷ lines_of bytes else onto_first b (lines_of bytes)
 
--- The text has one line for each of these lines, by P from line to line.
+-- The text has one line for each of these lines, in order: `P line written` says what is written for a line.
 pub record WritesEach (P : List ℕ → List ℕ → Type 0) (lines : List (List ℕ)) (text : List ℕ) : Type 0 where
   pub written : List (List ℕ)
   pub each : AllZip P lines written

@@ -14,7 +14,7 @@ pub record WritesAnswer (pattern : List ℕ) (mode : Mode) (value line : List �
   pub exact : IsTrue answer ↔ Splits value pattern mode
   pub word : line ≡ word_of answer
 
--- The text of values: an answer for each line of the input.
+-- The text of values: a line with the answer for each line of the input, in order.
 pub record ValuesText (pattern : List ℕ) (mode : Mode) (input text : List ℕ) : Type 0 where
   pub values : List (List ℕ)
   pub lines : Lines input values
