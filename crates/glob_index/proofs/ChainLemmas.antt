@@ -9,8 +9,8 @@ use Rattle.std.proofs.lemmas.Option.{get_or_from_slice_get, slice_get_read, slic
 use Rattle.glob_index.specs.declared.probe.Probe.{Probe}
 use Rattle.glob_index.specs.declared.row.Row.{Row}
 use Rattle.glob_index.specs.declared.table.Walk.{Walk}
-use Rattle.glob_index.specs.Chains.{IsChained, IsLastBelow, classes_of, links_of}
-use Rattle.glob_index.specs.Rows.{always}
+use Rattle.glob_index.specs.Private.Chains.{IsChained, IsLastBelow, classes_of, links_of}
+use Rattle.glob_index.specs.Private.Rows.{always}
 use Rattle.glob_index.specs.Private.Showing.{HasBytes, HasEnd, Passes}
 use Rattle.glob_index.specs.Private.Walking.{IsAt, NonePasses}
 

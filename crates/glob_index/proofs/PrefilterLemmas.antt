@@ -18,8 +18,8 @@ use Rattle.gix_glob.specs.RepositoryPaths.{Answers, IsBasenameStart, subject, wi
 use Rattle.gix_glob.specs.Stripping.{RestOf}
 use Rattle.glob_index.specs.declared.probe.Probe.{Probe}
 use Rattle.glob_index.specs.declared.row.Row.{Row}
-use Rattle.glob_index.specs.Literals.{EndsLiterally, NeedsBits, bit_of, end_key, from_end}
-use Rattle.glob_index.specs.Rows.{Asks, HasLiteralEnd}
+use Rattle.glob_index.specs.Private.Literals.{EndsLiterally, NeedsBits, bit_of, end_key, from_end}
+use Rattle.glob_index.specs.Private.Rows.{Asks, HasLiteralEnd}
 use Rattle.glob_index.specs.Private.Showing.{HasBytes, HasEnd, Passes, Shows}
 
 -- the two laws that the choice stands on

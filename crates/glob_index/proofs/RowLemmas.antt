@@ -13,12 +13,12 @@ use Rattle.gix_glob.specs.Lists.{Entry}
 use Rattle.gix_glob.specs.EntryLists.{EntryList}
 use Rattle.glob_index.specs.declared.probe.Probe.{Probe}
 use Rattle.glob_index.specs.declared.row.Row.{Row}
-use Rattle.glob_index.specs.Index.{AreMatches, AreRows, ComesBefore, HasEntryAt, IsAtPlace, IsEntryAt, IsRowOf}
-use Rattle.glob_index.specs.Rows.{Asks}
-use Rattle.glob_index.specs.Private.Building.{AreRowsUpTo}
+use Rattle.glob_index.specs.Index.{AreMatches, ComesBefore}
+use Rattle.glob_index.specs.Private.Tables.{AreRows, AreRowsUpTo, HasEntryAt, IsAtPlace, IsEntryAt, IsRowOf}
+use Rattle.glob_index.specs.Private.Rows.{Asks}
 use Rattle.glob_index.specs.Private.Showing.{Passes, Shows}
 use Rattle.glob_index.specs.Private.Walking.{IsNextPair, NonePasses}
-use Rattle.glob_index.proofs.AnsweringLemmas.{pair_only}
+use Rattle.gix_glob.proofs.Answering.{AnswersAt-only, PairAnswers-only}
 use Rattle.glob_index.proofs.PrefilterLemmas.{AnsweringPasses}
 
 -- ---- the order of places
@@ -176,7 +176,7 @@ module _ {V : Type 0} (lists : List (EntryList V)) (rows : List Row) (path : Lis
   pub law_holds : AnsweringPasses → (probe : Probe) → Shows path probe → Law probe
   law_holds law probe shows row of answers =
       let e = of.there in
-      let under = pair_only lists path is_dir case row.list row.mapping e.list e.there of.entry e.here answers in
+      let under = AnswersAt-only e.list path is_dir case row.mapping of.entry e.here (PairAnswers-only lists path is_dir case row.list row.mapping e.list e.there answers) in
       law of.entry.text of.entry.mode e.list.base path under.rest under.position (Some is_dir) case path_mode row probe shows of.asks under.left under.basename under.answers
 
   entry_of_pair : (i m : ℕ) → PairAnswers lists path is_dir case i m → HasEntryAt lists i m

@@ -89,16 +89,15 @@ fn append_decision<T: search::Pattern>(
     index: &ListIndex<'_, T>,
     line: &[u8],
 ) -> Result<(), AllocError>
-    requires made { IsIndex T.seen index.now }
-    requires folders { BasesAreFolders (map (entry_list_of T.seen) index.now.lists.now) }
-    ensures { OnOk result (Adds (WritesDecisions (map (entry_list_of T.seen) index.now.lists.now) index.now.case line.now) text.old.items text.new.items) }
+    requires folders { BasesAreFolders (map (entry_list_of T.seen) index.now.lists) }
+    ensures { OnOk result (Adds (WritesDecisions (map (entry_list_of T.seen) index.now.lists) index.now.case line.now) text.old.items text.new.items) }
 {
     if !plain_path(line) {
         text.push(b'!')?;
         return Ok(());
     }
     let (path, is_dir) = path_of(line);
-    let lists = index.lists;
+    let lists = index.lists();
     match decision(index, path, is_dir) {
         Some((i, m)) => append_verdict(text, i + 1, &lists[i].patterns[m]),
         None => text.extend_from_slice(b"none"),
@@ -111,15 +110,14 @@ fn decision<T: search::Pattern>(
     path: &[u8],
     is_dir: bool,
 ) -> Option<(usize, usize)>
-    requires made { IsIndex T.seen index.now }
     requires plain { IsPlainPath path.now }
-    requires folders { BasesAreFolders (map (entry_list_of T.seen) index.now.lists.now) }
-    ensures { Decides (map (entry_list_of T.seen) index.now.lists.now) path.now is_dir index.now.case result }
+    requires folders { BasesAreFolders (map (entry_list_of T.seen) index.now.lists) }
+    ensures { Decides (map (entry_list_of T.seen) index.now.lists) path.now is_dir index.now.case result }
 {
     if index.pays_for(path) {
         index.decide(path, is_dir)
     } else {
-        decide(index.lists, path, is_dir, index.case)
+        decide(index.lists(), path, is_dir, index.case())
     }
 }
 

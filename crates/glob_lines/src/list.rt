@@ -109,8 +109,7 @@ fn append_matches(
     list: &List<PlainLines>,
     line: &[u8],
 ) -> Result<(), AllocError>
-    requires made { IsIndex {V = Unit {0}} (λ _. tt) index.now }
-    requires one { index.now.lists.now ≡ list.now ∷ [] }
+    requires one { index.now.lists ≡ list.now ∷ [] }
     requires folder { ForSome (option_map vec_items list.now.base) IsFolder }
     ensures { OnOk result (Adds
         (WritesMatches (map (entry_of (λ _. tt)) list.now.patterns.items) (option_map vec_items list.now.base) index.now.case line.now)
@@ -121,13 +120,13 @@ fn append_matches(
         return Ok(());
     }
     let (path, is_dir) = path_of(line);
-    let Some((rest, position)) = rest_of(list, path, basename_start(path), index.case) else {
+    let Some((rest, position)) = rest_of(list, path, basename_start(path), index.case()) else {
         return Ok(());
     };
     if index.pays_for(path) {
         append_found(alloc, text, index, list, path, is_dir)
     } else {
-        append_numbers(text, &list.patterns, rest, position, is_dir, index.case)
+        append_numbers(text, &list.patterns, rest, position, is_dir, index.case())
     }
 }
 
@@ -140,8 +139,7 @@ fn append_found(
     path: &[u8],
     is_dir: bool,
 ) -> Result<(), AllocError>
-    requires made { IsIndex {V = Unit {0}} (λ _. tt) index.now }
-    requires one { index.now.lists.now ≡ list.now ∷ [] }
+    requires one { index.now.lists ≡ list.now ∷ [] }
     requires plain { IsPlainPath path.now }
     requires folder { ForSome (option_map vec_items list.now.base) IsFolder }
     ensures { OnOk result (Adds

@@ -1,7 +1,7 @@
 use Rattle.std.proofs.Common.{map}
 use Rattle.gix_glob.specs.EntryLists.{entry_list_of}
-use Rattle.glob_index.specs.Chains.{IsChained, classes_of, links_of}
-use Rattle.glob_index.specs.Private.Building.{AreRowsUpTo}
+use Rattle.glob_index.specs.Private.Chains.{IsChained, classes_of, links_of}
+use Rattle.glob_index.specs.Private.Tables.{AreRowsUpTo}
 use Rattle.glob_index.proofs.index.add_list.Given as goal
 
 -- the rows of the mappings so far, chained

@@ -1,7 +1,7 @@
 -- The row is the last of its class, and is linked to what was the last before.
 use Rattle.std.proofs.Common.{List, ◌∙◌, sym, subst, arith, slice_set}
 use Rattle.glob_index.specs.declared.row.Row.{Row}
-use Rattle.glob_index.specs.Chains.{IsChained, classes_of, links_of}
+use Rattle.glob_index.specs.Private.Chains.{IsChained, classes_of, links_of}
 use Rattle.glob_index.proofs.ChainLemmas.{IsChained-push}
 use Rattle.glob_index.proofs.table.Table.push.Goals as goal
 
