@@ -153,7 +153,8 @@ impl<'a, T: search::Pattern> ListIndex<'a, T> {
         requires there { HasEntryAt (map (entry_list_of T.seen) self.now.lists) list mapping }
         ensures { IsTrue result ↔ PairAnswers (map (entry_list_of T.seen) self.now.lists) path.now is_dir self.now.case list mapping }
     {
-        let list = &self.lists[list];
+        let lists = self.lists;
+        let list = &lists[list];
         let Some((rest, start)) = rest_of(list, path, position, self.case) else {
             return false;
         };

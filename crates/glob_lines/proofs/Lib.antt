@@ -1,4 +1,3 @@
-pub mod AllLemmas
 pub mod DecidingLemmas
 pub mod DecisionsLemmas
 pub mod EntriesLemmas
@@ -6,6 +5,7 @@ pub mod FoundLemmas
 pub mod IgnoreLemmas
 pub mod LabelLemmas
 pub mod LinesLemmas
+pub mod ListLemmas
 pub mod MappingsLemmas
 pub mod NumbersLemmas
 pub mod PathsLemmas

@@ -8,11 +8,10 @@ use Rattle.std.proofs.lemmas.Bool.Decides.{eqb_tells}
 use Rattle.std.proofs.lemmas.List.{nil_from_length, same_from_push, take_more}
 use Rattle.std.proofs.lemmas.List.Folds.{concat-append}
 use Rattle.std.proofs.lemmas.Slice.Eq.{bytes_eq-Decides}
-use Rattle.std.proofs.Paths.Components.{push_not-nil}
 use Rattle.gix_glob.specs.Bytes.{backslash}
 use Rattle.glob_lines.specs.Ignore.{Trims, units_before_spaces, space, text_before_spaces, units_of}
 use Rattle.glob_lines.specs.Private.Trimming.{StandsBefore, is_open}
-use Rattle.glob_lines.proofs.AllLemmas.{AllByRecursion-append_parts}
+use Rattle.glob_lines.proofs.ListLemmas.{AllByRecursion-append_parts, push_not-nil}
 
 -- ---- the last unit that is kept
 

@@ -120,13 +120,14 @@ fn append_matches(
         return Ok(());
     }
     let (path, is_dir) = path_of(line);
-    let Some((rest, position)) = rest_of(list, path, basename_start(path), index.case()) else {
+    let case = index.case();
+    let Some((rest, position)) = rest_of(list, path, basename_start(path), case) else {
         return Ok(());
     };
     if index.pays_for(path) {
         append_found(alloc, text, index, list, path, is_dir)
     } else {
-        append_numbers(text, &list.patterns, rest, position, is_dir, index.case())
+        append_numbers(text, &list.patterns, rest, position, is_dir, case)
     }
 }
 

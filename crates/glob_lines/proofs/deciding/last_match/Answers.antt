@@ -33,7 +33,7 @@ loop-m-preserved g c =
     let is = rw c.as_slice-mappings.ensures.value at c.index-mappings-m.is in
     let there = slice_get-map_at (entry_of g.T.Pattern.seen) c.args.list.now.patterns.items at c.index-mappings-m.result within is in
     let told = rw (← c.index-mappings-m.is) at c.matches_repo_relative_path.ensures in
-    let refused = λ (h : AnswersUnder (option_map vec_items c.args.list.now.base) (entry_of g.T.Pattern.seen c.index-mappings-m.result) c.args.path.now c.args.is_dir c.args.case).
+    let refused : ¬ AnswersUnder (option_map vec_items c.args.list.now.base) (entry_of g.T.Pattern.seen c.index-mappings-m.result) c.args.path.now c.args.is_dir c.args.case = λ h.
     let answered : c.matches_repo_relative_path.result ≡ true =
     told.1
     (AnswersUnder-only list.base c.args.path.now c.args.is_dir c.args.case (entry_of g.T.Pattern.seen c.index-mappings-m.result) c.in_ok-rest.rest.now c.in_ok-rest.position

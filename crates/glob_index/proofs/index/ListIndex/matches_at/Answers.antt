@@ -15,16 +15,17 @@ use Rattle.glob_index.specs.Private.Tables.{HasEntryAt}
 use Rattle.glob_index.proofs.IndexLemmas.{from_value, to_value}
 use Rattle.glob_index.proofs.index.ListIndex.matches_at.Goals as goal
 
-pub bounds-self-inside-list : goal.bounds-self-inside-list
-bounds-self-inside-list g c =
+pub bounds-lists-list : goal.bounds-lists-list
+bounds-lists-list g c =
     let has = from_value g.T.Pattern.seen _ _ c.self.view_is (λ lists _. HasEntryAt lists c.args.list c.args.mapping) c.requires.there in
     slice_get-map_within (entry_list_of g.T.Pattern.seen) c.self.inside.lists.now c.args.list has.1.list has.1.there
 
-pub offset_bounds-self-inside-list : goal.offset_bounds-self-inside-list
-offset_bounds-self-inside-list g c =
-    let has = from_value g.T.Pattern.seen _ _ c.self.view_is (λ lists _. HasEntryAt lists c.args.list c.args.mapping) c.requires.there in
-    let within : c.args.list < length c.self.inside.lists.now =
-    slice_get-map_within (entry_list_of g.T.Pattern.seen) c.self.inside.lists.now c.args.list has.1.list has.1.there in
+pub offset_bounds-lists-list : goal.offset_bounds-lists-list
+offset_bounds-lists-list g c =
+    let fields = c.self in
+    let has = from_value g.T.Pattern.seen _ _ fields.view_is (λ lists _. HasEntryAt lists c.args.list c.args.mapping) c.requires.there in
+    let within : c.args.list < length fields.inside.lists.now =
+    slice_get-map_within (entry_list_of g.T.Pattern.seen) fields.inside.lists.now c.args.list has.1.list has.1.there in
     search rules
 
 pub rest_of-requires-clause-folder : goal.rest_of-requires-clause-folder
@@ -32,8 +33,8 @@ rest_of-requires-clause-folder g c =
     let has = from_value g.T.Pattern.seen _ _ c.self.view_is (λ lists _. HasEntryAt lists c.args.list c.args.mapping) c.requires.there in
     let there = has.1 in
     let within = slice_get-map_within (entry_list_of g.T.Pattern.seen) c.self.inside.lists.now c.args.list there.list there.there in
-    let held = get_or c.self.inside.lists.now c.args.list c.index-self-inside-list.result in
-    let is = get_or_default c.self.inside.lists.now c.args.list c.index-self-inside-list.result held within in
+    let held = c.index-lists-list.result in
+    let is = c.index-lists-list.is in
     All-map_at (entry_list_of g.T.Pattern.seen) HasFolder c.self.inside.lists.now c.args.list held (from_value g.T.Pattern.seen _ _ c.self.view_is (λ lists _. BasesAreFolders lists) c.requires.folders) within is
 
 pub returns-in_default : goal.returns-in_default
@@ -41,8 +42,8 @@ returns-in_default g c =
     let has = from_value g.T.Pattern.seen _ _ c.self.view_is (λ lists _. HasEntryAt lists c.args.list c.args.mapping) c.requires.there in
     let there = has.1 in
     let within = slice_get-map_within (entry_list_of g.T.Pattern.seen) c.self.inside.lists.now c.args.list there.list there.there in
-    let held = get_or c.self.inside.lists.now c.args.list c.index-self-inside-list.result in
-    let is = get_or_default c.self.inside.lists.now c.args.list c.index-self-inside-list.result held within in
+    let held = c.index-lists-list.result in
+    let is = c.index-lists-list.is in
     let nothing : NothingLeft c.self.inside.case (option_map vec_items held.base) c.args.path.now = rw c.in_default.is at c.rest_of.ensures in
     to_value g.T.Pattern.seen _ _ c.self.view_is (λ lists case. IsTrue false ↔ PairAnswers lists c.args.path.now c.args.is_dir case c.args.list c.args.mapping) (
       λ no. absurd (false≢true no),
@@ -56,8 +57,8 @@ index-requires g c =
     let has = from_value g.T.Pattern.seen _ _ c.self.view_is (λ lists _. HasEntryAt lists c.args.list c.args.mapping) c.requires.there in
     let there = has.1 in
     let within = slice_get-map_within (entry_list_of g.T.Pattern.seen) c.self.inside.lists.now c.args.list there.list there.there in
-    let held = get_or c.self.inside.lists.now c.args.list c.index-self-inside-list.result in
-    let is = get_or_default c.self.inside.lists.now c.args.list c.index-self-inside-list.result held within in
+    let held = c.index-lists-list.result in
+    let is = c.index-lists-list.is in
     let same : there.list ≡ entry_list_of g.T.Pattern.seen held =
     same_Some _ _ (sym there.there ∙ slice_get-map_at (entry_list_of g.T.Pattern.seen) c.self.inside.lists.now c.args.list held within is) in
     let inside : c.args.mapping < length held.patterns.items =
@@ -71,8 +72,8 @@ returns g c =
     let there = has.1 in
     let lists = map (entry_list_of g.T.Pattern.seen) c.self.inside.lists.now in
     let within = slice_get-map_within (entry_list_of g.T.Pattern.seen) c.self.inside.lists.now c.args.list there.list there.there in
-    let held = get_or c.self.inside.lists.now c.args.list c.index-self-inside-list.result in
-    let is = get_or_default c.self.inside.lists.now c.args.list c.index-self-inside-list.result held within in
+    let held = c.index-lists-list.result in
+    let is = c.index-lists-list.is in
     let list = entry_list_of g.T.Pattern.seen held in
     let entry = entry_of g.T.Pattern.seen c.index.result.now in
     let at = slice_get-map_at (entry_list_of g.T.Pattern.seen) c.self.inside.lists.now c.args.list held within is in
