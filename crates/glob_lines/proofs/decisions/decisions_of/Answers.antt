@@ -2,7 +2,6 @@
 use Rattle.std.proofs.Common.{◌≡◌, ◌++◌, ◌∷◌, [], ap, map, subst, sym, ◌∙◌, append_assoc}
 use Rattle.gix_glob.specs.Deciding.{BasesAreFolders}
 use Rattle.gix_glob.specs.EntryLists.{entry_list_of}
-use Rattle.glob_index.specs.Index.{IndexedLists}
 use Rattle.glob_lines.specs.Lines.{lines_of}
 use Rattle.glob_lines.proofs.LinesLemmas.{IsWrittenUpTo-all, IsWrittenUpTo-more, IsWrittenUpTo-none, Lines-lines_of}
 use Rattle.glob_lines.proofs.decisions.decisions_of.Goals as goal
@@ -15,9 +14,7 @@ loop-line-init g c =
 pub loop-line-preserved : goal.loop-line-preserved
 loop-line-preserved g c =
     let adds = c.in_ok-append_decision.ensures in
-    let lists_are : c.index.inside.lists.now ≡ c.args.lists.now = ap (λ (index : IndexedLists _ _). index.lists) c.index.view_is ∙ c.in_ok-index.ensures.0 in
-    let case_is : c.index.inside.case ≡ c.args.case = ap (λ (index : IndexedLists _ _). index.case) c.index.view_is ∙ c.in_ok-index.ensures.1 in
-    IsWrittenUpTo-more _ _ _ _ _ _ _ adds.added c.loop-line.invariant c.in-Some.ensures.steps (rw (lists_are, case_is) at adds.allowed)
+    IsWrittenUpTo-more _ _ _ _ _ _ _ adds.added c.loop-line.invariant c.in-Some.ensures.steps (rw (c.in_ok-index.ensures.0, c.in_ok-index.ensures.1) at adds.allowed)
     (c.in_ok-push.ensures.items ∙ ap (λ l. l ++ 10 ∷ []) adds.grown ∙ append_assoc c.loop-line.text.items adds.added (10 ∷ []))
 
 pub returns : goal.returns
@@ -28,6 +25,6 @@ returns g c = record {
 }
 
 pub append_decision-requires : goal.append_decision-requires
-append_decision-requires g c =
-    let lists_are : c.index.inside.lists.now ≡ c.args.lists.now = ap (λ (index : IndexedLists _ _). index.lists) c.index.view_is ∙ c.in_ok-index.ensures.0 in
-    subst (λ lists. BasesAreFolders (map (entry_list_of g.T.Pattern.seen) lists)) (sym lists_are) c.requires
+append_decision-requires g c = record {
+  folders = subst (λ lists. BasesAreFolders (map (entry_list_of g.T.Pattern.seen) lists)) (sym c.in_ok-index.ensures.0) c.requires;
+}

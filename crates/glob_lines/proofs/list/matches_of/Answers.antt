@@ -1,14 +1,12 @@
 -- What is written for a path line, and its line feed, is the next line of the text.
-use Rattle.std.proofs.Common.{◌≡◌, ◌++◌, ◌∷◌, [], ap, ◌∙◌, append_assoc}
-use Rattle.glob_index.specs.Index.{IndexedLists}
+use Rattle.std.proofs.Common.{◌++◌, ◌∷◌, [], ap, ◌∙◌, append_assoc}
 use Rattle.glob_lines.proofs.LinesLemmas.{IsWrittenUpTo-all, IsWrittenUpTo-more, Lines-lines_of}
 use Rattle.glob_lines.proofs.list.matches_of.Goals as goal
 
 pub loop-line-preserved : goal.loop-line-preserved
 loop-line-preserved c =
     let adds = c.in_ok-append_matches.ensures in
-    let case_is : c.index.inside.case ≡ c.args.case = ap (λ (index : IndexedLists _ _). index.case) c.index.view_is ∙ c.in_ok-index.ensures.1 in
-    IsWrittenUpTo-more _ _ _ _ _ _ _ adds.added c.loop-line.invariant c.in-Some.ensures.steps (rw case_is at adds.allowed)
+    IsWrittenUpTo-more _ _ _ _ _ _ _ adds.added c.loop-line.invariant c.in-Some.ensures.steps (rw c.in_ok-index.ensures.1 at adds.allowed)
     (c.in_ok-push.ensures.items ∙ ap (λ l. l ++ 10 ∷ []) adds.grown ∙ append_assoc c.loop-line.text.items adds.added (10 ∷ []))
 
 pub returns : goal.returns
@@ -19,5 +17,4 @@ returns c = record {
 }
 
 pub append_matches-requires-clause-one : goal.append_matches-requires-clause-one
-append_matches-requires-clause-one c =
-    ap (λ (index : IndexedLists _ _). index.lists) c.index.view_is ∙ c.in_ok-index.ensures.0 ∙ c.from_ref.ensures.value
+append_matches-requires-clause-one c = c.in_ok-index.ensures.0 ∙ c.from_ref.ensures.value
