@@ -1,6 +1,7 @@
 -- The base of a source by the parts that lie below the root.
 use Rattle.std.proofs.Common.{◌≡◌, ◌≢◌, ℕ, ◌-◌, ◌≤◌, List, [], ◌∷◌, ◌++◌, length, Option, Some, None, ◌⊎◌, inl, inr, refl, sym, ap, ◌∙◌, subst, arith, length-append, append_assoc, append-nil, codes, Bool, true, false, if◌then◌else◌, Result, IfOk, option_map, Vec, Global}
 use Rattle.std.specs.Vec.{vec_items}
+use Rattle.std.proofs.lemmas.List.{nil_from_length}
 use Rattle.std.proofs.lemmas.Result.{IfOk-weaker}
 use Rattle.std.proofs.lemmas.Slice.Eq.{bytes_eq-Decides}
 use Rattle.gix_glob.specs.Paths.{parts, without_last, folder, folders, LiesBetween, Base}
@@ -27,19 +28,15 @@ without_last-append [] p ps = refl
 without_last-append (f ∷ []) p ps = refl
 without_last-append (f ∷ g ∷ front) p ps = ap (λ qs. f ∷ qs) (without_last-append (g ∷ front) p ps)
 
-empty-of_length : (ps : List (List ℕ)) → length ps ≤ 0 → ps ≡ []
-empty-of_length [] none = refl
-empty-of_length (p ∷ ps) none = absurd (omega arith)
-
 -- nothing lies between a root and what has at most one part more
-none-between : (source root : List ℕ) (below between : List (List ℕ)) → parts source ≡ parts root ++ below → length below ≤ 1 → LiesBetween source root between → between ≡ []
-none-between source root below between joined short lies =
-    empty-of_length between (omega (arith, ap length joined, ap length lies.joined, length-without_last (parts source), length-append (parts root) below, length-append (parts root) between))
+none_between : (source root : List ℕ) (below between : List (List ℕ)) → parts source ≡ parts root ++ below → length below ≤ 1 → LiesBetween source root between → between ≡ []
+none_between source root below between joined short lies =
+    nil_from_length between (omega (arith, ap length joined, ap length lies.joined, length-without_last (parts source), length-append (parts root) below, length-append (parts root) between))
 
 -- the base of a source whose parts begin with those of the root
 pub Base-below : (source root : List ℕ) (below : List (List ℕ)) → parts source ≡ parts root ++ below → Base source (Some root) (base_below below)
-Base-below source root [] joined = λ between lies. none-between source root [] between joined (omega arith) lies
-Base-below source root (file ∷ []) joined = λ between lies. none-between source root (file ∷ []) between joined (omega arith) lies
+Base-below source root [] joined = λ between lies. none_between source root [] between joined (omega arith) lies
+Base-below source root (file ∷ []) joined = λ between lies. none_between source root (file ∷ []) between joined (omega arith) lies
 Base-below source root (part ∷ next ∷ more) joined = record {
   between = without_last (part ∷ next ∷ more);
   lies = record { joined = ap without_last joined ∙ without_last-append (parts root) part (next ∷ more) };
@@ -50,31 +47,31 @@ Base-below source root (part ∷ next ∷ more) joined = record {
 -- there is no base where they do not
 pub Base-aside : (source root : List ℕ) → ((below : List (List ℕ)) → parts source ≢ parts root ++ below) → Base source (Some root) None
 Base-aside source root aside between lies = elim (last_cases (parts source)) [
-  | inl empty ↦ empty-of_length between (omega (arith, ap length lies.joined, ap length empty, length-without_last (parts source), length-append (parts root) between))
+  | inl empty ↦ nil_from_length between (omega (arith, ap length lies.joined, ap length empty, length-without_last (parts source), length-append (parts root) between))
   | inr end ↦ absurd (aside (between ++ end.0 ∷ []) (end.1 ∙ (ap (λ ps. ps ++ end.0 ∷ []) lies.joined ∙ append_assoc (parts root) between (end.0 ∷ []))))
 ]
 
 -- the same, as a call answers it
-pub Base-answered : {E : Type 0} (source root : List ℕ) (below : List (List ℕ)) (answer : Result (Option (Vec ℕ Global)) E) → parts source ≡ parts root ++ below → IfOk answer (λ base. option_map vec_items base ≡ base_below below) → IfOk answer (λ base. Base source (Some root) (option_map vec_items base))
-Base-answered source root below answer joined answered =
+pub Base-of_answer : {E : Type 0} (source root : List ℕ) (below : List (List ℕ)) (answer : Result (Option (Vec ℕ Global)) E) → parts source ≡ parts root ++ below → IfOk answer (λ base. option_map vec_items base ≡ base_below below) → IfOk answer (λ base. Base source (Some root) (option_map vec_items base))
+Base-of_answer source root below answer joined answered =
     IfOk-weaker answer _ _ (λ base is. subst (Base source (Some root)) (sym is) (Base-below source root below joined)) answered
 
 -- each text of folders ends in a slash, where there is one
-folder-cases : (part : List ℕ) (b : Bool) → (b ≡ true → part ≡ codes "/") → EndsInSlash (if b then part else part ++ codes "/")
-folder-cases part true same = record { front = []; joined = same refl }
-folder-cases part false same = record { front = part; joined = refl }
+folder_cases : (part : List ℕ) (b : Bool) → (b ≡ true → part ≡ codes "/") → EndsInSlash (if b then part else part ++ codes "/")
+folder_cases part true same = record { front = []; joined = same refl }
+folder_cases part false same = record { front = part; joined = refl }
 
-folder-ends : (part : List ℕ) → EndsInSlash (folder part)
-folder-ends part = folder-cases part (bytes_eq part (codes "/")) (bytes_eq-Decides part (codes "/")).0
+folder_ends : (part : List ℕ) → EndsInSlash (folder part)
+folder_ends part = folder_cases part (bytes_eq part (codes "/")) (bytes_eq-Decides part (codes "/")).0
 
-folders-end : (part : List ℕ) (more : List (List ℕ)) → EndsInSlash (folders (part ∷ more))
-folders-end part [] = let end = folder-ends part in record { front = end.front; joined = append-nil (folder part) ∙ end.joined }
-folders-end part (next ∷ more) = let end = folders-end next more in record { front = folder part ++ end.front; joined = ap (λ text. folder part ++ text) end.joined ∙ sym (append_assoc (folder part) end.front (codes "/")) }
+folders_end : (part : List ℕ) (more : List (List ℕ)) → EndsInSlash (folders (part ∷ more))
+folders_end part [] = let end = folder_ends part in record { front = end.front; joined = append-nil (folder part) ∙ end.joined }
+folders_end part (next ∷ more) = let end = folders_end next more in record { front = folder part ++ end.front; joined = ap (λ text. folder part ++ text) end.joined ∙ sym (append_assoc (folder part) end.front (codes "/")) }
 
-some-folders-end : (between : List (List ℕ)) → between ≢ [] → EndsInSlash (folders between)
-some-folders-end [] some = absurd (some refl)
-some-folders-end (part ∷ more) some = folders-end part more
+some_folders_end : (between : List (List ℕ)) → between ≢ [] → EndsInSlash (folders between)
+some_folders_end [] some = absurd (some refl)
+some_folders_end (part ∷ more) some = folders_end part more
 
-pub base-ends : (source : List ℕ) (root : Option (List ℕ)) (base : List ℕ) → Base source root (Some base) → EndsInSlash base
-base-ends source None base none = absurd (cc)
-base-ends source (Some root) base has = subst EndsInSlash (sym has.shown) (some-folders-end has.between has.some)
+pub base_ends : (source : List ℕ) (root : Option (List ℕ)) (base : List ℕ) → Base source root (Some base) → EndsInSlash base
+base_ends source None base none = absurd (cc)
+base_ends source (Some root) base has = subst EndsInSlash (sym has.shown) (some_folders_end has.between has.some)

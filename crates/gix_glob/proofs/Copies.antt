@@ -1,6 +1,7 @@
 -- Copies that are equal.
-use Rattle.std.proofs.Common.{◌≡◌, ℕ, ◌+◌, ◌<◌, ◌==◌, Bool, true, false, ◌&&◌, List, [], ◌∷◌, ◌++◌, length, take, get_or, refl, sym, ap, ◌∙◌, add-one}
+use Rattle.std.proofs.Common.{◌≡◌, ℕ, ◌+◌, ◌<◌, ◌==◌, Bool, true, ◌&&◌, List, [], ◌∷◌, ◌++◌, length, take, get_or, refl, sym, ap, ◌∙◌, add-one}
 use Rattle.std.proofs.Math.Seq.{take-suc}
+use Rattle.std.proofs.lemmas.Bool.{and_from, and_parts}
 use Rattle.std.specs.Cmp.Lexicographic.{pointwise}
 use Rattle.gix_glob.specs.declared.search.pattern.mapping.Mapping.{Mapping}
 use Rattle.glob_patterns.specs.contracts.pattern.PatternPartialEq.TheImpl.{ghosts as patterns}
@@ -9,29 +10,17 @@ use Rattle.glob_patterns.specs.contracts.pattern.PatternPartialEq.TheImpl.{ghost
 abbrev pub equal_mappings : {V : Type 0} → (V → V → Bool) → Mapping V → Mapping V → Bool
 equal_mappings eq a b = patterns.eq a.pattern b.pattern && (eq a.value b.value && (a.sequence_number == b.sequence_number))
 
-both : (a b : Bool) → a ≡ true → b ≡ true → a && b ≡ true
-both true b p q = q
-both false b p q = absurd (cc)
-
-first : (a b : Bool) → a && b ≡ true → a ≡ true
-first true b p = refl
-first false b p = absurd (cc)
-
-second : (a b : Bool) → a && b ≡ true → b ≡ true
-second true b p = p
-second false b p = absurd (cc)
-
-pub all-three : (a b c : Bool) → a ≡ true → b ≡ true → c ≡ true → a && (b && c) ≡ true
-all-three a b c p q r = both a (b && c) p (both b c q r)
+pub all_three : (a b c : Bool) → a ≡ true → b ≡ true → c ≡ true → a && (b && c) ≡ true
+all_three a b c p q r = and_from a (b && c) p (and_from b c q r)
 
 -- lists that are equal at each place, with one more equal pair at the end
 pub pointwise-push : {A : Type 0} (E : A → A → Bool) (xs ys : List A) (x y : A) → pointwise E xs ys ≡ true → E x y ≡ true → pointwise E (xs ++ x ∷ []) (ys ++ y ∷ []) ≡ true
-pointwise-push E [] [] x y same equal = both (E x y) true equal refl
+pointwise-push E [] [] x y same equal = and_from (E x y) true equal refl
 pointwise-push E [] (b ∷ bs) x y same equal = absurd (cc)
 pointwise-push E (a ∷ rest) [] x y same equal = absurd (cc)
 pointwise-push E (a ∷ rest) (b ∷ bs) x y same equal =
-    both (E a b) (pointwise E (rest ++ x ∷ []) (bs ++ y ∷ [])) (first (E a b) (pointwise E rest bs) same)
-    (pointwise-push E rest bs x y (second (E a b) (pointwise E rest bs) same) equal)
+    and_from (E a b) (pointwise E (rest ++ x ∷ []) (bs ++ y ∷ [])) (and_parts (E a b) (pointwise E rest bs) same).0
+    (pointwise-push E rest bs x y (and_parts (E a b) (pointwise E rest bs) same).1 equal)
 
 -- the same along a list
 pub pointwise-next : {A : Type 0} (E : A → A → Bool) (xs ys : List A) (i : ℕ) (x y : A) → i < length xs → x ≡ get_or xs i x → pointwise E (take i xs) ys ≡ true → E x y ≡ true → pointwise E (take (i + 1) xs) (ys ++ y ∷ []) ≡ true

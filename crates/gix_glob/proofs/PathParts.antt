@@ -9,37 +9,37 @@ use Rattle.glob_matcher.specs.Bytes.{slash}
 use Rattle.gix_glob.specs.Paths.{pieces, named_parts, later_pieces, front_part, parts}
 
 -- a text without a slash is its own one piece, and nothing follows it
-whole-piece : (text : List ℕ) → length text ≤ position_or_len (λ b. b == slash) text → pieces text ≡ before_first (λ b. b == slash) text ∷ []
-whole-piece text none =
+whole_piece : (text : List ℕ) → length text ≤ position_or_len (λ b. b == slash) text → pieces text ≡ before_first (λ b. b == slash) text ∷ []
+whole_piece text none =
     slice_split_none (λ b. b == slash) text (λ k d inside. fails_before_first (λ b. b == slash) text k d (omega arith))
     ∙ ap (λ piece. piece ∷ []) (sym (take_all (position_or_len (λ b. b == slash) text) text none))
 
-nothing-after : (text : List ℕ) → length text ≤ position_or_len (λ b. b == slash) text → after_first (λ b. b == slash) text ≡ []
-nothing-after text none = drop_of_length-le text (omega arith)
+nothing_after : (text : List ℕ) → length text ≤ position_or_len (λ b. b == slash) text → after_first (λ b. b == slash) text ≡ []
+nothing_after text none = drop_of_length-le text (omega arith)
 
 -- the first piece and the named ones of what follows
 pub named_parts-pieces : (text : List ℕ) → named_parts (pieces text) ≡ named_parts (before_first (λ b. b == slash) text ∷ pieces (after_first (λ b. b == slash) text))
 named_parts-pieces text = elim (cases_lt (position_or_len (λ b. b == slash) text) (length text)) [
   | inl found ↦ ap named_parts (slice_split_first (λ b. b == slash) text 0 found)
-  | inr none ↦ rw (whole-piece text none, nothing-after text none)
+  | inr none ↦ rw (whole_piece text none, nothing_after text none)
 ]
 
 -- a first piece that is not empty is a part
-front-piece : (piece : List ℕ) (more : List (List ℕ)) → 0 < length piece → front_part (piece ∷ more) ++ named_parts (later_pieces (piece ∷ more)) ≡ piece ∷ named_parts more
-front-piece [] more some = absurd (omega arith)
-front-piece (b ∷ bs) more some = refl
+front_piece : (piece : List ℕ) (more : List (List ℕ)) → 0 < length piece → front_part (piece ∷ more) ++ named_parts (later_pieces (piece ∷ more)) ≡ piece ∷ named_parts more
+front_piece [] more some = absurd (omega arith)
+front_piece (b ∷ bs) more some = refl
 
-starts-later : (text : List ℕ) → 0 < length text → slice_index text 0 ≢ slash → 0 < position_or_len (λ b. b == slash) text
-starts-later [] some relative = absurd (omega arith)
-starts-later (b ∷ bs) some relative = grind arith
+starts_later : (text : List ℕ) → 0 < length text → slice_index text 0 ≢ slash → 0 < position_or_len (λ b. b == slash) text
+starts_later [] some relative = absurd (omega arith)
+starts_later (b ∷ bs) some relative = grind arith
 
 -- a text that does not begin with a slash has its first piece as a part
 pub parts-relative : (text : List ℕ) → 0 < length text → slice_index text 0 ≢ slash → parts text ≡ before_first (λ b. b == slash) text ∷ named_parts (pieces (after_first (λ b. b == slash) text))
 parts-relative text some relative =
-    let later : 0 < length (before_first (λ b. b == slash) text) = rw (length-take (position_or_len (λ b. b == slash) text) text) (omega (arith, starts-later text some relative)) in
+    let later : 0 < length (before_first (λ b. b == slash) text) = rw (length-take (position_or_len (λ b. b == slash) text) text) (omega (arith, starts_later text some relative)) in
     elim (cases_lt (position_or_len (λ b. b == slash) text) (length text)) [
-      | inl found ↦ ap (λ ps. front_part ps ++ named_parts (later_pieces ps)) (slice_split_first (λ b. b == slash) text 0 found) ∙ front-piece _ _ later
-      | inr none ↦ ap (λ ps. front_part ps ++ named_parts (later_pieces ps)) (whole-piece text none) ∙ front-piece _ _ later ∙ rw (nothing-after text none)
+      | inl found ↦ ap (λ ps. front_part ps ++ named_parts (later_pieces ps)) (slice_split_first (λ b. b == slash) text 0 found) ∙ front_piece _ _ later
+      | inr none ↦ ap (λ ps. front_part ps ++ named_parts (later_pieces ps)) (whole_piece text none) ∙ front_piece _ _ later ∙ rw (nothing_after text none)
     ]
 
 -- the same, by the text's first byte
@@ -48,9 +48,9 @@ parts-by_piece text first others is relative =
     parts-relative text (omega (arith, ap length is)) (λ slashed. relative (sym (ap (λ t. slice_index t 0) is) ∙ slashed))
 
 -- a slash at the front is a part of its own
-absolute-front : (ps : List (List ℕ)) → 0 < length ps → front_part ([] ∷ ps) ++ named_parts (later_pieces ([] ∷ ps)) ≡ codes "/" ∷ named_parts ps
-absolute-front [] some = absurd (omega arith)
-absolute-front (p ∷ ps) some = refl
+absolute_front : (ps : List (List ℕ)) → 0 < length ps → front_part ([] ∷ ps) ++ named_parts (later_pieces ([] ∷ ps)) ≡ codes "/" ∷ named_parts ps
+absolute_front [] some = absurd (omega arith)
+absolute_front (p ∷ ps) some = refl
 
 pub parts-by_slash : (text others : List ℕ) → text ≡ slash ∷ others → parts text ≡ codes "/" ∷ named_parts (pieces others)
-parts-by_slash text others is = ap parts is ∙ absolute-front (pieces others) (omega (arith, length-slice_split (λ b. b == slash) others))
+parts-by_slash text others is = ap parts is ∙ absolute_front (pieces others) (omega (arith, length-slice_split (λ b. b == slash) others))

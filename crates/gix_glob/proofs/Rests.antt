@@ -41,6 +41,6 @@ pub Rest-prefix : (base path rest : List ℕ) → bytes_eq (take (length base) p
 Rest-prefix base path rest same is =
     subst (Rest Sensitive base path) (sym is) (Rest-from_cut Sensitive base path ((bytes_eq-Decides (take (length base) path) base).0 same))
 
-pub exact-answer : (base path : List ℕ) (answer : Option (Bor (List ℕ))) → MatchOption answer (bytes_eq (take (length base) path) base ≡ false) (λ rest. (bytes_eq (take (length base) path) base ≡ true) × (rest.now ≡ drop (length base) path) × (length rest.now + length base ≡ length path)) → MatchOption answer ((rest : List ℕ) → ¬ Rest Sensitive base path rest) (λ rest. Rest Sensitive base path rest.now)
-exact-answer base path None differs = λ rest. Rest-no_prefix base path rest differs
-exact-answer base path (Some rest) is = Rest-prefix base path rest.now is.0 is.1
+pub exact_answer : (base path : List ℕ) (answer : Option (Bor (List ℕ))) → MatchOption answer (bytes_eq (take (length base) path) base ≡ false) (λ rest. (bytes_eq (take (length base) path) base ≡ true) × (rest.now ≡ drop (length base) path) × (length rest.now + length base ≡ length path)) → MatchOption answer ((rest : List ℕ) → ¬ Rest Sensitive base path rest) (λ rest. Rest Sensitive base path rest.now)
+exact_answer base path None differs = λ rest. Rest-no_prefix base path rest differs
+exact_answer base path (Some rest) is = Rest-prefix base path rest.now is.0 is.1

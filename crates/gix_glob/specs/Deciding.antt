@@ -6,7 +6,7 @@ use Rattle.glob_matcher.specs.declared.wildmatch.mode.Mode.{Mode}
 use Rattle.glob_patterns.specs.declared.pattern.case.Case.{Case}
 use Rattle.glob_patterns.specs.RepositoryPaths.{Answers, IsBasenameStart}
 use Rattle.gix_glob.specs.Lists.{Entry}
-use Rattle.gix_glob.specs.Loaded.{Listed}
+use Rattle.gix_glob.specs.EntryLists.{EntryList}
 use Rattle.gix_glob.specs.Paths.{IsFolder}
 use Rattle.gix_glob.specs.Stripping.{RestOf}
 
@@ -15,11 +15,11 @@ abbrev pub path_mode : Mode
 path_mode = record { 0 = 1 }
 
 -- the base of the list is that of a folder: it is missing, or empty, or ends in a slash
-abbrev pub HasFolder : {V : Type 0} → Listed V → Type 0
+abbrev pub HasFolder : {V : Type 0} → EntryList V → Type 0
 HasFolder list = ForSome list.base IsFolder
 
 -- so is that of each of the lists
-abbrev pub BasesAreFolders : {V : Type 0} → List (Listed V) → Type 0
+abbrev pub BasesAreFolders : {V : Type 0} → List (EntryList V) → Type 0
 BasesAreFolders lists = All HasFolder lists
 
 -- The entry answers for a path: it answers for what the base leaves of the path, and for where the last part of that begins.
@@ -31,24 +31,24 @@ pub record AnswersUnder {V : Type 0} (base : Option (List ℕ)) (entry : Entry V
   pub answers : Answers entry.text entry.mode rest position (Some is_dir) case path_mode
 
 -- the entry at place m of the list answers for a path
-pub record AnswersAt {V : Type 0} (list : Listed V) (path : List ℕ) (is_dir : Bool) (case : Case) (m : ℕ) : Type 0 where
+pub record AnswersAt {V : Type 0} (list : EntryList V) (path : List ℕ) (is_dir : Bool) (case : Case) (m : ℕ) : Type 0 where
   pub entry : Entry V
   pub there : slice_get list.entries m ≡ Some entry
   pub answers : AnswersUnder list.base entry path is_dir case
 
 -- the entry at place m of the list at place i answers for a path
-pub record PairAnswers {V : Type 0} (lists : List (Listed V)) (path : List ℕ) (is_dir : Bool) (case : Case) (i m : ℕ) : Type 0 where
-  pub list : Listed V
+pub record PairAnswers {V : Type 0} (lists : List (EntryList V)) (path : List ℕ) (is_dir : Bool) (case : Case) (i m : ℕ) : Type 0 where
+  pub list : EntryList V
   pub there : slice_get lists i ≡ Some list
   pub answers : AnswersAt list path is_dir case m
 
 -- The entry of this pair of places answers, and no later one does: none of a later list, and none that stands later in the
 -- same list.
-pub record IsLastAnswer {V : Type 0} (lists : List (Listed V)) (path : List ℕ) (is_dir : Bool) (case : Case) (pair : ℕ × ℕ) : Type 0 where
+pub record IsLastAnswer {V : Type 0} (lists : List (EntryList V)) (path : List ℕ) (is_dir : Bool) (case : Case) (pair : ℕ × ℕ) : Type 0 where
   pub answers : PairAnswers lists path is_dir case pair.0 pair.1
   pub last : (i m : ℕ) → PairAnswers lists path is_dir case i m → (i < pair.0) ⊎ ((i ≡ pair.0) × (m ≤ pair.1))
 
 -- The pair that decides about a path, where there is one: the greatest one that answers, lists first.
-abbrev pub Decides : {V : Type 0} → List (Listed V) → List ℕ → Bool → Case → Option (ℕ × ℕ) → Type 0
+abbrev pub Decides : {V : Type 0} → List (EntryList V) → List ℕ → Bool → Case → Option (ℕ × ℕ) → Type 0
 Decides lists path is_dir case pair =
     MatchOption pair ((i m : ℕ) → ¬ PairAnswers lists path is_dir case i m) (IsLastAnswer lists path is_dir case)

@@ -4,7 +4,7 @@ pub mod Paths
 pub mod Stripping
 pub mod Lists
 pub mod Orders
-pub mod Loaded
+pub mod EntryLists
 pub mod Deciding
 pub mod Private
 pub use Rattle.glob_patterns.specs.Folding

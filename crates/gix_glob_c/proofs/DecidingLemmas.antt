@@ -4,9 +4,9 @@ use Rattle.std.specs.Prelude.{slice_get}
 use Rattle.std.proofs.lemmas.Option.{same_Some, slice_get-get_or, slice_get-map, slice_get_within}
 use Rattle.gix_glob.specs.Deciding.{AnswersUnder, Decides, PairAnswers}
 use Rattle.gix_glob.specs.Lists.{Entry}
-use Rattle.gix_glob.specs.Loaded.{Listed}
+use Rattle.gix_glob.specs.EntryLists.{EntryList}
 use Rattle.gix_glob.specs.RepositoryPaths.{Answers, IsBasenameStart}
-use Rattle.gix_glob.proofs.Elements.{seen_within}
+use Rattle.gix_glob.proofs.Elements.{slice_get-map_within}
 use Rattle.gix_glob_c.specs.declared.parsed.GlobPattern.{GlobPattern}
 use Rattle.gix_glob_c.specs.Parsed.{AnswersAt, AnswersPath, IsPathOfFile, LastAnswer, entry_of_parts, list_of}
 use Rattle.gix_glob_c.specs.Parts.{case_of}
@@ -39,7 +39,7 @@ module _ (patterns : List GlobPattern) (path : List ℕ) (is_dir fold : Bool) wh
   at_entry : (m : ℕ) (entry : Entry (Unit {0})) → IsPathOfFile path → slice_get (map entry_of_parts patterns) m ≡ Some entry
       → AnswersUnder None entry path is_dir (case_of fold) → AnswersAt patterns path is_dir fold m
   at_entry m entry is there h =
-      let inside = seen_within entry_of_parts patterns m entry there in
+      let inside = slice_get-map_within entry_of_parts patterns m entry there in
       let pattern : GlobPattern = get_or patterns m blank in
       let got : slice_get patterns m ≡ Some pattern = slice_get-get_or patterns m blank inside in
       let mapped : slice_get (map entry_of_parts patterns) m ≡ Some (entry_of_parts pattern) = slice_get-map entry_of_parts patterns m ∙ ap (option_map entry_of_parts) got in
@@ -56,7 +56,7 @@ module _ (patterns : List GlobPattern) (path : List ℕ) (is_dir fold : Bool) wh
       let first : i ≡ 0 = omega arith in
       let there : Some (list_of patterns) ≡ Some h.list = subst (λ k. slice_get (list_of patterns ∷ []) k ≡ Some h.list) first h.there in
       let same : h.list ≡ list_of patterns = same_Some _ _ (sym there) in
-      let answers = subst (λ (l : Listed (Unit {0})). (entry : Entry (Unit {0})) × (slice_get l.entries m ≡ Some entry) × AnswersUnder l.base entry path is_dir (case_of fold)) same
+      let answers = subst (λ (l : EntryList (Unit {0})). (entry : Entry (Unit {0})) × (slice_get l.entries m ≡ Some entry) × AnswersUnder l.base entry path is_dir (case_of fold)) same
       (h.answers.entry, h.answers.there, h.answers.answers) in
       (first, at_entry m answers.0 is answers.1 answers.2)
 

@@ -1,3 +1,2 @@
 pub mod Bits
 mod DecidingLemmas
-mod LastLemmas

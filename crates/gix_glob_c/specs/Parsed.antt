@@ -3,7 +3,7 @@ use Rattle.std.specs.Prelude.{◌≡◌, ◌≤◌, ℕ, Bool, true, false, nat_
 use Rattle.std.specs.List.{ends_with}
 use Rattle.gix_glob.specs.declared.pattern.Mode.{Mode}
 use Rattle.gix_glob.specs.Lists.{Entry}
-use Rattle.gix_glob.specs.Loaded.{Listed}
+use Rattle.gix_glob.specs.EntryLists.{EntryList}
 use Rattle.gix_glob.specs.Patterns.{IsPattern, Reads}
 use Rattle.gix_glob.specs.RepositoryPaths.{Answers, IsBasenameStart}
 use Rattle.glob_lines.specs.PathLines.{IsPlainPath}
@@ -72,5 +72,5 @@ entry_of_parts pattern = record {
 }
 
 -- the patterns as a list without a base
-abbrev pub list_of : List GlobPattern → Listed (Unit {0})
+abbrev pub list_of : List GlobPattern → EntryList (Unit {0})
 list_of patterns = record { entries = map entry_of_parts patterns; source = None; base = None }

@@ -5,7 +5,7 @@ use Rattle.std.proofs.lemmas.Bool.{cond_both, cases_eq, cases_lt, eqb-false, or_
 use Rattle.std.proofs.lemmas.Nat.Bits.{bit_at-lt, bit_at-zero, bit_at_above, bit_at_and, bit_at_not, bit_at_ones, bit_at_set_other, bit_at_set_same, same_from_bits}
 use Rattle.gix_glob.specs.Bytes.{backslash, open_bracket}
 use Rattle.gix_glob.specs.Patterns.{IsUnescapedUpTo, is_joining}
-use Rattle.glob_index.specs.Literals.{NeedsBits, bit_of}
+use Rattle.glob_index.specs.Private.Literals.{NeedsBits, bit_of}
 use Rattle.glob_index.specs.Private.Showing.{HasAll, HoldsBits}
 
 -- the two cases of a letter have one bit
@@ -52,8 +52,8 @@ pub record IsReadUpTo (text : List ℕ) (k set : ℕ) : Type 0 where
   pub clean : (j : ℕ) → j < k → (get_or text j 0 == open_bracket || get_or text j 0 == backslash) ≡ false
   pub needs : NeedsBits text set
 
-pub read_none : (text : List ℕ) → IsReadUpTo text 0 0
-read_none text = record { clean = λ j below. absurd (omega arith); needs = λ i is. (let zero_bit = bit_at-zero i in absurd (omega arith)) }
+pub IsReadUpTo-none : (text : List ℕ) → IsReadUpTo text 0 0
+IsReadUpTo-none text = record { clean = λ j below. absurd (omega arith); needs = λ i is. (let zero_bit = bit_at-zero i in absurd (omega arith)) }
 
 clean_more : (text : List ℕ) (k set : ℕ) → (get_or text k 0 == open_bracket || get_or text k 0 == backslash) ≡ false → IsReadUpTo text k set
     → (j : ℕ) → j < k + 1 → (get_or text j 0 == open_bracket || get_or text j 0 == backslash) ≡ false
@@ -62,23 +62,23 @@ clean_more text k set opens h j below = ⊎_elim
     (λ (before : j ≡ k → ⊥). h.clean j (omega arith))
     (cases_eq j k)
 
-pub read_past : (text : List ℕ) (k set : ℕ) → (get_or text k 0 == open_bracket || get_or text k 0 == backslash) ≡ false → IsReadUpTo text k set → IsReadUpTo text (k + 1) set
-read_past text k set opens h = record { clean = clean_more text k set opens h; needs = h.needs }
+pub IsReadUpTo-past : (text : List ℕ) (k set : ℕ) → (get_or text k 0 == open_bracket || get_or text k 0 == backslash) ≡ false → IsReadUpTo text k set → IsReadUpTo text (k + 1) set
+IsReadUpTo-past text k set opens h = record { clean = clean_more text k set opens h; needs = h.needs }
 
-unescaped_up_to : (text : List ℕ) (k : ℕ) → ((j : ℕ) → j < k + 1 → (get_or text j 0 == open_bracket || get_or text j 0 == backslash) ≡ false) → IsUnescapedUpTo text k
-unescaped_up_to text k clean = record {
+IsUnescapedUpTo-clean : (text : List ℕ) (k : ℕ) → ((j : ℕ) → j < k + 1 → (get_or text j 0 == open_bracket || get_or text j 0 == backslash) ≡ false) → IsUnescapedUpTo text k
+IsUnescapedUpTo-clean text k clean = record {
   no_set = λ j below there. eqb-false _ _ (or_parts _ _ (clean j (omega arith))).0 there.is;
   no_escape = λ j below there. eqb-false _ _ (or_parts _ _ (clean j (omega arith))).1 there.is;
 }
 
-pub read_more : (text : List ℕ) (k set : ℕ) → k < length text → (get_or text k 0 == open_bracket || get_or text k 0 == backslash) ≡ false
+pub IsReadUpTo-more : (text : List ℕ) (k set : ℕ) → k < length text → (get_or text k 0 == open_bracket || get_or text k 0 == backslash) ≡ false
     → is_joining (get_or text k 0) ≡ false → IsReadUpTo text k set → IsReadUpTo text (k + 1) (with_bit set (bit_of (get_or text k 0)))
-read_more text k set inside opens plain h =
+IsReadUpTo-more text k set inside opens plain h =
     let byte : ℕ = get_or text k 0 in
     let clean = clean_more text k set opens h in record {
       clean = clean;
       needs = λ i is. ⊎_elim
-          (λ (same : i ≡ bit_of byte). (k, record { byte = byte; there = record { inside = inside; is = refl }; unescaped = unescaped_up_to text k clean; literal = plain; bit = same }))
+          (λ (same : i ≡ bit_of byte). (k, record { byte = byte; there = record { inside = inside; is = refl }; unescaped = IsUnescapedUpTo-clean text k clean; literal = plain; bit = same }))
           (λ (other : i ≡ bit_of byte → ⊥). h.needs i (sym (bit_at_set_other w64 set (bit_of byte) (small byte) i other) ∙ is))
           (cases_eq i (bit_of byte));
     }
@@ -98,15 +98,15 @@ missing_bits held needed = bit_and needed (18446744073709551615 - held)
 missing_bits_at : (held needed i : ℕ) → held < 2 ^ 64 → i < 64 → bit_at (missing_bits held needed) i ≡ min (bit_at needed i) (1 - bit_at held i)
 missing_bits_at held needed i fits inside = bit_at_and needed (bit_not w64 held) i ∙ ap (λ (b : ℕ). min (bit_at needed i) b) (bit_at_not w64 held i fits inside)
 
-pub none_missing : (held needed : ℕ) → held < 2 ^ 64 → needed < 2 ^ 64 → missing_bits held needed ≡ 0 → HasAll held needed
-none_missing held needed fits fits' none i is =
+pub HasAll-none_missing : (held needed : ℕ) → held < 2 ^ 64 → needed < 2 ^ 64 → missing_bits held needed ≡ 0 → HasAll held needed
+HasAll-none_missing held needed fits fits' none i is =
     let inside = inside_width needed i fits' is in
     let zero_bit : bit_at (missing_bits held needed) i ≡ 0 = ap (λ (n : ℕ). bit_at n i) none ∙ bit_at-zero i in
     let bit = missing_bits_at held needed i fits inside in
     let two = bit_at-lt held i in omega arith
 
-pub all_held : (held needed : ℕ) → held < 2 ^ 64 → needed < 2 ^ 64 → HasAll held needed → missing_bits held needed ≡ 0
-all_held held needed fits fits' all = same_from_bits (missing_bits held needed) 0
+pub missing_bits-HasAll : (held needed : ℕ) → held < 2 ^ 64 → needed < 2 ^ 64 → HasAll held needed → missing_bits held needed ≡ 0
+missing_bits-HasAll held needed fits fits' all = same_from_bits (missing_bits held needed) 0
     (λ i. ⊎_elim
     (λ (inside : i < 64).
     let bit = missing_bits_at held needed i fits inside in

@@ -9,15 +9,15 @@ use Rattle.std.proofs.lemmas.Option.{get_or_from_slice_get, slice_get_read, slic
 use Rattle.glob_index.specs.declared.probe.Probe.{Probe}
 use Rattle.glob_index.specs.declared.row.Row.{Row}
 use Rattle.glob_index.specs.declared.table.Walk.{Walk}
-use Rattle.glob_index.specs.Chains.{IsChained, IsLastBelow, classes_of, links_of}
-use Rattle.glob_index.specs.Rows.{always}
+use Rattle.glob_index.specs.Private.Chains.{IsChained, IsLastBelow, classes_of, links_of}
+use Rattle.glob_index.specs.Private.Rows.{always}
 use Rattle.glob_index.specs.Private.Showing.{HasBytes, HasEnd, Passes}
 use Rattle.glob_index.specs.Private.Walking.{IsAt, NonePasses}
 
 -- ---- building
 
-pub chained_none : (classes links heads : List ℕ) → classes ≡ [] → heads ≡ replicate 257 0 → IsChained classes links heads
-chained_none classes links heads none zeros =
+pub IsChained-none : (classes links heads : List ℕ) → classes ≡ [] → heads ≡ replicate 257 0 → IsChained classes links heads
+IsChained-none classes links heads none zeros =
     let short : length classes ≡ 0 = ap (λ (xs : List ℕ). length xs) none in record {
       head = λ class below.
           let first : get_or heads class 0 ≡ 0 = ap (λ (xs : List ℕ). get_or xs class 0) zeros ∙ get_or-replicate 257 class 0 0 (omega arith) in
@@ -58,9 +58,9 @@ last_of_its_own classes added =
           ap (λ (k : ℕ). get_or (classes ++ added ∷ []) k 0) place ∙ get_or-append_seam classes added [] 0);
     }
 
-pub chained_more : (classes links heads : List ℕ) (added place : ℕ) → added ≤ always → length links ≡ length classes → length heads ≡ 257 → place ≡ length classes + 1 → IsChained classes links heads
+pub IsChained-more : (classes links heads : List ℕ) (added place : ℕ) → added ≤ always → length links ≡ length classes → length heads ≡ 257 → place ≡ length classes + 1 → IsChained classes links heads
     → IsChained (classes ++ added ∷ []) (links ++ get_or heads added 0 ∷ []) (slice_set heads added place)
-chained_more classes links heads added place small same wide is h =
+IsChained-more classes links heads added place small same wide is h =
     let long : length (classes ++ added ∷ []) ≡ length classes + 1 = length-append classes (added ∷ []) in record {
       head = λ class below. ⊎_elim
           (λ (own : class ≡ added).
@@ -109,9 +109,9 @@ class_at rows m row got =
     get_or-map (λ (r : Row). r.class) rows m row 0 (slice_get_within rows m row got) ∙ ap (λ (r : Row). r.class) (get_or_from_slice_get rows m row row got)
 
 -- what lies between both chains' next places and their end doesn't pass
-pub passed_over : (rows : List Row) (probe : Probe) (end own other near to : ℕ) → IsLastBelow (classes_of rows) probe.class end own → IsLastBelow (classes_of rows) always end other
+pub NonePasses-above_chains : (rows : List Row) (probe : Probe) (end own other near to : ℕ) → IsLastBelow (classes_of rows) probe.class end own → IsLastBelow (classes_of rows) always end other
     → own ≤ near → other ≤ near → NonePasses rows probe end to → NonePasses rows probe near to
-passed_over rows probe end own other near to h h' low low' none m row from below got passes = elim (cases_lt m end) [
+NonePasses-above_chains rows probe end own other near to h h' low low' none m row from below got passes = elim (cases_lt m end) [
   | inr past ↦ none m row past below got passes
   | inl between ↦ (let class_is = class_at rows m row got in ⊎_elim
       (λ (is : row.class ≡ always). h'.others m (omega arith) between (class_is ∙ is))
@@ -120,8 +120,8 @@ passed_over rows probe end own other near to h h' low low' none m row from below
 ]
 
 -- nor does the place itself, where it was tested
-pub none_with_tested : (rows : List Row) (probe : Probe) (place to : ℕ) (row : Row) → slice_get rows place ≡ Some row → ¬ Passes row probe → NonePasses rows probe (place + 1) to → NonePasses rows probe place to
-none_with_tested rows probe place to row there fails none m other from below got passes = ⊎_elim
+pub NonePasses-place : (rows : List Row) (probe : Probe) (place to : ℕ) (row : Row) → slice_get rows place ≡ Some row → ¬ Passes row probe → NonePasses rows probe (place + 1) to → NonePasses rows probe place to
+NonePasses-place rows probe place to row there fails none m other from below got passes = ⊎_elim
     (λ (here : m ≡ place).
     let same : other ≡ row = sym (get_or_from_slice_get rows m other row got) ∙ (ap (λ (k : ℕ). get_or rows k row) here ∙ get_or_from_slice_get rows place row row there) in
     fails (subst (λ (r : Row). Passes r probe) same passes))
@@ -181,7 +181,7 @@ module _ (rows : List Row) (heads : List ℕ) (probe : Probe) (walk : Walk) (pla
 
   -- what lies between the walk's end and the place
   pub none_between : (to : ℕ) → walk.own ≤ place + 1 → walk.other ≤ place + 1 → NonePasses rows probe walk.end to → NonePasses rows probe (place + 1) to
-  none_between to low low' none = passed_over rows probe walk.end walk.own walk.other (place + 1) to at.own at.other low low' none
+  none_between to low low' none = NonePasses-above_chains rows probe walk.end walk.own walk.other (place + 1) to at.own at.other low low' none
 
   pub without_end : (to : ℕ) → place + 1 ≡ walk.own → ¬ HasEnd row probe → NonePasses rows probe (place + 1) to → NonePasses rows probe place to
   without_end to is fails none =
@@ -189,7 +189,7 @@ module _ (rows : List Row) (heads : List ℕ) (probe : Probe) (walk : Walk) (pla
       let same : walk.own - 1 ≡ place = omega arith in
       let class_is : row.class ≡ probe.class =
       sym (class_at rows place row (there (omega arith))) ∙ (ap (λ (k : ℕ). get_or (classes_of rows) k 0) (sym same) ∙ at.own.here (omega arith)) in
-      none_with_tested rows probe place to row (there (omega arith)) (λ passes. fails (passes.end (λ always_is. at.apart (sym class_is ∙ always_is)))) none
+      NonePasses-place rows probe place to row (there (omega arith)) (λ passes. fails (passes.end (λ always_is. at.apart (sym class_is ∙ always_is)))) none
 
   pub without_bytes : (to : ℕ) → place + 1 ≡ walk.other → ¬ HasBytes row probe → NonePasses rows probe (place + 1) to → NonePasses rows probe place to
   without_bytes to is fails none =
@@ -197,13 +197,13 @@ module _ (rows : List Row) (heads : List ℕ) (probe : Probe) (walk : Walk) (pla
       let same : walk.other - 1 ≡ place = omega arith in
       let class_is : row.class ≡ always =
       sym (class_at rows place row (there (omega arith))) ∙ (ap (λ (k : ℕ). get_or (classes_of rows) k 0) (sym same) ∙ at.other.here (omega arith)) in
-      none_with_tested rows probe place to row (there (omega arith)) (λ passes. fails (passes.bytes class_is)) none
+      NonePasses-place rows probe place to row (there (omega arith)) (λ passes. fails (passes.bytes class_is)) none
 
 -- one row more
-pub chained_after_push : (rows : List Row) (heads : List ℕ) (row added : Row) (class place : ℕ) → row.class ≤ always → class ≡ row.class → length heads ≡ 257 → place ≡ length rows + 1
+pub IsChained-push : (rows : List Row) (heads : List ℕ) (row added : Row) (class place : ℕ) → row.class ≤ always → class ≡ row.class → length heads ≡ 257 → place ≡ length rows + 1
     → added ≡ record row { before = get_or heads class 0 } → IsChained (classes_of rows) (links_of rows) heads
     → IsChained (classes_of (rows ++ added ∷ [])) (links_of (rows ++ added ∷ [])) (slice_set heads class place)
-chained_after_push rows heads row added class place small is wide here same h =
+IsChained-push rows heads row added class place small is wide here same h =
     let long : length (classes_of rows) ≡ length rows = length-map rows (λ (r : Row). r.class) in
     let long' : length (links_of rows) ≡ length rows = length-map rows (λ (r : Row). r.before) in
     let class_is : class ≡ added.class = is ∙ sym (ap (λ (r : Row). r.class) same) in
@@ -214,4 +214,4 @@ chained_after_push rows heads row added class place small is wide here same h =
     ap (λ (c : ℕ). links_of rows ++ c ∷ []) link_is ∙ sym (map-append (λ (r : Row). r.before) rows (added ∷ [])) in
     subst (λ (xs : List ℕ). IsChained xs (links_of (rows ++ added ∷ [])) (slice_set heads class place)) classes
     (subst (λ (xs : List ℕ). IsChained (classes_of rows ++ class ∷ []) xs (slice_set heads class place)) links
-    (chained_more (classes_of rows) (links_of rows) heads class place (omega arith) (omega arith) wide (omega arith) h))
+    (IsChained-more (classes_of rows) (links_of rows) heads class place (omega arith) (omega arith) wide (omega arith) h))

@@ -5,7 +5,7 @@ use Rattle.std.specs.Int.{bit_at}
 use Rattle.std.proofs.lemmas.Bool.{cases_eq, cases_lt}
 use Rattle.std.proofs.lemmas.List.{get_or-drop, get_or-set_other, get_or-set_same}
 use Rattle.gix_glob.specs.RepositoryPaths.{IsBasenameStart}
-use Rattle.glob_index.specs.Literals.{bit_of, end_key, from_end}
+use Rattle.glob_index.specs.Private.Literals.{bit_of, end_key, from_end}
 use Rattle.glob_index.specs.Private.Showing.{HoldsBits, HoldsNameBits, last_part}
 
 pub end_key_more : (text : List ℕ) (n key longer m : ℕ) → key ≡ end_key text n → longer ≡ ((key * 256) % (2 ^ 64) + to_ascii_lowercase (from_end text n)) % (2 ^ 64) → m ≡ n + 1 → longer ≡ end_key text m

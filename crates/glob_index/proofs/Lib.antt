@@ -1,6 +1,6 @@
-pub mod AnsweringLemmas
 pub mod BitLemmas
 pub mod ChainLemmas
+pub mod IndexLemmas
 pub mod KeyLemmas
 pub mod PrefilterLemmas
 pub mod RowLemmas

@@ -18,8 +18,8 @@ use Rattle.gix_glob.specs.RepositoryPaths.{Answers, IsBasenameStart, subject, wi
 use Rattle.gix_glob.specs.Stripping.{RestOf}
 use Rattle.glob_index.specs.declared.probe.Probe.{Probe}
 use Rattle.glob_index.specs.declared.row.Row.{Row}
-use Rattle.glob_index.specs.Literals.{EndsLiterally, NeedsBits, bit_of, end_key, from_end}
-use Rattle.glob_index.specs.Rows.{Asks, HasLiteralEnd}
+use Rattle.glob_index.specs.Private.Literals.{EndsLiterally, NeedsBits, bit_of, end_key, from_end}
+use Rattle.glob_index.specs.Private.Rows.{Asks, HasLiteralEnd}
 use Rattle.glob_index.specs.Private.Showing.{HasBytes, HasEnd, Passes, Shows}
 
 -- the two laws that the choice stands on
@@ -146,9 +146,9 @@ module _ (ends : EndsAsTheText) (bytes : HasTheBytes) (text path value : List �
   byte_of : (x : ℕ) → get_or value x 0 ≡ get_or path (at + x) 0
   byte_of x = ap (λ (xs : List ℕ). get_or xs x 0) is ∙ get_or-drop at path x 0
 
-  shown_in : (x : ℕ) → x < length value → (row.is_name ≡ true → (m : ℕ) → ¬ HasByte value m slash)
+  bit_is_shown : (x : ℕ) → x < length value → (row.is_name ≡ true → (m : ℕ) → ¬ HasByte value m slash)
       → bit_at (if row.is_name then probe.name_bytes else probe.bytes) (bit_of (get_or path (at + x) 0)) ≡ 1
-  shown_in x inside bare =
+  bit_is_shown x inside bare =
       let whole = long in
       cond_both row.is_name probe.name_bytes probe.bytes (λ (held : ℕ). bit_at held (bit_of (get_or path (at + x) 0)) ≡ 1)
       (λ name. shows.name_bytes (at + x) (omega arith)
@@ -158,14 +158,14 @@ module _ (ends : EndsAsTheText) (bytes : HasTheBytes) (text path value : List �
       bare name (m - at) (record { inside = omega arith; is = byte_of (m - at) ∙ (ap (λ (k : ℕ). get_or path k 0) place ∙ there.is) })))
       (λ other. shows.bytes (at + x) (omega arith))
 
-  all_shown : NeedsBits text row.key → (row.is_name ≡ true → (m : ℕ) → ¬ HasByte value m slash) → HasBytes row probe
-  all_shown needs bare i bit =
+  HasBytes-needed : NeedsBits text row.key → (row.is_name ≡ true → (m : ℕ) → ¬ HasByte value m slash) → HasBytes row probe
+  HasBytes-needed needs bare i bit =
       let needed = needs i bit in
       let n = needed.1 in
       let has = bytes text value mode needed.0 n.byte n.unescaped n.there n.literal s in
       let same : bit_of (get_or path (at + has.place) 0) ≡ i =
       ap (λ (b : ℕ). b % 32) (ap to_ascii_lowercase (sym (byte_of has.place)) ∙ fold_lower mode (get_or value has.place 0) n.byte has.alike) ∙ sym n.bit in
-      subst (λ (k : ℕ). bit_at (if row.is_name then probe.name_bytes else probe.bytes) k ≡ 1) same (shown_in has.place has.inside bare)
+      subst (λ (k : ℕ). bit_at (if row.is_name then probe.name_bytes else probe.bytes) k ≡ 1) same (bit_is_shown has.place has.inside bare)
 
 -- what the law of candidates says
 abbrev pub AnsweringPasses : Type 0
@@ -183,6 +183,6 @@ answering_passes ends bytes text pattern_mode base path rest position is_dir cas
     let s = answers.splits in record {
       last = λ ended. (class_and_end ends bytes text path value (with_case mode case) at row probe shows is s (asks.end ended) asks.short).0;
       end = λ ended. (class_and_end ends bytes text path value (with_case mode case) at row probe shows is s (asks.end ended) asks.short).1;
-      bytes = λ always_is. all_shown ends bytes text path value (with_case mode case) at row probe shows is s (asks.bytes always_is)
+      bytes = λ always_is. HasBytes-needed ends bytes text path value (with_case mode case) at row probe shows is s (asks.bytes always_is)
           (λ name. name_has_no_slash pattern_mode rest position (sym asks.name ∙ name) start);
     }

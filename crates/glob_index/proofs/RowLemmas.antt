@@ -10,15 +10,15 @@ use Rattle.gix_glob.specs.declared.pattern.Case.{Case}
 use Rattle.gix_glob.specs.declared.pattern.Mode as pattern
 use Rattle.gix_glob.specs.Deciding.{IsLastAnswer, PairAnswers, path_mode}
 use Rattle.gix_glob.specs.Lists.{Entry}
-use Rattle.gix_glob.specs.Loaded.{Listed}
+use Rattle.gix_glob.specs.EntryLists.{EntryList}
 use Rattle.glob_index.specs.declared.probe.Probe.{Probe}
 use Rattle.glob_index.specs.declared.row.Row.{Row}
-use Rattle.glob_index.specs.Index.{AreMatches, AreRows, ComesBefore, HasEntryAt, IsAtPlace, IsEntryAt, IsRowOf}
-use Rattle.glob_index.specs.Rows.{Asks}
-use Rattle.glob_index.specs.Private.Building.{AreRowsUpTo}
+use Rattle.glob_index.specs.Index.{AreMatches, ComesBefore}
+use Rattle.glob_index.specs.Private.Tables.{AreRows, AreRowsUpTo, HasEntryAt, IsAtPlace, IsEntryAt, IsRowOf}
+use Rattle.glob_index.specs.Private.Rows.{Asks}
 use Rattle.glob_index.specs.Private.Showing.{Passes, Shows}
 use Rattle.glob_index.specs.Private.Walking.{IsNextPair, NonePasses}
-use Rattle.glob_index.proofs.AnsweringLemmas.{pair_only}
+use Rattle.gix_glob.proofs.Answering.{AnswersAt-only, PairAnswers-only}
 use Rattle.glob_index.proofs.PrefilterLemmas.{AnsweringPasses}
 
 -- ---- the order of places
@@ -42,21 +42,21 @@ before_next_list a b j n (inr x) = inl (omega (arith, x.0))
 -- ---- elements of a list with one more, and of a list backwards
 
 module _ {X : Type 0} where
-  got_old : (xs : List X) (added : X) (k : ℕ) (x : X) → slice_get xs k ≡ Some x → slice_get (xs ++ added ∷ []) k ≡ Some x
-  got_old xs added k x got =
+  slice_get-push_old : (xs : List X) (added : X) (k : ℕ) (x : X) → slice_get xs k ≡ Some x → slice_get (xs ++ added ∷ []) k ≡ Some x
+  slice_get-push_old xs added k x got =
       let inside = slice_get_within xs k x got in
       let long : length (xs ++ added ∷ []) ≡ length xs + 1 = length-append xs (added ∷ []) in
       slice_get-get_or (xs ++ added ∷ []) k x (omega arith)
       ∙ ap Some (get_or-append xs (added ∷ []) x k inside ∙ get_or_from_slice_get xs k x x got)
 
-  got_new : (xs : List X) (added : X) → slice_get (xs ++ added ∷ []) (length xs) ≡ Some added
-  got_new xs added =
+  slice_get-push_new : (xs : List X) (added : X) → slice_get (xs ++ added ∷ []) (length xs) ≡ Some added
+  slice_get-push_new xs added =
       let long : length (xs ++ added ∷ []) ≡ length xs + 1 = length-append xs (added ∷ []) in
       slice_get-get_or (xs ++ added ∷ []) (length xs) added (omega arith) ∙ ap Some (get_or-append_seam xs added [] added)
 
   -- what is got from the longer list is the new element, or was there before
-  got_cases : (xs : List X) (added : X) (k : ℕ) (x : X) → slice_get (xs ++ added ∷ []) k ≡ Some x → (slice_get xs k ≡ Some x) ⊎ ((k ≡ length xs) × (x ≡ added))
-  got_cases xs added k x got =
+  slice_get-push_cases : (xs : List X) (added : X) (k : ℕ) (x : X) → slice_get (xs ++ added ∷ []) k ≡ Some x → (slice_get xs k ≡ Some x) ⊎ ((k ≡ length xs) × (x ≡ added))
+  slice_get-push_cases xs added k x got =
       let inside = slice_get_within (xs ++ added ∷ []) k x got in
       let long : length (xs ++ added ∷ []) ≡ length xs + 1 = length-append xs (added ∷ []) in
       let value : get_or (xs ++ added ∷ []) k x ≡ x = get_or_from_slice_get (xs ++ added ∷ []) k x x got in ⊎_elim
@@ -66,15 +66,15 @@ module _ {X : Type 0} where
       inl (slice_get-get_or xs k x old ∙ ap Some (sym (get_or-append xs (added ∷ []) x k old) ∙ value)))
       (cases_eq k (length xs))
 
-  got_backwards : (xs : List X) (k : ℕ) (x : X) → slice_get (reverse xs) k ≡ Some x → slice_get xs (length xs - 1 - k) ≡ Some x
-  got_backwards xs k x got =
+  slice_get-reverse : (xs : List X) (k : ℕ) (x : X) → slice_get (reverse xs) k ≡ Some x → slice_get xs (length xs - 1 - k) ≡ Some x
+  slice_get-reverse xs k x got =
       let inside = slice_get_within (reverse xs) k x got in
       let long = length-reverse xs in
       slice_get-get_or xs (length xs - 1 - k) x (omega arith)
       ∙ ap Some (sym (get_or-reverse xs k x (omega arith)) ∙ get_or_from_slice_get (reverse xs) k x x got)
 
-  got_forwards : (xs : List X) (k : ℕ) (x : X) → slice_get xs k ≡ Some x → slice_get (reverse xs) (length xs - 1 - k) ≡ Some x
-  got_forwards xs k x got =
+  slice_get-reverse_back : (xs : List X) (k : ℕ) (x : X) → slice_get xs k ≡ Some x → slice_get (reverse xs) (length xs - 1 - k) ≡ Some x
+  slice_get-reverse_back xs k x got =
       let inside = slice_get_within xs k x got in
       let long = length-reverse xs in
       let place : length xs - 1 - (length xs - 1 - k) ≡ k = omega arith in
@@ -83,7 +83,7 @@ module _ {X : Type 0} where
 
 -- ---- making rows
 
-module _ {V : Type 0} (lists : List (Listed V)) where
+module _ {V : Type 0} (lists : List (EntryList V)) where
   pub rows_none : (rows : List Row) → rows ≡ [] → AreRowsUpTo lists 0 0 rows
   rows_none rows none =
       let short : length rows ≡ 0 = ap (λ (xs : List Row). length xs) none in record {
@@ -98,32 +98,32 @@ module _ {V : Type 0} (lists : List (Listed V)) where
   rows_more rows added j n entry h there asks list mapping =
       let new_row : IsRowOf lists added =
       record { entry = entry; there = subst (λ (i : ℕ). IsEntryAt lists i added.mapping entry) (sym list) (subst (λ (m : ℕ). IsEntryAt lists j m entry) (sym mapping) there); asks = asks } in record {
-        each = λ k row got. elim (got_cases rows added k row got) [
+        each = λ k row got. elim (slice_get-push_cases rows added k row got) [
           | inl old ↦ h.each k row old
           | inr new ↦ subst (IsRowOf lists) (sym new.1) new_row
         ];
-        before = λ k row got. elim (got_cases rows added k row got) [
+        before = λ k row got. elim (slice_get-push_cases rows added k row got) [
           | inl old ↦ before_later row.list row.mapping j n (n + 1) (omega arith) (h.before k row old)
           | inr new ↦ inr (ap (λ (r : Row). r.list) new.1 ∙ list, (let is : row.mapping ≡ n = ap (λ (r : Row). r.mapping) new.1 ∙ mapping in omega arith))
         ];
-        rising = λ k l a b less got_a got_b. elim (got_cases rows added l b got_b) [
-          | inl old_b ↦ elim (got_cases rows added k a got_a) [
+        rising = λ k l a b less got_a got_b. elim (slice_get-push_cases rows added l b got_b) [
+          | inl old_b ↦ elim (slice_get-push_cases rows added k a got_a) [
             | inl old_a ↦ h.rising k l a b less old_a old_b
             | inr new_a ↦ (let inside = slice_get_within rows l b old_b in absurd (omega (arith, new_a.0)))
           ]
-          | inr new_b ↦ elim (got_cases rows added k a got_a) [
+          | inr new_b ↦ elim (slice_get-push_cases rows added k a got_a) [
             | inl old_a ↦ subst (λ (r : Row). ComesBefore a.list a.mapping r.list r.mapping) (sym new_b.1)
                 (subst (λ (i : ℕ). ComesBefore a.list a.mapping i added.mapping) (sym list) (subst (λ (m : ℕ). ComesBefore a.list a.mapping j m) (sym mapping) (h.before k a old_a)))
             | inr new_a ↦ absurd (omega (arith, new_a.0, new_b.0))
           ]
         ];
         all = λ i m has before. elim (before_next i m j n before) [
-          | inl old ↦ (let at = h.all i m has old in (at.0, record { row = at.1.row; there = got_old rows added at.0 at.1.row at.1.there; list = at.1.list; mapping = at.1.mapping }))
-          | inr here ↦ (length rows, record { row = added; there = got_new rows added; list = list ∙ sym here.0; mapping = mapping ∙ sym here.1 })
+          | inl old ↦ (let at = h.all i m has old in (at.0, record { row = at.1.row; there = slice_get-push_old rows added at.0 at.1.row at.1.there; list = at.1.list; mapping = at.1.mapping }))
+          | inr here ↦ (length rows, record { row = added; there = slice_get-push_new rows added; list = list ∙ sym here.0; mapping = mapping ∙ sym here.1 })
         ];
       }
 
-  pub rows_of_list : (rows : List Row) (j n : ℕ) (list : Listed V) → slice_get lists j ≡ Some list → length list.entries ≤ n → AreRowsUpTo lists j n rows → AreRowsUpTo lists (j + 1) 0 rows
+  pub rows_of_list : (rows : List Row) (j n : ℕ) (list : EntryList V) → slice_get lists j ≡ Some list → length list.entries ≤ n → AreRowsUpTo lists j n rows → AreRowsUpTo lists (j + 1) 0 rows
   rows_of_list rows j n list there past h = record {
     each = h.each;
     before = λ k row got. before_next_list row.list row.mapping j n (h.before k row got);
@@ -133,7 +133,7 @@ module _ {V : Type 0} (lists : List (Listed V)) where
         (λ (here : i ≡ j).
         let e = has.1 in
         let same : e.list ≡ list = same_Some e.list list (sym e.there ∙ (ap (slice_get lists) here ∙ there)) in
-        let inside : m < length list.entries = subst (λ (l : Listed V). m < length l.entries) same (slice_get_within e.list.entries m has.0 e.here) in
+        let inside : m < length list.entries = subst (λ (l : EntryList V). m < length l.entries) same (slice_get_within e.list.entries m has.0 e.here) in
         h.all i m has (inr (here, omega arith)))
         (λ (other : i ≡ j → ⊥). h.all i m has (inl (omega arith)))
         (cases_eq i j))
@@ -150,7 +150,7 @@ module _ {V : Type 0} (lists : List (Listed V)) where
 
 -- ---- walking over rows
 
-module _ {V : Type 0} (lists : List (Listed V)) (rows : List Row) (path : List ℕ) (is_dir : Bool) (case : Case) where
+module _ {V : Type 0} (lists : List (EntryList V)) (rows : List Row) (path : List ℕ) (is_dir : Bool) (case : Case) where
   -- no row from place k on answers
   abbrev pub NoneAnswers : ℕ → Type 0
   NoneAnswers k = (l : ℕ) (row : Row) → k ≤ l → slice_get rows l ≡ Some row → ¬ PairAnswers lists path is_dir case row.list row.mapping
@@ -159,14 +159,14 @@ module _ {V : Type 0} (lists : List (Listed V)) (rows : List Row) (path : List �
   abbrev pub Law : Probe → Type 0
   Law probe = (row : Row) → IsRowOf lists row → PairAnswers lists path is_dir case row.list row.mapping → Passes row probe
 
-  pub none_of_passed : (probe : Probe) (from to : ℕ) → AreRows lists rows → Law probe → NonePasses rows probe from to → NoneAnswers to → NoneAnswers from
-  none_of_passed probe from to are law none later l row low got answers = elim (cases_lt l to) [
+  pub NoneAnswers-passed : (probe : Probe) (from to : ℕ) → AreRows lists rows → Law probe → NonePasses rows probe from to → NoneAnswers to → NoneAnswers from
+  NoneAnswers-passed probe from to are law none later l row low got answers = elim (cases_lt l to) [
     | inl between ↦ none l row low between got (law row (are.each l row got) answers)
     | inr past ↦ later l row past got answers
   ]
 
-  pub none_here : (k : ℕ) (row : Row) → slice_get rows k ≡ Some row → ¬ PairAnswers lists path is_dir case row.list row.mapping → NoneAnswers (k + 1) → NoneAnswers k
-  none_here k row there not later l other low got answers = ⊎_elim
+  pub NoneAnswers-here : (k : ℕ) (row : Row) → slice_get rows k ≡ Some row → ¬ PairAnswers lists path is_dir case row.list row.mapping → NoneAnswers (k + 1) → NoneAnswers k
+  NoneAnswers-here k row there not later l other low got answers = ⊎_elim
       (λ (here : l ≡ k).
       let same : other ≡ row = same_Some other row (sym got ∙ (ap (slice_get rows) here ∙ there)) in
       not (subst (λ (r : Row). PairAnswers lists path is_dir case r.list r.mapping) same answers))
@@ -176,7 +176,7 @@ module _ {V : Type 0} (lists : List (Listed V)) (rows : List Row) (path : List �
   pub law_holds : AnsweringPasses → (probe : Probe) → Shows path probe → Law probe
   law_holds law probe shows row of answers =
       let e = of.there in
-      let under = pair_only lists path is_dir case row.list row.mapping e.list e.there of.entry e.here answers in
+      let under = AnswersAt-only e.list path is_dir case row.mapping of.entry e.here (PairAnswers-only lists path is_dir case row.list row.mapping e.list e.there answers) in
       law of.entry.text of.entry.mode e.list.base path under.rest under.position (Some is_dir) case path_mode row probe shows of.asks under.left under.basename under.answers
 
   entry_of_pair : (i m : ℕ) → PairAnswers lists path is_dir case i m → HasEntryAt lists i m
@@ -220,8 +220,8 @@ module _ {V : Type 0} (lists : List (Listed V)) (rows : List Row) (path : List �
     pub falling : (x y : ℕ) (a b : ℕ × ℕ) → x < y → slice_get found x ≡ Some a → slice_get found y ≡ Some b → ComesBefore b.0 b.1 a.0 a.1
     pub all : (l : ℕ) (row : Row) → k ≤ l → slice_get rows l ≡ Some row → PairAnswers lists path is_dir case row.list row.mapping → (x : ℕ) × (slice_get found x ≡ Some (row.list, row.mapping))
 
-  pub found_skip : (probe : Probe) (from to : ℕ) (found : List (ℕ × ℕ)) → from ≤ to → AreRows lists rows → Law probe → NonePasses rows probe from to → AreFoundFrom to found → AreFoundFrom from found
-  found_skip probe from to found low are law none h = record {
+  pub AreFoundFrom-skip : (probe : Probe) (from to : ℕ) (found : List (ℕ × ℕ)) → from ≤ to → AreRows lists rows → Law probe → NonePasses rows probe from to → AreFoundFrom to found → AreFoundFrom from found
+  AreFoundFrom-skip probe from to found low are law none h = record {
     each = h.each;
     later = λ x pair got. (let l = h.later x pair got in let past = l.1 in (l.0, omega arith, l.2));
     falling = h.falling;
@@ -231,8 +231,8 @@ module _ {V : Type 0} (lists : List (Listed V)) (rows : List Row) (path : List �
     ];
   }
 
-  pub found_not : (k : ℕ) (row : Row) (found : List (ℕ × ℕ)) → slice_get rows k ≡ Some row → ¬ PairAnswers lists path is_dir case row.list row.mapping → AreFoundFrom (k + 1) found → AreFoundFrom k found
-  found_not k row found there not h = record {
+  pub AreFoundFrom-not : (k : ℕ) (row : Row) (found : List (ℕ × ℕ)) → slice_get rows k ≡ Some row → ¬ PairAnswers lists path is_dir case row.list row.mapping → AreFoundFrom (k + 1) found → AreFoundFrom k found
+  AreFoundFrom-not k row found there not h = record {
     each = h.each;
     later = λ x pair got. (let l = h.later x pair got in let past = l.1 in (l.0, omega arith, l.2));
     falling = h.falling;
@@ -244,24 +244,24 @@ module _ {V : Type 0} (lists : List (Listed V)) (rows : List Row) (path : List �
         (cases_eq l k);
   }
 
-  pub found_here : (k : ℕ) (row : Row) (found : List (ℕ × ℕ)) → AreRows lists rows → slice_get rows k ≡ Some row → PairAnswers lists path is_dir case row.list row.mapping
+  pub AreFoundFrom-here : (k : ℕ) (row : Row) (found : List (ℕ × ℕ)) → AreRows lists rows → slice_get rows k ≡ Some row → PairAnswers lists path is_dir case row.list row.mapping
       → AreFoundFrom (k + 1) found → AreFoundFrom k (found ++ (row.list, row.mapping) ∷ [])
-  found_here k row found are there answers h =
+  AreFoundFrom-here k row found are there answers h =
       let pair : ℕ × ℕ = (row.list, row.mapping) in record {
-        each = λ x p got. elim (got_cases found pair x p got) [
+        each = λ x p got. elim (slice_get-push_cases found pair x p got) [
           | inl old ↦ h.each x p old
           | inr new ↦ subst (λ (q : ℕ × ℕ). PairAnswers lists path is_dir case q.0 q.1) (sym new.1) answers
         ];
-        later = λ x p got. elim (got_cases found pair x p got) [
+        later = λ x p got. elim (slice_get-push_cases found pair x p got) [
           | inl old ↦ (let l = h.later x p old in let past = l.1 in (l.0, omega arith, l.2))
           | inr new ↦ (k, omega arith, record { row = row; there = there; list = ap (λ (q : ℕ × ℕ). q.0) (sym new.1); mapping = ap (λ (q : ℕ × ℕ). q.1) (sym new.1) })
         ];
-        falling = λ x y a b less got_a got_b. elim (got_cases found pair y b got_b) [
-          | inl old_b ↦ elim (got_cases found pair x a got_a) [
+        falling = λ x y a b less got_a got_b. elim (slice_get-push_cases found pair y b got_b) [
+          | inl old_b ↦ elim (slice_get-push_cases found pair x a got_a) [
             | inl old_a ↦ h.falling x y a b less old_a old_b
             | inr new_a ↦ (let inside = slice_get_within found y b old_b in absurd (omega (arith, new_a.0)))
           ]
-          | inr new_b ↦ elim (got_cases found pair x a got_a) [
+          | inr new_b ↦ elim (slice_get-push_cases found pair x a got_a) [
             | inl old_a ↦ (let l = h.later x a old_a in
                 let at = l.2 in
                 let past = l.1 in
@@ -274,38 +274,38 @@ module _ {V : Type 0} (lists : List (Listed V)) (rows : List Row) (path : List �
         all = λ l other low got others_answers. ⊎_elim
             (λ (here : l ≡ k).
             let same : other ≡ row = same_Some other row (sym got ∙ (ap (slice_get rows) here ∙ there)) in
-            (length found, subst (λ (r : Row). slice_get (found ++ pair ∷ []) (length found) ≡ Some (r.list, r.mapping)) (sym same) (got_new found pair)))
-            (λ (past : l ≡ k → ⊥). (let x = h.all l other (omega arith) got others_answers in (x.0, got_old found pair x.0 (other.list, other.mapping) x.1)))
+            (length found, subst (λ (r : Row). slice_get (found ++ pair ∷ []) (length found) ≡ Some (r.list, r.mapping)) (sym same) (slice_get-push_new found pair)))
+            (λ (past : l ≡ k → ⊥). (let x = h.all l other (omega arith) got others_answers in (x.0, slice_get-push_old found pair x.0 (other.list, other.mapping) x.1)))
             (cases_eq l k);
       }
 
-  pub found_all : (found : List (ℕ × ℕ)) → AreRows lists rows → AreFoundFrom 0 found → AreMatches lists path is_dir case (reverse found)
-  found_all found are h = record {
-    each = λ x pair got. h.each (length found - 1 - x) pair (got_backwards found x pair got);
+  pub AreFoundFrom-all : (found : List (ℕ × ℕ)) → AreRows lists rows → AreFoundFrom 0 found → AreMatches lists path is_dir case (reverse found)
+  AreFoundFrom-all found are h = record {
+    each = λ x pair got. h.each (length found - 1 - x) pair (slice_get-reverse found x pair got);
     rising = λ x y a b less got_a got_b.
         let inside = slice_get_within (reverse found) y b got_b in
         let long = length-reverse found in
-        h.falling (length found - 1 - y) (length found - 1 - x) b a (omega arith) (got_backwards found y b got_b) (got_backwards found x a got_a);
+        h.falling (length found - 1 - y) (length found - 1 - x) b a (omega arith) (slice_get-reverse found y b got_b) (slice_get-reverse found x a got_a);
     all = λ i m answers.
         let k = are.all i m (entry_of_pair i m answers) in
         let at = k.1 in
         let x = h.all k.0 at.row (omega arith) at.there (row_answers i m k.0 at answers) in
         let pair : (at.row.list, at.row.mapping) ≡ (i, m) = ap (λ (a : ℕ). (a, at.row.mapping)) at.list ∙ ap (λ (b : ℕ). (i, b)) at.mapping in
-        (length found - 1 - x.0, got_forwards found x.0 (at.row.list, at.row.mapping) x.1 ∙ ap Some pair);
+        (length found - 1 - x.0, slice_get-reverse_back found x.0 (at.row.list, at.row.mapping) x.1 ∙ ap Some pair);
   }
 
 -- ---- one candidate
 
 -- a row asks for the same, whatever it is chained to
-pub asks_chained : (text : List ℕ) (mode : pattern.Mode) (row : Row) (before : ℕ) → Asks text mode row → Asks text mode (record row { before = before })
-asks_chained text mode row before a = record { short = a.short; class = a.class; end = a.end; bytes = a.bytes; name = a.name }
+pub Asks-linked : (text : List ℕ) (mode : pattern.Mode) (row : Row) (before : ℕ) → Asks text mode row → Asks text mode (record row { before = before })
+Asks-linked text mode row before a = record { short = a.short; class = a.class; end = a.end; bytes = a.bytes; name = a.name }
 
-pub entry_of_next : {V : Type 0} (lists : List (Listed V)) (rows : List Row) (probe : Probe) (place to i m : ℕ) → AreRows lists rows → IsNextPair rows probe place to (i, m) → HasEntryAt lists i m
+pub entry_of_next : {V : Type 0} (lists : List (EntryList V)) (rows : List Row) (probe : Probe) (place to i m : ℕ) → AreRows lists rows → IsNextPair rows probe place to (i, m) → HasEntryAt lists i m
 entry_of_next lists rows probe place to i m are next =
     let of = are.each place next.row next.there in
     (of.entry, subst (λ (a : ℕ). IsEntryAt lists a m of.entry) (sym next.list) (subst (λ (b : ℕ). IsEntryAt lists next.row.list b of.entry) (sym next.mapping) of.there))
 
-module _ {V : Type 0} (lists : List (Listed V)) (rows : List Row) (path : List ℕ) (is_dir : Bool) (case : Case) (probe : Probe) (place to i m : ℕ)
+module _ {V : Type 0} (lists : List (EntryList V)) (rows : List Row) (path : List ℕ) (is_dir : Bool) (case : Case) (probe : Probe) (place to i m : ℕ)
     (are : AreRows lists rows) (law : Law lists rows path is_dir case probe) (next : IsNextPair rows probe place to (i, m)) where
   of_row : PairAnswers lists path is_dir case i m → PairAnswers lists path is_dir case next.row.list next.row.mapping
   of_row answers = subst (λ (a : ℕ). PairAnswers lists path is_dir case a next.row.mapping) next.list (subst (λ (b : ℕ). PairAnswers lists path is_dir case i b) next.mapping answers)
@@ -320,21 +320,21 @@ module _ {V : Type 0} (lists : List (Listed V)) (rows : List Row) (path : List �
   pub last_answer : PairAnswers lists path is_dir case i m → NoneAnswers lists rows path is_dir case to → IsLastAnswer lists path is_dir case (i, m)
   last_answer answers later =
       subst (IsLastAnswer lists path is_dir case) pair_is
-      (decides_here lists rows path is_dir case place next.row are next.there (of_row answers) (none_of_passed lists rows path is_dir case probe (place + 1) to are law next.between later))
+      (decides_here lists rows path is_dir case place next.row are next.there (of_row answers) (NoneAnswers-passed lists rows path is_dir case probe (place + 1) to are law next.between later))
 
   pub none_answers : ¬ PairAnswers lists path is_dir case i m → NoneAnswers lists rows path is_dir case to → NoneAnswers lists rows path is_dir case place
   none_answers not later =
-      none_here lists rows path is_dir case place next.row next.there (λ answers. not (to_row answers))
-      (none_of_passed lists rows path is_dir case probe (place + 1) to are law next.between later)
+      NoneAnswers-here lists rows path is_dir case place next.row next.there (λ answers. not (to_row answers))
+      (NoneAnswers-passed lists rows path is_dir case probe (place + 1) to are law next.between later)
 
-  pub found_more : (found : List (ℕ × ℕ)) → PairAnswers lists path is_dir case i m → AreFoundFrom lists rows path is_dir case to found
+  pub AreFoundFrom-more : (found : List (ℕ × ℕ)) → PairAnswers lists path is_dir case i m → AreFoundFrom lists rows path is_dir case to found
       → AreFoundFrom lists rows path is_dir case place (found ++ (i, m) ∷ [])
-  found_more found answers h =
+  AreFoundFrom-more found answers h =
       subst (λ (pair : ℕ × ℕ). AreFoundFrom lists rows path is_dir case place (found ++ pair ∷ [])) pair_is
-      (found_here lists rows path is_dir case place next.row found are next.there (of_row answers) (found_skip lists rows path is_dir case probe (place + 1) to found (let below = next.below in omega arith) are law next.between h))
+      (AreFoundFrom-here lists rows path is_dir case place next.row found are next.there (of_row answers) (AreFoundFrom-skip lists rows path is_dir case probe (place + 1) to found (let below = next.below in omega arith) are law next.between h))
 
-  pub found_same : (found : List (ℕ × ℕ)) → ¬ PairAnswers lists path is_dir case i m → AreFoundFrom lists rows path is_dir case to found
+  pub AreFoundFrom-same : (found : List (ℕ × ℕ)) → ¬ PairAnswers lists path is_dir case i m → AreFoundFrom lists rows path is_dir case to found
       → AreFoundFrom lists rows path is_dir case place found
-  found_same found not h =
-      found_not lists rows path is_dir case place next.row found next.there (λ answers. not (to_row answers))
-      (found_skip lists rows path is_dir case probe (place + 1) to found (let below = next.below in omega arith) are law next.between h)
+  AreFoundFrom-same found not h =
+      AreFoundFrom-not lists rows path is_dir case place next.row found next.there (λ answers. not (to_row answers))
+      (AreFoundFrom-skip lists rows path is_dir case probe (place + 1) to found (let below = next.below in omega arith) are law next.between h)

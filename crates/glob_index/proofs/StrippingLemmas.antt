@@ -10,6 +10,7 @@ use Rattle.gix_glob.specs.Bytes.{EndsInSlash, HasByte, slash}
 use Rattle.gix_glob.specs.Paths.{IsFolder, IsPlainPath}
 use Rattle.gix_glob.specs.RepositoryPaths.{IsAfterLastSlash, IsBasenameStart}
 use Rattle.gix_glob.specs.Stripping.{IsPlaced, NothingLeft, Rest, RestOf, folding_by, place_after, stripped_place}
+use Rattle.gix_glob.proofs.Places.{later_byte, slash_of_lowercase}
 
 -- ---- where the last part begins
 
@@ -25,14 +26,6 @@ IsPlaced-basename law case (Some base) path position folder start =
 
 -- ---- how the rest begins
 
-HasByte-append_right : (xs ys : List ℕ) (i b : ℕ) → HasByte ys i b → HasByte (xs ++ ys) (length xs + i) b
-HasByte-append_right xs ys i b h =
-    record { inside = omega (arith, length-append xs ys, h.inside); is = get_or-append-add xs ys i 0 ∙ h.is }
-
--- a byte that is a slash once it is folded is a slash
-folded_slash : (b : ℕ) → to_ascii_lowercase b ≡ slash → b ≡ slash
-folded_slash b h = grind arith
-
 -- the last byte of a text, by that of the folded one
 one_byte : (b : ℕ) (front : List ℕ) → to_ascii_lowercase b ∷ [] ≡ front ++ slash ∷ [] → to_ascii_lowercase b ≡ slash
 one_byte b [] h = cc
@@ -46,7 +39,7 @@ past_first b c text (d ∷ more) h = (more, cc)
 last_of_folded : (text front : List ℕ) → map to_ascii_lowercase text ≡ front ++ slash ∷ [] → (before : List ℕ) × (text ≡ before ++ slash ∷ [])
 last_of_folded [] [] h = absurd (cc)
 last_of_folded [] (b ∷ front) h = absurd (cc)
-last_of_folded (b ∷ []) front h = ([], ap (λ c. c ∷ []) (folded_slash b (one_byte b front h)))
+last_of_folded (b ∷ []) front h = ([], ap (λ c. c ∷ []) (slash_of_lowercase b (one_byte b front h)))
 last_of_folded (b ∷ c ∷ text) front h =
     let past = past_first (to_ascii_lowercase b) (to_ascii_lowercase c) (map to_ascii_lowercase text) front h in
     let rest = last_of_folded (c ∷ text) past.0 past.1 in
@@ -69,7 +62,7 @@ behind_a_slash : (front path rest : List ℕ) → path ≡ (front ++ slash ∷ [
 behind_a_slash front path rest is plain here =
     let path_is : path ≡ front ++ (slash ∷ rest) = is ∙ append_assoc front (slash ∷ []) rest in
     let in_path : (i : ℕ) → HasByte (slash ∷ rest) i slash → HasByte path (length front + i) slash =
-    λ i h. subst (λ l. HasByte l (length front + i) slash) (sym path_is) (HasByte-append_right front (slash ∷ rest) i slash h) in
+    λ i h. subst (λ l. HasByte l (length front + i) slash) (sym path_is) (later_byte front (slash ∷ rest) i slash h) in
     let first : HasByte (slash ∷ rest) 0 slash = record { inside = omega arith; is = refl } in
     let second : HasByte (slash ∷ rest) 1 slash = record { inside = omega (arith, here.inside); is = here.is } in
     let next : length front + 1 ≡ length front + 0 + 1 = omega arith in

@@ -1,5 +1,2 @@
-pub mod Chains
 pub mod Index
-pub mod Literals
-pub mod Rows
 pub mod Private

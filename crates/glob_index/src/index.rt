@@ -1,12 +1,12 @@
 //! Lists of patterns with an index: which of them decides about a path.
 ghost use Rattle.std.specs.Prelude.{◌≡◌, ◌↔◌, ◌+◌, ◌<◌, IfOk, IsTrue, OnOk, length, map};
 ghost use Rattle.gix_glob.specs.Deciding.{BasesAreFolders, Decides, PairAnswers};
-ghost use Rattle.gix_glob.specs.Loaded.{listed};
+ghost use Rattle.gix_glob.specs.EntryLists.{entry_list_of};
 ghost use Rattle.gix_glob.specs.Paths.{IsPlainPath};
 ghost use Rattle.gix_glob.specs.RepositoryPaths.{IsBasenameStart};
-ghost use Rattle.glob_index.specs.Chains.{IsChained, classes_of, links_of};
-ghost use Rattle.glob_index.specs.Index.{AreMatches, HasEntryAt, IsIndex};
-ghost use Rattle.glob_index.specs.Private.Building.{AreRowsUpTo};
+ghost use Rattle.glob_index.specs.Private.Chains.{IsChained, classes_of, links_of};
+ghost use Rattle.glob_index.specs.Index.{AreMatches};
+ghost use Rattle.glob_index.specs.Private.Tables.{AreRowsUpTo, HasEntryAt};
 
 use crate::laws;
 use crate::rests::rest_of;
@@ -17,16 +17,28 @@ use gix_glob::search;
 use gix_glob::search::pattern::List;
 use gix_glob::wildmatch::Mode;
 use std::alloc::{AllocError, Global};
+use std::marker::Model;
 
 /// Lists of patterns, and an index of them by what each pattern asks of a path. It is made once, and then tests only the few
-/// patterns that can match a path.
+/// patterns that can match a path. Contracts see its lists, and whether the case of letters counts.
 #[derive(Debug, Drop)]
 pub struct ListIndex<'a, T: search::Pattern> {
-    /// The lists.
-    pub lists: &'a [List<T>],
-    /// Whether the case of letters counts.
-    pub case: Case,
+    lists: &'a [List<T>],
+    case: Case,
     table: Table,
+}
+
+impl<'a, T: search::Pattern> Model for ListIndex<'a, T> {
+    ghost use Rattle.std.specs.Prelude.{map};
+    ghost use Rattle.gix_glob.specs.EntryLists.{entry_list_of};
+    ghost use Rattle.glob_index.specs.Index.{IndexedLists};
+    ghost use Rattle.glob_index.specs.Private.Tables.{IsTableOf};
+
+    ghost Value = { IndexedLists T T.Value };
+
+    ghost view = { λ index. record { lists = index.lists.now; case = index.case } };
+
+    ghost invariant = { λ index. IsTableOf (map (entry_list_of T.seen) index.lists.now) index.table };
 }
 
 impl<'a, T: search::Pattern> ListIndex<'a, T> {
@@ -39,13 +51,27 @@ impl<'a, T: search::Pattern> ListIndex<'a, T> {
         lists: &'a [List<T>],
         case: Case,
     ) -> Result<ListIndex<'a, T>, AllocError>
-        ensures { IfOk result (λ index. (index.lists.now ≡ lists.entry.now) × (index.case ≡ case) × IsIndex T.seen index) }
+        ensures { IfOk result (λ index. (index.lists ≡ lists.entry.now) × (index.case ≡ case)) }
     {
         let mut table = Table::with_capacity(alloc, pattern_count(lists))?;
         'lists: for i in 0..lists.len() {
             add_list(&mut table, lists, i)?;
         }
         Ok(ListIndex { lists, case, table })
+    }
+
+    /// The lists that the index is of.
+    pub fn lists(&self) -> &'a [List<T>]
+        ensures { result.now ≡ self.now.lists }
+    {
+        self.lists
+    }
+
+    /// Whether the case of letters counts.
+    pub fn case(&self) -> Case
+        ensures { result ≡ self.now.case }
+    {
+        self.case
     }
 
     /// Whether the index pays for a path: few of its patterns have to be looked at. Where it doesn't, each pattern in turn
@@ -64,10 +90,9 @@ impl<'a, T: search::Pattern> ListIndex<'a, T> {
     /// The path has no leading slash, no two slashes in a row, and isn't empty; a trailing slash isn't part of it. The base of
     /// each list is missing, or empty, or ends in a slash. No memory is taken.
     pub fn decide(&self, path: &[u8], is_dir: bool) -> Option<(usize, usize)>
-        requires made { IsIndex T.seen self.now }
         requires plain { IsPlainPath path.now }
-        requires folders { BasesAreFolders (map (listed T.seen) self.now.lists.now) }
-        ensures { Decides (map (listed T.seen) self.now.lists.now) path.now is_dir self.now.case result }
+        requires folders { BasesAreFolders (map (entry_list_of T.seen) self.now.lists) }
+        ensures { Decides (map (entry_list_of T.seen) self.now.lists) path.now is_dir self.now.case result }
     {
         // a law does nothing: it is called for what it ensures
         laws::answering_patterns_pass();
@@ -94,10 +119,9 @@ impl<'a, T: search::Pattern> ListIndex<'a, T> {
         path: &[u8],
         is_dir: bool,
     ) -> Result<Vec<(usize, usize)>, AllocError>
-        requires made { IsIndex T.seen self.now }
         requires plain { IsPlainPath path.now }
-        requires folders { BasesAreFolders (map (listed T.seen) self.now.lists.now) }
-        ensures { IfOk result (λ found. AreMatches (map (listed T.seen) self.now.lists.now) path.now is_dir self.now.case found.items) }
+        requires folders { BasesAreFolders (map (entry_list_of T.seen) self.now.lists) }
+        ensures { IfOk result (λ found. AreMatches (map (entry_list_of T.seen) self.now.lists) path.now is_dir self.now.case found.items) }
     {
         // a law does nothing: it is called for what it ensures
         laws::answering_patterns_pass();
@@ -125,11 +149,12 @@ impl<'a, T: search::Pattern> ListIndex<'a, T> {
     ) -> bool
         requires plain { IsPlainPath path.now }
         requires basename { IsBasenameStart path.now position }
-        requires folders { BasesAreFolders (map (listed T.seen) self.now.lists.now) }
-        requires there { HasEntryAt (map (listed T.seen) self.now.lists.now) list mapping }
-        ensures { IsTrue result ↔ PairAnswers (map (listed T.seen) self.now.lists.now) path.now is_dir self.now.case list mapping }
+        requires folders { BasesAreFolders (map (entry_list_of T.seen) self.now.lists) }
+        requires there { HasEntryAt (map (entry_list_of T.seen) self.now.lists) list mapping }
+        ensures { IsTrue result ↔ PairAnswers (map (entry_list_of T.seen) self.now.lists) path.now is_dir self.now.case list mapping }
     {
-        let list = &self.lists[list];
+        let lists = self.lists;
+        let list = &lists[list];
         let Some((rest, start)) = rest_of(list, path, position, self.case) else {
             return false;
         };
@@ -156,9 +181,9 @@ fn add_list<T: search::Pattern>(
     i: usize,
 ) -> Result<(), AllocError>
     requires inside { i < length lists.now }
-    requires rows { AreRowsUpTo (map (listed T.seen) lists.now) i 0 table.old.rows.items }
+    requires rows { AreRowsUpTo (map (entry_list_of T.seen) lists.now) i 0 table.old.rows.items }
     requires chained { IsChained (classes_of table.old.rows.items) (links_of table.old.rows.items) table.old.heads }
-    ensures rows { OnOk result (AreRowsUpTo (map (listed T.seen) lists.now) (i + 1) 0 table.new.rows.items) }
+    ensures rows { OnOk result (AreRowsUpTo (map (entry_list_of T.seen) lists.now) (i + 1) 0 table.new.rows.items) }
     ensures chained { OnOk result (IsChained (classes_of table.new.rows.items) (links_of table.new.rows.items) table.new.heads) }
 {
     let Ok(list_place) = u32::try_from(i) else {

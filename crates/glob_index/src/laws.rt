@@ -7,7 +7,7 @@ ghost use Rattle.gix_glob.specs.RepositoryPaths.{Answers, IsBasenameStart};
 ghost use Rattle.gix_glob.specs.Stripping.{RestOf};
 ghost use Rattle.glob_index.specs.declared.probe.Probe.{Probe};
 ghost use Rattle.glob_index.specs.declared.row.Row.{Row};
-ghost use Rattle.glob_index.specs.Rows.{Asks};
+ghost use Rattle.glob_index.specs.Private.Rows.{Asks};
 ghost use Rattle.glob_index.specs.Private.Showing.{Passes, Shows};
 
 /// A pattern that answers for what a base leaves of a path asks for nothing that the path doesn't show.

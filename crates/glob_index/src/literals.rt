@@ -3,7 +3,7 @@ ghost use Rattle.std.specs.Prelude.{◌≡◌, ◌↔◌, ◌==◌, ◌||◌, �
 ghost use Rattle.std.specs.Char.{to_ascii_lowercase};
 ghost use Rattle.gix_glob.specs.Bytes.{backslash, open_bracket};
 ghost use Rattle.gix_glob.specs.Patterns.{is_joining};
-ghost use Rattle.glob_index.specs.Literals.{EndsLiterally, NeedsBits, bit_of, end_key};
+ghost use Rattle.glob_index.specs.Private.Literals.{EndsLiterally, NeedsBits, bit_of, end_key};
 ghost use Rattle.glob_index.specs.Private.Showing.{HasAll, HoldsBits};
 
 /// The longest end of a text that is looked at, in bytes.

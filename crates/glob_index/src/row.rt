@@ -2,7 +2,7 @@
 ghost use Rattle.std.specs.Prelude.{◌≡◌, ◌↔◌, ◌&&◌, not, IsTrue};
 ghost use Rattle.gix_glob.specs.PatternParts.{mode_of, text_of};
 ghost use Rattle.gix_glob.specs.Patterns.{is_absolute, is_without_sub_dir};
-ghost use Rattle.glob_index.specs.Rows.{Asks};
+ghost use Rattle.glob_index.specs.Private.Rows.{Asks};
 ghost use Rattle.glob_index.specs.Private.Showing.{HasBytes, HasEnd};
 
 use crate::literals::{end_key, has_all, literal_end, needed_bytes};

@@ -1,9 +1,9 @@
 //! Rows in order, with a chain through those of each class: a path walks down two chains, and meets only rows that can pass.
 ghost use Rattle.std.specs.Prelude.{◌≡◌, ◌+◌, ◌++◌, ◌∷◌, [], ◌<◌, ◌≤◌, IfOk, MatchOption, OnOk, length, slice_index};
-ghost use Rattle.glob_index.specs.Chains.{IsChained, classes_of, links_of};
+ghost use Rattle.glob_index.specs.Private.Chains.{IsChained, classes_of, links_of};
 ghost use Rattle.gix_glob.specs.RepositoryPaths.{IsBasenameStart};
 ghost use Rattle.glob_index.specs.declared.row.Row.{Row};
-ghost use Rattle.glob_index.specs.Rows.{always};
+ghost use Rattle.glob_index.specs.Private.Rows.{always};
 ghost use Rattle.glob_index.specs.Private.Showing.{Shows};
 ghost use Rattle.glob_index.specs.Private.Walking.{IsAt, IsNextPair, NonePasses};
 

@@ -4,14 +4,14 @@ use Rattle.std.specs.Prelude.{OnOk, codes, if◌then◌else◌, is_ok, slice_get
 use Rattle.gix_glob.specs.declared.pattern.Case.{Case}
 use Rattle.gix_glob.specs.Deciding.{Decides}
 use Rattle.gix_glob.specs.Lists.{Entry}
-use Rattle.gix_glob.specs.Loaded.{Listed}
+use Rattle.gix_glob.specs.EntryLists.{EntryList}
 use Rattle.gix_glob.specs.Paths.{IsPlainPath}
 use Rattle.glob_lines.specs.Decisions.{WritesDecisions, verdict}
 use Rattle.glob_lines.specs.PathLines.{MarksDirectory}
 use Rattle.glob_lines.specs.Private.Growing.{Adds}
 
-module _ {V : Type 0} (lists : List (Listed V)) (case : Case) (line path : List ℕ) (is_dir : Bool) (old new : List ℕ) where
-  pub writes_verdict : (i m : ℕ) (list : Listed V) (entry : Entry V) → IsPlainPath line → MarksDirectory line path is_dir → Decides lists path is_dir case (Some (i, m))
+module _ {V : Type 0} (lists : List (EntryList V)) (case : Case) (line path : List ℕ) (is_dir : Bool) (old new : List ℕ) where
+  pub writes_verdict : (i m : ℕ) (list : EntryList V) (entry : Entry V) → IsPlainPath line → MarksDirectory line path is_dir → Decides lists path is_dir case (Some (i, m))
       → slice_get lists i ≡ Some list → slice_get list.entries m ≡ Some entry → new ≡ old ++ verdict (i + 1) entry → Adds (WritesDecisions lists case line) old new
   writes_verdict i m list entry plain marked decides of_lists of_list grown = record {
     added = verdict (i + 1) entry;

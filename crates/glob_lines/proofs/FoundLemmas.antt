@@ -6,14 +6,14 @@ use Rattle.std.proofs.lemmas.List.{take_more}
 use Rattle.std.proofs.lemmas.Option.{get_or_from_slice_get, same_Some, slice_get_within}
 use Rattle.gix_glob.specs.declared.pattern.Case.{Case}
 use Rattle.gix_glob.specs.Deciding.{AnswersAt, AnswersUnder, BasesAreFolders, HasFolder}
-use Rattle.gix_glob.specs.Loaded.{Listed}
+use Rattle.gix_glob.specs.EntryLists.{EntryList}
 use Rattle.gix_glob.specs.RepositoryPaths.{IsBasenameStart}
 use Rattle.gix_glob.specs.Stripping.{RestOf}
 use Rattle.glob_index.specs.Index.{AreMatches}
 use Rattle.glob_lines.specs.Mappings.{EntryAnswers, WritesNumbers}
 use Rattle.glob_lines.specs.Numbers.{Picks}
 use Rattle.glob_lines.specs.Plain.{PlainEntry}
-use Rattle.glob_lines.specs.Private.Answering.{WritesAnswering}
+use Rattle.glob_lines.specs.Private.Answering.{WritesNumbersUnder}
 use Rattle.glob_lines.specs.Private.Growing.{Adds}
 use Rattle.gix_glob.proofs.Answering.{AnswersUnder-only, AnswersUnder-yes}
 use Rattle.glob_lines.proofs.MappingsLemmas.{IsListedUpTo, IsListedUpTo-more, IsListedUpTo-none, IsListedUpTo-skip}
@@ -46,20 +46,20 @@ take_one entries k entry there =
 
 module _ (P : PlainEntry → Type 0) (entries : List PlainEntry) (old text separator : List ℕ) where
   -- entries of which P doesn't hold are passed over
-  pub passed_over : (count from to : ℕ) → to ≡ from + count → to ≤ length entries → ((m : ℕ) (entry : PlainEntry) → from ≤ m → m < to → slice_get entries m ≡ Some entry → ¬ P entry)
+  pub IsListedUpTo-past : (count from to : ℕ) → to ≡ from + count → to ≤ length entries → ((m : ℕ) (entry : PlainEntry) → from ≤ m → m < to → slice_get entries m ≡ Some entry → ¬ P entry)
       → IsListedUpTo P (take from entries) old text separator → IsListedUpTo P (take to entries) old text separator
-  passed_over zero from to is inside none h = (let same : from ≡ to = omega arith in subst (λ n. IsListedUpTo P (take n entries) old text separator) same h)
-  passed_over (suc count) from to is inside none h =
+  IsListedUpTo-past zero from to is inside none h = (let same : from ≡ to = omega arith in subst (λ n. IsListedUpTo P (take n entries) old text separator) same h)
+  IsListedUpTo-past (suc count) from to is inside none h =
       let entry = entry_at entries (from + count) (omega arith) in
       let next : from + count + 1 ≡ to = omega arith in
       subst (λ n. IsListedUpTo P (take n entries) old text separator) next
       (IsListedUpTo-skip P (take (from + count) entries) (take (from + count + 1) entries) entry.0 old text separator
-      (passed_over count from (from + count) refl (omega arith) (λ m e low high. none m e low (omega arith)) h)
+      (IsListedUpTo-past count from (from + count) refl (omega arith) (λ m e low high. none m e low (omega arith)) h)
       (take_one entries (from + count) entry.0 entry.1) (none (from + count) entry.0 (omega arith) (omega arith) entry.1))
 
 module _ (P : PlainEntry → Type 0) (entries : List PlainEntry) (found : List (ℕ × ℕ)) (places : ArePlacesOf P entries found) (old text separator : List ℕ) where
-  pub listed_none : text ≡ old → separator ≡ [] → IsListedThrough P entries found 0 old text separator
-  listed_none same empty = record {
+  pub IsListedThrough-none : text ≡ old → separator ≡ [] → IsListedThrough P entries found 0 old text separator
+  IsListedThrough-none same empty = record {
     end = 0;
     inside = omega arith;
     listed = IsListedUpTo-none P (take 0 entries) old text separator refl same empty;
@@ -67,9 +67,9 @@ module _ (P : PlainEntry → Type 0) (entries : List PlainEntry) (found : List (
     after = λ y pair past got. omega arith;
   }
 
-  pub listed_more : (x : ℕ) (pair : ℕ × ℕ) (entry : PlainEntry) (new next : List ℕ) → slice_get found x ≡ Some pair → slice_get entries pair.1 ≡ Some entry
+  pub IsListedThrough-more : (x : ℕ) (pair : ℕ × ℕ) (entry : PlainEntry) (new next : List ℕ) → slice_get found x ≡ Some pair → slice_get entries pair.1 ≡ Some entry
       → IsListedThrough P entries found x old text separator → new ≡ (text ++ separator) ++ decimal entry.number → next ≡ 32 ∷ [] → IsListedThrough P entries found (x + 1) old new next
-  listed_more x pair entry new next got there h grown spaces =
+  IsListedThrough-more x pair entry new next got there h grown spaces =
       let within : pair.1 < length entries = slice_get_within entries pair.1 entry there in
       let low : h.end ≤ pair.1 = h.after x pair (omega arith) got in
       let answers = places.each x pair got in
@@ -79,7 +79,7 @@ module _ (P : PlainEntry → Type 0) (entries : List PlainEntry) (found : List (
         end = pair.1 + 1;
         inside = omega arith;
         listed = IsListedUpTo-more P (take pair.1 entries) (take (pair.1 + 1) entries) entry old text separator new next
-            (passed_over P entries old text separator (pair.1 - h.end) h.end pair.1 (omega arith) (omega arith)
+            (IsListedUpTo-past P entries old text separator (pair.1 - h.end) h.end pair.1 (omega arith) (omega arith)
             (λ m e from below here answered.
             let place = places.all m e here answered in
             ⊎_elim
@@ -103,10 +103,10 @@ module _ (P : PlainEntry → Type 0) (entries : List PlainEntry) (found : List (
       }
 
   -- all places were gone through: the text has the numbers of all entries of which P holds
-  pub listed_all : (x : ℕ) → length found ≤ x → IsListedThrough P entries found x old text separator → IsListedUpTo P entries old text separator
-  listed_all x past h =
+  pub IsListedThrough-all : (x : ℕ) → length found ≤ x → IsListedThrough P entries found x old text separator → IsListedUpTo P entries old text separator
+  IsListedThrough-all x past h =
       subst (λ es. IsListedUpTo P es old text separator) (take_all (length entries) entries (omega arith))
-      (passed_over P entries old text separator (length entries - h.end) h.end (length entries) (let inside = h.inside in omega arith) (omega arith)
+      (IsListedUpTo-past P entries old text separator (length entries - h.end) h.end (length entries) (let inside = h.inside in omega arith) (omega arith)
       (λ m e from below here answered.
       let place = places.all m e here answered in
       let within = slice_get_within found place.0 place.1 place.2 in
@@ -115,9 +115,9 @@ module _ (P : PlainEntry → Type 0) (entries : List PlainEntry) (found : List (
 
 -- ---- one list
 
-module _ (list : Listed (Unit {0})) (path : List ℕ) (is_dir : Bool) (case : Case) where
+module _ (list : EntryList (Unit {0})) (path : List ℕ) (is_dir : Bool) (case : Case) where
   -- a stack of one list has its entries at the place 0
-  at_zero : (i : ℕ) (other : Listed (Unit {0})) → slice_get (list ∷ []) i ≡ Some other → (i ≡ 0) × (other ≡ list)
+  at_zero : (i : ℕ) (other : EntryList (Unit {0})) → slice_get (list ∷ []) i ≡ Some other → (i ≡ 0) × (other ≡ list)
   at_zero zero other is = (refl, sym (same_Some _ _ is))
   at_zero (suc i) other is = (let within = slice_get_within (list ∷ []) (suc i) other is in absurd (omega arith))
 
@@ -143,7 +143,7 @@ module _ (list : Listed (Unit {0})) (path : List ℕ) (is_dir : Bool) (case : Ca
   }
 
   -- the same for what is a stack of this list, and for what was found
-  pub places_in : (lists : List (Listed (Unit {0}))) (items found : List (ℕ × ℕ)) → lists ≡ list ∷ [] → items ≡ found → AreMatches lists path is_dir case found
+  pub places_in : (lists : List (EntryList (Unit {0}))) (items found : List (ℕ × ℕ)) → lists ≡ list ∷ [] → items ≡ found → AreMatches lists path is_dir case found
       → ArePlacesOf (λ entry. AnswersUnder list.base entry path is_dir case) list.entries items
   places_in lists items found one same h =
       subst (λ places. ArePlacesOf (λ entry. AnswersUnder list.base entry path is_dir case) list.entries places) (sym same)
@@ -158,7 +158,7 @@ Picks-same P Q (entry ∷ entries) chosen same (inr h) = inr (λ q. h.0 ((same e
 
 -- the entries that answer for a path are those that answer for what its base leaves of it
 pub numbers_under : (entries : List PlainEntry) (base : Option (List ℕ)) (path rest : List ℕ) (position : Option ℕ) (is_dir : Bool) (case : Case) (old new : List ℕ) → RestOf case base path rest → IsBasenameStart rest position
-    → Adds (WritesAnswering entries base path is_dir case) old new → Adds (WritesNumbers entries case is_dir rest) old new
+    → Adds (WritesNumbersUnder entries base path is_dir case) old new → Adds (WritesNumbers entries case is_dir rest) old new
 numbers_under entries base path rest position is_dir case old new left basename adds = record {
   added = adds.added;
   allowed = record {

@@ -8,12 +8,13 @@ use Rattle.std.proofs.lemmas.Bool.{cases_Bool, false≢true, ne_eqb, eqb-true, e
 use Rattle.std.proofs.lemmas.List.{drop_more}
 use Rattle.memchr.specs.Find.{IsFirstByte, is_byte}
 use Rattle.glob_lines.specs.Lines.{HasNo, HasNoLineFeed, line_feed, lines_of}
-use Rattle.glob_lines.specs.Numbered.{TextAndValue}
+use Rattle.glob_lines.specs.Entries.{LineContent}
 use Rattle.glob_lines.specs.Private.Trimming.{ends_in_return, return_of}
-use Rattle.glob_lines.specs.Ignore.{BeginsWithLine, GivesTrimmed, Trims, byte_order_mark, carriage_return, is_comment, trimmed, trimmed_unless_comment, without_mark, without_returns}
+use Rattle.glob_lines.specs.Ignore.{BeginsWithLine, GivesTrimmed, Trims, byte_order_mark, carriage_return, is_comment, text_before_spaces, ignore_content, without_mark, without_returns}
+use Rattle.glob_lines.proofs.ListLemmas.{AllByRecursion-append_parts}
 use Rattle.glob_lines.proofs.LinesLemmas.{HasNo-take, last_line, lines_of-line, length-lines_of-le}
-use Rattle.glob_lines.proofs.NumberedLemmas.{Tells}
-use Rattle.glob_lines.proofs.TrimLemmas.{Trims-only, Trims-trimmed}
+use Rattle.glob_lines.proofs.EntriesLemmas.{Tells}
+use Rattle.glob_lines.proofs.TrimLemmas.{Trims-only, Trims-text_before_spaces}
 
 -- ---- carriage returns
 
@@ -66,20 +67,16 @@ last_of : (b : ℕ) (bytes : List ℕ) → HasLast (b ∷ bytes)
 last_of b [] = record { front = []; last = b; is = refl }
 last_of b (c ∷ bytes) = let h = last_of c bytes in record { front = b ∷ h.front; last = h.last; is = ap (λ l. b ∷ l) h.is }
 
-front-HasNo : (byte : ℕ) (front : List ℕ) (last : ℕ) → HasNo byte (front ++ last ∷ []) → HasNo byte front × (last ≢ byte)
-front-HasNo byte [] last h = (tt, h.0)
-front-HasNo byte (b ∷ front) last h = let more = front-HasNo byte front last h.1 in ((h.0, more.0), more.1)
-
 pub without_returns-other : (line rest : List ℕ) → HasNoLineFeed line → ((before : List ℕ) → line ≢ before ++ carriage_return ∷ []) → without_returns (line ++ line_feed ∷ rest) ≡ line ++ line_feed ∷ without_returns rest
 without_returns-other [] rest none other = refl
 without_returns-other (b ∷ bytes) rest none other =
     let h = last_of b bytes in
     let line = b ∷ bytes in
-    let parts = front-HasNo line_feed h.front h.last (subst (HasNo line_feed) h.is none) in
+    let parts = AllByRecursion-append_parts (λ b. b ≢ line_feed) h.front (h.last ∷ []) (subst (HasNo line_feed) h.is none) in
     let dark : h.last ≢ carriage_return = λ (is : h.last ≡ carriage_return). other h.front (h.is ∙ ap (λ x. h.front ++ x ∷ []) is) in
     ap (λ l. without_returns (l ++ line_feed ∷ rest)) h.is
     ∙ ap without_returns (append_assoc h.front (h.last ∷ []) (line_feed ∷ rest))
-    ∙ without_returns-last h.front h.last rest parts.0 parts.1 dark
+    ∙ without_returns-last h.front h.last rest parts.0 parts.1.0 dark
     ∙ sym (ap (λ l. l ++ line_feed ∷ without_returns rest) h.is)
 
 pub without_returns-none : (bytes : List ℕ) → HasNoLineFeed bytes → without_returns bytes ≡ bytes
@@ -103,32 +100,32 @@ IsCutAtFeed-found bytes end h =
       joined = sym (take-append-drop end bytes) ∙ ap (λ l. take end bytes ++ l) (drop_more bytes end 0 inside ∙ ap (λ c. c ∷ drop (end + 1) bytes) here);
     }
 
-pub ended_by_return : (bytes line text rest : List ℕ) → IsCutAtFeed bytes line rest → line ≡ text ++ carriage_return ∷ [] → lines_of (without_returns bytes) ≡ text ∷ lines_of (without_returns rest)
-ended_by_return bytes line text rest h is =
-    let none = front-HasNo line_feed text carriage_return (subst (HasNo line_feed) is h.none) in
+pub ignore_line-by_return : (bytes line text rest : List ℕ) → IsCutAtFeed bytes line rest → line ≡ text ++ carriage_return ∷ [] → lines_of (without_returns bytes) ≡ text ∷ lines_of (without_returns rest)
+ignore_line-by_return bytes line text rest h is =
+    let none = AllByRecursion-append_parts (λ b. b ≢ line_feed) text (carriage_return ∷ []) (subst (HasNo line_feed) is h.none) in
     ap (λ l. lines_of (without_returns l)) (h.joined ∙ ap (λ l. l ++ line_feed ∷ rest) is)
     ∙ ap lines_of (without_returns-return text rest none.0)
     ∙ lines_of-line text (without_returns rest) none.0
 
-pub ended_otherwise : (bytes line rest : List ℕ) → IsCutAtFeed bytes line rest → ((before : List ℕ) → line ≢ before ++ carriage_return ∷ []) → lines_of (without_returns bytes) ≡ line ∷ lines_of (without_returns rest)
-ended_otherwise bytes line rest h other =
+pub ignore_line-by_feed : (bytes line rest : List ℕ) → IsCutAtFeed bytes line rest → ((before : List ℕ) → line ≢ before ++ carriage_return ∷ []) → lines_of (without_returns bytes) ≡ line ∷ lines_of (without_returns rest)
+ignore_line-by_feed bytes line rest h other =
     ap (λ l. lines_of (without_returns l)) h.joined
     ∙ ap lines_of (without_returns-other line rest h.none other)
     ∙ lines_of-line line (without_returns rest) h.none
 
 -- without its carriage return, where it has one
-pub ended_line : (bytes line text rest : List ℕ) → IsCutAtFeed bytes line rest → line ≡ text ++ return_of line → lines_of (without_returns bytes) ≡ text ∷ lines_of (without_returns rest)
-ended_line bytes line text rest h parts =
+pub ignore_line-first : (bytes line text rest : List ℕ) → IsCutAtFeed bytes line rest → line ≡ text ++ return_of line → lines_of (without_returns bytes) ≡ text ∷ lines_of (without_returns rest)
+ignore_line-first bytes line text rest h parts =
     ⊎_elim
-    (λ (yes : ends_in_return line ≡ true). ended_by_return bytes line text rest h (parts ∙ ap (λ b. text ++ cond b (carriage_return ∷ []) []) yes))
+    (λ (yes : ends_in_return line ≡ true). ignore_line-by_return bytes line text rest h (parts ∙ ap (λ b. text ++ cond b (carriage_return ∷ []) []) yes))
     (λ (no : ends_in_return line ≡ false).
     let same : line ≡ text = parts ∙ ap (λ b. text ++ cond b (carriage_return ∷ []) []) no ∙ append-nil text in
     let other : (before : List ℕ) → line ≢ before ++ carriage_return ∷ [] = λ before is. false≢true (sym no ∙ (ends_is Decides-eqb line (carriage_return ∷ []) (ends_in_return line) refl).1 before is) in
-    ended_otherwise bytes line rest h other ∙ ap (λ l. l ∷ lines_of (without_returns rest)) same)
+    ignore_line-by_feed bytes line rest h other ∙ ap (λ l. l ∷ lines_of (without_returns rest)) same)
     (cases_Bool (ends_in_return line))
 
-pub not_ended : (bytes : List ℕ) → 0 < length bytes → IsFirstByte (is_byte line_feed) bytes None → lines_of (without_returns bytes) ≡ bytes ∷ []
-not_ended bytes some h =
+pub ignore_line-last : (bytes : List ℕ) → 0 < length bytes → IsFirstByte (is_byte line_feed) bytes None → lines_of (without_returns bytes) ≡ bytes ∷ []
+ignore_line-last bytes some h =
     let none : HasNoLineFeed bytes =
     subst HasNoLineFeed (take_all (length bytes) bytes (le_refl _)) (HasNo-take line_feed bytes (length bytes) (λ j below is. h j (omega arith) below (eq-eqb _ _ is))) in
     ap lines_of (without_returns-none bytes none) ∙ last_line bytes some h
@@ -155,30 +152,30 @@ begins_with_text bytes line rest text cut other trims = record {
   shorter = cut.shorter;
 }
 
-gives_trimmed : (line : List ℕ) (it : TextAndValue (Unit {0})) → trimmed_unless_comment line ≡ Some it → GivesTrimmed line it.text it.value
-gives_trimmed line it is =
-    let this : TextAndValue (Unit {0}) = record { text = trimmed line; value = tt } in
+GivesTrimmed-content : (line : List ℕ) (it : LineContent (Unit {0})) → ignore_content line ≡ Some it → GivesTrimmed line it.text it.value
+GivesTrimmed-content line it is =
+    let this : LineContent (Unit {0}) = record { text = text_before_spaces line; value = tt } in
     ⊎_elim
     (λ (comment : is_comment line ≡ true). let none : None ≡ Some it = sym (ap (λ b. cond b None (Some this)) comment) ∙ is in absurd (cc))
     (λ (other : is_comment line ≡ false).
     let both : Some this ≡ Some it = sym (ap (λ b. cond b None (Some this)) other) ∙ is in
     let same : this ≡ it = cc in
-    let text : trimmed line ≡ it.text = ap (λ (x : TextAndValue (Unit {0})). x.text) same in
-    record { no_comment = other; trims = subst (Trims line) text (Trims-trimmed line) })
+    let text : text_before_spaces line ≡ it.text = ap (λ (x : LineContent (Unit {0})). x.text) same in
+    record { no_comment = other; trims = subst (Trims line) text (Trims-text_before_spaces line) })
     (cases_Bool (is_comment line))
 
-pub Tells-trimmed : Tells GivesTrimmed trimmed_unless_comment
-Tells-trimmed = record {
-  found = λ line text value h. let it : List ℕ → TextAndValue (Unit {0}) = λ l. record { text = l; value = tt } in
-      ap (λ b. cond b None (Some (it (trimmed line)))) h.no_comment ∙ ap (λ l. Some (it l)) (sym (Trims-only line text h.trims));
-  gives = gives_trimmed;
+pub Tells-ignore_content : Tells GivesTrimmed ignore_content
+Tells-ignore_content = record {
+  found = λ line text value h. let it : List ℕ → LineContent (Unit {0}) = λ l. record { text = l; value = tt } in
+      ap (λ b. cond b None (Some (it (text_before_spaces line)))) h.no_comment ∙ ap (λ l. Some (it l)) (sym (Trims-only line text h.trims));
+  gives = GivesTrimmed-content;
 }
 
-pub text_is_given : (line text : List ℕ) → GivesTrimmed line text tt → trimmed_unless_comment line ≡ Some (record { text = text; value = tt })
-text_is_given line text h = Tells-trimmed.found line text tt h
+pub ignore_content-text : (line text : List ℕ) → GivesTrimmed line text tt → ignore_content line ≡ Some (record { text = text; value = tt })
+ignore_content-text line text h = Tells-ignore_content.found line text tt h
 
-pub comment_gives_nothing : (line : List ℕ) → is_comment line ≡ true → trimmed_unless_comment line ≡ None
-comment_gives_nothing line comment = let it : TextAndValue (Unit {0}) = record { text = trimmed line; value = tt } in ap (λ b. cond b None (Some it)) comment
+pub ignore_content-comment : (line : List ℕ) → is_comment line ≡ true → ignore_content line ≡ None
+ignore_content-comment line comment = let it : LineContent (Unit {0}) = record { text = text_before_spaces line; value = tt } in ap (λ b. cond b None (Some it)) comment
 
 -- ---- how many
 

@@ -8,18 +8,18 @@ use Rattle.std.proofs.lemmas.List.{drop_all, drop_more}
 use Rattle.memchr.specs.Find.{IsFirstByte, is_byte}
 use Rattle.gix_glob.specs.Lists.{entry_with}
 use Rattle.gix_glob.specs.Readings.{Reading, reading_of}
-use Rattle.glob_lines.specs.Label.{GivesLabel, Label, is_tab, label_of, parted, tab, unlabelled}
+use Rattle.glob_lines.specs.Label.{GivesLabel, Label, is_tab, label_of, label_content, tab, entry_with_empty_label}
 use Rattle.glob_lines.specs.Lines.{HasNo, line_feed, lines_of}
-use Rattle.glob_lines.specs.Numbered.{TextAndValue, entries_from, entry_given, entry_of_line}
-use Rattle.glob_lines.specs.Plain.{GivesItself, Plain, PlainEntry, itself}
+use Rattle.glob_lines.specs.Entries.{LineContent, entries_from, entry_of_content, entry_of_line}
+use Rattle.glob_lines.specs.Plain.{GivesItself, Plain, PlainEntry, plain_content}
 use Rattle.glob_lines.proofs.LinesLemmas.{HasNo-take}
-use Rattle.glob_lines.proofs.NumberedLemmas.{Entries-entries_of, Entries-only, ReadingsAreThese, Tells}
-use Rattle.glob_lines.proofs.PlainLemmas.{Tells-itself}
+use Rattle.glob_lines.proofs.EntriesLemmas.{Entries-entries_of, Entries-only, ReadingsAreThese, Tells}
+use Rattle.glob_lines.proofs.PlainLemmas.{Tells-plain_content}
 
 -- ---- the first tab
 
-abbrev given : List ℕ → List ℕ → TextAndValue (List ℕ)
-given text value = record { text = text; value = value }
+abbrev content : List ℕ → List ℕ → LineContent (List ℕ)
+content text value = record { text = text; value = value }
 
 place-tab : (text value : List ℕ) → HasNo tab text → position_or_len is_tab (text ++ tab ∷ value) ≡ length text
 place-tab [] value none = refl
@@ -29,29 +29,29 @@ place-none : (text : List ℕ) → HasNo tab text → position_or_len is_tab tex
 place-none [] none = refl
 place-none (b ∷ text) none = let more = place-none text none.1 in rw (ne_eqb b tab none.0) (omega arith)
 
-abbrev given_at : ℕ → List ℕ → TextAndValue (List ℕ)
-given_at place line = given (take place line) (drop (place + 1) line)
+abbrev content_at : ℕ → List ℕ → LineContent (List ℕ)
+content_at place line = content (take place line) (drop (place + 1) line)
 
-parted-tab : (text value : List ℕ) → HasNo tab text → parted (text ++ tab ∷ value) ≡ Some (given text value)
-parted-tab text value none =
+label_content-tab : (text value : List ℕ) → HasNo tab text → label_content (text ++ tab ∷ value) ≡ Some (content text value)
+label_content-tab text value none =
     let line = text ++ tab ∷ value in
     let behind : drop (length text + 1) line ≡ value =
     ap (drop (length text + 1)) (sym (append_assoc text (tab ∷ []) value)) ∙ drop_at (text ++ tab ∷ []) value (length text + 1) (length-append text (tab ∷ [])) in
-    ap (λ n. Some (given_at n line)) (place-tab text value none)
-    ∙ ap (λ t. Some (given t (drop (length text + 1) line))) (take_at text (tab ∷ value) (length text) refl)
-    ∙ ap (λ v. Some (given text v)) behind
+    ap (λ n. Some (content_at n line)) (place-tab text value none)
+    ∙ ap (λ t. Some (content t (drop (length text + 1) line))) (take_at text (tab ∷ value) (length text) refl)
+    ∙ ap (λ v. Some (content text v)) behind
 
-parted-none : (text : List ℕ) → HasNo tab text → parted text ≡ Some (given text [])
-parted-none text none =
-    ap (λ n. Some (given_at n text)) (place-none text none)
-    ∙ ap (λ t. Some (given t (drop (length text + 1) text))) (take_all (length text) text (le_refl _))
-    ∙ ap (λ v. Some (given text v)) (drop_all (length text + 1) text (omega arith))
+label_content-none : (text : List ℕ) → HasNo tab text → label_content text ≡ Some (content text [])
+label_content-none text none =
+    ap (λ n. Some (content_at n text)) (place-none text none)
+    ∙ ap (λ t. Some (content t (drop (length text + 1) text))) (take_all (length text) text (le_refl _))
+    ∙ ap (λ v. Some (content text v)) (drop_all (length text + 1) text (omega arith))
 
-parted-found : (line text value : List ℕ) → GivesLabel line text value → parted line ≡ Some (given text value)
-parted-found line text value h =
+label_content-found : (line text value : List ℕ) → GivesLabel line text value → label_content line ≡ Some (content text value)
+label_content-found line text value h =
     ⊎_elim
-    (λ cut. ap parted cut ∙ parted-tab text value h.first)
-    (λ whole. ap parted whole.0 ∙ parted-none text h.first ∙ ap (λ v. Some (given text v)) (sym whole.1))
+    (λ cut. ap label_content cut ∙ label_content-tab text value h.first)
+    (λ whole. ap label_content whole.0 ∙ label_content-none text h.first ∙ ap (λ v. Some (content text v)) (sym whole.1))
     h.cut
 
 -- a line gives something
@@ -61,26 +61,26 @@ gives-more b line text value other h = record {
   cut = ⊎_elim (λ cut. inl (ap (λ l. b ∷ l) cut)) (λ whole. inr (ap (λ l. b ∷ l) whole.0, whole.1)) h.cut;
 }
 
-gives : (line : List ℕ) → (it : TextAndValue (List ℕ)) × GivesLabel line it.text it.value
-gives [] = (given [] [], record { first = tt; cut = inr (refl, refl) })
+gives : (line : List ℕ) → (it : LineContent (List ℕ)) × GivesLabel line it.text it.value
+gives [] = (content [] [], record { first = tt; cut = inr (refl, refl) })
 gives (b ∷ line) =
     ⊎_elim
-    (λ is. (given [] line, record { first = tt; cut = inl (ap (λ x. x ∷ line) is.1) }))
-    (λ other. let more = gives line in (given (b ∷ more.0.text) more.0.value, gives-more b line more.0.text more.0.value other.1 more.1))
+    (λ is. (content [] line, record { first = tt; cut = inl (ap (λ x. x ∷ line) is.1) }))
+    (λ other. let more = gives line in (content (b ∷ more.0.text) more.0.value, gives-more b line more.0.text more.0.value other.1 more.1))
     (eqb_tells b tab)
 
-gives_parted : (line : List ℕ) (it : TextAndValue (List ℕ)) → parted line ≡ Some it → GivesLabel line it.text it.value
-gives_parted line it is =
+GivesLabel-content : (line : List ℕ) (it : LineContent (List ℕ)) → label_content line ≡ Some it → GivesLabel line it.text it.value
+GivesLabel-content line it is =
     let found = gives line in
-    let both : Some found.0 ≡ Some it = sym (parted-found line found.0.text found.0.value found.1) ∙ is in
+    let both : Some found.0 ≡ Some it = sym (label_content-found line found.0.text found.0.value found.1) ∙ is in
     let same : found.0 ≡ it = cc in
-    subst (λ (x : TextAndValue (List ℕ)). GivesLabel line x.text x.value) same found.1
+    subst (λ (x : LineContent (List ℕ)). GivesLabel line x.text x.value) same found.1
 
-pub Tells-parted : Tells GivesLabel parted
-Tells-parted = record { found = parted-found; gives = gives_parted }
+pub Tells-label_content : Tells GivesLabel label_content
+Tells-label_content = record { found = label_content-found; gives = GivesLabel-content }
 
-pub label_is_given : (line text value label : List ℕ) → GivesLabel line text value → label ≡ value → parted line ≡ Some (record { text = text; value = label })
-label_is_given line text value label h is = parted-found line text value h ∙ ap (λ v. Some (given text v)) (sym is)
+pub label_content-label : (line text value label : List ℕ) → GivesLabel line text value → label ≡ value → label_content line ≡ Some (record { text = text; value = label })
+label_content-label line text value label h is = label_content-found line text value h ∙ ap (λ v. Some (content text v)) (sym is)
 
 -- ---- what a search for the first tab tells
 
@@ -101,25 +101,25 @@ GivesLabel-none line h = record {
 
 -- ---- lines without a tab
 
-same_entry : (number : ℕ) (reading : Option Reading) → option_map (entry_with [] number) reading ≡ option_map unlabelled (option_map (entry_with tt number) reading)
+same_entry : (number : ℕ) (reading : Option Reading) → option_map (entry_with [] number) reading ≡ option_map entry_with_empty_label (option_map (entry_with tt number) reading)
 same_entry number None = refl
 same_entry number (Some reading) = refl
 
-entry-none : (number : ℕ) (line : List ℕ) → HasNo tab line → entry_of_line parted number line ≡ option_map unlabelled (entry_of_line itself number line)
+entry-none : (number : ℕ) (line : List ℕ) → HasNo tab line → entry_of_line label_content number line ≡ option_map entry_with_empty_label (entry_of_line plain_content number line)
 unfolding entry_of_line
 entry-none number line none =
-    ap (option_and_then (entry_given number)) (parted-none line none) ∙ same_entry number (reading_of true line)
+    ap (option_and_then (entry_of_content number)) (label_content-none line none) ∙ same_entry number (reading_of true line)
 
-map-cons_option : (first : Option PlainEntry) (entries : List PlainEntry) → map unlabelled (cons_option first entries) ≡ cons_option (option_map unlabelled first) (map unlabelled entries)
+map-cons_option : (first : Option PlainEntry) (entries : List PlainEntry) → map entry_with_empty_label (cons_option first entries) ≡ cons_option (option_map entry_with_empty_label first) (map entry_with_empty_label entries)
 map-cons_option None entries = refl
 map-cons_option (Some entry) entries = refl
 
-entries-none : (number : ℕ) (lines : List (List ℕ)) → AllByRecursion (HasNo tab) lines → entries_from parted number lines ≡ map unlabelled (entries_from itself number lines)
+entries-none : (number : ℕ) (lines : List (List ℕ)) → AllByRecursion (HasNo tab) lines → entries_from label_content number lines ≡ map entry_with_empty_label (entries_from plain_content number lines)
 entries-none number [] none = refl
 entries-none number (line ∷ lines) none =
-    ap (λ o. cons_option o (entries_from parted (number + 1) lines)) (entry-none number line none.0)
-    ∙ ap (cons_option (option_map unlabelled (entry_of_line itself number line))) (entries-none (number + 1) lines none.1)
-    ∙ sym (map-cons_option (entry_of_line itself number line) (entries_from itself (number + 1) lines))
+    ap (λ o. cons_option o (entries_from label_content (number + 1) lines)) (entry-none number line none.0)
+    ∙ ap (cons_option (option_map entry_with_empty_label (entry_of_line plain_content number line))) (entries-none (number + 1) lines none.1)
+    ∙ sym (map-cons_option (entry_of_line plain_content number line) (entries_from plain_content (number + 1) lines))
 
 onto_first-none : (b : ℕ) (lines : List (List ℕ)) → b ≢ tab → AllByRecursion (HasNo tab) lines → AllByRecursion (HasNo tab) (onto_first b lines)
 onto_first-none b [] other none = ((other, tt), tt)
@@ -133,8 +133,8 @@ lines-none (b ∷ bytes) none =
     (λ is. rw is.0 (onto_first-none b (lines_of bytes) none.0 (lines-none bytes none.1)))
     (eqb_tells b line_feed)
 
-pub Label-without_tabs : ReadingsAreThese → (bytes : List ℕ) (entries : List PlainEntry) → HasNo tab bytes → Plain bytes entries → Label bytes (map unlabelled entries)
+pub Label-without_tabs : ReadingsAreThese → (bytes : List ℕ) (entries : List PlainEntry) → HasNo tab bytes → Plain bytes entries → Label bytes (map entry_with_empty_label entries)
 Label-without_tabs readings bytes entries none plain =
-    let is : map unlabelled entries ≡ label_of bytes =
-    ap (map unlabelled) (Entries-only GivesItself itself Tells-itself readings bytes entries plain) ∙ sym (entries-none 1 (lines_of bytes) (lines-none bytes none)) in
-    subst (Label bytes) (sym is) (Entries-entries_of GivesLabel parted Tells-parted readings bytes)
+    let is : map entry_with_empty_label entries ≡ label_of bytes =
+    ap (map entry_with_empty_label) (Entries-only GivesItself plain_content Tells-plain_content readings bytes entries plain) ∙ sym (entries-none 1 (lines_of bytes) (lines-none bytes none)) in
+    subst (Label bytes) (sym is) (Entries-entries_of GivesLabel label_content Tells-label_content readings bytes)

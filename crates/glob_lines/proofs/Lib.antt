@@ -1,11 +1,12 @@
 pub mod DecidingLemmas
 pub mod DecisionsLemmas
+pub mod EntriesLemmas
 pub mod FoundLemmas
 pub mod IgnoreLemmas
 pub mod LabelLemmas
 pub mod LinesLemmas
+pub mod ListLemmas
 pub mod MappingsLemmas
-pub mod NumberedLemmas
 pub mod NumbersLemmas
 pub mod PathsLemmas
 pub mod PlainLemmas

@@ -6,7 +6,8 @@ use Rattle.std.proofs.lemmas.Bool.Decides.{eqb_tells}
 use Rattle.std.proofs.lemmas.List.{drop_more, flat_map_more}
 use Rattle.std.proofs.lemmas.List.Elements.{AllZip-push}
 use Rattle.memchr.specs.Find.{IsFirstByte, is_byte}
-use Rattle.glob_lines.specs.Lines.{Lines, EndsOpen, HasNo, HasNoLineFeed, WritesEach, line_feed, lines_of, terminated}
+use Rattle.glob_lines.specs.Lines.{Lines, EndsOpen, HasNo, HasNoLineFeed, WritesEach, line_feed, lines_of, text_of_lines}
+use Rattle.glob_lines.proofs.ListLemmas.{AllByRecursion-append_parts, push_not-nil}
 
 -- ---- the equations, a line at a time
 
@@ -32,25 +33,21 @@ HasNo-take byte (b ∷ bytes) (suc k) h = (h 0 (omega arith), HasNo-take byte by
 
 -- ---- uniqueness
 
-front_of_all : (front : List (List ℕ)) (last : List ℕ) → AllByRecursion HasNoLineFeed (front ++ last ∷ []) → AllByRecursion HasNoLineFeed front × HasNoLineFeed last
-front_of_all [] last h = (tt, h.0)
-front_of_all (text ∷ front) last h = let rest = front_of_all front last h.1 in ((h.0, rest.0), rest.1)
+lines_of-text_of_lines : (texts : List (List ℕ)) (rest : List ℕ) → AllByRecursion HasNoLineFeed texts → lines_of (text_of_lines texts ++ rest) ≡ texts ++ lines_of rest
+lines_of-text_of_lines [] rest h = refl
+lines_of-text_of_lines (text ∷ texts) rest h =
+    ap lines_of (append_assoc (text ++ line_feed ∷ []) (text_of_lines texts) rest ∙ append_assoc text (line_feed ∷ []) (text_of_lines texts ++ rest))
+    ∙ lines_of-line text (text_of_lines texts ++ rest) h.0
+    ∙ ap (λ l. text ∷ l) (lines_of-text_of_lines texts rest h.1)
 
-lines_of-terminated : (texts : List (List ℕ)) (rest : List ℕ) → AllByRecursion HasNoLineFeed texts → lines_of (terminated texts ++ rest) ≡ texts ++ lines_of rest
-lines_of-terminated [] rest h = refl
-lines_of-terminated (text ∷ texts) rest h =
-    ap lines_of (append_assoc (text ++ line_feed ∷ []) (terminated texts) rest ∙ append_assoc text (line_feed ∷ []) (terminated texts ++ rest))
-    ∙ lines_of-line text (terminated texts ++ rest) h.0
-    ∙ ap (λ l. text ∷ l) (lines_of-terminated texts rest h.1)
-
-whole_is : (bytes : List ℕ) (texts : List (List ℕ)) → AllByRecursion HasNoLineFeed texts → bytes ≡ terminated texts → texts ≡ lines_of bytes
+whole_is : (bytes : List ℕ) (texts : List (List ℕ)) → AllByRecursion HasNoLineFeed texts → bytes ≡ text_of_lines texts → texts ≡ lines_of bytes
 whole_is bytes texts each is =
-    sym (ap lines_of (is ∙ sym (append-nil (terminated texts))) ∙ lines_of-terminated texts [] each ∙ append-nil texts)
+    sym (ap lines_of (is ∙ sym (append-nil (text_of_lines texts))) ∙ lines_of-text_of_lines texts [] each ∙ append-nil texts)
 
 open_is : (bytes : List ℕ) (texts : List (List ℕ)) → AllByRecursion HasNoLineFeed texts → EndsOpen bytes texts → texts ≡ lines_of bytes
 open_is bytes texts each h =
-    let parts = front_of_all h.front h.last (subst (AllByRecursion HasNoLineFeed) h.is each) in
-    h.is ∙ sym (ap lines_of h.joined ∙ lines_of-terminated h.front h.last parts.0 ∙ ap (λ l. h.front ++ l) (lines_of-last h.last h.some parts.1))
+    let parts = AllByRecursion-append_parts HasNoLineFeed h.front (h.last ∷ []) (subst (AllByRecursion HasNoLineFeed) h.is each) in
+    h.is ∙ sym (ap lines_of h.joined ∙ lines_of-text_of_lines h.front h.last parts.0 ∙ ap (λ l. h.front ++ l) (lines_of-last h.last h.some parts.1.0))
 
 -- no other texts are the lines of the bytes
 pub Lines-only : (bytes : List ℕ) (texts : List (List ℕ)) → Lines bytes texts → texts ≡ lines_of bytes
@@ -75,7 +72,7 @@ ends_line bytes texts h = record {
 }
 
 -- the byte goes onto the first line, or is the only one
-open_more : (b : ℕ) (bytes text : List ℕ) (texts front : List (List ℕ)) (last : List ℕ) → last ≢ [] → text ∷ texts ≡ front ++ last ∷ [] → bytes ≡ terminated front ++ last
+open_more : (b : ℕ) (bytes text : List ℕ) (texts front : List (List ℕ)) (last : List ℕ) → last ≢ [] → text ∷ texts ≡ front ++ last ∷ [] → bytes ≡ text_of_lines front ++ last
     → EndsOpen (b ∷ bytes) ((b ∷ text) ∷ texts)
 open_more b bytes text texts [] last some is joined = record {
   front = [];
@@ -94,15 +91,11 @@ open_more b bytes text texts (first ∷ front) last some is joined = record {
 
 goes_on : (b : ℕ) (bytes : List ℕ) (texts : List (List ℕ)) → b ≢ line_feed → Lines bytes texts → Lines (b ∷ bytes) (onto_first b texts)
 goes_on b bytes [] apart h =
-    let none : bytes ≡ [] = ⊎_elim (λ whole. whole) (λ (ends : EndsOpen bytes []). absurd (nothing_before ends.front ends.last ends.is)) h.joined in
+    let none : bytes ≡ [] = ⊎_elim (λ whole. whole) (λ (ends : EndsOpen bytes []). absurd (push_not-nil ends.front ends.last ends.is)) h.joined in
     record {
       each = ((apart, tt), tt);
       joined = inr (record { front = []; last = b ∷ []; some = λ e. cc; is = refl; joined = ap (λ l. b ∷ l) none });
     }
-  where
-    nothing_before : (front : List (List ℕ)) (last : List ℕ) → [] ≡ front ++ last ∷ [] → ⊥
-    nothing_before [] last e = cc
-    nothing_before (first ∷ front) last e = cc
 goes_on b bytes (text ∷ texts) apart h = record {
   each = ((apart, h.each.0), h.each.1);
   joined = ⊎_elim (λ whole. inl (ap (λ l. b ∷ l) whole)) (λ (ends : EndsOpen bytes (text ∷ texts)). inr (open_more b bytes text texts ends.front ends.last ends.some ends.is ends.joined)) h.joined;

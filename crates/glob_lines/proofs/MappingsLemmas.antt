@@ -6,11 +6,11 @@ use Rattle.gix_glob.specs.declared.pattern.Case.{Case}
 use Rattle.gix_glob.specs.Paths.{Base}
 use Rattle.gix_glob.specs.Stripping.{NothingLeft, RestOf}
 use Rattle.glob_lines.specs.Mappings.{MappingsText, MatchesText, WritesMatches, WritesNumbers}
-use Rattle.glob_lines.specs.Numbers.{Picks, spaced}
+use Rattle.glob_lines.specs.Numbers.{Picks, text_of_numbers}
 use Rattle.glob_lines.specs.PathLines.{IsPlainPath, MarksDirectory}
 use Rattle.glob_lines.specs.Plain.{Plain, PlainEntry, plain_of}
 use Rattle.glob_lines.specs.Private.Growing.{Adds}
-use Rattle.glob_lines.proofs.NumbersLemmas.{Picks-more, Picks-skip, separator_after, spaced-more}
+use Rattle.glob_lines.proofs.NumbersLemmas.{Picks-more, Picks-skip, separator_after, text_of_numbers-more}
 
 abbrev pub numbers_of : List PlainEntry → List ℕ
 numbers_of entries = map (λ entry. entry.number) entries
@@ -19,7 +19,7 @@ numbers_of entries = map (λ entry. entry.number) entries
 pub record IsListedUpTo (P : PlainEntry → Type 0) (entries : List PlainEntry) (old text separator : List ℕ) : Type 0 where
   pub chosen : List PlainEntry
   pub picks : Picks P entries chosen
-  pub grown : text ≡ old ++ spaced (numbers_of chosen)
+  pub grown : text ≡ old ++ text_of_numbers (numbers_of chosen)
   pub separates : separator ≡ separator_after (numbers_of chosen)
 
 module _ (P : PlainEntry → Type 0) where
@@ -54,9 +54,9 @@ module _ (P : PlainEntry → Type 0) where
         grown = e
             ∙ append_assoc text separator (decimal entry.number)
             ∙ ap (λ l. l ++ (separator ++ decimal entry.number)) h.grown
-            ∙ append_assoc old (spaced (numbers_of h.chosen)) (separator ++ decimal entry.number)
-            ∙ ap (λ l. old ++ (spaced (numbers_of h.chosen) ++ (l ++ decimal entry.number))) h.separates
-            ∙ ap (λ l. old ++ l) (sym (ap spaced numbers ∙ spaced-more (numbers_of h.chosen) entry.number));
+            ∙ append_assoc old (text_of_numbers (numbers_of h.chosen)) (separator ++ decimal entry.number)
+            ∙ ap (λ l. old ++ (text_of_numbers (numbers_of h.chosen) ++ (l ++ decimal entry.number))) h.separates
+            ∙ ap (λ l. old ++ l) (sym (ap text_of_numbers numbers ∙ text_of_numbers-more (numbers_of h.chosen) entry.number));
         separates = s ∙ sym (ap separator_after numbers ∙ separator_after-push (numbers_of h.chosen) entry.number);
       }
 

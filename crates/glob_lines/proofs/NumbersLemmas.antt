@@ -1,7 +1,7 @@
 -- Lines of numbers, one number after the other.
 use Rattle.std.proofs.Common.{◌≡◌, inl, inr, ℕ, List, [], ◌∷◌, ◌++◌, refl, sym, ap, ◌∙◌, append_assoc}
 use Rattle.std.specs.Prelude.{decimal}
-use Rattle.glob_lines.specs.Numbers.{Picks, spaced}
+use Rattle.glob_lines.specs.Numbers.{Picks, text_of_numbers}
 
 -- ---- one more element
 
@@ -25,9 +25,9 @@ abbrev pub separator_after : List ℕ → List ℕ
 separator_after [] = []
 separator_after (n ∷ numbers) = 32 ∷ []
 
-pub spaced-more : (numbers : List ℕ) (n : ℕ) → spaced (numbers ++ n ∷ []) ≡ spaced numbers ++ (separator_after numbers ++ decimal n)
-spaced-more [] n = refl
-spaced-more (m ∷ []) n = refl
-spaced-more (m ∷ k ∷ numbers) n =
-    ap (λ l. decimal m ++ (32 ∷ l)) (spaced-more (k ∷ numbers) n)
-    ∙ sym (append_assoc (decimal m) (32 ∷ spaced (k ∷ numbers)) (32 ∷ decimal n))
+pub text_of_numbers-more : (numbers : List ℕ) (n : ℕ) → text_of_numbers (numbers ++ n ∷ []) ≡ text_of_numbers numbers ++ (separator_after numbers ++ decimal n)
+text_of_numbers-more [] n = refl
+text_of_numbers-more (m ∷ []) n = refl
+text_of_numbers-more (m ∷ k ∷ numbers) n =
+    ap (λ l. decimal m ++ (32 ∷ l)) (text_of_numbers-more (k ∷ numbers) n)
+    ∙ sym (append_assoc (decimal m) (32 ∷ text_of_numbers (k ∷ numbers)) (32 ∷ decimal n))

@@ -9,29 +9,29 @@ use Rattle.gix_glob.specs.Matching.{Splits}
 use Rattle.gix_glob.specs.Paths.{Base, folders, parts}
 use Rattle.gix_glob.specs.Stripping.{NothingLeft, RestOf}
 use Rattle.gix_glob.proofs.Answering.{basename_once, rest_once}
-use Rattle.glob_lines.specs.Lines.{WritesEach, terminated}
+use Rattle.glob_lines.specs.Lines.{WritesEach, text_of_lines}
 use Rattle.glob_lines.specs.Mappings.{EntryAnswers, WritesMatches, WritesNumbers, WritesPath}
-use Rattle.glob_lines.specs.Numbers.{Picks, spaced}
+use Rattle.glob_lines.specs.Numbers.{Picks, text_of_numbers}
 use Rattle.glob_lines.specs.Plain.{PlainEntry}
 use Rattle.glob_lines.specs.Values.{WritesAnswer, word_of}
 
 -- ---- lines
 
 -- where a line determines what is written for it, lines do
-written_once : (P : List ℕ → List ℕ → Type 0) → ((line a b : List ℕ) → P line a → P line b → a ≡ b) → (lines us vs : List (List ℕ))
+lines_once : (P : List ℕ → List ℕ → Type 0) → ((line a b : List ℕ) → P line a → P line b → a ≡ b) → (lines us vs : List (List ℕ))
     → AllZip P lines us → AllZip P lines vs → us ≡ vs
-written_once P once [] [] [] x y = refl
-written_once P once [] [] (b ∷ vs) x y = absurd y
-written_once P once [] (a ∷ us) vs x y = absurd x
-written_once P once (line ∷ lines) [] vs x y = absurd x
-written_once P once (line ∷ lines) (a ∷ us) [] x y = absurd y
-written_once P once (line ∷ lines) (a ∷ us) (b ∷ vs) x y = cc (once line a b x.0 y.0, written_once P once lines us vs x.1 y.1)
+lines_once P once [] [] [] x y = refl
+lines_once P once [] [] (b ∷ vs) x y = absurd y
+lines_once P once [] (a ∷ us) vs x y = absurd x
+lines_once P once (line ∷ lines) [] vs x y = absurd x
+lines_once P once (line ∷ lines) (a ∷ us) [] x y = absurd y
+lines_once P once (line ∷ lines) (a ∷ us) (b ∷ vs) x y = cc (once line a b x.0 y.0, lines_once P once lines us vs x.1 y.1)
 
 pub text_once : (P : List ℕ → List ℕ → Type 0) → ((line a b : List ℕ) → P line a → P line b → a ≡ b)
     → (lines lines' : List (List ℕ)) (a b : List ℕ) → lines ≡ lines' → WritesEach P lines a → WritesEach P lines' b → a ≡ b
 text_once P once lines lines' a b same x y =
     let other : WritesEach P lines b = subst (λ ls. WritesEach P ls b) (sym same) y in
-    x.joined ∙ ap terminated (written_once P once lines x.written other.written x.each other.each) ∙ sym other.joined
+    x.joined ∙ ap text_of_lines (lines_once P once lines x.written other.written x.each other.each) ∙ sym other.joined
 
 -- ---- the line of a value
 
@@ -55,7 +55,7 @@ numbers_once entries case is_dir rest a b x y =
     let chosen : x.chosen ≡ y.chosen =
     picks_once (EntryAnswers case is_dir rest x.position) entries x.chosen y.chosen x.picks
     (subst (λ position. Picks (EntryAnswers case is_dir rest position) entries y.chosen) start y.picks) in
-    x.shown ∙ ap (λ entries. spaced (map (λ entry. entry.number) entries)) chosen ∙ sym y.shown
+    x.shown ∙ ap (λ entries. text_of_numbers (map (λ entry. entry.number) entries)) chosen ∙ sym y.shown
 
 without_mark : (path other : List ℕ) (d : Bool) → path ++ (if d then codes "/" else []) ≡ other ++ (if d then codes "/" else []) → path ≡ other
 without_mark path other d same = append_cancel_right path other _ same

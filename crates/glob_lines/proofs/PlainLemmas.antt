@@ -1,11 +1,11 @@
 -- A plain line gives itself.
 use Rattle.std.proofs.Common.{◌≡◌, List, ℕ, Some, sym, ap}
-use Rattle.glob_lines.specs.Numbered.{TextAndValue}
-use Rattle.glob_lines.specs.Plain.{GivesItself, itself}
-use Rattle.glob_lines.proofs.NumberedLemmas.{Tells}
+use Rattle.glob_lines.specs.Entries.{LineContent}
+use Rattle.glob_lines.specs.Plain.{GivesItself, plain_content}
+use Rattle.glob_lines.proofs.EntriesLemmas.{Tells}
 
-pub Tells-itself : Tells GivesItself itself
-Tells-itself = record {
-  found = λ line text value is. let it : List ℕ → TextAndValue (Unit {0}) = λ l. record { text = l; value = tt } in ap (λ l. Some (it l)) (sym is);
-  gives = λ line it is. let this : TextAndValue (Unit {0}) = record { text = line; value = tt } in let same : this ≡ it = cc in sym (ap (λ (x : TextAndValue (Unit {0})). x.text) same);
+pub Tells-plain_content : Tells GivesItself plain_content
+Tells-plain_content = record {
+  found = λ line text value is. let it : List ℕ → LineContent (Unit {0}) = λ l. record { text = l; value = tt } in ap (λ l. Some (it l)) (sym is);
+  gives = λ line it is. let this : LineContent (Unit {0}) = record { text = line; value = tt } in let same : this ≡ it = cc in sym (ap (λ (x : LineContent (Unit {0})). x.text) same);
 }

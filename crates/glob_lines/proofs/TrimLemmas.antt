@@ -5,12 +5,13 @@ use Rattle.std.specs.List.{AllByRecursion, concat, list_all}
 use Rattle.std.specs.Str.{bytes_eq}
 use Rattle.std.proofs.lemmas.Bool.{cases_Bool, false≢true, ne_eqb, eqb-true, eq-eqb}
 use Rattle.std.proofs.lemmas.Bool.Decides.{eqb_tells}
-use Rattle.std.proofs.lemmas.List.{take_more}
+use Rattle.std.proofs.lemmas.List.{nil_from_length, same_from_push, take_more}
 use Rattle.std.proofs.lemmas.List.Folds.{concat-append}
 use Rattle.std.proofs.lemmas.Slice.Eq.{bytes_eq-Decides}
 use Rattle.gix_glob.specs.Bytes.{backslash}
-use Rattle.glob_lines.specs.Ignore.{Trims, kept_of, space, trimmed, units_of}
+use Rattle.glob_lines.specs.Ignore.{Trims, units_before_spaces, space, text_before_spaces, units_of}
 use Rattle.glob_lines.specs.Private.Trimming.{StandsBefore, is_open}
+use Rattle.glob_lines.proofs.ListLemmas.{AllByRecursion-append_parts, push_not-nil}
 
 -- ---- the last unit that is kept
 
@@ -43,39 +44,35 @@ spaces_end unit (next ∷ units) h = let end = spaces_end next units h.1 in (uni
 
 -- ---- the equation
 
--- what `kept_of` leaves out
+-- the spaces that `units_before_spaces` leaves out
 record Keeps (units : List (List ℕ)) : Type 0 where
   spaces : List (List ℕ)
-  split : units ≡ kept_of units ++ spaces
+  split : units ≡ units_before_spaces units ++ spaces
   each : Spaces spaces
-  last : EndsOtherwise (kept_of units)
+  last : EndsOtherwise (units_before_spaces units)
 
-no_end : (before : List (List ℕ)) → [] ≢ before ++ space ∷ []
-no_end [] e = cc
-no_end (b ∷ before) e = cc
-
-keeps_none : (units : List (List ℕ)) → list_all (bytes_eq space) units ≡ true → kept_of units ≡ [] → Keeps units
+keeps_none : (units : List (List ℕ)) → list_all (bytes_eq space) units ≡ true → units_before_spaces units ≡ [] → Keeps units
 keeps_none units all none = record {
   spaces = units;
   split = sym (ap (λ l. l ++ units) none);
   each = Spaces-list_all units all;
-  last = λ before is. no_end before (sym none ∙ is);
+  last = λ before is. push_not-nil before space (sym none ∙ is);
 }
 
 -- the unit before a row that ends otherwise, where not all of them are spaces
-keeps_last : (unit : List ℕ) (units : List (List ℕ)) → list_all (bytes_eq space) (unit ∷ units) ≡ false → Keeps units → EndsOtherwise (unit ∷ kept_of units)
+keeps_last : (unit : List ℕ) (units : List (List ℕ)) → list_all (bytes_eq space) (unit ∷ units) ≡ false → Keeps units → EndsOtherwise (unit ∷ units_before_spaces units)
 keeps_last unit units some h [] is =
     let first : unit ≡ space = cc in
-    let none : kept_of units ≡ [] = cc in
+    let none : units_before_spaces units ≡ [] = cc in
     let rest : units ≡ h.spaces = h.split ∙ ap (λ l. l ++ h.spaces) none in
     let all : Spaces (unit ∷ units) = (first, subst Spaces (sym rest) h.each) in
     absurd (false≢true (sym some ∙ list_all-Spaces (unit ∷ units) all))
 keeps_last unit units some h (b ∷ before) is =
-    let rest : kept_of units ≡ before ++ space ∷ [] = cc in h.last before rest
+    let rest : units_before_spaces units ≡ before ++ space ∷ [] = cc in h.last before rest
 
 keeps_some : (unit : List ℕ) (units : List (List ℕ)) → list_all (bytes_eq space) (unit ∷ units) ≡ false → Keeps units → Keeps (unit ∷ units)
 keeps_some unit units some h =
-    let is : kept_of (unit ∷ units) ≡ unit ∷ kept_of units = ap (λ b. cond b [] (unit ∷ kept_of units)) some in
+    let is : units_before_spaces (unit ∷ units) ≡ unit ∷ units_before_spaces units = ap (λ b. cond b [] (unit ∷ units_before_spaces units)) some in
     record {
       spaces = h.spaces;
       split = ap (λ l. unit ∷ l) h.split ∙ sym (ap (λ l. l ++ h.spaces) is);
@@ -84,38 +81,34 @@ keeps_some unit units some h =
     }
 
 keeps : (units : List (List ℕ)) → Keeps units
-keeps [] = record { spaces = []; split = refl; each = tt; last = no_end }
+keeps [] = record { spaces = []; split = refl; each = tt; last = λ before. push_not-nil before space }
 keeps (unit ∷ units) =
     ⊎_elim
-    (λ all. keeps_none (unit ∷ units) all (ap (λ b. cond b [] (unit ∷ kept_of units)) all))
+    (λ all. keeps_none (unit ∷ units) all (ap (λ b. cond b [] (unit ∷ units_before_spaces units)) all))
     (λ some. keeps_some unit units some (keeps units))
     (cases_Bool (list_all (bytes_eq space) (unit ∷ units)))
 
-pub Trims-trimmed : (line : List ℕ) → Trims line (trimmed line)
-unfolding trimmed
-Trims-trimmed line =
+pub Trims-text_before_spaces : (line : List ℕ) → Trims line (text_before_spaces line)
+unfolding text_before_spaces
+Trims-text_before_spaces line =
     let h = keeps (units_of line) in
-    record { kept = kept_of (units_of line); spaces = h.spaces; units = h.split; each = h.each; last = h.last; joined = refl }
+    record { kept = units_before_spaces (units_of line); spaces = h.spaces; units = h.split; each = h.each; last = h.last; joined = refl }
 
-Spaces-front : (units more : List (List ℕ)) → Spaces (units ++ more) → Spaces units
-Spaces-front [] more h = tt
-Spaces-front (unit ∷ units) more h = (h.0, Spaces-front units more h.1)
+units_before_spaces-Spaces : (units : List (List ℕ)) → Spaces units → units_before_spaces units ≡ []
+units_before_spaces-Spaces [] h = refl
+units_before_spaces-Spaces (unit ∷ units) h = ap (λ b. cond b [] (unit ∷ units_before_spaces units)) (list_all-Spaces (unit ∷ units) h)
 
-kept_of-Spaces : (units : List (List ℕ)) → Spaces units → kept_of units ≡ []
-kept_of-Spaces [] h = refl
-kept_of-Spaces (unit ∷ units) h = ap (λ b. cond b [] (unit ∷ kept_of units)) (list_all-Spaces (unit ∷ units) h)
-
-kept_of-append : (kept spaces : List (List ℕ)) → Spaces spaces → EndsOtherwise kept → kept_of (kept ++ spaces) ≡ kept
-kept_of-append [] spaces each last = kept_of-Spaces spaces each
-kept_of-append (unit ∷ kept) spaces each last =
+units_before_spaces-append : (kept spaces : List (List ℕ)) → Spaces spaces → EndsOtherwise kept → units_before_spaces (kept ++ spaces) ≡ kept
+units_before_spaces-append [] spaces each last = units_before_spaces-Spaces spaces each
+units_before_spaces-append (unit ∷ kept) spaces each last =
     ⊎_elim
-    (λ all. let end = spaces_end unit kept (Spaces-front (unit ∷ kept) spaces (Spaces-list_all (unit ∷ (kept ++ spaces)) all)) in absurd (last end.0 end.1))
-    (λ some. ap (λ b. cond b [] (unit ∷ kept_of (kept ++ spaces))) some ∙ ap (λ l. unit ∷ l) (kept_of-append kept spaces each (λ before is. last (unit ∷ before) (ap (λ l. unit ∷ l) is))))
+    (λ all. let end = spaces_end unit kept (AllByRecursion-append_parts (λ u. u ≡ space) (unit ∷ kept) spaces (Spaces-list_all (unit ∷ (kept ++ spaces)) all)).0 in absurd (last end.0 end.1))
+    (λ some. ap (λ b. cond b [] (unit ∷ units_before_spaces (kept ++ spaces))) some ∙ ap (λ l. unit ∷ l) (units_before_spaces-append kept spaces each (λ before is. last (unit ∷ before) (ap (λ l. unit ∷ l) is))))
     (cases_Bool (list_all (bytes_eq space) (unit ∷ (kept ++ spaces))))
 
-pub Trims-only : (line text : List ℕ) → Trims line text → text ≡ trimmed line
-unfolding trimmed
-Trims-only line text h = h.joined ∙ sym (ap concat (ap kept_of h.units ∙ kept_of-append h.kept h.spaces h.each h.last))
+pub Trims-only : (line text : List ℕ) → Trims line text → text ≡ text_before_spaces line
+unfolding text_before_spaces
+Trims-only line text h = h.joined ∙ sym (ap concat (ap units_before_spaces h.units ∙ units_before_spaces-append h.kept h.spaces h.each h.last))
 
 -- ---- units
 
@@ -188,13 +181,13 @@ units_of-open (b ∷ c ∷ front) next open_ =
 abbrev Are : ℕ → List ℕ → Type 0
 Are byte bytes = AllByRecursion (λ b. b ≡ byte) bytes
 
-closed_other : (front : List ℕ) → ((before : List ℕ) → front ≢ before ++ backslash ∷ []) → is_open front ≡ false
-closed_other [] other = refl
-closed_other (b ∷ []) other = ne_eqb b backslash (λ is. other [] (ap (λ x. x ∷ []) is))
-closed_other (b ∷ c ∷ front) other =
+is_open-other_end : (front : List ℕ) → ((before : List ℕ) → front ≢ before ++ backslash ∷ []) → is_open front ≡ false
+is_open-other_end [] other = refl
+is_open-other_end (b ∷ []) other = ne_eqb b backslash (λ is. other [] (ap (λ x. x ∷ []) is))
+is_open-other_end (b ∷ c ∷ front) other =
     ⊎_elim
-    (λ is. is_open-escape b c front is ∙ closed_other front (λ before e. other (b ∷ c ∷ before) (ap (λ l. b ∷ c ∷ l) e)))
-    (λ not. is_open-other b c front not ∙ closed_other (c ∷ front) (λ before e. other (b ∷ before) (ap (λ l. b ∷ l) e)))
+    (λ is. is_open-escape b c front is ∙ is_open-other_end front (λ before e. other (b ∷ c ∷ before) (ap (λ l. b ∷ c ∷ l) e)))
+    (λ not. is_open-other b c front not ∙ is_open-other_end (c ∷ front) (λ before e. other (b ∷ before) (ap (λ l. b ∷ l) e)))
     (is_backslash b)
 
 is_open-append : (front bytes : List ℕ) → is_open front ≡ false → is_open (front ++ bytes) ≡ is_open bytes
@@ -218,7 +211,7 @@ is_open-Are (b ∷ c ∷ bytes) h = is_open-escape b c bytes h.0 ∙ is_open-Are
 pub is_open-StandsBefore : (bytes front : List ℕ) → StandsBefore backslash bytes front → ((length bytes - length front) % 2 == 1) ≡ is_open bytes
 is_open-StandsBefore bytes front h =
     let long : length bytes - length front ≡ length h.rest = omega (arith, ap length h.joined, length-append front h.rest) in
-    ap (λ n. n % 2 == 1) long ∙ sym (is_open-Are h.rest h.each) ∙ sym (is_open-append front h.rest (closed_other front h.last)) ∙ sym (ap is_open h.joined)
+    ap (λ n. n % 2 == 1) long ∙ sym (is_open-Are h.rest h.each) ∙ sym (is_open-append front h.rest (is_open-other_end front h.last)) ∙ sym (ap is_open h.joined)
 
 -- ---- what the code takes off
 
@@ -233,15 +226,6 @@ units_end : (front : List ℕ) → ((before : List ℕ) → front ≢ before ++ 
 units_end front other before is =
     other (concat before) (sym (concat-units_of front) ∙ ap concat is ∙ concat-append before (space ∷ []))
 
--- two rows that have the same last element
-last_same : (xs ys : List (List ℕ)) (x y : List ℕ) → xs ++ x ∷ [] ≡ ys ++ y ∷ [] → x ≡ y
-last_same [] [] x y e = cc
-last_same [] (b ∷ []) x y e = cc
-last_same [] (b ∷ c ∷ ys) x y e = cc
-last_same (a ∷ []) [] x y e = cc
-last_same (a ∷ c ∷ xs) [] x y e = cc
-last_same (a ∷ xs) (b ∷ ys) x y e = let rest : xs ++ x ∷ [] ≡ ys ++ y ∷ [] = cc in last_same xs ys x y rest
-
 pub Trims-closed : (line front : List ℕ) → StandsBefore 32 line front → is_open front ≡ false → Trims line front
 Trims-closed line front h closed = record {
   kept = units_of front;
@@ -252,14 +236,10 @@ Trims-closed line front h closed = record {
   joined = sym (concat-units_of front);
 }
 
-length_zero : (xs : List ℕ) → length xs ≡ 0 → xs ≡ []
-length_zero [] e = refl
-length_zero (x ∷ xs) e = absurd (omega arith)
-
 pub Trims-whole : (line front : List ℕ) → StandsBefore 32 line front → length line ≤ length front → Trims line front
 Trims-whole line front h whole =
     let none : length h.rest ≡ 0 = omega (arith, ap length h.joined, length-append front h.rest) in
-    let is : h.rest ≡ [] = length_zero h.rest none in
+    let is : h.rest ≡ [] = nil_from_length h.rest none in
     let same : line ≡ front = h.joined ∙ ap (λ l. front ++ l) is ∙ append-nil front in
     record {
       kept = units_of front;
@@ -282,7 +262,7 @@ Trims-escaped line front rest joined each open_ =
       spaces = units_of rest;
       units = ap units_of joined ∙ h.units rest;
       each = units_of-Are rest each;
-      last = λ before is. escaped_is_no_space 32 (last_same h.before before unit space is);
+      last = λ before is. escaped_is_no_space 32 (same_from_push h.before before unit space is).1;
       joined = sym (concat-units_of (front ++ 32 ∷ [])) ∙ ap concat (h.units [] ∙ append-nil (h.before ++ unit ∷ []));
     }
 
@@ -306,24 +286,11 @@ Are-drop byte [] (suc i) h = tt
 Are-drop byte (b ∷ bytes) zero h = (h 0 (omega arith) (omega arith), Are-drop byte bytes 0 (λ k low high. h (suc k) (omega arith) (omega arith)))
 Are-drop byte (b ∷ bytes) (suc i) h = Are-drop byte bytes i (λ k low high. h (suc k) (omega arith) (omega arith))
 
--- two rows of bytes that have the same last byte
-last_byte : (xs ys : List ℕ) (x y : ℕ) → xs ++ x ∷ [] ≡ ys ++ y ∷ [] → x ≡ y
-last_byte [] [] x y e = cc
-last_byte [] (b ∷ []) x y e = cc
-last_byte [] (b ∷ c ∷ ys) x y e = cc
-last_byte (a ∷ []) [] x y e = cc
-last_byte (a ∷ c ∷ xs) [] x y e = cc
-last_byte (a ∷ xs) (b ∷ ys) x y e = let rest : xs ++ x ∷ [] ≡ ys ++ y ∷ [] = cc in last_byte xs ys x y rest
-
-no_byte : (byte : ℕ) (before : List ℕ) → [] ≢ before ++ byte ∷ []
-no_byte byte [] e = cc
-no_byte byte (b ∷ before) e = cc
-
 -- a front that ends at place i doesn't end in another byte than the one there
 last_of_front : (byte : ℕ) (bytes : List ℕ) (i : ℕ) (before : List ℕ) → i < length bytes → get_or bytes i 0 ≢ byte → take (i + 1) bytes ≢ before ++ byte ∷ []
 last_of_front byte bytes i before inside other is =
     let parts : take i bytes ++ get_or bytes i 0 ∷ [] ≡ before ++ byte ∷ [] = sym (take_more bytes i 0 inside) ∙ is in
-    other (last_byte (take i bytes) before (get_or bytes i 0) byte parts)
+    other (same_from_push (take i bytes) before (get_or bytes i 0) byte parts).1
 
 pub StandsBefore-last : (byte : ℕ) (bytes : List ℕ) (i : ℕ) → i < length bytes → get_or bytes i 0 ≢ byte → ((k : ℕ) → i + 1 ≤ k → k < length bytes → get_or bytes k 0 ≡ byte) → StandsBefore byte bytes (take (i + 1) bytes)
 StandsBefore-last byte bytes i inside other after = record {
@@ -338,5 +305,5 @@ StandsBefore-none byte bytes all = record {
   rest = bytes;
   joined = refl;
   each = Are-drop byte bytes 0 (λ k low high. all k high);
-  last = no_byte byte;
+  last = λ before. push_not-nil before byte;
 }

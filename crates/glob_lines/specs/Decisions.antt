@@ -3,7 +3,7 @@ use Rattle.std.specs.Prelude.{◌≡◌, ◌⊎◌, ℕ, ◌+◌, Bool, if◌the
 use Rattle.gix_glob.specs.declared.pattern.Case.{Case}
 use Rattle.gix_glob.specs.Deciding.{Decides}
 use Rattle.gix_glob.specs.Lists.{Entry}
-use Rattle.gix_glob.specs.Loaded.{Listed}
+use Rattle.gix_glob.specs.EntryLists.{EntryList}
 use Rattle.gix_glob.specs.Paths.{IsPlainPath}
 use Rattle.gix_glob.specs.Patterns.{is_negative}
 use Rattle.glob_lines.specs.Lines.{Lines, WritesEach}
@@ -15,15 +15,15 @@ verdict list_number entry =
     (if is_negative entry.mode then codes "kept " else codes "ignored ") ++ (decimal list_number ++ (codes ":" ++ decimal entry.number))
 
 -- The line is what is said of the entry at this pair of places. Lists are numbered from 1.
-pub record WritesVerdict {V : Type 0} (lists : List (Listed V)) (pair : ℕ × ℕ) (written : List ℕ) : Type 0 where
-  pub list : Listed V
+pub record WritesVerdict {V : Type 0} (lists : List (EntryList V)) (pair : ℕ × ℕ) (written : List ℕ) : Type 0 where
+  pub list : EntryList V
   pub of_lists : slice_get lists pair.0 ≡ Some list
   pub entry : Entry V
   pub of_list : slice_get list.entries pair.1 ≡ Some entry
   pub shown : written ≡ verdict (pair.0 + 1) entry
 
--- The line for a path: what is said of the entry that decides, where there is one.
-pub record WritesDecision {V : Type 0} (lists : List (Listed V)) (case : Case) (line written : List ℕ) : Type 0 where
+-- The line for a path: what is said of the entry that decides, and `none` where no entry does.
+pub record WritesDecision {V : Type 0} (lists : List (EntryList V)) (case : Case) (line written : List ℕ) : Type 0 where
   pub path : List ℕ
   pub is_dir : Bool
   pub marked : MarksDirectory line path is_dir
@@ -31,13 +31,13 @@ pub record WritesDecision {V : Type 0} (lists : List (Listed V)) (case : Case) (
   pub decides : Decides lists path is_dir case pair
   pub shown : MatchOption pair (written ≡ codes "none") (λ p. WritesVerdict lists p written)
 
--- The line for a path line: an exclamation mark where it is no plain path.
-abbrev pub WritesDecisions : {V : Type 0} → List (Listed V) → Case → List ℕ → List ℕ → Type 0
+-- The line for a path line: an exclamation mark where that is no plain path, and else the line for its path.
+abbrev pub WritesDecisions : {V : Type 0} → List (EntryList V) → Case → List ℕ → List ℕ → Type 0
 WritesDecisions lists case line written =
     (¬ IsPlainPath line × (written ≡ codes "!")) ⊎ (IsPlainPath line × WritesDecision lists case line written)
 
--- The text has a line for each path line.
-pub record DecisionsText {V : Type 0} (lists : List (Listed V)) (case : Case) (paths text : List ℕ) : Type 0 where
+-- The text has a line for each path line, in order.
+pub record DecisionsText {V : Type 0} (lists : List (EntryList V)) (case : Case) (paths text : List ℕ) : Type 0 where
   pub lines : List (List ℕ)
   pub cut : Lines paths lines
   pub writes : WritesEach (WritesDecisions lists case) lines text

@@ -4,7 +4,7 @@ use Rattle.std.specs.List.{AllByRecursion, concat, list_all, starts_with}
 use Rattle.std.specs.Str.{bytes_eq}
 use Rattle.gix_glob.specs.Bytes.{backslash}
 use Rattle.glob_lines.specs.Lines.{line_feed, lines_of}
-use Rattle.glob_lines.specs.Numbered.{Entries, TextAndValue, entries_of}
+use Rattle.glob_lines.specs.Entries.{Entries, LineContent, entries_of}
 use Rattle.glob_lines.specs.Plain.{PlainEntry}
 
 -- ---- the bytes that hold the lines
@@ -17,6 +17,7 @@ byte_order_mark = 239 ∷ 187 ∷ 191 ∷ []
 abbrev pub without_mark : List ℕ → List ℕ
 without_mark bytes = if starts_with nat_eq bytes byte_order_mark then drop 3 bytes else bytes
 
+-- the byte of a carriage return
 abbrev pub carriage_return : ℕ
 carriage_return = 13
 
@@ -70,19 +71,22 @@ Ignore bytes entries = Entries GivesTrimmed (without_returns (without_mark bytes
 
 -- ---- the same by equation: the law `ignore_entries_are_these` says that both agree
 
--- the units before the spaces at the end
-abbrev pub kept_of : List (List ℕ) → List (List ℕ)
-kept_of [] = []
-kept_of (unit ∷ units) = if list_all (bytes_eq space) (unit ∷ units) then [] else unit ∷ kept_of units
+-- the units but for the spaces at the end
+abbrev pub units_before_spaces : List (List ℕ) → List (List ℕ)
+units_before_spaces [] = []
+units_before_spaces (unit ∷ units) = if list_all (bytes_eq space) (unit ∷ units) then [] else unit ∷ units_before_spaces units
 
-unfoldable pub trimmed : List ℕ → List ℕ
-trimmed line = concat (kept_of (units_of line))
+-- the line without the spaces at its end
+unfoldable pub text_before_spaces : List ℕ → List ℕ
+text_before_spaces line = concat (units_before_spaces (units_of line))
 
-abbrev pub trimmed_unless_comment : List ℕ → Option (TextAndValue (Unit {0}))
-trimmed_unless_comment line = if is_comment line then None else Some (record { text = trimmed line; value = tt })
+-- what a line gives: nothing where it is a comment
+abbrev pub ignore_content : List ℕ → Option (LineContent (Unit {0}))
+ignore_content line = if is_comment line then None else Some (record { text = text_before_spaces line; value = tt })
 
+-- the ignore entries of the bytes
 abbrev pub ignore_of : List ℕ → List PlainEntry
-ignore_of bytes = entries_of trimmed_unless_comment (without_returns (without_mark bytes))
+ignore_of bytes = entries_of ignore_content (without_returns (without_mark bytes))
 
 -- ---- one line after the other
 
@@ -91,7 +95,7 @@ ignore_of bytes = entries_of trimmed_unless_comment (without_returns (without_ma
 pub record BeginsWithLine (bytes : List ℕ) (text : Option (List ℕ)) (rest : List ℕ) : Type 0 where
   pub line : List ℕ
   pub lines : lines_of (without_returns bytes) ≡ line ∷ lines_of (without_returns rest)
-  pub gives : MatchOption text (is_comment line ≡ true) (λ given. GivesTrimmed line given tt)
+  pub gives : MatchOption text (is_comment line ≡ true) (λ line_text. GivesTrimmed line line_text tt)
   pub taken : ℕ
   pub behind : rest ≡ drop taken bytes
   pub shorter : length rest < length bytes

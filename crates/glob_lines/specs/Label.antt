@@ -3,13 +3,14 @@ use Rattle.std.specs.Prelude.{◌≡◌, ◌⊎◌, ◌==◌, ℕ, Bool, List, [
 use Rattle.std.specs.List.{after_first, before_first}
 use Rattle.gix_glob.specs.Lists.{Entry}
 use Rattle.glob_lines.specs.Lines.{HasNo}
-use Rattle.glob_lines.specs.Numbered.{Entries, TextAndValue, entries_of}
+use Rattle.glob_lines.specs.Entries.{Entries, LineContent, entries_of}
 use Rattle.glob_lines.specs.Plain.{PlainEntry}
 
 -- a pattern with its label, and its number
 abbrev pub LabelEntry : Type 0
 LabelEntry = Entry (List ℕ)
 
+-- the byte of a tab
 abbrev pub tab : ℕ
 tab = 9
 
@@ -24,17 +25,20 @@ pub record GivesLabel (line text value : List ℕ) : Type 0 where
 abbrev pub Label : List ℕ → List LabelEntry → Type 0
 Label bytes entries = Entries GivesLabel bytes entries
 
--- a plain entry as one with an empty label
-abbrev pub unlabelled : PlainEntry → LabelEntry
-unlabelled entry = record { text = entry.text; mode = entry.mode; place = entry.place; value = []; number = entry.number }
+-- the plain entry, with an empty label
+abbrev pub entry_with_empty_label : PlainEntry → LabelEntry
+entry_with_empty_label entry = record { text = entry.text; mode = entry.mode; place = entry.place; value = []; number = entry.number }
 
 -- ---- the same by equation: the law `label_entries_are_these` says that both agree
 
+-- whether a byte is a tab
 abbrev pub is_tab : ℕ → Bool
 is_tab b = b == tab
 
-abbrev pub parted : List ℕ → Option (TextAndValue (List ℕ))
-parted line = Some (record { text = before_first is_tab line; value = after_first is_tab line })
+-- what a line gives: what stands before its first tab, and what stands after it
+abbrev pub label_content : List ℕ → Option (LineContent (List ℕ))
+label_content line = Some (record { text = before_first is_tab line; value = after_first is_tab line })
 
+-- the labelled entries of the bytes
 abbrev pub label_of : List ℕ → List LabelEntry
-label_of bytes = entries_of parted bytes
+label_of bytes = entries_of label_content bytes

@@ -1,9 +1,9 @@
 pub mod Decisions
+pub mod Entries
 pub mod Ignore
 pub mod Label
 pub mod Lines
 pub mod Mappings
-pub mod Numbered
 pub mod Numbers
 pub mod PathLines
 pub mod Plain

@@ -8,5 +8,5 @@ Picks P [] chosen = chosen ≡ []
 Picks P (x ∷ xs) chosen = (P x × (more : List _) × (chosen ≡ x ∷ more) × Picks P xs more) ⊎ (¬ P x × Picks P xs chosen)
 
 -- the numbers in decimal digits, one space between
-abbrev pub spaced : List ℕ → List ℕ
-spaced numbers = join_with_byte 32 (map decimal numbers)
+abbrev pub text_of_numbers : List ℕ → List ℕ
+text_of_numbers numbers = join_with_byte 32 (map decimal numbers)

@@ -1,7 +1,7 @@
 -- What the parser of plain lines means: the readings of the lines, with the numbers of the lines.
 use Rattle.std.specs.Prelude.{◌≡◌, ℕ, List, Option, Some}
 use Rattle.gix_glob.specs.Lists.{Entry}
-use Rattle.glob_lines.specs.Numbered.{Entries, TextAndValue, entries_of}
+use Rattle.glob_lines.specs.Entries.{Entries, LineContent, entries_of}
 
 -- a pattern without a value, and its number
 abbrev pub PlainEntry : Type 0
@@ -15,9 +15,12 @@ GivesItself line text _ = text ≡ line
 abbrev pub Plain : List ℕ → List PlainEntry → Type 0
 Plain bytes entries = Entries GivesItself bytes entries
 
--- the same by equation: the law `plain_entries_are_these` says that both agree
-abbrev pub itself : List ℕ → Option (TextAndValue (Unit {0}))
-itself line = Some (record { text = line; value = tt })
+-- ---- the same by equation: the law `plain_entries_are_these` says that both agree
 
+-- what a line gives: itself
+abbrev pub plain_content : List ℕ → Option (LineContent (Unit {0}))
+plain_content line = Some (record { text = line; value = tt })
+
+-- the plain entries of the bytes
 abbrev pub plain_of : List ℕ → List PlainEntry
-plain_of bytes = entries_of itself bytes
+plain_of bytes = entries_of plain_content bytes

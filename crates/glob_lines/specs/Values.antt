@@ -4,6 +4,7 @@ use Rattle.gix_glob.specs.declared.wildmatch.Mode.{Mode}
 use Rattle.gix_glob.specs.Matching.{Splits}
 use Rattle.glob_lines.specs.Lines.{Lines, WritesEach}
 
+-- the word for an answer
 abbrev pub word_of : Bool → List ℕ
 word_of answer = if answer then codes "yes" else codes "no"
 
@@ -13,7 +14,7 @@ pub record WritesAnswer (pattern : List ℕ) (mode : Mode) (value line : List �
   pub exact : IsTrue answer ↔ Splits value pattern mode
   pub word : line ≡ word_of answer
 
--- The text of values: an answer for each line of the input.
+-- The text of values: a line with the answer for each line of the input, in order.
 pub record ValuesText (pattern : List ℕ) (mode : Mode) (input text : List ℕ) : Type 0 where
   pub values : List (List ℕ)
   pub lines : Lines input values

@@ -1,7 +1,7 @@
 //! Which pattern of a stack of lists decides about a path: the last one that matches it.
 ghost use Rattle.std.specs.Prelude.{◌↔◌, ◌≤◌, ℕ, IsTrue, MatchOption, map};
 ghost use Rattle.gix_glob.specs.Deciding.{AnswersAt, BasesAreFolders, Decides, HasFolder};
-ghost use Rattle.gix_glob.specs.Loaded.{listed};
+ghost use Rattle.gix_glob.specs.EntryLists.{entry_list_of};
 ghost use Rattle.gix_glob.specs.Paths.{IsFolder, IsPlainPath};
 ghost use Rattle.gix_glob.specs.RepositoryPaths.{IsBasenameStart};
 
@@ -25,8 +25,8 @@ pub fn decide<T: search::Pattern>(
     case: Case,
 ) -> Option<(usize, usize)>
     requires plain { IsPlainPath path.now }
-    requires folders { BasesAreFolders (map (listed T.seen) lists.now) }
-    ensures { Decides (map (listed T.seen) lists.now) path.now is_dir case result }
+    requires folders { BasesAreFolders (map (entry_list_of T.seen) lists.now) }
+    ensures { Decides (map (entry_list_of T.seen) lists.now) path.now is_dir case result }
 {
     let position = basename_start(path);
     for i in (0..lists.len()).rev() {
@@ -47,11 +47,11 @@ fn last_match<T: search::Pattern>(
 ) -> Option<usize>
     requires plain { IsPlainPath path.now }
     requires basename { IsBasenameStart path.now position }
-    requires folder { HasFolder (listed T.seen list.now) }
+    requires folder { HasFolder (entry_list_of T.seen list.now) }
     ensures { MatchOption result
-        ((m : ℕ) → ¬ AnswersAt (listed T.seen list.now) path.now is_dir case m)
-        (λ last. AnswersAt (listed T.seen list.now) path.now is_dir case last
-        × ((m : ℕ) → AnswersAt (listed T.seen list.now) path.now is_dir case m → m ≤ last)) }
+        ((m : ℕ) → ¬ AnswersAt (entry_list_of T.seen list.now) path.now is_dir case m)
+        (λ last. AnswersAt (entry_list_of T.seen list.now) path.now is_dir case last
+        × ((m : ℕ) → AnswersAt (entry_list_of T.seen list.now) path.now is_dir case m → m ≤ last)) }
 {
     let (rest, position) = rest_of(list, path, position, case)?;
     let mappings = list.patterns.as_slice();
@@ -69,7 +69,7 @@ fn last_match<T: search::Pattern>(
 ///
 /// It is so for each list that is loaded, as [`List::from_bytes`] and the calls above it do.
 pub fn bases_are_folders<T: search::Pattern>(lists: &[List<T>]) -> bool
-    ensures { IsTrue result ↔ BasesAreFolders (map (listed T.seen) lists.now) }
+    ensures { IsTrue result ↔ BasesAreFolders (map (entry_list_of T.seen) lists.now) }
 {
     for list in lists {
         if let Some(base) = &list.base

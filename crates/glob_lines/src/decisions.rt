@@ -3,9 +3,8 @@ ghost use Rattle.std.specs.Prelude.{◌≡◌, ◌↔◌, ◌++◌, false, map, 
 ghost use Rattle.std.specs.Io.KnownBytes.{Appends};
 ghost use Rattle.gix_glob.specs.Deciding.{BasesAreFolders, Decides};
 ghost use Rattle.gix_glob.specs.Lists.{entry_of};
-ghost use Rattle.gix_glob.specs.Loaded.{listed};
+ghost use Rattle.gix_glob.specs.EntryLists.{entry_list_of};
 ghost use Rattle.gix_glob.specs.Paths.{IsPlainPath};
-ghost use Rattle.glob_index.specs.Index.{IsIndex};
 ghost use Rattle.gix_glob.specs.Watched.{has_failed, inner};
 ghost use Rattle.glob_lines.specs.Decisions.{DecisionsText, WritesDecisions, verdict};
 ghost use Rattle.glob_lines.specs.Transfers.{AppendsFront, ReadsWhole, Run};
@@ -45,17 +44,17 @@ pub fn run_ignore<R: Read, W: Write>(
 ) -> Result<(), EngineFault>
     requires readable { has_failed paths.old ≡ false }
     requires writable { has_failed writer.old ≡ false }
-    requires folders { BasesAreFolders (map (listed {V = Unit {0}} (λ _. tt)) lists.now) }
+    requires folders { BasesAreFolders (map (entry_list_of {V = Unit {0}} (λ _. tt)) lists.now) }
     // On success, all of the input was read, and all of a text of decisions was written.
     ensures ok { OnOk result
         (Run (ReadsWhole (R.remaining (inner paths.old)) (R.remaining (inner paths.new)))
-        (DecisionsText (map (listed {V = Unit {0}} (λ _. tt)) lists.now) case)
+        (DecisionsText (map (entry_list_of {V = Unit {0}} (λ _. tt)) lists.now) case)
         (Appends (W.contents (inner writer.old)) (W.contents (inner writer.new)))) }
     ensures memory { IsErrOf result EngineFault.Memory → writer.new ≡ writer.old }
     ensures read { IsErrOf result EngineFault.Read → writer.new ≡ writer.old }
     ensures write { IsErrOf result EngineFault.Write →
         Run (ReadsWhole (R.remaining (inner paths.old)) (R.remaining (inner paths.new)))
-        (DecisionsText (map (listed {V = Unit {0}} (λ _. tt)) lists.now) case)
+        (DecisionsText (map (entry_list_of {V = Unit {0}} (λ _. tt)) lists.now) case)
         (AppendsFront (W.contents (inner writer.old)) (W.contents (inner writer.new))) }
     ensures read_failed { IsErrOf result EngineFault.Read ↔ IsTrue (has_failed paths.new) }
     ensures write_failed { IsErrOf result EngineFault.Write ↔ IsTrue (has_failed writer.new) }
@@ -72,8 +71,8 @@ fn decisions_of<T: search::Pattern>(
     case: Case,
     paths: &[u8],
 ) -> Result<Vec<u8>, AllocError>
-    requires { BasesAreFolders (map (listed T.seen) lists.now) }
-    ensures { IfOk result (λ text. DecisionsText (map (listed T.seen) lists.now) case paths.now text.items) }
+    requires { BasesAreFolders (map (entry_list_of T.seen) lists.now) }
+    ensures { IfOk result (λ text. DecisionsText (map (entry_list_of T.seen) lists.now) case paths.now text.items) }
 {
     let index = ListIndex::new(alloc, lists, case)?;
     let mut text = Vec::new(alloc);
@@ -90,16 +89,15 @@ fn append_decision<T: search::Pattern>(
     index: &ListIndex<'_, T>,
     line: &[u8],
 ) -> Result<(), AllocError>
-    requires made { IsIndex T.seen index.now }
-    requires folders { BasesAreFolders (map (listed T.seen) index.now.lists.now) }
-    ensures { OnOk result (Adds (WritesDecisions (map (listed T.seen) index.now.lists.now) index.now.case line.now) text.old.items text.new.items) }
+    requires folders { BasesAreFolders (map (entry_list_of T.seen) index.now.lists) }
+    ensures { OnOk result (Adds (WritesDecisions (map (entry_list_of T.seen) index.now.lists) index.now.case line.now) text.old.items text.new.items) }
 {
     if !plain_path(line) {
         text.push(b'!')?;
         return Ok(());
     }
     let (path, is_dir) = path_of(line);
-    let lists = index.lists;
+    let lists = index.lists();
     match decision(index, path, is_dir) {
         Some((i, m)) => append_verdict(text, i + 1, &lists[i].patterns[m]),
         None => text.extend_from_slice(b"none"),
@@ -112,15 +110,14 @@ fn decision<T: search::Pattern>(
     path: &[u8],
     is_dir: bool,
 ) -> Option<(usize, usize)>
-    requires made { IsIndex T.seen index.now }
     requires plain { IsPlainPath path.now }
-    requires folders { BasesAreFolders (map (listed T.seen) index.now.lists.now) }
-    ensures { Decides (map (listed T.seen) index.now.lists.now) path.now is_dir index.now.case result }
+    requires folders { BasesAreFolders (map (entry_list_of T.seen) index.now.lists) }
+    ensures { Decides (map (entry_list_of T.seen) index.now.lists) path.now is_dir index.now.case result }
 {
     if index.pays_for(path) {
         index.decide(path, is_dir)
     } else {
-        decide(index.lists, path, is_dir, index.case)
+        decide(index.lists(), path, is_dir, index.case())
     }
 }
 

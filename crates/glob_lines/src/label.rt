@@ -2,7 +2,7 @@
 ghost use Rattle.glob_lines.specs.Label.{GivesLabel};
 
 use crate::lines::Lines;
-use crate::numbered::push_pattern;
+use crate::entries::push_pattern;
 use gix_glob::search;
 use gix_glob::search::pattern::Mapping;
 use memchr::memchr;

@@ -4,9 +4,10 @@ ghost use Rattle.gix_glob.specs.declared.pattern.Case.{Case};
 ghost use Rattle.gix_glob.specs.declared.wildmatch.Mode.{Mode};
 ghost use Rattle.gix_glob.specs.Deciding.{HasFolder};
 ghost use Rattle.gix_glob.specs.Lists.{Entry};
-ghost use Rattle.gix_glob.specs.Loaded.{IsLoaded, Listed};
+ghost use Rattle.gix_glob.specs.EntryLists.{EntryList};
+ghost use Rattle.gix_glob.specs.Loading.{IsLoaded};
 ghost use Rattle.glob_lines.specs.Ignore.{Ignore, ignore_of};
-ghost use Rattle.glob_lines.specs.Label.{Label, LabelEntry, label_of, tab, unlabelled};
+ghost use Rattle.glob_lines.specs.Label.{Label, LabelEntry, label_of, tab, entry_with_empty_label};
 ghost use Rattle.glob_lines.specs.Lines.{HasNo, Lines, lines_of};
 ghost use Rattle.glob_lines.specs.Mappings.{MappingsText, PatternsAndPaths};
 ghost use Rattle.glob_lines.specs.Plain.{Plain, PlainEntry, plain_of};
@@ -44,7 +45,7 @@ pub fn label_entries_are_these()
 /// Over bytes without a tab the labelled entries are the plain ones, with empty values.
 pub fn lines_without_tabs_keep_their_meaning()
     ensures { (bytes : List ℕ) (entries : List PlainEntry) → HasNo tab bytes
-        → Plain bytes entries → Label bytes (map unlabelled entries) }
+        → Plain bytes entries → Label bytes (map entry_with_empty_label entries) }
 {
     readings_are_these();
 }
@@ -71,7 +72,7 @@ pub fn mappings_have_one_text()
 /// The base of a list that was loaded is that of a folder: so lists that were loaded meet
 /// [`bases_are_folders`](crate::bases_are_folders).
 pub fn loaded_lists_have_folders<T: search::Pattern>()
-    ensures { (meaning : List ℕ → List ℕ → List (Entry T.Seen)) (bytes source : List ℕ) (root : Option (List ℕ)) (list : Listed T.Seen) →
+    ensures { (meaning : List ℕ → List ℕ → List (Entry T.Seen)) (bytes source : List ℕ) (root : Option (List ℕ)) (list : EntryList T.Seen) →
         IsLoaded meaning bytes source root list → HasFolder list }
 {
     bases_end_in_a_slash();

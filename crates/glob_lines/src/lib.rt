@@ -4,6 +4,7 @@
 mod deciding;
 mod decimal;
 mod decisions;
+mod entries;
 mod fault;
 mod ignore;
 mod ignore_line;
@@ -11,7 +12,6 @@ mod label;
 pub mod laws;
 mod lines;
 mod list;
-mod numbered;
 mod paths;
 mod plain;
 mod transfer;

@@ -8,10 +8,9 @@ ghost use Rattle.gix_glob.specs.Lists.{entry_of};
 ghost use Rattle.gix_glob.specs.Paths.{IsFolder, IsPlainPath, has_file_part};
 ghost use Rattle.gix_glob.specs.RepositoryPaths.{IsBasenameStart};
 ghost use Rattle.gix_glob.specs.Watched.{has_failed, inner};
-ghost use Rattle.glob_index.specs.Index.{IsIndex};
 ghost use Rattle.glob_lines.specs.Mappings.{MappingsText, MatchesText, ReadsBoth, WritesMatches, WritesNumbers};
 ghost use Rattle.glob_lines.specs.Transfers.{AppendsFront, Run};
-ghost use Rattle.glob_lines.specs.Private.Answering.{WritesAnswering};
+ghost use Rattle.glob_lines.specs.Private.Answering.{WritesNumbersUnder};
 ghost use Rattle.glob_lines.specs.Private.Growing.{Adds};
 
 use crate::decimal::append_decimal;
@@ -110,8 +109,7 @@ fn append_matches(
     list: &List<PlainLines>,
     line: &[u8],
 ) -> Result<(), AllocError>
-    requires made { IsIndex {V = Unit {0}} (λ _. tt) index.now }
-    requires one { index.now.lists.now ≡ list.now ∷ [] }
+    requires one { index.now.lists ≡ list.now ∷ [] }
     requires folder { ForSome (option_map vec_items list.now.base) IsFolder }
     ensures { OnOk result (Adds
         (WritesMatches (map (entry_of (λ _. tt)) list.now.patterns.items) (option_map vec_items list.now.base) index.now.case line.now)
@@ -122,13 +120,14 @@ fn append_matches(
         return Ok(());
     }
     let (path, is_dir) = path_of(line);
-    let Some((rest, position)) = rest_of(list, path, basename_start(path), index.case) else {
+    let case = index.case();
+    let Some((rest, position)) = rest_of(list, path, basename_start(path), case) else {
         return Ok(());
     };
     if index.pays_for(path) {
         append_found(alloc, text, index, list, path, is_dir)
     } else {
-        append_numbers(text, &list.patterns, rest, position, is_dir, index.case)
+        append_numbers(text, &list.patterns, rest, position, is_dir, case)
     }
 }
 
@@ -141,12 +140,11 @@ fn append_found(
     path: &[u8],
     is_dir: bool,
 ) -> Result<(), AllocError>
-    requires made { IsIndex {V = Unit {0}} (λ _. tt) index.now }
-    requires one { index.now.lists.now ≡ list.now ∷ [] }
+    requires one { index.now.lists ≡ list.now ∷ [] }
     requires plain { IsPlainPath path.now }
     requires folder { ForSome (option_map vec_items list.now.base) IsFolder }
     ensures { OnOk result (Adds
-        (WritesAnswering (map (entry_of (λ _. tt)) list.now.patterns.items) (option_map vec_items list.now.base) path.now is_dir index.now.case)
+        (WritesNumbersUnder (map (entry_of (λ _. tt)) list.now.patterns.items) (option_map vec_items list.now.base) path.now is_dir index.now.case)
         text.old.items text.new.items) }
 {
     let pairs = index.matches(alloc, path, is_dir)?;

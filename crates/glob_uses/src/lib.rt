@@ -6,7 +6,7 @@ ghost use Rattle.gix_glob.specs.declared.pattern.Case.{Case};
 ghost use Rattle.gix_glob.specs.Bytes.{HasByte, slash};
 ghost use Rattle.gix_glob.specs.Deciding.{BasesAreFolders, Decides};
 ghost use Rattle.gix_glob.specs.Lists.{entry_of};
-ghost use Rattle.gix_glob.specs.Loaded.{listed};
+ghost use Rattle.gix_glob.specs.EntryLists.{entry_list_of};
 ghost use Rattle.gix_glob.specs.Paths.{IsPlainPath};
 ghost use Rattle.gix_glob.specs.Patterns.{HasReading};
 ghost use Rattle.glob_lines.specs.Ignore.{Ignore};
@@ -45,8 +45,8 @@ pub fn rules(alloc: Global, file: &[u8], name: &str) -> Result<List<IgnoreLines>
 /// Which rule of several ignore files decides about a path: the place of its file and its place among the file's rules, both
 /// from 0. `None` where none matches, where the path is no path of a repository, and where a base is that of no folder.
 pub fn last_rule(lists: &[List<IgnoreLines>], path: &[u8], is_dir: bool) -> Option<(usize, usize)>
-    ensures { IsPlainPath path.now → BasesAreFolders (map (listed {V = Unit {0}} (λ _. tt)) lists.now)
-        → Decides (map (listed {V = Unit {0}} (λ _. tt)) lists.now) path.now is_dir Case.Sensitive result }
+    ensures { IsPlainPath path.now → BasesAreFolders (map (entry_list_of {V = Unit {0}} (λ _. tt)) lists.now)
+        → Decides (map (entry_list_of {V = Unit {0}} (λ _. tt)) lists.now) path.now is_dir Case.Sensitive result }
 {
     if !plain_path(path) {
         return None;

@@ -28,7 +28,7 @@ fn line_of(alloc: Global, begins: &str, within: Repeated) -> Result<Vec<u8>, All
 }
 
 /// What `run_list` answers for the line and the paths.
-fn listed(alloc: Global, line: &[u8], paths: &[u8]) -> Result<Vec<u8>, Fail> {
+fn list_output(alloc: Global, line: &[u8], paths: &[u8]) -> Result<Vec<u8>, Fail> {
     let (mut lines, mut paths) = (Watched::new(line), Watched::new(paths));
     let mut writer = Watched::new(Vec::new(alloc));
     run_list(
@@ -61,7 +61,7 @@ fn sets_of_100_kilobytes_are_read_in_a_moment(rt: HostRuntime) -> Result<(), Fai
         for begins in ["[", "*["] {
             let line = line_of(rt.alloc(), begins, within)?;
             let row = (begins, within, repeated_path);
-            let list = listed(rt.alloc(), &line, &path)?;
+            let list = list_output(rt.alloc(), &line, &path)?;
             let wanted: &[u8] = if answer { b"1\n" } else { b"\n" };
             assert_eq!(rt; list.as_slice(), wanted, "list: {row:?}");
             let ignore = decided(&rt, &line, &path)?;
@@ -76,7 +76,7 @@ fn sets_of_100_kilobytes_are_read_in_a_moment(rt: HostRuntime) -> Result<(), Fai
 fn sixty_four_stars_match_in_a_line(rt: HostRuntime) -> Result<(), Fail> {
     let lines = repeated(rt.alloc(), ("*a", 64, "\nb\n"))?;
     let paths = repeated(rt.alloc(), ("a", 64, "\nb\n"))?;
-    let list = listed(rt.alloc(), &lines, &paths)?;
+    let list = list_output(rt.alloc(), &lines, &paths)?;
     assert_eq!(rt; list.as_slice(), b"1\n2\n".as_slice());
     let ignore = decided(&rt, &lines, &paths)?;
     assert_eq!(rt; ignore.as_slice(), b"ignored 1:1\nignored 1:2\n".as_slice());

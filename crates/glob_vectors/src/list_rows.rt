@@ -49,7 +49,7 @@ const WITHOUT_ROOT: Question<'static> = Question {
 };
 
 /// What a run over readers and a writer in memory wrote.
-fn listed(
+fn list_output(
     rt: &(impl Abort + AllocGlobal),
     question: Question<'_>,
     patterns: &[u8],
@@ -102,7 +102,7 @@ fn the_numbers_of_matching_lines_are_listed(rt: HostRuntime) -> Result<(), Fail>
         ),
     ];
     for (question, patterns, paths, text) in rows {
-        let output = listed(&rt, question, patterns, paths)?;
+        let output = list_output(&rt, question, patterns, paths)?;
         assert_eq!(rt; output.as_slice(), text, "{patterns:?} on {paths:?}");
     }
     Ok(())

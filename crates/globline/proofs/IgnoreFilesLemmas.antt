@@ -9,14 +9,15 @@ use Rattle.std.proofs.lemmas.List.Sums.{AllPass-from_list_all}
 use Rattle.gix_glob.specs.Bytes.{EndsInSlash}
 use Rattle.gix_glob.specs.Deciding.{BasesAreFolders, HasFolder}
 use Rattle.gix_glob.specs.declared.search.pattern.list.List as patterns
-use Rattle.gix_glob.specs.Loaded.{AddsLoaded, IsLoaded, Listed, listed}
+use Rattle.gix_glob.specs.EntryLists.{EntryList, entry_list_of}
+use Rattle.gix_glob.specs.Loading.{AddsLoadedList, IsLoaded}
 use Rattle.gix_glob.specs.Paths.{Base, has_file_part}
 use Rattle.glob_lines.specs.Ignore.{Ignore, ignore_of}
 use Rattle.glob_lines.specs.Plain.{PlainEntry}
 use Rattle.globline.specs.Words.{AreIgnoreLists, IsIgnoreList, are_files}
 
 abbrev pub IgnoreList : Type 0
-IgnoreList = Listed (Unit {0})
+IgnoreList = EntryList (Unit {0})
 
 -- ---- what the laws say
 
@@ -52,12 +53,12 @@ bases_are_folders law root (file ∷ files) lists are =
 
 module _ (root : Option (List ℕ)) (file : List ℕ) where
   -- which gave no list
-  pub one_more_passed : (files : List (List ℕ)) (lists : List IgnoreList) → AreIgnoreLists root files lists → AreIgnoreLists root (files ++ file ∷ []) lists
-  one_more_passed [] lists none = inl none
-  one_more_passed (first ∷ files) lists are =
-      ⊎_elim (λ (passed : AreIgnoreLists root files lists). inl (one_more_passed files lists passed))
+  pub one_more_missing : (files : List (List ℕ)) (lists : List IgnoreList) → AreIgnoreLists root files lists → AreIgnoreLists root (files ++ file ∷ []) lists
+  one_more_missing [] lists none = inl none
+  one_more_missing (first ∷ files) lists are =
+      ⊎_elim (λ (passed : AreIgnoreLists root files lists). inl (one_more_missing files lists passed))
       (λ (given : (bytes : List ℕ) × (list : IgnoreList) × (more : List IgnoreList) × (lists ≡ list ∷ more) × IsIgnoreList bytes first root list × AreIgnoreLists root files more).
-      inr (given.0, given.1, given.2, given.3, given.4, one_more_passed files given.2 given.5))
+      inr (given.0, given.1, given.2, given.3, given.4, one_more_missing files given.2 given.5))
       are
 
   -- which gave a list
@@ -72,13 +73,13 @@ module _ (root : Option (List ℕ)) (file : List ℕ) where
 
 -- what a file that was asked for did to the lists
 pub one_more_file : {T X : Type 0} (law : IgnoreEntriesAreThese) (seen : X → Unit {0}) (is_added : Bool) (bytes file source : List ℕ) (root : Option (List ℕ)) (files : List (List ℕ)) (old new : List (patterns.List T X))
-    → source ≡ file → AreIgnoreLists root files (map (listed seen) old)
-    → MatchBool is_added (AddsLoaded seen (λ bytes _. ignore_of bytes) bytes source root old new) (new ≡ old) → AreIgnoreLists root (files ++ file ∷ []) (map (listed seen) new)
+    → source ≡ file → AreIgnoreLists root files (map (entry_list_of seen) old)
+    → MatchBool is_added (AddsLoadedList seen (λ bytes _. ignore_of bytes) bytes source root old new) (new ≡ old) → AreIgnoreLists root (files ++ file ∷ []) (map (entry_list_of seen) new)
 one_more_file law seen true bytes file source root files old new same are adds =
-    subst (AreIgnoreLists root (files ++ file ∷ [])) (sym (ap (map (listed seen)) adds.grown ∙ map_push (listed seen) old adds.list))
-    (one_more_list root file files (map (listed seen) old) bytes (listed seen adds.list) are (is_ignore_list law bytes file source root (listed seen adds.list) same adds.loaded))
+    subst (AreIgnoreLists root (files ++ file ∷ [])) (sym (ap (map (entry_list_of seen)) adds.grown ∙ map_push (entry_list_of seen) old adds.list))
+    (one_more_list root file files (map (entry_list_of seen) old) bytes (entry_list_of seen adds.list) are (is_ignore_list law bytes file source root (entry_list_of seen adds.list) same adds.loaded))
 one_more_file law seen false bytes file source root files old new same are kept =
-    subst (AreIgnoreLists root (files ++ file ∷ [])) (sym (ap (map (listed seen)) kept)) (one_more_passed root file files (map (listed seen) old) are)
+    subst (AreIgnoreLists root (files ++ file ∷ [])) (sym (ap (map (entry_list_of seen)) kept)) (one_more_missing root file files (map (entry_list_of seen) old) are)
 
 -- ---- each of the files can be one
 

@@ -5,14 +5,14 @@ use Rattle.std.specs.Option.{option_copied}
 use Rattle.std.specs.String.{string_bytes}
 use Rattle.gix_glob.specs.declared.pattern.Case.{Case}
 use Rattle.gix_glob.specs.declared.wildmatch.Mode.{Mode}
-use Rattle.gix_glob.specs.Loaded.{Listed}
+use Rattle.gix_glob.specs.EntryLists.{EntryList}
 use Rattle.glob_lines.specs.Decisions.{DecisionsText}
 use Rattle.glob_lines.specs.Mappings.{MappingsText, ReadsBoth}
 use Rattle.glob_lines.specs.Transfers.{ReadsWhole, Run}
 use Rattle.glob_lines.specs.Values.{ValuesText}
 use Rattle.glob_lines.specs.declared.fault.EngineFault.{EngineFault}
 use Rattle.glob_lines.specs.declared.fault.EngineFault.TheVariants.{Memory, Read, Write}
-use Rattle.globline.specs.Words.{AnsweredWords, AnswersIgnore, AnswersList, AnswersWild, AreIgnoreLists}
+use Rattle.globline.specs.Words.{AnswersWords, AnswersIgnore, AnswersList, AnswersWild, AreIgnoreLists}
 use Rattle.globline.specs.Private.Commands.{Ask, CarriesOut}
 use Rattle.globline.specs.declared.command.Command.{Command}
 use Rattle.globline.specs.declared.command.Command.TheVariants as command
@@ -60,7 +60,7 @@ answers_list case file root patterns_old patterns_new input_old input_new Writte
   run = record { input = run.input.paths; read = run.read.paths; text = run.text; allowed = run.allowed; written = run.written };
 }
 
-pub answers_ignore : (case : Case) (root : Option (List ℕ)) (files : List (List ℕ)) (lists : List (Listed (Unit {0}))) (input_old input_new : Option (List ℕ)) (Written : List ℕ → Type 0)
+pub answers_ignore : (case : Case) (root : Option (List ℕ)) (files : List (List ℕ)) (lists : List (EntryList (Unit {0}))) (input_old input_new : Option (List ℕ)) (Written : List ℕ → Type 0)
     → AreIgnoreLists root files lists → Run (ReadsWhole input_old input_new) (DecisionsText lists case) Written
     → AnswersIgnore case root files input_old input_new Written
 answers_ignore case root files lists input_old input_new Written loaded run = record { lists = lists; loaded = loaded; run = run }
@@ -74,7 +74,7 @@ on_each_fault (Err Write) memory read write = inr (write refl)
 
 -- what carries a command out answers the words that ask for it
 pub answers_words : (words : List (List ℕ)) (asked : Command) (input_old input_new : Option (List ℕ)) (Written : List ℕ → Type 0)
-    → Ask words asked → CarriesOut asked input_old input_new Written → AnsweredWords words input_old input_new Written
+    → Ask words asked → CarriesOut asked input_old input_new Written → AnswersWords words input_old input_new Written
 answers_words words (command.Wild mode pattern) input_old input_new Written asks done =
     inl (record { mode = mode; pattern = pattern.now; asked = asks; done = done })
 answers_words words (command.List case file root) input_old input_new Written asks done =
@@ -84,7 +84,7 @@ answers_words words (command.Ignore case root files) input_old input_new Written
 
 -- the same, where it may also have stopped before
 pub or_answers_words : {P : Type 0} (words : List (List ℕ)) (asked : Command) (input_old input_new : Option (List ℕ)) (Written : List ℕ → Type 0)
-    → Ask words asked → P ⊎ CarriesOut asked input_old input_new Written → P ⊎ AnsweredWords words input_old input_new Written
+    → Ask words asked → P ⊎ CarriesOut asked input_old input_new Written → P ⊎ AnswersWords words input_old input_new Written
 or_answers_words words asked input_old input_new Written asks (inl stopped) = inl stopped
 or_answers_words words asked input_old input_new Written asks (inr done) =
     inr (answers_words words asked input_old input_new Written asks done)

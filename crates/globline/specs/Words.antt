@@ -5,7 +5,7 @@ use Rattle.gix_glob.specs.declared.pattern.Case.{Case}
 use Rattle.gix_glob.specs.declared.pattern.Case.TheVariants.{Sensitive, Fold}
 use Rattle.gix_glob.specs.declared.wildmatch.Mode.{Mode}
 use Rattle.gix_glob.specs.Bytes.{bits}
-use Rattle.gix_glob.specs.Loaded.{Listed}
+use Rattle.gix_glob.specs.EntryLists.{EntryList}
 use Rattle.gix_glob.specs.Paths.{Base, has_file_part}
 use Rattle.glob_lines.specs.Decisions.{DecisionsText}
 use Rattle.glob_lines.specs.Ignore.{Ignore}
@@ -74,33 +74,33 @@ pub record AnswersList (case : Case) (file : List ℕ) (root : Option (List ℕ)
   pub run : Run (ReadsWhole input_old input_new) (λ paths. MappingsText file root case (record { patterns = patterns; paths = paths })) Written
 
 -- the list is what the bytes of an ignore file mean, with the base of the file under the root
-pub record IsIgnoreList (bytes file : List ℕ) (root : Option (List ℕ)) (list : Listed (Unit {0})) : Type 0 where
+pub record IsIgnoreList (bytes file : List ℕ) (root : Option (List ℕ)) (list : EntryList (Unit {0})) : Type 0 where
   pub means : Ignore bytes list.entries
   pub named : list.source ≡ Some file
   pub based : Base file root list.base
 
 -- The lists of ignore files, in order: a file gave bytes, and its list is what they mean, or it gave none and is passed over.
-abbrev pub AreIgnoreLists : Option (List ℕ) → List (List ℕ) → List (Listed (Unit {0})) → Type 0
+abbrev pub AreIgnoreLists : Option (List ℕ) → List (List ℕ) → List (EntryList (Unit {0})) → Type 0
 AreIgnoreLists root [] lists = lists ≡ []
 AreIgnoreLists root (file ∷ files) lists =
     AreIgnoreLists root files lists
-    ⊎ ((bytes : List ℕ) × (list : Listed (Unit {0})) × (more : List (Listed (Unit {0}))) × (lists ≡ list ∷ more) × IsIgnoreList bytes file root list × AreIgnoreLists root files more)
+    ⊎ ((bytes : List ℕ) × (list : EntryList (Unit {0})) × (more : List (EntryList (Unit {0}))) × (lists ≡ list ∷ more) × IsIgnoreList bytes file root list × AreIgnoreLists root files more)
 
 -- the files gave lists, the input was read whole, and the lists decided about its paths
 pub record AnswersIgnore (case : Case) (root : Option (List ℕ)) (files : List (List ℕ)) (input_old input_new : Option (List ℕ)) (Written : List ℕ → Type 0) : Type 0 where
-  pub lists : List (Listed (Unit {0}))
+  pub lists : List (EntryList (Unit {0}))
   pub loaded : AreIgnoreLists root files lists
   pub run : Run (ReadsWhole input_old input_new) (DecisionsText lists case) Written
 
 -- the words ask for values, and these were answered, as far as Written says
-pub record AnsweredWild (words : List (List ℕ)) (input_old input_new : Option (List ℕ)) (Written : List ℕ → Type 0) : Type 0 where
+pub record AnswersWildWords (words : List (List ℕ)) (input_old input_new : Option (List ℕ)) (Written : List ℕ → Type 0) : Type 0 where
   pub mode : Mode
   pub pattern : List ℕ
   pub asked : AskWild words mode pattern
   pub done : AnswersWild mode pattern input_old input_new Written
 
 -- the words ask for the lines of a file that match
-pub record AnsweredList (words : List (List ℕ)) (input_old input_new : Option (List ℕ)) (Written : List ℕ → Type 0) : Type 0 where
+pub record AnswersListWords (words : List (List ℕ)) (input_old input_new : Option (List ℕ)) (Written : List ℕ → Type 0) : Type 0 where
   pub case : Case
   pub file : List ℕ
   pub root : Option (List ℕ)
@@ -108,7 +108,7 @@ pub record AnsweredList (words : List (List ℕ)) (input_old input_new : Option 
   pub done : AnswersList case file root input_old input_new Written
 
 -- the words ask for what decides
-pub record AnsweredIgnore (words : List (List ℕ)) (input_old input_new : Option (List ℕ)) (Written : List ℕ → Type 0) : Type 0 where
+pub record AnswersIgnoreWords (words : List (List ℕ)) (input_old input_new : Option (List ℕ)) (Written : List ℕ → Type 0) : Type 0 where
   pub case : Case
   pub root : Option (List ℕ)
   pub files : List (List ℕ)
@@ -116,7 +116,7 @@ pub record AnsweredIgnore (words : List (List ℕ)) (input_old input_new : Optio
   pub done : AnswersIgnore case root files input_old input_new Written
 
 -- The words were answered: what they ask for was done, and of its text was written what Written says.
-abbrev pub AnsweredWords : List (List ℕ) → Option (List ℕ) → Option (List ℕ) → (List ℕ → Type 0) → Type 0
-AnsweredWords words input_old input_new Written =
-    AnsweredWild words input_old input_new Written
-    ⊎ (AnsweredList words input_old input_new Written ⊎ AnsweredIgnore words input_old input_new Written)
+abbrev pub AnswersWords : List (List ℕ) → Option (List ℕ) → Option (List ℕ) → (List ℕ → Type 0) → Type 0
+AnswersWords words input_old input_new Written =
+    AnswersWildWords words input_old input_new Written
+    ⊎ (AnswersListWords words input_old input_new Written ⊎ AnswersIgnoreWords words input_old input_new Written)

@@ -2,7 +2,7 @@
 ghost use Rattle.std.specs.Prelude.{◌≡◌, true, IfOk, map, string_bytes};
 ghost use Rattle.std.specs.Option.{option_copied};
 ghost use Rattle.gix_glob.specs.Deciding.{BasesAreFolders};
-ghost use Rattle.gix_glob.specs.Loaded.{listed};
+ghost use Rattle.gix_glob.specs.EntryLists.{entry_list_of};
 ghost use Rattle.globline.specs.Words.{AreIgnoreLists, are_files};
 
 use gix_glob::search::pattern::List;
@@ -20,8 +20,8 @@ pub(crate) fn lists_of<F: Files>(
 ) -> Result<Vec<List<IgnoreLines>>, EngineFault>
     requires { are_files (map string_bytes files.now) ≡ true }
     ensures loaded { IfOk result (λ lists.
-        AreIgnoreLists (option_copied root.entry) (map string_bytes files.now) (map (listed {V = Unit {0}} (λ _. tt)) lists.items)) }
-    ensures folders { IfOk result (λ lists. BasesAreFolders (map (listed {V = Unit {0}} (λ _. tt)) lists.items)) }
+        AreIgnoreLists (option_copied root.entry) (map string_bytes files.now) (map (entry_list_of {V = Unit {0}} (λ _. tt)) lists.items)) }
+    ensures folders { IfOk result (λ lists. BasesAreFolders (map (entry_list_of {V = Unit {0}} (λ _. tt)) lists.items)) }
 {
     // laws do nothing: they are called for what they ensure
     laws::ignore_entries_are_these();

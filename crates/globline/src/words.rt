@@ -3,7 +3,7 @@ ghost use Rattle.std.specs.Prelude.{◌≡◌, ◌≢◌, ◌⊎◌, ◌≤◌, 
 ghost use Rattle.std.specs.Io.KnownBytes.{Appends};
 ghost use Rattle.gix_glob.specs.Watched.{has_failed, inner};
 ghost use Rattle.glob_lines.specs.Transfers.{AppendsFront};
-ghost use Rattle.globline.specs.Words.{AnsweredWords, AreWrong};
+ghost use Rattle.globline.specs.Words.{AnswersWords, AreWrong};
 ghost use Rattle.globline.specs.Private.Commands.{CanRun, CarriesOut};
 
 #[cfg(test)]
@@ -50,10 +50,10 @@ pub fn run_words<F: Files, I: Read, O: Write, E: Write>(
     requires writable { has_failed output.old ≡ false }
     ensures status { result ≤ 2 }
     // The words were understood, and the lines were answered, all of them.
-    ensures answered { result ≡ 0 → AnsweredWords (map string_bytes words.now)
+    ensures answered { result ≡ 0 → AnswersWords (map string_bytes words.now)
         (I.remaining (inner input.old)) (I.remaining (inner input.new)) (Appends (O.contents (inner output.old)) (O.contents (inner output.new))) }
     // Nothing was written, or a beginning of the lines' answers.
-    ensures fault { result ≡ 1 → (output.new ≡ output.old) ⊎ AnsweredWords (map string_bytes words.now)
+    ensures fault { result ≡ 1 → (output.new ≡ output.old) ⊎ AnswersWords (map string_bytes words.now)
         (I.remaining (inner input.old)) (I.remaining (inner input.new)) (AppendsFront (O.contents (inner output.old)) (O.contents (inner output.new))) }
     ensures wrong { (result ≡ 2) ↔ AreWrong (map string_bytes words.now) }
     ensures unread { result ≡ 2 → input.new ≡ input.old }

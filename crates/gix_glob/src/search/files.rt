@@ -2,7 +2,7 @@
 ghost use Rattle.std.specs.Prelude.{◌≡◌, IsTrue, IfOk, OnErr, MatchBool};
 ghost use Rattle.std.specs.Option.{ForSome, option_copied};
 ghost use Rattle.std.specs.String.{string_bytes};
-ghost use Rattle.gix_glob.specs.Loaded.{AddsLoaded};
+ghost use Rattle.gix_glob.specs.Loading.{AddsLoadedList};
 ghost use Rattle.gix_glob.specs.Paths.{has_file_part};
 
 use super::pattern::List;
@@ -28,7 +28,7 @@ pub fn add_patterns_file<T: Pattern, F: Files>(
 ) -> Result<bool, LoadFault>
     requires { ForSome root (λ _. IsTrue (has_file_part (string_bytes source))) }
     ensures answer { IfOk result (λ is_added. MatchBool is_added
-        (AddsLoaded T.seen (T.meaning parse) buf.new.items (string_bytes source) (option_copied root.entry) patterns.old.items patterns.new.items)
+        (AddsLoadedList T.seen (T.meaning parse) buf.new.items (string_bytes source) (option_copied root.entry) patterns.old.items patterns.new.items)
         (patterns.new.items ≡ patterns.old.items)) }
     ensures refused { OnErr result (patterns.new.items ≡ patterns.old.items) }
 {

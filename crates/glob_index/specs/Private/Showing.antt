@@ -5,8 +5,8 @@ use Rattle.std.specs.Int.{bit_at}
 use Rattle.gix_glob.specs.Bytes.{HasByte, slash}
 use Rattle.glob_index.specs.declared.probe.Probe.{Probe}
 use Rattle.glob_index.specs.declared.row.Row.{Row}
-use Rattle.glob_index.specs.Literals.{bit_of, end_key, from_end}
-use Rattle.glob_index.specs.Rows.{always}
+use Rattle.glob_index.specs.Private.Literals.{bit_of, end_key, from_end}
+use Rattle.glob_index.specs.Private.Rows.{always}
 
 -- the set has each byte of the text
 abbrev pub HoldsBits : List ℕ → ℕ → Type 0

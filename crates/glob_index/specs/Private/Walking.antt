@@ -3,8 +3,8 @@ use Rattle.std.specs.Prelude.{◌≡◌, ◌≢◌, ℕ, ◌+◌, ◌<◌, ◌�
 use Rattle.glob_index.specs.declared.probe.Probe.{Probe}
 use Rattle.glob_index.specs.declared.row.Row.{Row}
 use Rattle.glob_index.specs.declared.table.Walk.{Walk}
-use Rattle.glob_index.specs.Chains.{IsLastBelow, classes_of}
-use Rattle.glob_index.specs.Rows.{always}
+use Rattle.glob_index.specs.Private.Chains.{IsLastBelow, classes_of}
+use Rattle.glob_index.specs.Private.Rows.{always}
 use Rattle.glob_index.specs.Private.Showing.{Passes}
 
 -- a walk down two chains, that of a class and that of the rows which are always looked at, has come to its end

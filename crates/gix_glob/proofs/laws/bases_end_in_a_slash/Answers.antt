@@ -1,5 +1,5 @@
-use Rattle.gix_glob.proofs.Bases.{base-ends}
+use Rattle.gix_glob.proofs.Bases.{base_ends}
 use Rattle.gix_glob.proofs.laws.bases_end_in_a_slash.Goals as goal
 
 pub returns : goal.returns
-returns c = base-ends
+returns c = base_ends

@@ -2,8 +2,8 @@
 ghost use Rattle.std.specs.Prelude.{◌≡◌, false, IsTrue, IfOk, IfSome, IsNone};
 ghost use Rattle.std.specs.Option.{ForSome, option_copied};
 ghost use Rattle.std.specs.String.{string_bytes};
-ghost use Rattle.gix_glob.specs.Loaded.{IsLoaded, listed};
-ghost use Rattle.gix_glob.specs.Loading.{IsBeginningOf, is_unread};
+ghost use Rattle.gix_glob.specs.EntryLists.{entry_list_of};
+ghost use Rattle.gix_glob.specs.Loading.{IsBeginningOf, IsLoaded, is_unread};
 ghost use Rattle.gix_glob.specs.Paths.{has_file_part};
 ghost use Rattle.gix_glob.specs.Watched.{has_failed, inner};
 
@@ -33,7 +33,7 @@ impl<T: Pattern> List<T> {
         parse: T,
     ) -> Result<List<T>, AllocError>
         requires { ForSome root (λ _. IsTrue (has_file_part (string_bytes source_file))) }
-        ensures { IfOk result (λ list. IsLoaded (T.meaning parse) bytes.now (string_bytes source_file) (option_copied root.entry) (listed T.seen list)) }
+        ensures { IfOk result (λ list. IsLoaded (T.meaning parse) bytes.now (string_bytes source_file) (option_copied root.entry) (entry_list_of T.seen list)) }
     {
         let patterns = parse.bytes_to_patterns(alloc, bytes, source_file.as_str())?;
         let base = base_of(alloc, source_file.as_str(), root)?;
@@ -63,7 +63,7 @@ impl<T: Pattern> List<T> {
         requires fresh { has_failed reader.old ≡ false }
         requires file { ForSome root (λ _. IsTrue (has_file_part (string_bytes source))) }
         ensures list { IfOk result (λ answer. IfSome answer (λ list.
-            IsLoaded (T.meaning parse) buf.new.items (string_bytes source) (option_copied root.entry) (listed T.seen list))) }
+            IsLoaded (T.meaning parse) buf.new.items (string_bytes source) (option_copied root.entry) (entry_list_of T.seen list))) }
         ensures whole { IfOk result (λ answer. IfSome answer (λ _.
             IfSome (R.remaining (inner reader.old)) (λ bytes. buf.new.items ≡ bytes))) }
         ensures beginning { IfSome (R.remaining (inner reader.old)) (IsBeginningOf buf.new.items) }
@@ -97,7 +97,7 @@ impl<T: Pattern> List<T> {
     ) -> Result<Option<List<T>>, LoadFault>
         requires { ForSome root (λ _. IsTrue (has_file_part (string_bytes source))) }
         ensures { IfOk result (λ answer. IfSome answer (λ list.
-            IsLoaded (T.meaning parse) buf.new.items (string_bytes source) (option_copied root.entry) (listed T.seen list))) }
+            IsLoaded (T.meaning parse) buf.new.items (string_bytes source) (option_copied root.entry) (entry_list_of T.seen list))) }
     {
         buf.clear();
         let file = match fs::open(rt, source.as_str()) {

@@ -2,12 +2,12 @@
 use Rattle.std.proofs.Common.{◌+◌, ◌<◌, ◌≤◌, ℕ, length, get_or, map, ap, sym, subst, arith}
 use Rattle.std.proofs.lemmas.List.{get_or_default, length-map}
 use Rattle.gix_glob.specs.Lists.{entry_of}
-use Rattle.gix_glob.specs.Loaded.{listed}
+use Rattle.gix_glob.specs.EntryLists.{entry_list_of}
 use Rattle.gix_glob.specs.PatternParts.{mode_of, text_of}
 use Rattle.glob_index.specs.declared.row.Row.{Row}
-use Rattle.glob_index.specs.Private.Building.{AreRowsUpTo}
-use Rattle.gix_glob.proofs.Elements.{seen_at}
-use Rattle.glob_index.proofs.RowLemmas.{asks_chained, rows_more, rows_of_list}
+use Rattle.glob_index.specs.Private.Tables.{AreRowsUpTo}
+use Rattle.gix_glob.proofs.Elements.{slice_get-map_at}
+use Rattle.glob_index.proofs.RowLemmas.{Asks-linked, rows_more, rows_of_list}
 use Rattle.glob_index.proofs.index.add_list.Goals as goal
 
 pub mappings-preserved : goal.mappings-preserved
@@ -19,15 +19,15 @@ mappings-preserved g c =
     let asks = rw (← c.index-mappings-m.is) at c.new.ensures.asks in
     let link : ℕ = get_or c.mappings.table.heads c.new.result.class 0 in
     let added : Row = record c.new.result { before = link } in record {
-      rows = subst (AreRowsUpTo (map (listed g.T.Pattern.seen) c.args.lists.now) c.args.i (c.mappings.m + 1)) (sym c.in_ok-push.ensures.rows)
-          (rows_more (map (listed g.T.Pattern.seen) c.args.lists.now) c.mappings.table.rows.items added c.args.i c.mappings.m (entry_of g.T.Pattern.seen c.index-mappings-m.result)
+      rows = subst (AreRowsUpTo (map (entry_list_of g.T.Pattern.seen) c.args.lists.now) c.args.i (c.mappings.m + 1)) (sym c.in_ok-push.ensures.rows)
+          (rows_more (map (entry_list_of g.T.Pattern.seen) c.args.lists.now) c.mappings.table.rows.items added c.args.i c.mappings.m (entry_of g.T.Pattern.seen c.index-mappings-m.result)
           c.mappings.invariant.rows
           (record {
-            list = listed g.T.Pattern.seen held;
-            there = seen_at (listed g.T.Pattern.seen) c.args.lists.now c.args.i held c.requires.inside held_is;
-            here = seen_at (entry_of g.T.Pattern.seen) held.patterns.items c.mappings.m c.index-mappings-m.result within is;
+            list = entry_list_of g.T.Pattern.seen held;
+            there = slice_get-map_at (entry_list_of g.T.Pattern.seen) c.args.lists.now c.args.i held c.requires.inside held_is;
+            here = slice_get-map_at (entry_of g.T.Pattern.seen) held.patterns.items c.mappings.m c.index-mappings-m.result within is;
           })
-          (asks_chained (text_of c.index-mappings-m.result.pattern) (mode_of c.index-mappings-m.result.pattern) c.new.result link asks)
+          (Asks-linked (text_of c.index-mappings-m.result.pattern) (mode_of c.index-mappings-m.result.pattern) c.new.result link asks)
           (omega (arith, c.in-Ok.ensures, c.new.ensures.list)) (omega (arith, c.in-Ok-try_from.ensures, c.new.ensures.mapping)));
       chained = c.in_ok-push.ensures.chained;
     }
@@ -38,5 +38,5 @@ returns-clause-rows g c =
     let held_is = get_or_default c.args.lists.now c.args.i c.index-lists-i.result held c.requires.inside in
     let past : length (map (entry_of g.T.Pattern.seen) held.patterns.items) ≤ c.mappings.m =
     omega (arith, length-map held.patterns.items (entry_of g.T.Pattern.seen), ap length c.as_slice-mappings.ensures.value, c.mappings-test.false) in
-    rows_of_list (map (listed g.T.Pattern.seen) c.args.lists.now) c.mappings.table.rows.items c.args.i c.mappings.m (listed g.T.Pattern.seen held)
-    (seen_at (listed g.T.Pattern.seen) c.args.lists.now c.args.i held c.requires.inside held_is) past c.mappings.invariant.rows
+    rows_of_list (map (entry_list_of g.T.Pattern.seen) c.args.lists.now) c.mappings.table.rows.items c.args.i c.mappings.m (entry_list_of g.T.Pattern.seen held)
+    (slice_get-map_at (entry_list_of g.T.Pattern.seen) c.args.lists.now c.args.i held c.requires.inside held_is) past c.mappings.invariant.rows

@@ -1,5 +1,5 @@
 use Rattle.std.proofs.Common.{◌≡◌}
-use Rattle.glob_index.specs.Literals.{end_key}
+use Rattle.glob_index.specs.Private.Literals.{end_key}
 use Rattle.glob_index.proofs.literals.end_key.Given as goal
 
 -- the number of the bytes so far

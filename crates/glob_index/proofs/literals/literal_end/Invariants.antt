@@ -1,6 +1,6 @@
 use Rattle.std.proofs.Common.{◌≡◌, ◌<◌, ℕ, false}
 use Rattle.gix_glob.specs.Patterns.{is_joining}
-use Rattle.glob_index.specs.Literals.{from_end}
+use Rattle.glob_index.specs.Private.Literals.{from_end}
 use Rattle.glob_index.proofs.literals.literal_end.Given as goal
 
 -- the bytes so far stand for themselves

@@ -1,5 +1,5 @@
 use Rattle.std.proofs.Common.{◌≡◌, ◌≤◌, ℕ, get_or, length}
-use Rattle.glob_index.specs.Literals.{end_key}
+use Rattle.glob_index.specs.Private.Literals.{end_key}
 use Rattle.glob_index.proofs.probe.end_keys.Given as goal
 
 -- the numbers of the ends so far

@@ -1,22 +1,23 @@
 -- The mappings are gone through from the last one on.
 use Rattle.std.proofs.Common.{◌≡◌, ◌+◌, ◌-◌, ◌<◌, true, length, option_map, ap, arith}
 use Rattle.std.specs.Vec.{vec_items}
-use Rattle.gix_glob.specs.Deciding.{AnswersUnder}
+use Rattle.gix_glob.specs.Deciding.{AnswersAt, AnswersUnder}
 use Rattle.gix_glob.specs.Lists.{entry_of}
-use Rattle.gix_glob.specs.Loaded.{listed}
-use Rattle.gix_glob.proofs.Answering.{AnswersUnder-only, AnswersUnder-yes}
-use Rattle.gix_glob.proofs.Elements.{seen_at}
-use Rattle.glob_lines.proofs.DecidingLemmas.{AnswersAt-no, AnswersAt-yes, LastOf-found, NoneFrom-all, NoneFrom-less}
+use Rattle.gix_glob.specs.EntryLists.{entry_list_of}
+use Rattle.gix_glob.proofs.Answering.{AnswersAt-only, AnswersAt-yes, AnswersUnder-only, AnswersUnder-yes}
+use Rattle.gix_glob.proofs.Elements.{slice_get-map_at}
+use Rattle.gix_glob.proofs.LastNumbers.{NoneFrom-all, NoneFrom-less}
+use Rattle.glob_lines.proofs.DecidingLemmas.{LastOf-found}
 use Rattle.glob_lines.proofs.deciding.last_match.Goals as goal
 
 pub returns-then-matches_repo_relative_path : goal.returns-then-matches_repo_relative_path
 returns-then-matches_repo_relative_path g c =
-    let list = listed g.T.Pattern.seen c.args.list.now in
+    let list = entry_list_of g.T.Pattern.seen c.args.list.now in
     let at = c.loop-m.m - 1 in
     let next : c.loop-m.m ≡ at + 1 = omega arith in
     let within : at < length c.args.list.now.patterns.items = omega (arith, ap length c.as_slice-mappings.ensures.value) in
     let is = rw c.as_slice-mappings.ensures.value at c.index-mappings-m.is in
-    let there = seen_at (entry_of g.T.Pattern.seen) c.args.list.now.patterns.items at c.index-mappings-m.result within is in
+    let there = slice_get-map_at (entry_of g.T.Pattern.seen) c.args.list.now.patterns.items at c.index-mappings-m.result within is in
     let told = rw (← c.index-mappings-m.is) at c.matches_repo_relative_path.ensures in
     let answers = AnswersUnder-yes list.base c.args.path.now c.args.is_dir c.args.case (entry_of g.T.Pattern.seen c.index-mappings-m.result) c.in_ok-rest.rest.now c.in_ok-rest.position
     c.in_ok-rest.ensures.0 c.in_ok-rest.ensures.1 (told.0 c.if-matches_repo_relative_path.true) in
@@ -25,21 +26,21 @@ returns-then-matches_repo_relative_path g c =
 
 pub loop-m-preserved : goal.loop-m-preserved
 loop-m-preserved g c =
-    let list = listed g.T.Pattern.seen c.args.list.now in
+    let list = entry_list_of g.T.Pattern.seen c.args.list.now in
     let at = c.loop-m.m - 1 in
     let next : c.loop-m.m ≡ at + 1 = omega arith in
     let within : at < length c.args.list.now.patterns.items = omega (arith, ap length c.as_slice-mappings.ensures.value) in
     let is = rw c.as_slice-mappings.ensures.value at c.index-mappings-m.is in
-    let there = seen_at (entry_of g.T.Pattern.seen) c.args.list.now.patterns.items at c.index-mappings-m.result within is in
+    let there = slice_get-map_at (entry_of g.T.Pattern.seen) c.args.list.now.patterns.items at c.index-mappings-m.result within is in
     let told = rw (← c.index-mappings-m.is) at c.matches_repo_relative_path.ensures in
-    let refused = λ (h : AnswersUnder (option_map vec_items c.args.list.now.base) (entry_of g.T.Pattern.seen c.index-mappings-m.result) c.args.path.now c.args.is_dir c.args.case).
+    let refused : ¬ AnswersUnder (option_map vec_items c.args.list.now.base) (entry_of g.T.Pattern.seen c.index-mappings-m.result) c.args.path.now c.args.is_dir c.args.case = λ h.
     let answered : c.matches_repo_relative_path.result ≡ true =
     told.1
     (AnswersUnder-only list.base c.args.path.now c.args.is_dir c.args.case (entry_of g.T.Pattern.seen c.index-mappings-m.result) c.in_ok-rest.rest.now c.in_ok-rest.position
     c.in_ok-rest.ensures.0 c.in_ok-rest.ensures.1 h) in
     absurd (cc) in
-    NoneFrom-less list c.args.path.now c.args.is_dir c.args.case c.loop-m.m at next c.loop-m.invariant
-    (AnswersAt-no list c.args.path.now c.args.is_dir c.args.case at (entry_of g.T.Pattern.seen c.index-mappings-m.result) there refused)
+    NoneFrom-less (AnswersAt list c.args.path.now c.args.is_dir c.args.case) c.loop-m.m at next c.loop-m.invariant
+    (λ h. refused (AnswersAt-only list c.args.path.now c.args.is_dir c.args.case at (entry_of g.T.Pattern.seen c.index-mappings-m.result) there h))
 
 pub returns : goal.returns
-returns g c = NoneFrom-all (listed g.T.Pattern.seen c.args.list.now) c.args.path.now c.args.is_dir c.args.case c.loop-m.m (omega arith) c.loop-m.invariant
+returns g c = NoneFrom-all (AnswersAt (entry_list_of g.T.Pattern.seen c.args.list.now) c.args.path.now c.args.is_dir c.args.case) c.loop-m.m (omega arith) c.loop-m.invariant

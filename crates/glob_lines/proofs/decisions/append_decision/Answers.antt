@@ -1,10 +1,10 @@
 -- What decides is a mapping of one of the lists.
-use Rattle.std.proofs.Common.{◌<◌, length, rules, subst, sym}
+use Rattle.std.proofs.Common.{◌≡◌, ◌<◌, get_or, length, rules, subst, sym}
 use Rattle.std.proofs.lemmas.Result.{on_ok_weaker}
 use Rattle.gix_glob.specs.Lists.{entry_of}
-use Rattle.gix_glob.specs.Loaded.{listed}
-use Rattle.gix_glob.proofs.Elements.{seen_at, seen_within}
-use Rattle.glob_lines.proofs.DecidingLemmas.{of_list}
+use Rattle.gix_glob.specs.EntryLists.{entry_list_of}
+use Rattle.gix_glob.proofs.Answering.{PairAnswers-only}
+use Rattle.gix_glob.proofs.Elements.{slice_get-map_at, slice_get-map_within}
 use Rattle.glob_lines.proofs.DecisionsLemmas.{grown_on_ok, writes_none, writes_verdict}
 use Rattle.glob_lines.proofs.PathsLemmas.{IsPlainPath-marked}
 use Rattle.glob_lines.proofs.decisions.append_decision.Goals as goal
@@ -14,39 +14,47 @@ decision-requires-clause-plain g c =
     IsPlainPath-marked c.args.line.now c.path_of-is_dir.result.0.now c.path_of-is_dir.result.1 (c.plain_path.ensures.0 c.if-not-plain_path.false) c.path_of-is_dir.ensures
 
 pub bounds-lists-i : goal.bounds-lists-i
-bounds-lists-i g c = seen_within (listed g.T.Pattern.seen) c.args.index.now.lists.now c.in-Some.i _ c.in-Some.ensures.answers.there
+bounds-lists-i g c =
+    subst (λ lists. c.in-Some.i < length lists) (sym c.lists-lists.ensures)
+    (slice_get-map_within (entry_list_of g.T.Pattern.seen) c.args.index.now.lists c.in-Some.i _ c.in-Some.ensures.answers.there)
 
 pub offset_bounds-lists-i : goal.offset_bounds-lists-i
 offset_bounds-lists-i g c =
-    let within : c.in-Some.i < length c.args.index.now.lists.now = seen_within (listed g.T.Pattern.seen) c.args.index.now.lists.now c.in-Some.i _ c.in-Some.ensures.answers.there in
+    let within : c.in-Some.i < length c.lists-lists.result.now =
+    subst (λ lists. c.in-Some.i < length lists) (sym c.lists-lists.ensures)
+    (slice_get-map_within (entry_list_of g.T.Pattern.seen) c.args.index.now.lists c.in-Some.i _ c.in-Some.ensures.answers.there) in
     search rules
 
 pub overflow_add-i : goal.overflow_add-i
 overflow_add-i g c =
-    let within : c.in-Some.i < length c.args.index.now.lists.now = seen_within (listed g.T.Pattern.seen) c.args.index.now.lists.now c.in-Some.i _ c.in-Some.ensures.answers.there in
+    let within : c.in-Some.i < length c.lists-lists.result.now =
+    subst (λ lists. c.in-Some.i < length lists) (sym c.lists-lists.ensures)
+    (slice_get-map_within (entry_list_of g.T.Pattern.seen) c.args.index.now.lists c.in-Some.i _ c.in-Some.ensures.answers.there) in
     search rules
 
 pub index-requires : goal.index-requires
 index-requires g c =
-    let list = listed g.T.Pattern.seen c.index-lists-i.result in
-    let within : c.in-Some.i < length c.args.index.now.lists.now = seen_within (listed g.T.Pattern.seen) c.args.index.now.lists.now c.in-Some.i _ c.in-Some.ensures.answers.there in
-    let there = seen_at (listed g.T.Pattern.seen) c.args.index.now.lists.now c.in-Some.i c.index-lists-i.result within c.index-lists-i.is in
-    let answers = of_list _ _ _ _ c.in-Some.i c.in-Some.m list there c.in-Some.ensures.answers in
-    let inside = seen_within (entry_of g.T.Pattern.seen) c.index-lists-i.result.patterns.items c.in-Some.m _ answers.there in
+    let list = entry_list_of g.T.Pattern.seen c.index-lists-i.result in
+    let is = subst (λ lists. c.index-lists-i.result ≡ get_or lists c.in-Some.i c.index-lists-i.result) c.lists-lists.ensures c.index-lists-i.is in
+    let within : c.in-Some.i < length c.args.index.now.lists = slice_get-map_within (entry_list_of g.T.Pattern.seen) c.args.index.now.lists c.in-Some.i _ c.in-Some.ensures.answers.there in
+    let there = slice_get-map_at (entry_list_of g.T.Pattern.seen) c.args.index.now.lists c.in-Some.i c.index-lists-i.result within is in
+    let answers = PairAnswers-only _ _ _ _ c.in-Some.i c.in-Some.m list there c.in-Some.ensures.answers in
+    let inside = slice_get-map_within (entry_of g.T.Pattern.seen) c.index-lists-i.result.patterns.items c.in-Some.m _ answers.there in
     rw (← c.index-lists-i.is) (subst (λ n. c.in-Some.m < n) (sym c.index-lists-i.result.patterns.ok.0) inside)
 
 pub returns-in-Some : goal.returns-in-Some
 returns-in-Some g c =
-    let list = listed g.T.Pattern.seen c.index-lists-i.result in
-    let within : c.in-Some.i < length c.args.index.now.lists.now = seen_within (listed g.T.Pattern.seen) c.args.index.now.lists.now c.in-Some.i _ c.in-Some.ensures.answers.there in
-    let there = seen_at (listed g.T.Pattern.seen) c.args.index.now.lists.now c.in-Some.i c.index-lists-i.result within c.index-lists-i.is in
-    let answers = of_list _ _ _ _ c.in-Some.i c.in-Some.m list there c.in-Some.ensures.answers in
-    let inside = seen_within (entry_of g.T.Pattern.seen) c.index-lists-i.result.patterns.items c.in-Some.m _ answers.there in
-    let is = rw (← c.index-lists-i.is) at c.index.ensures in
+    let list = entry_list_of g.T.Pattern.seen c.index-lists-i.result in
+    let is = subst (λ lists. c.index-lists-i.result ≡ get_or lists c.in-Some.i c.index-lists-i.result) c.lists-lists.ensures c.index-lists-i.is in
+    let within : c.in-Some.i < length c.args.index.now.lists = slice_get-map_within (entry_list_of g.T.Pattern.seen) c.args.index.now.lists c.in-Some.i _ c.in-Some.ensures.answers.there in
+    let there = slice_get-map_at (entry_list_of g.T.Pattern.seen) c.args.index.now.lists c.in-Some.i c.index-lists-i.result within is in
+    let answers = PairAnswers-only _ _ _ _ c.in-Some.i c.in-Some.m list there c.in-Some.ensures.answers in
+    let inside = slice_get-map_within (entry_of g.T.Pattern.seen) c.index-lists-i.result.patterns.items c.in-Some.m _ answers.there in
+    let here = rw (← c.index-lists-i.is) at c.index.ensures in
     on_ok_weaker c.append_verdict.result
     (writes_verdict _ c.args.index.now.case c.args.line.now c.path_of-is_dir.result.0.now c.path_of-is_dir.result.1 _ _ c.in-Some.i c.in-Some.m list (entry_of g.T.Pattern.seen c.index.result.now)
     (c.plain_path.ensures.0 c.if-not-plain_path.false) c.path_of-is_dir.ensures c.in-Some.ensures there
-    (seen_at (entry_of g.T.Pattern.seen) c.index-lists-i.result.patterns.items c.in-Some.m c.index.result.now inside is))
+    (slice_get-map_at (entry_of g.T.Pattern.seen) c.index-lists-i.result.patterns.items c.in-Some.m c.index.result.now inside here))
     c.append_verdict.ensures
 
 pub returns-in-None : goal.returns-in-None

@@ -1,7 +1,7 @@
 -- What is written for a path line, and its line feed, is the next line of the text.
 use Rattle.std.proofs.Common.{◌≡◌, ◌++◌, ◌∷◌, [], ap, map, subst, sym, ◌∙◌, append_assoc}
 use Rattle.gix_glob.specs.Deciding.{BasesAreFolders}
-use Rattle.gix_glob.specs.Loaded.{listed}
+use Rattle.gix_glob.specs.EntryLists.{entry_list_of}
 use Rattle.glob_lines.specs.Lines.{lines_of}
 use Rattle.glob_lines.proofs.LinesLemmas.{IsWrittenUpTo-all, IsWrittenUpTo-more, IsWrittenUpTo-none, Lines-lines_of}
 use Rattle.glob_lines.proofs.decisions.decisions_of.Goals as goal
@@ -14,16 +14,17 @@ loop-line-init g c =
 pub loop-line-preserved : goal.loop-line-preserved
 loop-line-preserved g c =
     let adds = c.in_ok-append_decision.ensures in
-    IsWrittenUpTo-more _ _ _ _ _ _ _ adds.added c.loop-line.invariant c.in-Some.ensures.steps adds.allowed
+    IsWrittenUpTo-more _ _ _ _ _ _ _ adds.added c.loop-line.invariant c.in-Some.ensures.steps (rw (c.in_ok-index.ensures.0, c.in_ok-index.ensures.1) at adds.allowed)
     (c.in_ok-push.ensures.items ∙ ap (λ l. l ++ 10 ∷ []) adds.grown ∙ append_assoc c.loop-line.text.items adds.added (10 ∷ []))
 
 pub returns : goal.returns
-returns g c =
-    let written = IsWrittenUpTo-all _ _ _ _ c.loop-line.invariant c.in-None.ensures.steps.0 in record {
-      lines = _;
-      cut = Lines-lines_of c.args.paths.now;
-      writes = rw (c.in_ok-index.ensures.0, c.in_ok-index.ensures.1) at written;
-    }
+returns g c = record {
+  lines = _;
+  cut = Lines-lines_of c.args.paths.now;
+  writes = IsWrittenUpTo-all _ _ _ _ c.loop-line.invariant c.in-None.ensures.steps.0;
+}
 
-pub append_decision-requires-clause-folders : goal.append_decision-requires-clause-folders
-append_decision-requires-clause-folders g c = subst (λ lists. BasesAreFolders (map (listed g.T.Pattern.seen) lists)) (sym c.in_ok-index.ensures.0) c.requires
+pub append_decision-requires : goal.append_decision-requires
+append_decision-requires g c = record {
+  folders = subst (λ lists. BasesAreFolders (map (entry_list_of g.T.Pattern.seen) lists)) (sym c.in_ok-index.ensures.0) c.requires;
+}

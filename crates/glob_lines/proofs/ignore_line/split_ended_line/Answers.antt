@@ -1,14 +1,14 @@
 -- A carriage return before the line feed is cut off.
 use Rattle.std.proofs.Common.{◌+◌, length, take, drop, refl, sym, le_refl}
 use Rattle.std.proofs.lemmas.List.{drop_all, take_rest}
-use Rattle.glob_lines.proofs.IgnoreLemmas.{IsCutAtFeed-found, ended_line, not_ended}
+use Rattle.glob_lines.proofs.IgnoreLemmas.{IsCutAtFeed-found, ignore_line-first, ignore_line-last}
 use Rattle.glob_lines.proofs.ignore_line.split_ended_line.Goals as goal
 
 pub returns-in-Some-clause-lines : goal.returns-in-Some-clause-lines
 returns-in-Some-clause-lines c =
     let bytes = c.args.bytes.now in
     let end = c.in-Some.end in
-    rw take_rest (ended_line bytes (take end bytes) c.without_return.result.now (drop (end + 1) bytes) (IsCutAtFeed-found bytes end c.in-Some.ensures) c.without_return.ensures)
+    rw take_rest (ignore_line-first bytes (take end bytes) c.without_return.result.now (drop (end + 1) bytes) (IsCutAtFeed-found bytes end c.in-Some.ensures) c.without_return.ensures)
 
 pub returns-in-Some-clause-behind : goal.returns-in-Some-clause-behind
 returns-in-Some-clause-behind c = rw take_rest (c.in-Some.end + 1, refl)
@@ -17,4 +17,4 @@ pub returns-in-None-clause-behind : goal.returns-in-None-clause-behind
 returns-in-None-clause-behind c = (length c.args.bytes.now, sym (drop_all (length c.args.bytes.now) c.args.bytes.now (le_refl _)))
 
 pub returns-in-None-clause-lines : goal.returns-in-None-clause-lines
-returns-in-None-clause-lines c = not_ended c.args.bytes.now c.requires c.in-None.ensures
+returns-in-None-clause-lines c = ignore_line-last c.args.bytes.now c.requires c.in-None.ensures

@@ -1,7 +1,7 @@
-use Rattle.glob_lines.specs.Label.{GivesLabel, parted}
-use Rattle.glob_lines.proofs.LabelLemmas.{Tells-parted}
-use Rattle.glob_lines.proofs.NumberedLemmas.{entries_are_these}
+use Rattle.glob_lines.specs.Label.{GivesLabel, label_content}
+use Rattle.glob_lines.proofs.LabelLemmas.{Tells-label_content}
+use Rattle.glob_lines.proofs.EntriesLemmas.{entries_are_these}
 use Rattle.glob_lines.proofs.laws.label_entries_are_these.Goals as goal
 
 pub returns : goal.returns
-returns c = entries_are_these GivesLabel parted Tells-parted c.readings_are_these.ensures.some
+returns c = entries_are_these GivesLabel label_content Tells-label_content c.readings_are_these.ensures.some

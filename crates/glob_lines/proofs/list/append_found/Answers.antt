@@ -3,55 +3,55 @@ use Rattle.std.proofs.Common.{◌<◌, ℕ, get_or, length, map, ap, refl, rules
 use Rattle.std.proofs.lemmas.Option.{slice_get-get_or}
 use Rattle.gix_glob.specs.Deciding.{BasesAreFolders}
 use Rattle.gix_glob.specs.Lists.{entry_of}
-use Rattle.gix_glob.specs.Loaded.{listed}
-use Rattle.glob_lines.specs.Numbers.{spaced}
+use Rattle.gix_glob.specs.EntryLists.{entry_list_of}
+use Rattle.glob_lines.specs.Numbers.{text_of_numbers}
 use Rattle.glob_lines.specs.Plain.{PlainEntry}
-use Rattle.gix_glob.proofs.Elements.{seen_at, seen_within}
-use Rattle.glob_lines.proofs.FoundLemmas.{folders_of_one, listed_all, listed_more, listed_none, places_in}
+use Rattle.gix_glob.proofs.Elements.{slice_get-map_at, slice_get-map_within}
+use Rattle.glob_lines.proofs.FoundLemmas.{folders_of_one, IsListedThrough-all, IsListedThrough-more, IsListedThrough-none, places_in}
 use Rattle.glob_lines.proofs.MappingsLemmas.{numbers_of}
 use Rattle.glob_lines.proofs.list.append_found.Goals as goal
 
 pub matches-requires-clause-folders : goal.matches-requires-clause-folders
 matches-requires-clause-folders c =
-    subst (λ lists. BasesAreFolders (map (listed {V = Unit {0}} (λ _. tt)) lists)) (sym c.requires.one)
-    (folders_of_one (listed {V = Unit {0}} (λ _. tt) c.args.list.now) c.args.path.now c.args.is_dir c.args.index.now.case c.requires.folder)
+    subst (λ lists. BasesAreFolders (map (entry_list_of {V = Unit {0}} (λ _. tt)) lists)) (sym c.requires.one)
+    (folders_of_one (entry_list_of {V = Unit {0}} (λ _. tt) c.args.list.now) c.args.path.now c.args.is_dir c.args.index.now.case c.requires.folder)
 
 pub loop-pair-init : goal.loop-pair-init
 loop-pair-init c =
-    let places = places_in (listed {V = Unit {0}} (λ _. tt) c.args.list.now) c.args.path.now c.args.is_dir c.args.index.now.case (map (listed {V = Unit {0}} (λ _. tt)) c.args.index.now.lists.now)
-    c.as_slice-pair-items.result.now c.in_ok-pairs.pairs.items (ap (map (listed {V = Unit {0}} (λ _. tt))) c.requires.one) c.as_slice-pair-items.ensures.value c.in_ok-pairs.ensures in
-    listed_none _ _ _ places _ _ _ refl refl
+    let places = places_in (entry_list_of {V = Unit {0}} (λ _. tt) c.args.list.now) c.args.path.now c.args.is_dir c.args.index.now.case (map (entry_list_of {V = Unit {0}} (λ _. tt)) c.args.index.now.lists)
+    c.as_slice-pair-items.result.now c.in_ok-pairs.pairs.items (ap (map (entry_list_of {V = Unit {0}} (λ _. tt))) c.requires.one) c.as_slice-pair-items.ensures.value c.in_ok-pairs.ensures in
+    IsListedThrough-none _ _ _ places _ _ _ refl refl
 
 pub index-requires : goal.index-requires
 index-requires c =
-    let places = places_in (listed {V = Unit {0}} (λ _. tt) c.args.list.now) c.args.path.now c.args.is_dir c.args.index.now.case (map (listed {V = Unit {0}} (λ _. tt)) c.args.index.now.lists.now)
-    c.as_slice-pair-items.result.now c.in_ok-pairs.pairs.items (ap (map (listed {V = Unit {0}} (λ _. tt))) c.requires.one) c.as_slice-pair-items.ensures.value c.in_ok-pairs.ensures in
+    let places = places_in (entry_list_of {V = Unit {0}} (λ _. tt) c.args.list.now) c.args.path.now c.args.is_dir c.args.index.now.case (map (entry_list_of {V = Unit {0}} (λ _. tt)) c.args.index.now.lists)
+    c.as_slice-pair-items.result.now c.in_ok-pairs.pairs.items (ap (map (entry_list_of {V = Unit {0}} (λ _. tt))) c.requires.one) c.as_slice-pair-items.ensures.value c.in_ok-pairs.ensures in
     let pair : ℕ × ℕ = get_or c.as_slice-pair-items.result.now c.loop-pair.pair-index (0, 0) in
     let got = slice_get-get_or c.as_slice-pair-items.result.now c.loop-pair.pair-index (0, 0) c.loop-pair-test.true in
     let answer = places.each c.loop-pair.pair-index pair got in
     let inside : pair.1 < length c.args.list.now.patterns.items =
-    seen_within {Y = PlainEntry} (entry_of (λ _. tt)) c.args.list.now.patterns.items pair.1 answer.0 answer.1 in
+    slice_get-map_within {Y = PlainEntry} (entry_of (λ _. tt)) c.args.list.now.patterns.items pair.1 answer.0 answer.1 in
     omega (arith, c.args.list.now.patterns.ok.0)
 
 pub loop-pair-preserved : goal.loop-pair-preserved
 loop-pair-preserved c =
-    let places = places_in (listed {V = Unit {0}} (λ _. tt) c.args.list.now) c.args.path.now c.args.is_dir c.args.index.now.case (map (listed {V = Unit {0}} (λ _. tt)) c.args.index.now.lists.now)
-    c.as_slice-pair-items.result.now c.in_ok-pairs.pairs.items (ap (map (listed {V = Unit {0}} (λ _. tt))) c.requires.one) c.as_slice-pair-items.ensures.value c.in_ok-pairs.ensures in
+    let places = places_in (entry_list_of {V = Unit {0}} (λ _. tt) c.args.list.now) c.args.path.now c.args.is_dir c.args.index.now.case (map (entry_list_of {V = Unit {0}} (λ _. tt)) c.args.index.now.lists)
+    c.as_slice-pair-items.result.now c.in_ok-pairs.pairs.items (ap (map (entry_list_of {V = Unit {0}} (λ _. tt))) c.requires.one) c.as_slice-pair-items.ensures.value c.in_ok-pairs.ensures in
     let pair : ℕ × ℕ = get_or c.as_slice-pair-items.result.now c.loop-pair.pair-index (0, 0) in
     let got = slice_get-get_or c.as_slice-pair-items.result.now c.loop-pair.pair-index (0, 0) c.loop-pair-test.true in
     let answer = places.each c.loop-pair.pair-index pair got in
     let inside : pair.1 < length c.args.list.now.patterns.items =
-    seen_within {Y = PlainEntry} (entry_of (λ _. tt)) c.args.list.now.patterns.items pair.1 answer.0 answer.1 in
+    slice_get-map_within {Y = PlainEntry} (entry_of (λ _. tt)) c.args.list.now.patterns.items pair.1 answer.0 answer.1 in
     let entry : PlainEntry = entry_of (λ _. tt) c.index.result.now in
-    let there = seen_at {Y = PlainEntry} (entry_of (λ _. tt)) c.args.list.now.patterns.items pair.1 c.index.result.now inside c.index.ensures in
-    listed_more _ _ _ places _ _ _ c.loop-pair.pair-index pair entry _ _ got there c.loop-pair.invariant (search rules) refl
+    let there = slice_get-map_at {Y = PlainEntry} (entry_of (λ _. tt)) c.args.list.now.patterns.items pair.1 c.index.result.now inside c.index.ensures in
+    IsListedThrough-more _ _ _ places _ _ _ c.loop-pair.pair-index pair entry _ _ got there c.loop-pair.invariant (search rules) refl
 
 pub returns : goal.returns
 returns c =
-    let places = places_in (listed {V = Unit {0}} (λ _. tt) c.args.list.now) c.args.path.now c.args.is_dir c.args.index.now.case (map (listed {V = Unit {0}} (λ _. tt)) c.args.index.now.lists.now)
-    c.as_slice-pair-items.result.now c.in_ok-pairs.pairs.items (ap (map (listed {V = Unit {0}} (λ _. tt))) c.requires.one) c.as_slice-pair-items.ensures.value c.in_ok-pairs.ensures in
-    let done = listed_all _ _ _ places _ _ _ c.loop-pair.pair-index c.loop-pair-test.false c.loop-pair.invariant in record {
-      added = spaced (numbers_of done.chosen);
+    let places = places_in (entry_list_of {V = Unit {0}} (λ _. tt) c.args.list.now) c.args.path.now c.args.is_dir c.args.index.now.case (map (entry_list_of {V = Unit {0}} (λ _. tt)) c.args.index.now.lists)
+    c.as_slice-pair-items.result.now c.in_ok-pairs.pairs.items (ap (map (entry_list_of {V = Unit {0}} (λ _. tt))) c.requires.one) c.as_slice-pair-items.ensures.value c.in_ok-pairs.ensures in
+    let done = IsListedThrough-all _ _ _ places _ _ _ c.loop-pair.pair-index c.loop-pair-test.false c.loop-pair.invariant in record {
+      added = text_of_numbers (numbers_of done.chosen);
       allowed = record { chosen = done.chosen; picks = done.picks; shown = refl };
       grown = done.grown;
     }

@@ -4,7 +4,7 @@ use Rattle.std.proofs.lemmas.Bool.{false≢true}
 use Rattle.std.proofs.lemmas.List.{map_more}
 use Rattle.gix_glob.specs.Lists.{entry_of}
 use Rattle.glob_lines.specs.Mappings.{EntryAnswers}
-use Rattle.glob_lines.specs.Numbers.{Picks, spaced}
+use Rattle.glob_lines.specs.Numbers.{Picks, text_of_numbers}
 use Rattle.glob_lines.specs.Plain.{PlainEntry}
 use Rattle.glob_lines.proofs.MappingsLemmas.{IsListedUpTo-more, IsListedUpTo-none, IsListedUpTo-skip, numbers_of}
 use Rattle.glob_lines.proofs.list.append_numbers.Goals as goal
@@ -37,7 +37,7 @@ returns c =
     let done = c.loop-mapping.invariant in
     let all : take c.loop-mapping.mapping-index c.args.mappings.now ≡ c.args.mappings.now = take_all _ _ c.loop-mapping-test.false in
     record {
-      added = spaced (numbers_of done.chosen);
+      added = text_of_numbers (numbers_of done.chosen);
       allowed = record {
         position = c.args.position;
         basename = c.requires.basename;

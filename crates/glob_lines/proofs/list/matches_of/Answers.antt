@@ -6,16 +6,15 @@ use Rattle.glob_lines.proofs.list.matches_of.Goals as goal
 pub loop-line-preserved : goal.loop-line-preserved
 loop-line-preserved c =
     let adds = c.in_ok-append_matches.ensures in
-    IsWrittenUpTo-more _ _ _ _ _ _ _ adds.added c.loop-line.invariant c.in-Some.ensures.steps adds.allowed
+    IsWrittenUpTo-more _ _ _ _ _ _ _ adds.added c.loop-line.invariant c.in-Some.ensures.steps (rw c.in_ok-index.ensures.1 at adds.allowed)
     (c.in_ok-push.ensures.items ∙ ap (λ l. l ++ 10 ∷ []) adds.grown ∙ append_assoc c.loop-line.text.items adds.added (10 ∷ []))
 
 pub returns : goal.returns
-returns c =
-    let written = IsWrittenUpTo-all _ _ _ _ c.loop-line.invariant c.in-None.ensures.steps.0 in record {
-      lines = _;
-      cut = Lines-lines_of c.args.paths.now;
-      writes = rw c.in_ok-index.ensures.1 at written;
-    }
+returns c = record {
+  lines = _;
+  cut = Lines-lines_of c.args.paths.now;
+  writes = IsWrittenUpTo-all _ _ _ _ c.loop-line.invariant c.in-None.ensures.steps.0;
+}
 
 pub append_matches-requires-clause-one : goal.append_matches-requires-clause-one
 append_matches-requires-clause-one c = c.in_ok-index.ensures.0 ∙ c.from_ref.ensures.value

@@ -9,5 +9,5 @@ use Rattle.glob_lines.proofs.list.matches_of.Given as goal
 -- the path lines so far have their lines in the text
 abbrev pub invariant-loop-line : goal.invariant-loop-line
 invariant-loop-line l =
-    IsWrittenUpTo (WritesMatches (map (entry_of (λ _. tt)) l.list.patterns.items) (option_map vec_items l.list.base) l.index.case)
+    IsWrittenUpTo (WritesMatches (map (entry_of (λ _. tt)) l.list.patterns.items) (option_map vec_items l.list.base) l.fn.case)
     (lines_of l.paths) (lines_of l.line-iterator.rest.now) l.text.items

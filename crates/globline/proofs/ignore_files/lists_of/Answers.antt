@@ -3,7 +3,7 @@ use Rattle.std.proofs.Common.{◌≡◌, ◌+◌, ◌++◌, [], ◌∷◌, true,
 use Rattle.std.proofs.lemmas.List.{map_more}
 use Rattle.std.specs.Option.{option_copied}
 use Rattle.std.specs.String.{string_bytes}
-use Rattle.gix_glob.specs.Loaded.{listed}
+use Rattle.gix_glob.specs.EntryLists.{entry_list_of}
 use Rattle.gix_glob.specs.Paths.{has_file_part}
 use Rattle.globline.specs.Words.{AreIgnoreLists}
 use Rattle.globline.proofs.IgnoreFilesLemmas.{bases_are_folders, file_at, one_more_file}
@@ -21,14 +21,14 @@ loop-file-preserved g c =
     let one_more : map string_bytes (take (i + 1) files) ≡ map string_bytes (take i files) ++ string_bytes c.file-item.result ∷ [] =
     map_more string_bytes files i c.file-item.result c.loop-file-test.true
     ∙ ap (λ file. map string_bytes (take i files) ++ string_bytes file ∷ []) (sym c.file-item.is) in
-    subst (λ texts. AreIgnoreLists (option_copied c.args.root) texts (map (listed {V = Unit {0}} (λ _. tt)) c.add_patterns_file.new.patterns.items)) (sym one_more)
+    subst (λ texts. AreIgnoreLists (option_copied c.args.root) texts (map (entry_list_of {V = Unit {0}} (λ _. tt)) c.add_patterns_file.new.patterns.items)) (sym one_more)
     (one_more_file c.ignore_entries_are_these.ensures (λ _. tt) c.in-Ok._is_added c.add_patterns_file.new.buf.items (string_bytes c.file-item.result) (string_bytes c.in_ok-source.source)
     (option_copied c.args.root) (map string_bytes (take i files)) c.loop-file.lists.items c.add_patterns_file.new.patterns.items
     (c.in_ok-source.ensures.ok ∙ c.as_str.ensures.value) c.loop-file.invariant c.in-Ok.ensures.answer)
 
 pub returns : goal.returns
 returns g c =
-    let lists = map (listed {V = Unit {0}} (λ _. tt)) c.loop-file.lists.items in
+    let lists = map (entry_list_of {V = Unit {0}} (λ _. tt)) c.loop-file.lists.items in
     let loaded : AreIgnoreLists (option_copied c.args.root) (map string_bytes c.args.files.now) lists =
     subst (λ files. AreIgnoreLists (option_copied c.args.root) (map string_bytes files) lists) (take_all _ _ c.loop-file-test.false) c.loop-file.invariant in
     record { loaded = loaded; folders = bases_are_folders c.bases_end_in_a_slash.ensures (option_copied c.args.root) (map string_bytes c.args.files.now) lists loaded }

@@ -3,7 +3,7 @@ use Rattle.std.proofs.lemmas.Result.{on_ok_weaker}
 use Rattle.std.proofs.Common.{map}
 use Rattle.std.specs.Option.{option_copied}
 use Rattle.std.specs.String.{string_bytes}
-use Rattle.gix_glob.specs.Loaded.{listed}
+use Rattle.gix_glob.specs.EntryLists.{entry_list_of}
 use Rattle.globline.proofs.WordsLemmas.{answers_ignore, answers_list, answers_wild, on_each_fault}
 use Rattle.globline.proofs.words.run.Goals as goal
 
@@ -25,7 +25,7 @@ pub returns-in_ok-lists-in-Ignore : goal.returns-in_ok-lists-in-Ignore
 returns-in_ok-lists-in-Ignore g c =
     let told = rw c.deref.ensures.value at c.run_ignore.ensures.ok in
     let left = rw c.deref.ensures.value at c.run_ignore.ensures.write in
-    let answered = answers_ignore c.in-Ignore.case (option_copied c.in-Ignore.root) (map string_bytes c.in-Ignore.files.now) (map (listed {V = Unit {0}} (λ _. tt)) c.in_ok-lists-in-Ignore.lists.items) _ _ in
+    let answered = answers_ignore c.in-Ignore.case (option_copied c.in-Ignore.root) (map string_bytes c.in-Ignore.files.now) (map (entry_list_of {V = Unit {0}} (λ _. tt)) c.in_ok-lists-in-Ignore.lists.items) _ _ in
     rw c.in-Ignore.is (record {
       ok = on_ok_weaker c.run_ignore.result (answered _ c.in_ok-lists-in-Ignore.ensures.loaded) told;
       err = on_each_fault c.run_ignore.result c.run_ignore.ensures.memory c.run_ignore.ensures.read

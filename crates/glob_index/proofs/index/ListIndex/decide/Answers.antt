@@ -1,33 +1,41 @@
 -- A candidate that doesn't match is passed over, and what was passed over before it doesn't match either.
 use Rattle.std.proofs.Common.{map}
 use Rattle.std.proofs.lemmas.Bool.{iff_false}
-use Rattle.gix_glob.specs.Loaded.{listed}
+use Rattle.gix_glob.specs.EntryLists.{entry_list_of}
+use Rattle.glob_index.specs.Private.Tables.{IsTableOf}
 use Rattle.glob_index.specs.Private.Walking.{NonePasses}
-use Rattle.glob_index.proofs.RowLemmas.{last_answer, decides_none, entry_of_next, law_holds, none_of_passed, none_answers}
+use Rattle.glob_index.proofs.IndexLemmas.{to_value}
+use Rattle.glob_index.proofs.RowLemmas.{last_answer, decides_none, entry_of_next, law_holds, NoneAnswers-passed, none_answers}
 use Rattle.glob_index.proofs.index.ListIndex.decide.Goals as goal
 
 pub matches_at-requires-clause-there : goal.matches_at-requires-clause-there
-matches_at-requires-clause-there g c = entry_of_next _ _ _ _ _ _ _ c.requires.made.rows c.in-Some.ensures.next
+matches_at-requires-clause-there g c =
+    let made = to_value g.T.Pattern.seen _ _ c.self.view_is (λ lists _. IsTableOf lists c.self.inside.table) c.self.invariant in
+    entry_of_next _ _ _ _ _ _ _ made.rows c.in-Some.ensures.next
 
 pub returns-then-matches_at : goal.returns-then-matches_at
 returns-then-matches_at g c =
-    last_answer _ _ c.args.path.now c.args.is_dir c.args.self.now.case _ _ _ _ _ c.requires.made.rows
-    (law_holds _ c.args.self.now.table.rows.items c.args.path.now c.args.is_dir c.args.self.now.case c.answering_patterns_pass.ensures c.probe-probe.result c.probe-probe.ensures.shows)
+    let made = to_value g.T.Pattern.seen _ _ c.self.view_is (λ lists _. IsTableOf lists c.self.inside.table) c.self.invariant in
+    last_answer _ _ c.args.path.now c.args.is_dir c.args.self.now.case _ _ _ _ _ made.rows
+    (law_holds _ c.self.inside.table.rows.items c.args.path.now c.args.is_dir c.args.self.now.case c.answering_patterns_pass.ensures c.probe-probe.result c.probe-probe.ensures.shows)
     c.in-Some.ensures.next (c.matches_at.ensures.0 c.if-matches_at.true) c.candidates.invariant.none
 
 pub candidates-preserved : goal.candidates-preserved
-candidates-preserved g c = record {
+candidates-preserved g c =
+    let made = to_value g.T.Pattern.seen _ _ c.self.view_is (λ lists _. IsTableOf lists c.self.inside.table) c.self.invariant in
+    record {
   at = c.in-Some.ensures.at;
-  none = none_answers _ _ c.args.path.now c.args.is_dir c.args.self.now.case _ _ _ _ _ c.requires.made.rows
-      (law_holds _ c.args.self.now.table.rows.items c.args.path.now c.args.is_dir c.args.self.now.case c.answering_patterns_pass.ensures c.probe-probe.result c.probe-probe.ensures.shows)
+  none = none_answers _ _ c.args.path.now c.args.is_dir c.args.self.now.case _ _ _ _ _ made.rows
+      (law_holds _ c.self.inside.table.rows.items c.args.path.now c.args.is_dir c.args.self.now.case c.answering_patterns_pass.ensures c.probe-probe.result c.probe-probe.ensures.shows)
       c.in-Some.ensures.next (iff_false c.matches_at.ensures c.if-matches_at.false) c.candidates.invariant.none;
 }
 
 pub returns : goal.returns
 returns g c =
-    let lists = map (listed g.T.Pattern.seen) c.args.self.now.lists.now in
-    let none : NonePasses c.args.self.now.table.rows.items c.probe-probe.result 0 c.candidates.walk.end = rw c.in_default.is at c.next_pair.ensures.next in
-    decides_none lists c.args.self.now.table.rows.items c.args.path.now c.args.is_dir c.args.self.now.case c.requires.made.rows
-    (none_of_passed lists c.args.self.now.table.rows.items c.args.path.now c.args.is_dir c.args.self.now.case c.probe-probe.result 0 c.candidates.walk.end c.requires.made.rows
-    (law_holds lists c.args.self.now.table.rows.items c.args.path.now c.args.is_dir c.args.self.now.case c.answering_patterns_pass.ensures c.probe-probe.result c.probe-probe.ensures.shows)
+    let made = to_value g.T.Pattern.seen _ _ c.self.view_is (λ lists _. IsTableOf lists c.self.inside.table) c.self.invariant in
+    let lists = map (entry_list_of g.T.Pattern.seen) c.args.self.now.lists in
+    let none : NonePasses c.self.inside.table.rows.items c.probe-probe.result 0 c.candidates.walk.end = rw c.in_default.is at c.next_pair.ensures.next in
+    decides_none lists c.self.inside.table.rows.items c.args.path.now c.args.is_dir c.args.self.now.case made.rows
+    (NoneAnswers-passed lists c.self.inside.table.rows.items c.args.path.now c.args.is_dir c.args.self.now.case c.probe-probe.result 0 c.candidates.walk.end made.rows
+    (law_holds lists c.self.inside.table.rows.items c.args.path.now c.args.is_dir c.args.self.now.case c.answering_patterns_pass.ensures c.probe-probe.result c.probe-probe.ensures.shows)
     none c.candidates.invariant.none)

@@ -1,5 +1,5 @@
 use Rattle.std.proofs.Common.{map}
-use Rattle.gix_glob.specs.Loaded.{listed}
+use Rattle.gix_glob.specs.EntryLists.{entry_list_of}
 use Rattle.glob_index.specs.Private.Walking.{IsAt}
 use Rattle.glob_index.proofs.RowLemmas.{NoneAnswers}
 use Rattle.glob_index.proofs.index.ListIndex.decide.Given as goal
@@ -7,8 +7,8 @@ use Rattle.glob_index.proofs.index.ListIndex.decide.Given as goal
 -- no row from the walk's end on answers
 abbrev pub invariant-candidates : goal.invariant-candidates
 invariant-candidates g l = record {
-  at : IsAt l.self.table.rows.items l.probe.class l.walk;
-  none : NoneAnswers (map (listed g.T.Pattern.seen) l.self.lists.now) l.self.table.rows.items l.path l.is_dir l.self.case l.walk.end;
+  at : IsAt l.self-inside.table.rows.items l.probe.class l.walk;
+  none : NoneAnswers (map (entry_list_of g.T.Pattern.seen) l.self.lists) l.self-inside.table.rows.items l.path l.is_dir l.self.case l.walk.end;
 }
 
 abbrev pub decreases-candidates : goal.decreases-candidates

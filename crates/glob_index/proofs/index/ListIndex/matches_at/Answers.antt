@@ -1,72 +1,94 @@
 -- What the base leaves of the path is what the pattern is asked about.
-use Rattle.std.proofs.Common.{◌≡◌, ◌<◌, get_or, length, map, option_map, Some, sym, subst, ◌∙◌, arith}
+use Rattle.std.proofs.Common.{◌≡◌, ◌↔◌, ◌<◌, false, IsTrue, get_or, length, map, option_map, Some, rules, sym, subst, ◌∙◌, arith}
 use Rattle.std.specs.Prelude.{slice_get}
 use Rattle.std.specs.Vec.{vec_items}
 use Rattle.std.proofs.lemmas.Bool.{false≢true}
 use Rattle.std.proofs.lemmas.List.{get_or_default}
 use Rattle.std.proofs.lemmas.Option.{same_Some}
-use Rattle.gix_glob.specs.Deciding.{HasFolder}
+use Rattle.gix_glob.specs.Deciding.{BasesAreFolders, HasFolder, PairAnswers}
 use Rattle.gix_glob.specs.Lists.{entry_of}
-use Rattle.gix_glob.specs.Loaded.{Listed, listed}
+use Rattle.gix_glob.specs.EntryLists.{EntryList, entry_list_of}
 use Rattle.gix_glob.specs.Stripping.{NothingLeft}
-use Rattle.gix_glob.proofs.Answering.{AnswersUnder-only, AnswersUnder-yes}
-use Rattle.gix_glob.proofs.Elements.{seen_all, seen_at, seen_within}
-use Rattle.glob_index.proofs.AnsweringLemmas.{pair_answers, pair_nothing, pair_only}
+use Rattle.gix_glob.proofs.Answering.{AnswersAt-only, AnswersAt-yes, AnswersUnder-only, AnswersUnder-yes, PairAnswers-nothing_left, PairAnswers-only, PairAnswers-yes}
+use Rattle.gix_glob.proofs.Elements.{All-map_at, slice_get-map_at, slice_get-map_within}
+use Rattle.glob_index.specs.Private.Tables.{HasEntryAt}
+use Rattle.glob_index.proofs.IndexLemmas.{from_value, to_value}
 use Rattle.glob_index.proofs.index.ListIndex.matches_at.Goals as goal
+
+pub bounds-lists-list : goal.bounds-lists-list
+bounds-lists-list g c =
+    let has = from_value g.T.Pattern.seen _ _ c.self.view_is (λ lists _. HasEntryAt lists c.args.list c.args.mapping) c.requires.there in
+    slice_get-map_within (entry_list_of g.T.Pattern.seen) c.self.inside.lists.now c.args.list has.1.list has.1.there
+
+pub offset_bounds-lists-list : goal.offset_bounds-lists-list
+offset_bounds-lists-list g c =
+    let fields = c.self in
+    let has = from_value g.T.Pattern.seen _ _ fields.view_is (λ lists _. HasEntryAt lists c.args.list c.args.mapping) c.requires.there in
+    let within : c.args.list < length fields.inside.lists.now =
+    slice_get-map_within (entry_list_of g.T.Pattern.seen) fields.inside.lists.now c.args.list has.1.list has.1.there in
+    search rules
 
 pub rest_of-requires-clause-folder : goal.rest_of-requires-clause-folder
 rest_of-requires-clause-folder g c =
-    let there = c.requires.there.1 in
-    let within = seen_within (listed g.T.Pattern.seen) c.args.self.now.lists.now c.args.list there.list there.there in
-    let held = get_or c.args.self.now.lists.now c.args.list c.index-self-list.result in
-    let is = get_or_default c.args.self.now.lists.now c.args.list c.index-self-list.result held within in
-    seen_all (listed g.T.Pattern.seen) HasFolder c.args.self.now.lists.now c.args.list held c.requires.folders within is
+    let has = from_value g.T.Pattern.seen _ _ c.self.view_is (λ lists _. HasEntryAt lists c.args.list c.args.mapping) c.requires.there in
+    let there = has.1 in
+    let within = slice_get-map_within (entry_list_of g.T.Pattern.seen) c.self.inside.lists.now c.args.list there.list there.there in
+    let held = c.index-lists-list.result in
+    let is = c.index-lists-list.is in
+    All-map_at (entry_list_of g.T.Pattern.seen) HasFolder c.self.inside.lists.now c.args.list held (from_value g.T.Pattern.seen _ _ c.self.view_is (λ lists _. BasesAreFolders lists) c.requires.folders) within is
 
 pub returns-in_default : goal.returns-in_default
 returns-in_default g c =
-    let there = c.requires.there.1 in
-    let within = seen_within (listed g.T.Pattern.seen) c.args.self.now.lists.now c.args.list there.list there.there in
-    let held = get_or c.args.self.now.lists.now c.args.list c.index-self-list.result in
-    let is = get_or_default c.args.self.now.lists.now c.args.list c.index-self-list.result held within in
-    let nothing : NothingLeft c.args.self.now.case (option_map vec_items held.base) c.args.path.now = rw c.in_default.is at c.rest_of.ensures in (
+    let has = from_value g.T.Pattern.seen _ _ c.self.view_is (λ lists _. HasEntryAt lists c.args.list c.args.mapping) c.requires.there in
+    let there = has.1 in
+    let within = slice_get-map_within (entry_list_of g.T.Pattern.seen) c.self.inside.lists.now c.args.list there.list there.there in
+    let held = c.index-lists-list.result in
+    let is = c.index-lists-list.is in
+    let nothing : NothingLeft c.self.inside.case (option_map vec_items held.base) c.args.path.now = rw c.in_default.is at c.rest_of.ensures in
+    to_value g.T.Pattern.seen _ _ c.self.view_is (λ lists case. IsTrue false ↔ PairAnswers lists c.args.path.now c.args.is_dir case c.args.list c.args.mapping) (
       λ no. absurd (false≢true no),
-      λ yes. absurd (pair_nothing (map (listed g.T.Pattern.seen) c.args.self.now.lists.now) c.args.path.now c.args.is_dir c.args.self.now.case c.args.list c.args.mapping
-          (listed g.T.Pattern.seen held)
-          (seen_at (listed g.T.Pattern.seen) c.args.self.now.lists.now c.args.list held within is) nothing yes),
+      λ yes. absurd (PairAnswers-nothing_left (map (entry_list_of g.T.Pattern.seen) c.self.inside.lists.now) c.args.path.now c.args.is_dir c.self.inside.case c.args.list c.args.mapping
+          (entry_list_of g.T.Pattern.seen held)
+          (slice_get-map_at (entry_list_of g.T.Pattern.seen) c.self.inside.lists.now c.args.list held within is) nothing yes),
     )
 
 pub index-requires : goal.index-requires
 index-requires g c =
-    let there = c.requires.there.1 in
-    let within = seen_within (listed g.T.Pattern.seen) c.args.self.now.lists.now c.args.list there.list there.there in
-    let held = get_or c.args.self.now.lists.now c.args.list c.index-self-list.result in
-    let is = get_or_default c.args.self.now.lists.now c.args.list c.index-self-list.result held within in
-    let same : there.list ≡ listed g.T.Pattern.seen held =
-    same_Some _ _ (sym there.there ∙ seen_at (listed g.T.Pattern.seen) c.args.self.now.lists.now c.args.list held within is) in
+    let has = from_value g.T.Pattern.seen _ _ c.self.view_is (λ lists _. HasEntryAt lists c.args.list c.args.mapping) c.requires.there in
+    let there = has.1 in
+    let within = slice_get-map_within (entry_list_of g.T.Pattern.seen) c.self.inside.lists.now c.args.list there.list there.there in
+    let held = c.index-lists-list.result in
+    let is = c.index-lists-list.is in
+    let same : there.list ≡ entry_list_of g.T.Pattern.seen held =
+    same_Some _ _ (sym there.there ∙ slice_get-map_at (entry_list_of g.T.Pattern.seen) c.self.inside.lists.now c.args.list held within is) in
     let inside : c.args.mapping < length held.patterns.items =
-    seen_within (entry_of g.T.Pattern.seen) held.patterns.items c.args.mapping c.requires.there.0
-    (subst (λ (l : Listed g.T.Pattern.Seen). slice_get l.entries c.args.mapping ≡ Some c.requires.there.0) same there.here) in
+    slice_get-map_within (entry_of g.T.Pattern.seen) held.patterns.items c.args.mapping has.0
+    (subst (λ (l : EntryList g.T.Pattern.Seen). slice_get l.entries c.args.mapping ≡ Some has.0) same there.here) in
     omega arith
 
 pub returns : goal.returns
 returns g c =
-    let there = c.requires.there.1 in
-    let lists = map (listed g.T.Pattern.seen) c.args.self.now.lists.now in
-    let within = seen_within (listed g.T.Pattern.seen) c.args.self.now.lists.now c.args.list there.list there.there in
-    let held = get_or c.args.self.now.lists.now c.args.list c.index-self-list.result in
-    let is = get_or_default c.args.self.now.lists.now c.args.list c.index-self-list.result held within in
-    let list = listed g.T.Pattern.seen held in
+    let has = from_value g.T.Pattern.seen _ _ c.self.view_is (λ lists _. HasEntryAt lists c.args.list c.args.mapping) c.requires.there in
+    let there = has.1 in
+    let lists = map (entry_list_of g.T.Pattern.seen) c.self.inside.lists.now in
+    let within = slice_get-map_within (entry_list_of g.T.Pattern.seen) c.self.inside.lists.now c.args.list there.list there.there in
+    let held = c.index-lists-list.result in
+    let is = c.index-lists-list.is in
+    let list = entry_list_of g.T.Pattern.seen held in
     let entry = entry_of g.T.Pattern.seen c.index.result.now in
-    let at = seen_at (listed g.T.Pattern.seen) c.args.self.now.lists.now c.args.list held within is in
-    let same : there.list ≡ listed g.T.Pattern.seen held = same_Some _ _ (sym there.there ∙ at) in
+    let at = slice_get-map_at (entry_list_of g.T.Pattern.seen) c.self.inside.lists.now c.args.list held within is in
+    let same : there.list ≡ entry_list_of g.T.Pattern.seen held = same_Some _ _ (sym there.there ∙ at) in
     let inside : c.args.mapping < length held.patterns.items =
-    seen_within (entry_of g.T.Pattern.seen) held.patterns.items c.args.mapping c.requires.there.0
-    (subst (λ (l : Listed g.T.Pattern.Seen). slice_get l.entries c.args.mapping ≡ Some c.requires.there.0) same there.here) in
-    let here = seen_at (entry_of g.T.Pattern.seen) held.patterns.items c.args.mapping c.index.result.now inside c.index.ensures in (
-      λ yes. pair_answers lists c.args.path.now c.args.is_dir c.args.self.now.case c.args.list c.args.mapping list at entry here
-          (AnswersUnder-yes list.base c.args.path.now c.args.is_dir c.args.self.now.case entry c.in-Some.rest.now c.in-Some.start c.in-Some.ensures.0 c.in-Some.ensures.1
-          (c.matches_repo_relative_path.ensures.0 yes)),
+    slice_get-map_within (entry_of g.T.Pattern.seen) held.patterns.items c.args.mapping has.0
+    (subst (λ (l : EntryList g.T.Pattern.Seen). slice_get l.entries c.args.mapping ≡ Some has.0) same there.here) in
+    let here = slice_get-map_at (entry_of g.T.Pattern.seen) held.patterns.items c.args.mapping c.index.result.now inside c.index.ensures in
+    to_value g.T.Pattern.seen _ _ c.self.view_is (λ lists case. IsTrue c.matches_repo_relative_path.result ↔ PairAnswers lists c.args.path.now c.args.is_dir case c.args.list c.args.mapping) (
+      λ yes. PairAnswers-yes lists c.args.path.now c.args.is_dir c.self.inside.case c.args.list c.args.mapping list at
+          (AnswersAt-yes list c.args.path.now c.args.is_dir c.self.inside.case c.args.mapping entry here
+          (AnswersUnder-yes list.base c.args.path.now c.args.is_dir c.self.inside.case entry c.in-Some.rest.now c.in-Some.start c.in-Some.ensures.0 c.in-Some.ensures.1
+          (c.matches_repo_relative_path.ensures.0 yes))),
       λ answers. c.matches_repo_relative_path.ensures.1
-          (AnswersUnder-only list.base c.args.path.now c.args.is_dir c.args.self.now.case entry c.in-Some.rest.now c.in-Some.start c.in-Some.ensures.0 c.in-Some.ensures.1
-          (pair_only lists c.args.path.now c.args.is_dir c.args.self.now.case c.args.list c.args.mapping list at entry here answers)),
+          (AnswersUnder-only list.base c.args.path.now c.args.is_dir c.self.inside.case entry c.in-Some.rest.now c.in-Some.start c.in-Some.ensures.0 c.in-Some.ensures.1
+          (AnswersAt-only list c.args.path.now c.args.is_dir c.self.inside.case c.args.mapping entry here
+          (PairAnswers-only lists c.args.path.now c.args.is_dir c.self.inside.case c.args.list c.args.mapping list at answers))),
     )

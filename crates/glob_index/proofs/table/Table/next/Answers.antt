@@ -4,7 +4,7 @@ use Rattle.std.proofs.lemmas.Bool.{iff_false}
 use Rattle.glob_index.specs.declared.row.Row.{Row}
 use Rattle.glob_index.specs.declared.table.Walk.{Walk}
 use Rattle.glob_index.specs.Private.Walking.{IsAt}
-use Rattle.glob_index.proofs.ChainLemmas.{none_between, other_step, own_step, passed_over, without_bytes, without_end}
+use Rattle.glob_index.proofs.ChainLemmas.{none_between, other_step, own_step, NonePasses-above_chains, without_bytes, without_end}
 use Rattle.glob_index.proofs.table.Table.next.Goals as goal
 
 pub places-init : goal.places-init
@@ -90,5 +90,5 @@ places-preserved c =
 
 pub returns-else-walk-gt0-clause-next : goal.returns-else-walk-gt0-clause-next
 returns-else-walk-gt0-clause-next c =
-    passed_over c.args.self.now.rows.items c.args.probe.now c.places.walk.end c.places.walk.own c.places.walk.other 0 c.args.walk.now.end
+    NonePasses-above_chains c.args.self.now.rows.items c.args.probe.now c.places.walk.end c.places.walk.own c.places.walk.other 0 c.args.walk.now.end
     c.places.invariant.at.own c.places.invariant.at.other (omega arith) (omega arith) c.places.invariant.none

@@ -1,9 +1,9 @@
 -- Each line has its number; a comment gives nothing, and another line the entry of its text.
 use Rattle.std.proofs.Common.{◌+◌, length, None, Some, ap, arith}
-use Rattle.glob_lines.specs.Ignore.{BeginsWithLine, ignore_of, trimmed_unless_comment, without_returns}
+use Rattle.glob_lines.specs.Ignore.{BeginsWithLine, ignore_of, ignore_content, without_returns}
 use Rattle.glob_lines.specs.Lines.{lines_of}
-use Rattle.glob_lines.proofs.IgnoreLemmas.{comment_gives_nothing, length-ignore_lines-le, text_is_given}
-use Rattle.glob_lines.proofs.NumberedLemmas.{meant-more, meant-skip}
+use Rattle.glob_lines.proofs.IgnoreLemmas.{ignore_content-comment, length-ignore_lines-le, ignore_content-text}
+use Rattle.glob_lines.proofs.EntriesLemmas.{meant-more, meant-skip}
 use Rattle.glob_lines.proofs.ignore.IgnoreLinesPattern.bytes_to_patterns.Goals.{in-Some-text+in_ok-push_pattern, in_default-text}
 use Rattle.glob_lines.proofs.ignore.IgnoreLinesPattern.bytes_to_patterns.Goals as goal
 
@@ -23,13 +23,13 @@ lines-preserved c =
           let first : BeginsWithLine c.lines.rest.now (Some text) c.in-Some.line.rest.now = rw w.in-Some-text.is at c.in-Some.ensures in
           record {
             counted = omega (arith, ap length first.lines);
-            meant = rw w.mappings-is (meant-more (λ _. tt) trimmed_unless_comment old w.push_pattern.new.mappings.items number before after first.line text tt all
-                w.in_ok-push_pattern.ensures first.lines (text_is_given first.line text first.gives) c.lines.invariant.meant);
+            meant = rw w.mappings-is (meant-more (λ _. tt) ignore_content old w.push_pattern.new.mappings.items number before after first.line text tt all
+                w.in_ok-push_pattern.ensures first.lines (ignore_content-text first.line text first.gives) c.lines.invariant.meant);
           }
       | in_default-text w ↦
           let first : BeginsWithLine c.lines.rest.now None c.in-Some.line.rest.now = rw w.in_default-text.is at c.in-Some.ensures in
           record {
             counted = omega (arith, ap length first.lines);
-            meant = rw w.mappings-is (meant-skip (λ _. tt) trimmed_unless_comment old number before after first.line all first.lines (comment_gives_nothing first.line first.gives) c.lines.invariant.meant);
+            meant = rw w.mappings-is (meant-skip (λ _. tt) ignore_content old number before after first.line all first.lines (ignore_content-comment first.line first.gives) c.lines.invariant.meant);
           }
     ]

@@ -1,15 +1,15 @@
 use Rattle.std.proofs.Common.{◌≡◌, ◌+◌, ◌++◌, length, map}
 use Rattle.gix_glob.specs.Lists.{entry_of}
-use Rattle.glob_lines.specs.Ignore.{ignore_of, trimmed_unless_comment, without_mark, without_returns}
+use Rattle.glob_lines.specs.Ignore.{ignore_of, ignore_content, without_mark, without_returns}
 use Rattle.glob_lines.specs.Lines.{lines_of}
-use Rattle.glob_lines.specs.Numbered.{entries_from}
+use Rattle.glob_lines.specs.Entries.{entries_from}
 use Rattle.glob_lines.proofs.ignore.IgnoreLinesPattern.bytes_to_patterns.Given as goal
 
 -- the lines so far are counted, and with the entries of the others theirs are all entries
 abbrev pub invariant-lines : goal.invariant-lines
 invariant-lines l = record {
   counted : l.number + length (lines_of (without_returns l.rest)) ≡ length (lines_of (without_returns (without_mark l.bytes)));
-  meant : map (entry_of (λ _. tt)) l.mappings.items ++ entries_from trimmed_unless_comment (l.number + 1) (lines_of (without_returns l.rest)) ≡ ignore_of l.bytes;
+  meant : map (entry_of (λ _. tt)) l.mappings.items ++ entries_from ignore_content (l.number + 1) (lines_of (without_returns l.rest)) ≡ ignore_of l.bytes;
 }
 
 abbrev pub decreases-lines : goal.decreases-lines

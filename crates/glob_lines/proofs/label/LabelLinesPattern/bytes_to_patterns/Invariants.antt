@@ -1,14 +1,14 @@
 use Rattle.std.proofs.Common.{◌≡◌, ◌+◌, ◌++◌, length, map}
 use Rattle.std.specs.Vec.{vec_items}
 use Rattle.gix_glob.specs.Lists.{entry_of}
-use Rattle.glob_lines.specs.Label.{label_of, parted}
+use Rattle.glob_lines.specs.Label.{label_of, label_content}
 use Rattle.glob_lines.specs.Lines.{lines_of}
-use Rattle.glob_lines.specs.Numbered.{entries_from}
+use Rattle.glob_lines.specs.Entries.{entries_from}
 use Rattle.glob_lines.proofs.label.LabelLinesPattern.bytes_to_patterns.Given as goal
 
 -- the lines so far are counted, and with the entries of the others theirs are all entries
 abbrev pub invariant-loop-line : goal.invariant-loop-line
 invariant-loop-line l = record {
   counted : l.number + length (lines_of l.line-iterator.rest.now) ≡ length (lines_of l.bytes);
-  meant : map (entry_of vec_items) l.mappings.items ++ entries_from parted (l.number + 1) (lines_of l.line-iterator.rest.now) ≡ label_of l.bytes;
+  meant : map (entry_of vec_items) l.mappings.items ++ entries_from label_content (l.number + 1) (lines_of l.line-iterator.rest.now) ≡ label_of l.bytes;
 }

@@ -1,13 +1,13 @@
 use Rattle.std.proofs.Common.{◌≡◌, ◌+◌, ◌++◌, length, map}
 use Rattle.gix_glob.specs.Lists.{entry_of}
 use Rattle.glob_lines.specs.Lines.{lines_of}
-use Rattle.glob_lines.specs.Numbered.{entries_from}
-use Rattle.glob_lines.specs.Plain.{itself, plain_of}
+use Rattle.glob_lines.specs.Entries.{entries_from}
+use Rattle.glob_lines.specs.Plain.{plain_content, plain_of}
 use Rattle.glob_lines.proofs.plain.PlainLinesPattern.bytes_to_patterns.Given as goal
 
 -- the lines so far are counted, and with the entries of the others theirs are all entries
 abbrev pub invariant-loop-line : goal.invariant-loop-line
 invariant-loop-line l = record {
   counted : l.number + length (lines_of l.line-iterator.rest.now) ≡ length (lines_of l.bytes);
-  meant : map (entry_of (λ _. tt)) l.mappings.items ++ entries_from itself (l.number + 1) (lines_of l.line-iterator.rest.now) ≡ plain_of l.bytes;
+  meant : map (entry_of (λ _. tt)) l.mappings.items ++ entries_from plain_content (l.number + 1) (lines_of l.line-iterator.rest.now) ≡ plain_of l.bytes;
 }

@@ -7,7 +7,7 @@ use Rattle.gix_glob.specs.Patterns.{HasReading}
 use Rattle.gix_glob.specs.Readings.{Reading, reading_of}
 use Rattle.gix_glob.specs.Lists.{entry_of, entry_with}
 use Rattle.gix_glob.specs.declared.search.pattern.mapping.Mapping.{Mapping}
-use Rattle.glob_lines.proofs.numbered.push_pattern.Goals as goal
+use Rattle.glob_lines.proofs.entries.push_pattern.Goals as goal
 
 pub returns-in_ok-push : goal.returns-in_ok-push
 returns-in_ok-push g c =

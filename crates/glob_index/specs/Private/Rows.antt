@@ -4,7 +4,7 @@ use Rattle.std.specs.Char.{to_ascii_lowercase}
 use Rattle.gix_glob.specs.declared.pattern.Mode.{Mode}
 use Rattle.gix_glob.specs.Patterns.{is_absolute, is_without_sub_dir}
 use Rattle.glob_index.specs.declared.row.Row.{Row}
-use Rattle.glob_index.specs.Literals.{EndsLiterally, NeedsBits, end_key, from_end}
+use Rattle.glob_index.specs.Private.Literals.{EndsLiterally, NeedsBits, end_key, from_end}
 
 -- the class of the patterns whose texts end in no byte that stands for itself
 abbrev pub always : ℕ

@@ -18,7 +18,7 @@ pub record IsEntryOf {V : Type 0} (Gives : List ℕ → List ℕ → V → Type 
 pub record HasNoEntry {V : Type 0} (Gives : List ℕ → List ℕ → V → Type 0) (line : List ℕ) : Type 0 where
   pub none : (text : List ℕ) (value : V) → Gives line text value → ¬ HasReading text true
 
--- an entry for each line that has one, where the first line has this number
+-- the entries of lines, in order: one for each line that has one, where the first line has this number
 abbrev pub EntriesFrom : {V : Type 0} → (List ℕ → List ℕ → V → Type 0) → ℕ → List (List ℕ) → List (Entry V) → Type 0
 EntriesFrom Gives number [] entries = entries ≡ []
 EntriesFrom {V} Gives number (line ∷ lines) entries =
@@ -34,24 +34,24 @@ pub record Entries {V : Type 0} (Gives : List ℕ → List ℕ → V → Type 0)
 
 -- ---- the same by equation
 
--- a text and a value
-pub record TextAndValue (V : Type 0) : Type 0 where
+-- what a line gives: the text that a pattern is read from, and the value beside the pattern
+pub record LineContent (V : Type 0) : Type 0 where
   pub text : List ℕ
   pub value : V
 
--- the entry of a line that gives this
-abbrev pub entry_given : {V : Type 0} → ℕ → TextAndValue V → Option (Entry V)
-entry_given number given = option_map (entry_with given.value number) (reading_of true given.text)
+-- the entry of a line that gives this, and has this number
+abbrev pub entry_of_content : {V : Type 0} → ℕ → LineContent V → Option (Entry V)
+entry_of_content number content = option_map (entry_with content.value number) (reading_of true content.text)
 
--- the entry of a line, where `given` says what a line gives
-unfoldable pub entry_of_line : {V : Type 0} → (List ℕ → Option (TextAndValue V)) → ℕ → List ℕ → Option (Entry V)
-entry_of_line given number line = option_and_then (entry_given number) (given line)
+-- the entry of a line, where `content_of` says what a line gives, if it gives anything
+unfoldable pub entry_of_line : {V : Type 0} → (List ℕ → Option (LineContent V)) → ℕ → List ℕ → Option (Entry V)
+entry_of_line content_of number line = option_and_then (entry_of_content number) (content_of line)
 
 -- the entries of lines, the first of which has this number
-abbrev pub entries_from : {V : Type 0} → (List ℕ → Option (TextAndValue V)) → ℕ → List (List ℕ) → List (Entry V)
-entries_from given number [] = []
-entries_from given number (line ∷ lines) = cons_option (entry_of_line given number line) (entries_from given (number + 1) lines)
+abbrev pub entries_from : {V : Type 0} → (List ℕ → Option (LineContent V)) → ℕ → List (List ℕ) → List (Entry V)
+entries_from content_of number [] = []
+entries_from content_of number (line ∷ lines) = cons_option (entry_of_line content_of number line) (entries_from content_of (number + 1) lines)
 
 -- the entries of the lines of the bytes
-abbrev pub entries_of : {V : Type 0} → (List ℕ → Option (TextAndValue V)) → List ℕ → List (Entry V)
-entries_of given bytes = entries_from given 1 (lines_of bytes)
+abbrev pub entries_of : {V : Type 0} → (List ℕ → Option (LineContent V)) → List ℕ → List (Entry V)
+entries_of content_of bytes = entries_from content_of 1 (lines_of bytes)

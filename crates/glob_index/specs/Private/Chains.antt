@@ -1,7 +1,7 @@
 -- Chains: through the rows of each class, from the last one to the first.
 use Rattle.std.specs.Prelude.{◌≡◌, ◌≢◌, ℕ, ◌-◌, ◌<◌, ◌≤◌, List, length, map, slice_index}
 use Rattle.glob_index.specs.declared.row.Row.{Row}
-use Rattle.glob_index.specs.Rows.{always}
+use Rattle.glob_index.specs.Private.Rows.{always}
 
 -- the classes of the rows
 abbrev pub classes_of : List Row → List ℕ

@@ -1,0 +1,174 @@
+-- Entries of numbered lines: the relation and the equation agree, and what a parser of lines makes of one line.
+use Rattle.std.proofs.Common.{◌≡◌, inl, inr, ⊎_elim, ℕ, ◌+◌, Bool, true, List, [], ◌∷◌, ◌++◌, Option, None, Some, map, refl, sym, ap, subst, ◌∙◌, append_assoc}
+use Rattle.std.specs.Prelude.{◌↔◌, ◌⊎◌}
+use Rattle.std.specs.List.{cons_option}
+use Rattle.std.specs.Option.{option_and_then, option_map, option_to_list}
+use Rattle.gix_glob.specs.declared.pattern.Mode.{Mode}
+use Rattle.gix_glob.specs.declared.search.pattern.mapping.Mapping.{Mapping}
+use Rattle.gix_glob.specs.Lists.{Entry, entry_of, entry_with}
+use Rattle.gix_glob.specs.Patterns.{Reads}
+use Rattle.gix_glob.specs.Readings.{Reading, reading_of}
+use Rattle.glob_lines.specs.Lines.{lines_of}
+use Rattle.glob_lines.specs.Entries.{Entries, EntriesFrom, HasNoEntry, IsEntryOf, LineContent, entries_from, entries_of, entry_of_content, entry_of_line}
+use Rattle.glob_lines.proofs.LinesLemmas.{Lines-lines_of, Lines-only}
+
+-- the law `readings_are_these` of the crate below
+abbrev pub ReadingsAreThese : Type 0
+ReadingsAreThese = (line : List ℕ) (may_alter : Bool) (text : List ℕ) (mode : Mode) (place : Option ℕ)
+    → Reads line may_alter text mode place ↔ (reading_of may_alter line ≡ Some (record { text = text; mode = mode; place = place }))
+
+-- `content_of` is by equation what `Gives` says
+pub record Tells {V : Type 0} (Gives : List ℕ → List ℕ → V → Type 0) (content_of : List ℕ → Option (LineContent V)) : Type 0 where
+  pub found : (line text : List ℕ) (value : V) → Gives line text value → content_of line ≡ Some (record { text = text; value = value })
+  pub gives : (line : List ℕ) (it : LineContent V) → content_of line ≡ Some it → Gives line it.text it.value
+
+cases_Option : {A : Type 0} (o : Option A) → (o ≡ None) ⊎ ((x : A) × (o ≡ Some x))
+cases_Option None = inl refl
+cases_Option (Some x) = inr (x, refl)
+
+-- ---- the entry of a line
+
+module _ {V : Type 0} (Gives : List ℕ → List ℕ → V → Type 0) (content_of : List ℕ → Option (LineContent V)) (tells : Tells Gives content_of) (readings : ReadingsAreThese) where
+  entry_of_line-is : (number : ℕ) (line : List ℕ) (entry : Entry V) → IsEntryOf Gives line number entry → entry_of_line content_of number line ≡ Some entry
+  unfolding entry_of_line
+  entry_of_line-is number line entry h =
+      let reading : Reading = record { text = entry.text; mode = entry.mode; place = entry.place } in
+      let numbered : ℕ → Entry V = λ n. entry_with entry.value n reading in
+      ap (option_and_then (entry_of_content number)) (tells.found line h.text entry.value h.given)
+      ∙ ap (option_map (entry_with entry.value number)) ((readings h.text true entry.text entry.mode entry.place).0 h.reads)
+      ∙ ap (λ n. Some (numbered n)) (sym h.numbered)
+
+  -- a line has an entry, or has none
+  record TellsEntry (number : ℕ) (line : List ℕ) (entry : Entry V) : Type 0 where
+    is : entry_of_line content_of number line ≡ Some entry
+    entry_is : IsEntryOf Gives line number entry
+
+  record TellsNone (number : ℕ) (line : List ℕ) : Type 0 where
+    is : entry_of_line content_of number line ≡ None
+    has_none : HasNoEntry Gives line
+
+  no_content : (number : ℕ) (line : List ℕ) → content_of line ≡ None → TellsNone number line
+  unfolding entry_of_line
+  no_content number line nothing = record {
+    is = ap (option_and_then (entry_of_content number)) nothing;
+    has_none = record { none = λ text value gives _. let both : None ≡ Some _ = sym nothing ∙ tells.found line text value gives in absurd (cc) };
+  }
+
+  no_reading : (number : ℕ) (line : List ℕ) (it : LineContent V) → content_of line ≡ Some it → reading_of true it.text ≡ None → TellsNone number line
+  unfolding entry_of_line
+  no_reading number line it is blank = record {
+    is = ap (option_and_then (entry_of_content number)) is ∙ ap (option_map (entry_with it.value number)) blank;
+    has_none = record {
+      none = λ text value gives has.
+          let this : LineContent V = record { text = text; value = value } in
+          let both : Some this ≡ Some it = sym (tells.found line text value gives) ∙ is in
+          let equal : this ≡ it = cc in
+          let same : text ≡ it.text = ap (λ (x : LineContent V). x.text) equal in
+          let reading : Reading = record { text = has.text; mode = has.mode; place = has.place } in
+          let read : None ≡ Some reading = sym blank ∙ sym (ap (reading_of true) same) ∙ (readings text true has.text has.mode has.place).0 has.read in
+          absurd (cc);
+    };
+  }
+
+  some_reading : (number : ℕ) (line : List ℕ) (it : LineContent V) (reading : Reading) → content_of line ≡ Some it → reading_of true it.text ≡ Some reading → TellsEntry number line (entry_with it.value number reading)
+  some_reading number line it reading is read =
+      let entry_is : IsEntryOf Gives line number (entry_with it.value number reading) = record {
+        text = it.text;
+        given = tells.gives line it is;
+        reads = (readings it.text true reading.text reading.mode reading.place).1 read;
+        numbered = refl;
+      } in
+      record { is = entry_of_line-is number line _ entry_is; entry_is = entry_is }
+
+  entry_cases : (number : ℕ) (line : List ℕ) → TellsNone number line ⊎ ((entry : Entry V) × TellsEntry number line entry)
+  entry_cases number line =
+      ⊎_elim
+      (λ nothing. inl (no_content number line nothing))
+      (λ some. ⊎_elim
+      (λ blank. inl (no_reading number line some.0 some.1 blank))
+      (λ read. inr (entry_with some.0.value number read.0, some_reading number line some.0 read.0 some.1 read.1))
+      (cases_Option (reading_of true some.0.text)))
+      (cases_Option (content_of line))
+
+  -- ---- the entries of all lines
+
+  entries_from-EntriesFrom : (number : ℕ) (lines : List (List ℕ)) → EntriesFrom Gives number lines (entries_from content_of number lines)
+  entries_from-EntriesFrom number [] = refl
+  entries_from-EntriesFrom number (line ∷ lines) =
+      let more = entries_from content_of (number + 1) lines in
+      let step : (o : Option (Entry V)) → entry_of_line content_of number line ≡ o → entries_from content_of number (line ∷ lines) ≡ cons_option o more =
+      λ o is. ap (λ first. cons_option first more) is in
+      ⊎_elim
+      (λ none. inl (none.has_none, subst (EntriesFrom Gives (number + 1) lines) (sym (step None none.is)) (entries_from-EntriesFrom (number + 1) lines)))
+      (λ some. inr (some.0, more, step (Some some.0) some.1.is, some.1.entry_is, entries_from-EntriesFrom (number + 1) lines))
+      (entry_cases number line)
+
+  EntriesFrom-only : (number : ℕ) (lines : List (List ℕ)) (entries : List (Entry V)) → EntriesFrom Gives number lines entries → entries ≡ entries_from content_of number lines
+  EntriesFrom-only number [] entries h = h
+  EntriesFrom-only number (line ∷ lines) entries (inl h) =
+      ⊎_elim
+      (λ none. EntriesFrom-only (number + 1) lines entries h.1 ∙ sym (ap (λ o. cons_option o (entries_from content_of (number + 1) lines)) none.is))
+      (λ some. let e = some.1.entry_is in
+      absurd (h.0.none e.text some.0.value e.given (record { text = some.0.text; mode = some.0.mode; place = some.0.place; read = e.reads })))
+      (entry_cases number line)
+  EntriesFrom-only number (line ∷ lines) entries (inr h) =
+      h.2 ∙ ap (λ l. h.0 ∷ l) (EntriesFrom-only (number + 1) lines h.1 h.4)
+      ∙ sym (ap (λ o. cons_option o (entries_from content_of (number + 1) lines)) (entry_of_line-is number line h.0 h.3))
+
+  pub Entries-entries_of : (bytes : List ℕ) → Entries Gives bytes (entries_of content_of bytes)
+  Entries-entries_of bytes = record { lines = lines_of bytes; cut = Lines-lines_of bytes; each = entries_from-EntriesFrom 1 (lines_of bytes) }
+
+  pub Entries-only : (bytes : List ℕ) (entries : List (Entry V)) → Entries Gives bytes entries → entries ≡ entries_of content_of bytes
+  Entries-only bytes entries h = EntriesFrom-only 1 h.lines entries h.each ∙ ap (entries_from content_of 1) (Lines-only bytes h.lines h.cut)
+
+  -- the relation and the equation agree
+  pub entries_are_these : (bytes : List ℕ) (entries : List (Entry V)) → Entries Gives bytes entries ↔ (entries ≡ entries_of content_of bytes)
+  entries_are_these bytes entries = (Entries-only bytes entries, λ is. subst (Entries Gives bytes) (sym is) (Entries-entries_of bytes))
+
+-- ---- one line after the other
+
+-- what is seen of the values, in place of the values
+abbrev with_seen_value : {T V : Type 0} → (T → V) → Entry T → Entry V
+with_seen_value seen entry = record { text = entry.text; mode = entry.mode; place = entry.place; value = seen entry.value; number = entry.number }
+
+module _ {T V : Type 0} (seen : T → V) where
+  seen-entries : (mappings : List (Mapping T)) → map (with_seen_value seen) (map (entry_of (λ v. v)) mappings) ≡ map (entry_of seen) mappings
+  seen-entries [] = refl
+  seen-entries (m ∷ mappings) = ap (λ l. entry_of seen m ∷ l) (seen-entries mappings)
+
+  seen-append : (old more : List (Entry T)) → map (with_seen_value seen) (old ++ more) ≡ map (with_seen_value seen) old ++ map (with_seen_value seen) more
+  seen-append [] more = refl
+  seen-append (e ∷ old) more = ap (λ l. with_seen_value seen e ∷ l) (seen-append old more)
+
+  seen-option : (value : T) (number : ℕ) (reading : Option Reading) (more : List (Entry V)) → map (with_seen_value seen) (option_to_list (option_map (entry_with value number) reading)) ++ more ≡ cons_option (option_map (entry_with (seen value) number) reading) more
+  seen-option value number None more = refl
+  seen-option value number (Some reading) more = refl
+
+  -- a line was read: what is meant by those after it is still to come
+  pub meant-more : (content_of : List ℕ → Option (LineContent V)) (old new : List (Mapping T)) (number : ℕ) (lines more : List (List ℕ)) (line text : List ℕ) (value : T) (all : List (Entry V))
+      → map (entry_of (λ v. v)) new ≡ map (entry_of (λ v. v)) old ++ option_to_list (option_map (entry_with value number) (reading_of true text))
+      → lines ≡ line ∷ more → content_of line ≡ Some (record { text = text; value = seen value })
+      → map (entry_of seen) old ++ entries_from content_of number lines ≡ all → map (entry_of seen) new ++ entries_from content_of (number + 1) more ≡ all
+  unfolding entry_of_line
+  meant-more content_of old new number lines more line text value all grown is gives meant =
+      let added = option_to_list (option_map (entry_with value number) (reading_of true text)) in
+      let rest = entries_from content_of (number + 1) more in
+      let news : map (entry_of seen) new ≡ map (entry_of seen) old ++ map (with_seen_value seen) added =
+      sym (seen-entries new) ∙ ap (map (with_seen_value seen)) grown ∙ seen-append (map (entry_of (λ v. v)) old) added ∙ ap (λ l. l ++ map (with_seen_value seen) added) (seen-entries old) in
+      let here : entries_from content_of number lines ≡ cons_option (option_map (entry_with (seen value) number) (reading_of true text)) rest =
+      ap (entries_from content_of number) is ∙ ap (λ o. cons_option (option_and_then (entry_of_content number) o) rest) gives in
+      ap (λ l. l ++ rest) news
+      ∙ append_assoc (map (entry_of seen) old) (map (with_seen_value seen) added) rest
+      ∙ ap (λ l. map (entry_of seen) old ++ l) (seen-option value number (reading_of true text) rest ∙ sym here)
+      ∙ meant
+
+  -- a line that gives nothing was passed over
+  pub meant-skip : (content_of : List ℕ → Option (LineContent V)) (old : List (Mapping T)) (number : ℕ) (lines more : List (List ℕ)) (line : List ℕ) (all : List (Entry V))
+      → lines ≡ line ∷ more → content_of line ≡ None
+      → map (entry_of seen) old ++ entries_from content_of number lines ≡ all → map (entry_of seen) old ++ entries_from content_of (number + 1) more ≡ all
+  unfolding entry_of_line
+  meant-skip content_of old number lines more line all is nothing meant =
+      let rest = entries_from content_of (number + 1) more in
+      let here : entries_from content_of number lines ≡ rest =
+      ap (entries_from content_of number) is ∙ ap (λ o. cons_option (option_and_then (entry_of_content number) o) rest) nothing in
+      ap (λ l. map (entry_of seen) old ++ l) (sym here) ∙ meant
