@@ -5,7 +5,7 @@ use Rattle.gix_glob.specs.Loaded.{listed}
 use Rattle.glob_index.specs.Index.{AreMatches}
 use Rattle.glob_index.specs.Private.Walking.{NonePasses}
 use Rattle.glob_index.proofs.RowLemmas.{AreFoundFrom, entry_of_next, found_all, found_more, found_same, found_skip, law_holds}
-use Rattle.glob_index.proofs.index.ListIndex.matches.Goals as goal
+use Rattle.glob_index.proofs.index.ListIndex.matches_into.Goals as goal
 
 pub matches_at-requires-clause-there : goal.matches_at-requires-clause-there
 matches_at-requires-clause-there g c = entry_of_next _ _ _ _ _ _ _ c.requires.made.rows c.in-Some.ensures.next
