@@ -123,19 +123,42 @@ impl<'a, T: search::Pattern> ListIndex<'a, T> {
         requires folders { BasesAreFolders (map (entry_list_of T.seen) self.now.lists) }
         ensures { IfOk result (λ found. AreMatches (map (entry_list_of T.seen) self.now.lists) path.now is_dir self.now.case found.items) }
     {
+        let mut pairs = Vec::new(alloc);
+        self.matches_into(path, basename_start(path), is_dir, &mut pairs)?;
+        Ok(pairs)
+    }
+
+    /// Puts into `pairs` all patterns that match a path, as [`ListIndex::matches`] answers them, in place of what it held. So
+    /// one list of pairs serves many paths, and memory is taken only where it has to grow.
+    ///
+    /// `position` is what [`basename_start`] answers for the path.
+    ///
+    /// # Errors
+    /// Only where memory was refused. What `pairs` holds then is not said.
+    pub fn matches_into(
+        &self,
+        path: &[u8],
+        position: Option<usize>,
+        is_dir: bool,
+        pairs: &mut Vec<(usize, usize)>,
+    ) -> Result<(), AllocError>
+        requires plain { IsPlainPath path.now }
+        requires basename { IsBasenameStart path.now position }
+        requires folders { BasesAreFolders (map (entry_list_of T.seen) self.now.lists) }
+        ensures { OnOk result (AreMatches (map (entry_list_of T.seen) self.now.lists) path.now is_dir self.now.case pairs.new.items) }
+    {
         // a law does nothing: it is called for what it ensures
         laws::answering_patterns_pass();
-        let position = basename_start(path);
         let probe = self.table.probe(path, position);
         let mut walk = self.table.walk(probe.class());
-        let mut pairs = Vec::new(alloc);
+        pairs.clear();
         'candidates: while let Some((list, mapping)) = self.table.next_pair(&probe, &mut walk) {
             if self.matches_at(list, mapping, path, position, is_dir) {
                 pairs.push((list, mapping))?;
             }
         }
         pairs.reverse();
-        Ok(pairs)
+        Ok(())
     }
 
     /// Whether the pattern of one mapping matches what the base of its list leaves of a path.

@@ -94,17 +94,20 @@ fn matches_of(
 {
     let index = ListIndex::new(alloc, slice::from_ref(list), case)?;
     let mut text = Vec::new(alloc);
+    // one list of pairs for all paths, so that not each of them takes memory
+    let mut pairs = Vec::new(alloc);
     for line in Lines::new(paths) {
-        append_matches(alloc, &mut text, &index, list, line)?;
+        append_matches(&mut text, &mut pairs, &index, list, line)?;
         text.push(b'\n')?;
     }
     Ok(text)
 }
 
-/// Appends what is written for a path line, without the line feed. The index is that of the list.
+/// Appends what is written for a path line, without the line feed. The index is that of the list. What `pairs` holds doesn't
+/// matter.
 fn append_matches(
-    alloc: Global,
     text: &mut Vec<u8>,
+    pairs: &mut Vec<(usize, usize)>,
     index: &ListIndex<'_, PlainLines>,
     list: &List<PlainLines>,
     line: &[u8],
@@ -121,33 +124,36 @@ fn append_matches(
     }
     let (path, is_dir) = path_of(line);
     let case = index.case();
-    let Some((rest, position)) = rest_of(list, path, basename_start(path), case) else {
+    let position = basename_start(path);
+    let Some((rest, start)) = rest_of(list, path, position, case) else {
         return Ok(());
     };
     if index.pays_for(path) {
-        append_found(alloc, text, index, list, path, is_dir)
+        append_found(text, pairs, index, list, path, position, is_dir)
     } else {
-        append_numbers(text, &list.patterns, rest, position, is_dir, case)
+        append_numbers(text, &list.patterns, rest, start, is_dir, case)
     }
 }
 
-/// Appends the numbers of the mappings that match a path, found by the index of the list.
+/// Appends the numbers of the mappings that match a path, found by the index of the list. Their places are put into `pairs`.
 fn append_found(
-    alloc: Global,
     text: &mut Vec<u8>,
+    pairs: &mut Vec<(usize, usize)>,
     index: &ListIndex<'_, PlainLines>,
     list: &List<PlainLines>,
     path: &[u8],
+    position: Option<usize>,
     is_dir: bool,
 ) -> Result<(), AllocError>
     requires one { index.now.lists ≡ list.now ∷ [] }
     requires plain { IsPlainPath path.now }
+    requires basename { IsBasenameStart path.now position }
     requires folder { ForSome (option_map vec_items list.now.base) IsFolder }
     ensures { OnOk result (Adds
         (WritesNumbersUnder (map (entry_of (λ _. tt)) list.now.patterns.items) (option_map vec_items list.now.base) path.now is_dir index.now.case)
         text.old.items text.new.items) }
 {
-    let pairs = index.matches(alloc, path, is_dir)?;
+    index.matches_into(path, position, is_dir, pairs)?;
     let mut separator: &[u8] = b"";
     for pair in pairs.as_slice() {
         text.extend_from_slice(separator)?;

@@ -11,21 +11,21 @@ use Rattle.glob_lines.proofs.FoundLemmas.{folders_of_one, IsListedThrough-all, I
 use Rattle.glob_lines.proofs.MappingsLemmas.{numbers_of}
 use Rattle.glob_lines.proofs.list.append_found.Goals as goal
 
-pub matches-requires-clause-folders : goal.matches-requires-clause-folders
-matches-requires-clause-folders c =
+pub matches_into-requires-clause-folders : goal.matches_into-requires-clause-folders
+matches_into-requires-clause-folders c =
     subst (λ lists. BasesAreFolders (map (entry_list_of {V = Unit {0}} (λ _. tt)) lists)) (sym c.requires.one)
     (folders_of_one (entry_list_of {V = Unit {0}} (λ _. tt) c.args.list.now) c.args.path.now c.args.is_dir c.args.index.now.case c.requires.folder)
 
 pub loop-pair-init : goal.loop-pair-init
 loop-pair-init c =
     let places = places_in (entry_list_of {V = Unit {0}} (λ _. tt) c.args.list.now) c.args.path.now c.args.is_dir c.args.index.now.case (map (entry_list_of {V = Unit {0}} (λ _. tt)) c.args.index.now.lists)
-    c.as_slice-pair-items.result.now c.in_ok-pairs.pairs.items (ap (map (entry_list_of {V = Unit {0}} (λ _. tt))) c.requires.one) c.as_slice-pair-items.ensures.value c.in_ok-pairs.ensures in
+    c.as_slice-pair-items.result.now c.matches_into.new.pairs.items (ap (map (entry_list_of {V = Unit {0}} (λ _. tt))) c.requires.one) c.as_slice-pair-items.ensures.value c.in_ok-matches_into.ensures in
     IsListedThrough-none _ _ _ places _ _ _ refl refl
 
 pub index-requires : goal.index-requires
 index-requires c =
     let places = places_in (entry_list_of {V = Unit {0}} (λ _. tt) c.args.list.now) c.args.path.now c.args.is_dir c.args.index.now.case (map (entry_list_of {V = Unit {0}} (λ _. tt)) c.args.index.now.lists)
-    c.as_slice-pair-items.result.now c.in_ok-pairs.pairs.items (ap (map (entry_list_of {V = Unit {0}} (λ _. tt))) c.requires.one) c.as_slice-pair-items.ensures.value c.in_ok-pairs.ensures in
+    c.as_slice-pair-items.result.now c.matches_into.new.pairs.items (ap (map (entry_list_of {V = Unit {0}} (λ _. tt))) c.requires.one) c.as_slice-pair-items.ensures.value c.in_ok-matches_into.ensures in
     let pair : ℕ × ℕ = get_or c.as_slice-pair-items.result.now c.loop-pair.pair-index (0, 0) in
     let got = slice_get-get_or c.as_slice-pair-items.result.now c.loop-pair.pair-index (0, 0) c.loop-pair-test.true in
     let answer = places.each c.loop-pair.pair-index pair got in
@@ -36,7 +36,7 @@ index-requires c =
 pub loop-pair-preserved : goal.loop-pair-preserved
 loop-pair-preserved c =
     let places = places_in (entry_list_of {V = Unit {0}} (λ _. tt) c.args.list.now) c.args.path.now c.args.is_dir c.args.index.now.case (map (entry_list_of {V = Unit {0}} (λ _. tt)) c.args.index.now.lists)
-    c.as_slice-pair-items.result.now c.in_ok-pairs.pairs.items (ap (map (entry_list_of {V = Unit {0}} (λ _. tt))) c.requires.one) c.as_slice-pair-items.ensures.value c.in_ok-pairs.ensures in
+    c.as_slice-pair-items.result.now c.matches_into.new.pairs.items (ap (map (entry_list_of {V = Unit {0}} (λ _. tt))) c.requires.one) c.as_slice-pair-items.ensures.value c.in_ok-matches_into.ensures in
     let pair : ℕ × ℕ = get_or c.as_slice-pair-items.result.now c.loop-pair.pair-index (0, 0) in
     let got = slice_get-get_or c.as_slice-pair-items.result.now c.loop-pair.pair-index (0, 0) c.loop-pair-test.true in
     let answer = places.each c.loop-pair.pair-index pair got in
@@ -49,7 +49,7 @@ loop-pair-preserved c =
 pub returns : goal.returns
 returns c =
     let places = places_in (entry_list_of {V = Unit {0}} (λ _. tt) c.args.list.now) c.args.path.now c.args.is_dir c.args.index.now.case (map (entry_list_of {V = Unit {0}} (λ _. tt)) c.args.index.now.lists)
-    c.as_slice-pair-items.result.now c.in_ok-pairs.pairs.items (ap (map (entry_list_of {V = Unit {0}} (λ _. tt))) c.requires.one) c.as_slice-pair-items.ensures.value c.in_ok-pairs.ensures in
+    c.as_slice-pair-items.result.now c.matches_into.new.pairs.items (ap (map (entry_list_of {V = Unit {0}} (λ _. tt))) c.requires.one) c.as_slice-pair-items.ensures.value c.in_ok-matches_into.ensures in
     let done = IsListedThrough-all _ _ _ places _ _ _ c.loop-pair.pair-index c.loop-pair-test.false c.loop-pair.invariant in record {
       added = text_of_numbers (numbers_of done.chosen);
       allowed = record { chosen = done.chosen; picks = done.picks; shown = refl };

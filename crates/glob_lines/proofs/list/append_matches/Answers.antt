@@ -25,7 +25,7 @@ returns-then-pays_for c =
     on_ok_weaker c.append_found.result
     (λ adds. writes_numbers _ base c.args.index.now.case c.args.line.now c.path_of-is_dir.result.0.now c.in-Some.rest.now c.path_of-is_dir.result.1 _ _
     plain c.path_of-is_dir.ensures left
-    (numbers_under _ base c.path_of-is_dir.result.0.now c.in-Some.rest.now c.in-Some.position c.path_of-is_dir.result.1 c.args.index.now.case _ _ left c.in-Some.ensures.1 adds))
+    (numbers_under _ base c.path_of-is_dir.result.0.now c.in-Some.rest.now c.in-Some.start c.path_of-is_dir.result.1 c.args.index.now.case _ _ left c.in-Some.ensures.1 adds))
     c.append_found.ensures
 
 pub returns-else-pays_for : goal.returns-else-pays_for
