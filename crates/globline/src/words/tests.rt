@@ -3,6 +3,8 @@ use super::{run_words, without_words};
 use gix_glob::search::Watched;
 use std::alloc::{AllocError, Global};
 use std::io::{ErrorKind, Read, Write};
+use std::process::Abort;
+use std::rt::Files;
 use std::test::Fail;
 use std::{env, fs, io, process};
 
@@ -39,8 +41,34 @@ fn words_of(alloc: Global, words: &[&str]) -> Result<Vec<String>, AllocError> {
     Ok(owned)
 }
 
+/// Runs the program on these words: its status, the output with what was written to it, and its errors.
+fn run<F: AllocGlobal + Files, I: Read + Drop, O: Write + Drop>(
+    rt: &F,
+    words: &[String],
+    input: I,
+    output: O,
+) -> (u8, O, Vec<u8>) {
+    let mut input = Watched::new(input);
+    let mut output = Watched::new(output);
+    let mut errors = Vec::new(rt.alloc());
+    let status = run_words(rt, rt.alloc(), words, &mut input, &mut output, &mut errors);
+    (status, output.into_inner(), errors)
+}
+
+/// Compares the status, the output and the errors that these words come to.
+fn check<F: Abort + AllocGlobal + Files, I: Read + Drop>(
+    rt: &F,
+    words: &[String],
+    input: I,
+    wanted: (u8, &[u8], &[u8]),
+) {
+    let (status, output, errors) = run(rt, words, input, Vec::new(rt.alloc()));
+    let answer = (status, output.as_slice(), errors.as_slice());
+    assert_eq!(rt; answer, wanted, "{words:?}");
+}
+
 #[test]
-fn wild_answers_each_line(rt: HostRuntime) -> Result<(), Fail> {
+fn wild_answers_each_line(rt: HostRuntime) -> Result<(), AllocError> {
     let rows: [(&str, &str, &[u8], &[u8]); 8] = [
         ("plain", "a*b", b"ab\naxb\nb\n", b"yes\nyes\nno\n"),
         ("plain", "a?", b"", b""),
@@ -53,26 +81,13 @@ fn wild_answers_each_line(rt: HostRuntime) -> Result<(), Fail> {
     ];
     for (mode, pattern, lines, text) in rows {
         let words = words_of(rt.alloc(), &["wild", mode, pattern])?;
-        let mut input = Watched::new(lines);
-        let mut output = Watched::new(Vec::new(rt.alloc()));
-        let mut errors = Vec::new(rt.alloc());
-        let status = run_words(
-            &rt,
-            rt.alloc(),
-            &words,
-            &mut input,
-            &mut output,
-            &mut errors,
-        );
-        assert_eq!(rt; status, 0, "{mode} {pattern}");
-        assert_eq!(rt; output.into_inner().as_slice(), text, "{mode} {pattern}");
-        assert_eq!(rt; errors.as_slice(), b"".as_slice(), "{mode} {pattern}");
+        check(&rt, &words, lines, (0, text, b""));
     }
     Ok(())
 }
 
 #[test]
-fn wrong_words_show_the_usage(rt: HostRuntime) -> Result<(), Fail> {
+fn wrong_words_show_the_usage(rt: HostRuntime) -> Result<(), AllocError> {
     let rows: [&[&str]; 22] = [
         &[],
         &["wild"],
@@ -98,59 +113,23 @@ fn wrong_words_show_the_usage(rt: HostRuntime) -> Result<(), Fail> {
         &["", "", ""],
     ];
     for words in rows {
-        let owned = words_of(rt.alloc(), words)?;
-        let mut input = Watched::new(Broken);
-        let mut output = Watched::new(Vec::new(rt.alloc()));
-        let mut errors = Vec::new(rt.alloc());
-        let status = run_words(
-            &rt,
-            rt.alloc(),
-            &owned,
-            &mut input,
-            &mut output,
-            &mut errors,
-        );
-        assert_eq!(rt; status, 2, "{words:?}");
-        assert_eq!(rt; output.into_inner().as_slice(), b"".as_slice(), "{words:?}");
-        assert_eq!(rt; errors.as_slice(), USAGE.as_bytes(), "{words:?}");
+        let words = words_of(rt.alloc(), words)?;
+        check(&rt, &words, Broken, (2, b"", USAGE.as_bytes()));
     }
     Ok(())
 }
 
 #[test]
-fn a_failed_read_is_told(rt: HostRuntime) -> Result<(), Fail> {
+fn a_failed_read_is_told(rt: HostRuntime) -> Result<(), AllocError> {
     let words = words_of(rt.alloc(), &["wild", "plain", "a"])?;
-    let mut input = Watched::new(Broken);
-    let mut output = Watched::new(Vec::new(rt.alloc()));
-    let mut errors = Vec::new(rt.alloc());
-    let status = run_words(
-        &rt,
-        rt.alloc(),
-        &words,
-        &mut input,
-        &mut output,
-        &mut errors,
-    );
-    assert_eq!(rt; status, 1);
-    assert_eq!(rt; output.into_inner().as_slice(), b"".as_slice());
-    assert_eq!(rt; errors.as_slice(), b"globline: read failed\n".as_slice());
+    check(&rt, &words, Broken, (1, b"", b"globline: read failed\n"));
     Ok(())
 }
 
 #[test]
-fn a_failed_write_is_told(rt: HostRuntime) -> Result<(), Fail> {
+fn a_failed_write_is_told(rt: HostRuntime) -> Result<(), AllocError> {
     let words = words_of(rt.alloc(), &["wild", "plain", "a"])?;
-    let mut input = Watched::new(b"a\n".as_slice());
-    let mut output = Watched::new(Broken);
-    let mut errors = Vec::new(rt.alloc());
-    let status = run_words(
-        &rt,
-        rt.alloc(),
-        &words,
-        &mut input,
-        &mut output,
-        &mut errors,
-    );
+    let (status, _, errors) = run(&rt, &words, b"a\n".as_slice(), Broken);
     assert_eq!(rt; status, 1);
     assert_eq!(rt; errors.as_slice(), b"globline: write failed\n".as_slice());
     Ok(())
@@ -200,50 +179,21 @@ fn list_answers_each_path(rt: HostRuntime) -> Result<(), Fail> {
         let mut words = words_of(rt.alloc(), &["list", case])?;
         words.push(String::from_str(rt.alloc(), file)?)?;
         words.push(String::from_str(rt.alloc(), root)?)?;
-        let mut input = Watched::new(lines);
-        let mut output = Watched::new(Vec::new(rt.alloc()));
-        let mut errors = Vec::new(rt.alloc());
-        let status = run_words(
-            &rt,
-            rt.alloc(),
-            &words,
-            &mut input,
-            &mut output,
-            &mut errors,
-        );
-        assert_eq!(rt; status, 0, "{case}, root {root:?}");
-        assert_eq!(rt;
-            output.into_inner().as_slice(),
-            text,
-            "{case}, root {root:?}"
-        );
-        assert_eq!(rt; errors.as_slice(), b"".as_slice(), "{case}, root {root:?}");
+        check(&rt, &words, lines, (0, text, b""));
     }
     fs::remove_file(&rt, file)?;
     Ok(())
 }
 
 #[test]
-fn a_file_that_cannot_be_read_is_told(rt: HostRuntime) -> Result<(), Fail> {
+fn a_file_that_cannot_be_read_is_told(rt: HostRuntime) -> Result<(), AllocError> {
     for file in ["no/such/file", ".", "/dev/null/f"] {
         let words = words_of(rt.alloc(), &["list", "sensitive", file, "-"])?;
-        let mut input = Watched::new(b"a\n".as_slice());
-        let mut output = Watched::new(Vec::new(rt.alloc()));
-        let mut errors = Vec::new(rt.alloc());
-        let status = run_words(
+        check(
             &rt,
-            rt.alloc(),
             &words,
-            &mut input,
-            &mut output,
-            &mut errors,
-        );
-        assert_eq!(rt; status, 1, "{file}");
-        assert_eq!(rt; output.into_inner().as_slice(), b"".as_slice(), "{file}");
-        assert_eq!(rt;
-            errors.as_slice(),
-            b"globline: read failed\n".as_slice(),
-            "{file}"
+            b"a\n".as_slice(),
+            (1, b"", b"globline: read failed\n"),
         );
     }
     Ok(())
@@ -298,24 +248,7 @@ fn ignore_tells_what_decides(rt: HostRuntime) -> Result<(), Fail> {
             let file = file_of(mark, first, second);
             words.push(String::from_str(rt.alloc(), file)?)?;
         }
-        let mut input = Watched::new(paths);
-        let mut output = Watched::new(Vec::new(rt.alloc()));
-        let mut errors = Vec::new(rt.alloc());
-        let status = run_words(
-            &rt,
-            rt.alloc(),
-            &words,
-            &mut input,
-            &mut output,
-            &mut errors,
-        );
-        assert_eq!(rt; status, 0, "{case}, root {root:?}");
-        assert_eq!(rt;
-            output.into_inner().as_slice(),
-            text,
-            "{case}, root {root:?}"
-        );
-        assert_eq!(rt; errors.as_slice(), b"".as_slice(), "{case}, root {root:?}");
+        check(&rt, &words, paths, (0, text, b""));
     }
     fs::remove_file(&rt, first)?;
     fs::remove_file(&rt, second)?;
@@ -323,27 +256,19 @@ fn ignore_tells_what_decides(rt: HostRuntime) -> Result<(), Fail> {
 }
 
 #[test]
-fn an_ignore_file_that_cannot_be_read_is_told(rt: HostRuntime) -> Result<(), Fail> {
+fn an_ignore_file_that_cannot_be_read_is_told(rt: HostRuntime) -> Result<(), AllocError> {
     let mut name = String::new(rt.alloc());
     for _ in 0..300 {
         name.push('a')?;
     }
     let mut words = words_of(rt.alloc(), &["ignore", "sensitive", "-"])?;
     words.push(name)?;
-    let mut input = Watched::new(b"a\n".as_slice());
-    let mut output = Watched::new(Vec::new(rt.alloc()));
-    let mut errors = Vec::new(rt.alloc());
-    let status = run_words(
+    check(
         &rt,
-        rt.alloc(),
         &words,
-        &mut input,
-        &mut output,
-        &mut errors,
+        b"a\n".as_slice(),
+        (1, b"", b"globline: read failed\n"),
     );
-    assert_eq!(rt; status, 1);
-    assert_eq!(rt; output.into_inner().as_slice(), b"".as_slice());
-    assert_eq!(rt; errors.as_slice(), b"globline: read failed\n".as_slice());
     Ok(())
 }
 
