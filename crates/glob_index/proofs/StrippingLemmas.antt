@@ -1,9 +1,9 @@
 -- Paths under a base that is empty or ends in a slash: where their last parts begin, and how what is left of them begins.
-use Rattle.std.proofs.Common.{◌≡◌, ⊎_elim, ℕ, ◌+◌, ◌≤◌, Bor, List, [], ◌∷◌, ◌++◌, length, map, Option, None, Some, refl, sym, ap, subst, ◌∙◌, length-append, append_assoc, arith}
+use Rattle.std.proofs.Common.{◌≡◌, ⊎_elim, ℕ, ◌+◌, ◌≤◌, Bor, List, [], ◌∷◌, ◌++◌, length, map, Option, None, Some, refl, sym, ap, subst, ◌∙◌, append_assoc, arith}
 use Rattle.std.specs.Prelude.{MatchOption}
 use Rattle.std.specs.Option.{ForSome}
 use Rattle.std.specs.Char.{to_ascii_lowercase}
-use Rattle.std.proofs.lemmas.List.{get_or-append-add, map-append}
+use Rattle.std.proofs.lemmas.List.{map-append}
 use Rattle.gix_glob.specs.declared.pattern.Case.{Case}
 use Rattle.gix_glob.specs.declared.pattern.Case.TheVariants.{Sensitive, Fold}
 use Rattle.gix_glob.specs.Bytes.{EndsInSlash, HasByte, slash}

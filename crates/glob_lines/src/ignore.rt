@@ -1,7 +1,7 @@
 //! The parser of ignore lines: each line is a pattern as Git's ignore files have it, and its number stands beside it.
 
-use crate::ignore_line::{next_ignore_line, without_byte_order_mark};
 use crate::entries::push_pattern;
+use crate::ignore_line::{next_ignore_line, without_byte_order_mark};
 use gix_glob::search;
 use gix_glob::search::pattern::Mapping;
 use std::alloc::{AllocError, Global};

@@ -1,8 +1,8 @@
 //! The parser of labels: a pattern, a tab and a value on each line.
 ghost use Rattle.glob_lines.specs.Label.{GivesLabel};
 
-use crate::lines::Lines;
 use crate::entries::push_pattern;
+use crate::lines::Lines;
 use gix_glob::search;
 use gix_glob::search::pattern::Mapping;
 use memchr::memchr;

@@ -1,7 +1,7 @@
 //! The parser of plain lines: each line is a pattern, and its number stands beside it.
 
-use crate::lines::Lines;
 use crate::entries::push_pattern;
+use crate::lines::Lines;
 use gix_glob::search;
 use gix_glob::search::pattern::Mapping;
 use std::alloc::{AllocError, Global};

@@ -24,11 +24,11 @@ pub candidates-preserved : goal.candidates-preserved
 candidates-preserved g c =
     let made = to_value g.T.Pattern.seen _ _ c.self.view_is (λ lists _. IsTableOf lists c.self.inside.table) c.self.invariant in
     record {
-  at = c.in-Some.ensures.at;
-  none = none_answers _ _ c.args.path.now c.args.is_dir c.args.self.now.case _ _ _ _ _ made.rows
-      (law_holds _ c.self.inside.table.rows.items c.args.path.now c.args.is_dir c.args.self.now.case c.answering_patterns_pass.ensures c.probe-probe.result c.probe-probe.ensures.shows)
-      c.in-Some.ensures.next (iff_false c.matches_at.ensures c.if-matches_at.false) c.candidates.invariant.none;
-}
+      at = c.in-Some.ensures.at;
+      none = none_answers _ _ c.args.path.now c.args.is_dir c.args.self.now.case _ _ _ _ _ made.rows
+          (law_holds _ c.self.inside.table.rows.items c.args.path.now c.args.is_dir c.args.self.now.case c.answering_patterns_pass.ensures c.probe-probe.result c.probe-probe.ensures.shows)
+          c.in-Some.ensures.next (iff_false c.matches_at.ensures c.if-matches_at.false) c.candidates.invariant.none;
+    }
 
 pub returns : goal.returns
 returns g c =

@@ -1,9 +1,8 @@
 -- What the base leaves of the path is what the pattern is asked about.
-use Rattle.std.proofs.Common.{◌≡◌, ◌↔◌, ◌<◌, false, IsTrue, get_or, length, map, option_map, Some, rules, sym, subst, ◌∙◌, arith}
+use Rattle.std.proofs.Common.{◌≡◌, ◌↔◌, ◌<◌, false, IsTrue, length, map, option_map, Some, rules, sym, subst, ◌∙◌, arith}
 use Rattle.std.specs.Prelude.{slice_get}
 use Rattle.std.specs.Vec.{vec_items}
 use Rattle.std.proofs.lemmas.Bool.{false≢true}
-use Rattle.std.proofs.lemmas.List.{get_or_default}
 use Rattle.std.proofs.lemmas.Option.{same_Some}
 use Rattle.gix_glob.specs.Deciding.{BasesAreFolders, HasFolder, PairAnswers}
 use Rattle.gix_glob.specs.Lists.{entry_of}

@@ -18,23 +18,23 @@ pub candidates-preserved-in-Continue-1 : goal.candidates-preserved-in-Continue-1
 candidates-preserved-in-Continue-1 g c =
     let made = to_value g.T.Pattern.seen _ _ c.self.view_is (λ lists _. IsTableOf lists c.self.inside.table) c.self.invariant in
     record {
-  at = c.in-Some.ensures.at;
-  found = subst (λ (found : List (ℕ × ℕ)). AreFoundFrom (map (entry_list_of g.T.Pattern.seen) c.args.self.now.lists) c.self.inside.table.rows.items c.args.path.now c.args.is_dir c.args.self.now.case c.next_pair.new.walk.end found)
-      (sym c.in_ok-push.ensures.items)
-      (AreFoundFrom-more _ _ c.args.path.now c.args.is_dir c.args.self.now.case _ _ _ _ _ made.rows
-      (law_holds _ c.self.inside.table.rows.items c.args.path.now c.args.is_dir c.args.self.now.case c.answering_patterns_pass.ensures c.probe-probe.result c.probe-probe.ensures.shows)
-      c.in-Some.ensures.next c.candidates.pairs.items (c.matches_at.ensures.0 c.if-matches_at.true) c.candidates.invariant.found);
-}
+      at = c.in-Some.ensures.at;
+      found = subst (λ (found : List (ℕ × ℕ)). AreFoundFrom (map (entry_list_of g.T.Pattern.seen) c.args.self.now.lists) c.self.inside.table.rows.items c.args.path.now c.args.is_dir c.args.self.now.case c.next_pair.new.walk.end found)
+          (sym c.in_ok-push.ensures.items)
+          (AreFoundFrom-more _ _ c.args.path.now c.args.is_dir c.args.self.now.case _ _ _ _ _ made.rows
+          (law_holds _ c.self.inside.table.rows.items c.args.path.now c.args.is_dir c.args.self.now.case c.answering_patterns_pass.ensures c.probe-probe.result c.probe-probe.ensures.shows)
+          c.in-Some.ensures.next c.candidates.pairs.items (c.matches_at.ensures.0 c.if-matches_at.true) c.candidates.invariant.found);
+    }
 
 pub candidates-preserved : goal.candidates-preserved
 candidates-preserved g c =
     let made = to_value g.T.Pattern.seen _ _ c.self.view_is (λ lists _. IsTableOf lists c.self.inside.table) c.self.invariant in
     record {
-  at = c.in-Some.ensures.at;
-  found = AreFoundFrom-same _ _ c.args.path.now c.args.is_dir c.args.self.now.case _ _ _ _ _ made.rows
-      (law_holds _ c.self.inside.table.rows.items c.args.path.now c.args.is_dir c.args.self.now.case c.answering_patterns_pass.ensures c.probe-probe.result c.probe-probe.ensures.shows)
-      c.in-Some.ensures.next c.candidates.pairs.items (iff_false c.matches_at.ensures c.if-matches_at.false) c.candidates.invariant.found;
-}
+      at = c.in-Some.ensures.at;
+      found = AreFoundFrom-same _ _ c.args.path.now c.args.is_dir c.args.self.now.case _ _ _ _ _ made.rows
+          (law_holds _ c.self.inside.table.rows.items c.args.path.now c.args.is_dir c.args.self.now.case c.answering_patterns_pass.ensures c.probe-probe.result c.probe-probe.ensures.shows)
+          c.in-Some.ensures.next c.candidates.pairs.items (iff_false c.matches_at.ensures c.if-matches_at.false) c.candidates.invariant.found;
+    }
 
 pub returns : goal.returns
 returns g c =
