@@ -1,5 +1,5 @@
 //! The counts of what a match takes: contracts see them, and they take no bytes.
-ghost use Rattle.std.specs.Prelude.{◌≡◌, ◌+◌, ◌<◌};
+ghost use Rattle.std.specs.Prelude.{◌≡◌, ◌+◌};
 ghost use Rattle.glob_matcher.specs.Private.Takes.{TakesExactly};
 ghost use Rattle.glob_matcher.specs.Steps.{IsBlankOf};
 

@@ -332,7 +332,7 @@ impl<'c, 'a, S: Ledger, L: Ledger, M: Match> Engine<'c, 'a, S, L, M> {
     #[inline(always)]
     pub fn pass_within(&mut self, mark: Mark) -> Option<Mark>
         requires { mark.at < length M.value }
-        ensures moved { IfSome result (λ x. (x.place ≡ mark.place) × (x.at ≡ mark.at + 1) × (mark.at < length M.value) × (slice_index M.value mark.at ≢ slash)) }
+        ensures moved { IfSome result (λ x. (x.place ≡ mark.place) × (x.at ≡ mark.at + 1) × (slice_index M.value mark.at ≢ slash)) }
         ensures unable { IfNone result (slice_index M.value mark.at ≡ slash) }
         ensures count { TakesExactly self.old self.new 1 1 }
     {

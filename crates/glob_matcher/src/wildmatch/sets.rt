@@ -2,7 +2,7 @@
 //!
 //! Each `[:` wants to know where the first `]` after it is. That one stays the first for each later `[:` before it, so it is
 //! looked for only where it isn't known.
-ghost use Rattle.std.specs.Prelude.{◌↔◌, ℕ, ◌+◌, ◌-◌, ◌<◌, ◌≤◌, IsTrue, MatchOption, Option, Some, None, true, length, slice_index, not, false, ◌&&◌, ◌||◌, ◌==◌, ◌≡◌, ◌≢◌, if◌then◌else◌, Bool};
+ghost use Rattle.std.specs.Prelude.{◌↔◌, ℕ, ◌+◌, ◌-◌, ◌<◌, ◌≤◌, IsTrue, MatchOption, Option, Some, length, not, ◌&&◌, ◌==◌, ◌≡◌, if◌then◌else◌};
 ghost use Rattle.glob_matcher.specs.Bytes.{HasByte, IsEscaped, is_path, open_bracket, close_bracket, backslash, colon, dash, slash};
 ghost use Rattle.glob_matcher.specs.Sets.{BeginsRange, BeginsClass, IsFirstFrom, IsSign, IsUpperEnd};
 ghost use Rattle.glob_matcher.specs.Private.Takes.{Takes, TakesExactly, looks_at};
