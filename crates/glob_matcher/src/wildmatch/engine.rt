@@ -241,9 +241,10 @@ impl<'c, 'a, S: Ledger, L: Ledger, M: Match> Engine<'c, 'a, S, L, M> {
     }
 
     /// Reads the set whose bracket stands at a place of the pattern by an engine of its own, so that this one may stay in
-    /// registers: the place after it, and whether it holds a byte. `None` where no set begins.
+    /// registers, and the reader of sets has one caller: the place after it, and whether it holds a byte. `None` where no set
+    /// begins.
     #[inline(always)]
-    fn set_apart(&mut self, place: usize, byte: u8) -> Option<(usize, bool)>
+    pub fn set_apart(&mut self, place: usize, byte: u8) -> Option<(usize, bool)>
         requires { HasByte M.pattern place open_bracket }
         ensures found { IfSome result (λ found. (set : Set) × SetAt M.pattern place set found.0 × (found.1 ≡ set_holds M.mode set byte)) }
         ensures inside { IfSome result (λ found. (place < found.0) × (found.0 ≤ length M.pattern)) }

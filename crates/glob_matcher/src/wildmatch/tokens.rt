@@ -156,7 +156,7 @@ impl<'c, 'a, S: Ledger, L: Ledger, M: Match> Engine<'c, 'a, S, L, M> {
                 None => (Shape::Nothing, self.pattern_len()),
             },
             b'?' => (Shape::Any, place + 1),
-            b'[' => match self.set_at(place, 0) {
+            b'[' => match self.set_apart(place, 0) {
                 Some((end, _)) => (Shape::Set, end),
                 None => (Shape::Nothing, self.pattern_len()),
             },
