@@ -256,9 +256,10 @@ impl<'c, 'a, S: Ledger, L: Ledger, M: Match> Engine<'c, 'a, S, L, M> {
     }
 
     /// Reads the set whose bracket stands at a place of the pattern by an engine of its own, so that this one may stay in
-    /// registers: the place after it, and whether it holds a byte. `None` where no set begins.
+    /// registers, and the reader of sets has one caller: the place after it, and whether it holds a byte. `None` where no set
+    /// begins.
     #[inline(always)]
-    fn set_apart(&mut self, place: usize, byte: u8) -> Option<(usize, bool)>
+    pub fn set_apart(&mut self, place: usize, byte: u8) -> Option<(usize, bool)>
         requires { HasByte M.pattern place open_bracket }
         ensures read { IsSetRead M.mode M.pattern place byte result }
         ensures count { LookedOver 4 self.old self.new place (read_end M.pattern result) }
@@ -381,31 +382,31 @@ impl<'c, 'a, S: Ledger, L: Ledger, M: Match> Engine<'c, 'a, S, L, M> {
     }
 }
 
-/// Whether the last bytes alone show that the pattern does not match the value, and the counts of what it took.
+/// Whether the pattern matches the value, where their ends alone show it, and the counts of what it took.
 #[inline(always)]
-fn refuses<'c, 'a, S: Ledger, L: Ledger, M: Match>(
+fn decide_by_ends<'c, 'a, S: Ledger, L: Ledger, M: Match>(
     pattern: &'a [u8],
     value: &'a [u8],
     mode: Mode,
     counts: &'c mut Counts<S, L>,
-) -> (bool, &'c mut Counts<S, L>)
+) -> (Option<bool>, &'c mut Counts<S, L>)
     requires pattern { pattern.now ≡ M.pattern }
     requires value { value.now ≡ M.value }
     requires mode { mode ≡ M.mode }
     requires counts { counts.ghost_name ≡ M.counts }
-    ensures meaning { IsTrue result.0 → ¬ Splits value.now pattern.now mode }
+    ensures meaning { IfSome result.0 (λ answer. IsTrue answer ↔ Splits value.now pattern.now mode) }
     ensures same { result.1.ghost_name ≡ counts.entry.ghost_name }
     ensures steps { result.1.now.steps ≤ counts.old.steps + 1 }
     ensures looks { result.1.now.looks ≤ counts.old.looks + 2 }
 {
     let mut ends = Engine::<'c, 'a, S, L, M>::new(pattern, value, mode, counts);
-    let answer = ends.ends_otherwise();
+    let answer = ends.ends_decide();
     let Engine { counts, .. } = ends;
     (answer, counts)
 }
 
 /// Whether the search says that the pattern matches the value, and the counts of what it took. It is not inlined, so that a
-/// value that the last bytes refuse doesn't pay for the registers of the search.
+/// match that the ends decide doesn't pay for the registers of the search.
 #[inline(never)]
 fn search_whole<'c, 'a, S: Ledger, L: Ledger, M: Match>(
     pattern: &'a [u8],
@@ -445,11 +446,13 @@ pub fn run<'c, 'a, S: Ledger, L: Ledger, M: Match>(
     ensures steps { result.1.now.steps ≤ counts.old.steps + step_limit (length pattern.now) (length value.now) }
     ensures looks { result.1.now.looks ≤ counts.old.looks + look_limit (length pattern.now) (length value.now) }
 {
-    let (is_refused, counts) = refuses::<S, L, M>(pattern, value, mode, counts);
-    if is_refused {
-        return (false, counts);
+    let (decision, counts) = decide_by_ends::<S, L, M>(pattern, value, mode, counts);
+    // Each arm names its answer: a bit that is handed on costs every call an instruction.
+    match decision {
+        Some(true) => (true, counts),
+        Some(false) => (false, counts),
+        None => search_whole::<S, L, M>(pattern, value, mode, counts),
     }
-    search_whole::<S, L, M>(pattern, value, mode, counts)
 }
 
 /// The token at a place of the pattern, and the place after it, by an engine that reads no value; and the counts.

@@ -160,7 +160,7 @@ impl<'c, 'a, S: Ledger, L: Ledger, M: Match> Engine<'c, 'a, S, L, M> {
                 None => (TokenKind::Nothing, self.pattern_len()),
             },
             b'?' => (TokenKind::Any, place + 1),
-            b'[' => match self.set_at(place, 0) {
+            b'[' => match self.set_apart(place, 0) {
                 Some((end, _)) => (TokenKind::Set, end),
                 None => (TokenKind::Nothing, self.pattern_len()),
             },

@@ -6,9 +6,10 @@
 //!
 //! Its turns are in `advance`, the ways back to a mark in `backtrack`, and the scans from one in `scan`. All of them read the
 //! two texts through `engine`.
-ghost use Rattle.std.specs.Prelude.{◌≢◌, ◌↔◌, ◌+◌, ◌<◌, ◌≤◌, true, IsTrue, length};
+ghost use Rattle.std.specs.Prelude.{◌≢◌, ◌↔◌, ◌+◌, ◌<◌, ◌≤◌, true, IsTrue, IfSome, length};
 ghost use Rattle.glob_matcher.specs.Bytes.{close_bracket, question_mark, slash, star};
 ghost use Rattle.glob_matcher.specs.Matching.{Splits};
+ghost use Rattle.glob_matcher.specs.Private.Takes.{Takes};
 ghost use Rattle.glob_matcher.specs.Steps.{look_limit, step_bound, step_limit};
 ghost use Rattle.glob_matcher.specs.Private.Budget.{IsWithinLimits};
 
@@ -28,19 +29,44 @@ fn is_alone(byte: u8) -> bool
 }
 
 impl<'c, 'a, S: Ledger, L: Ledger, M: Match> Engine<'c, 'a, S, L, M> {
-    /// Whether the pattern ends in such a byte, and the value does not end in it.
+    /// Whether the pattern is one star that crosses slashes: it matches each value.
     #[inline(always)]
-    pub fn ends_otherwise(&mut self) -> bool
-        ensures meaning { IsTrue result → ¬ Splits M.value M.pattern M.mode }
+    fn is_lone_star(&mut self) -> bool
+        ensures meaning { IsTrue result → Splits M.value M.pattern M.mode }
+        ensures count { Takes self.old self.new 0 1 }
+    {
+        if self.pattern_len() != 1 {
+            return false;
+        }
+        if self.pattern_byte(0) != b'*' {
+            return false;
+        }
+        !self.is_path()
+    }
+
+    /// The answer, where the ends of the texts alone show it: a lone star matches each value, and a pattern that ends in a
+    /// byte that is alone matches no value that ends otherwise.
+    #[inline(always)]
+    pub fn ends_decide(&mut self) -> Option<bool>
+        ensures meaning { IfSome result (λ answer. IsTrue answer ↔ Splits M.value M.pattern M.mode) }
         ensures steps { self.new.steps ≤ self.old.steps + 1 }
         ensures looks { self.new.looks ≤ self.old.looks + 2 }
     {
         let len = self.pattern_len();
         if len == 0 {
-            return false;
+            return None;
         }
         let last = self.pattern_byte(len - 1);
-        is_alone(last) && !self.ends_in(last)
+        if is_alone(last) {
+            if self.ends_in(last) {
+                return None;
+            }
+            return Some(false);
+        }
+        if self.is_lone_star() {
+            return Some(true);
+        }
+        None
     }
 
     /// Whether the pattern matches the value.

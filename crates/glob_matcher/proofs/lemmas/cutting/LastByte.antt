@@ -1,12 +1,13 @@
--- The pattern's last byte: where it ends no star token, question mark or set, each value that is split ends in it.
-use Rattle.std.proofs.Common.{◌≡◌, ◌≢◌, ◌⊎◌, inl, inr, ℕ, zero, suc, ◌+◌, ◌-◌, ◌<◌, ◌≤◌, List, [], ◌∷◌, length, get_or, refl, sym, ◌∙◌, ap, subst, arith}
+-- What the ends of the texts show. Where the pattern's last byte ends no star token, question mark or set, each value that is
+-- split ends in it. A star alone that crosses slashes splits each value.
+use Rattle.std.proofs.Common.{◌≡◌, ◌≢◌, ◌⊎◌, inl, inr, ℕ, zero, suc, ◌+◌, ◌-◌, ◌<◌, ◌≤◌, false, List, [], ◌∷◌, length, get_or, refl, sym, ◌∙◌, ap, subst, arith}
 use Rattle.std.proofs.lemmas.Bool.{cases_lt}
 use Rattle.glob_matcher.specs.declared.wildmatch.mode.Mode.{Mode}
-use Rattle.glob_matcher.specs.Bytes.{HasByte, close_bracket, question_mark, slash, star}
+use Rattle.glob_matcher.specs.Bytes.{HasByte, close_bracket, is_path, question_mark, slash, star}
 use Rattle.glob_matcher.specs.Tokens.{Token, Byte, Any, OneOf, Free, Local, Dirs, Nothing, TokenAt, From, IsRun}
 use Rattle.glob_matcher.specs.Matching.{Splits, SplitsFrom}
 use Rattle.glob_matcher.specs.Private.Reader.{Fits}
-use Rattle.glob_matcher.proofs.lemmas.cutting.CutLemmas.{step_out, one_out, end_out, nothing_out}
+use Rattle.glob_matcher.proofs.lemmas.cutting.CutLemmas.{step_out, one_out, end_in, end_out, free_in, nothing_out}
 use Rattle.glob_matcher.proofs.lemmas.reading.Existence.{items_close, From-short, TokenAt-past}
 
 -- a byte that ends no star token, question mark or set
@@ -75,3 +76,14 @@ module _ (mode : Mode) (p v : List ℕ) (alone : IsAlone (last p)) where
 -- A value that is split ends in the pattern's last byte.
 pub ends_in_last : (mode : Mode) (p v : List ℕ) → 0 < length p → IsAlone (last p) → Splits v p mode → EndsInLast mode p v
 ends_in_last mode p v some alone all = ends_from mode p v alone (length p) 0 0 (omega arith) some (omega arith) all
+
+-- A star alone takes the whole value in plain mode.
+pub lone_star : (mode : Mode) (p v : List ℕ) → is_path mode ≡ false → length p ≡ 1 → HasByte p 0 star → Splits v p mode
+lone_star mode p v plain one here =
+    let run : IsRun p 0 1 = record {
+      some = omega arith;
+      stars = λ k low high. subst (λ (n : ℕ). HasByte p n star) (omega arith) here;
+      whole = λ more. let inside = more.inside in absurd (omega arith);
+    } in
+    free_in mode p v 0 1 0 (length v) (record { run = run; bounded = λ path. cc }) (omega arith) (omega arith)
+    (end_in mode p v 1 (length v) (omega arith) (omega arith))

@@ -18,16 +18,16 @@ returns-in-None-clause-token g c =
 pub returns-in-63-clause-token : goal.returns-in-63-clause-token
 returns-in-63-clause-token g c = any_token g.M.Match.mode g.M.Match.pattern c.args.place (record { inside = c.requires; is = sym c.pattern_byte.ensures.here ∙ c.in-63.is })
 
-pub returns-in-Some-set_at-clause-token : goal.returns-in-Some-set_at-clause-token
-returns-in-Some-set_at-clause-token g c =
-    let found = c.in-Some-set_at.ensures.read in
-    set_token g.M.Match.mode g.M.Match.pattern c.args.place found.set c.in-Some-set_at.end found.here found.past found.inside
+pub returns-in-Some-set_apart-clause-token : goal.returns-in-Some-set_apart-clause-token
+returns-in-Some-set_apart-clause-token g c =
+    let found = c.in-Some-set_apart.ensures.read in
+    set_token g.M.Match.mode g.M.Match.pattern c.args.place found.set c.in-Some-set_apart.end found.here found.past found.inside
 
-pub returns-in-None-set_at-clause-token : goal.returns-in-None-set_at-clause-token
-returns-in-None-set_at-clause-token g c =
-    subst (λ (n : ℕ). IsToken g.M.Match.mode g.M.Match.pattern c.args.place kind.Nothing n) (sym c.pattern_len-in-None-set_at.ensures)
+pub returns-in-None-set_apart-clause-token : goal.returns-in-None-set_apart-clause-token
+returns-in-None-set_apart-clause-token g c =
+    subst (λ (n : ℕ). IsToken g.M.Match.mode g.M.Match.pattern c.args.place kind.Nothing n) (sym c.pattern_len-in-None-set_apart.ensures)
     (broken_token g.M.Match.mode g.M.Match.pattern c.args.place c.requires
-    (inr (record { inside = c.requires; is = sym c.pattern_byte.ensures.here ∙ c.in-91.is }, c.in-None-set_at.ensures.read)))
+    (inr (record { inside = c.requires; is = sym c.pattern_byte.ensures.here ∙ c.in-91.is }, c.in-None-set_apart.ensures.read)))
 
 pub returns-in_default-clause-token : goal.returns-in_default-clause-token
 returns-in_default-clause-token g c =
