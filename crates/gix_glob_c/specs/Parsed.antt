@@ -9,6 +9,7 @@ use Rattle.gix_glob.specs.RepositoryPaths.{Answers, IsBasenameStart}
 use Rattle.glob_lines.specs.PathLines.{IsPlainPath}
 use Rattle.gix_glob_c.specs.Parts.{case_of, place_in}
 use Rattle.gix_glob_c.specs.declared.parsed.GlobPattern.{GlobPattern}
+use Rattle.gix_glob.specs.Deciding.{path_mode}
 
 -- what is known of the text, as the mode of a pattern
 abbrev pub mode_of : GlobPattern → Mode
@@ -37,18 +38,18 @@ pub record AnswersPath (pattern : GlobPattern) (path : List ℕ) (is_dir fold : 
   pub is : IsPathOfFile path
   pub position : Option ℕ
   pub start : IsBasenameStart path position
-  pub answers : Answers pattern.text.now (mode_of pattern) path position (Some is_dir) (case_of fold) (record { 0 = 1 })
+  pub answers : Answers pattern.text.now (mode_of pattern) path position (Some is_dir) (case_of fold) path_mode
 
 -- the pattern at this index answers for a path
-pub record AnswersAt (patterns : List GlobPattern) (path : List ℕ) (is_dir fold : Bool) (index : ℕ) : Type 0 where
+pub record PatternAnswersAt (patterns : List GlobPattern) (path : List ℕ) (is_dir fold : Bool) (index : ℕ) : Type 0 where
   pub pattern : GlobPattern
   pub there : slice_get patterns index ≡ Some pattern
   pub answers : AnswersPath pattern path is_dir fold
 
 -- the pattern at this index answers, and none behind it does
-pub record IsLastAnswer (patterns : List GlobPattern) (path : List ℕ) (is_dir fold : Bool) (index : ℕ) : Type 0 where
-  pub answers : AnswersAt patterns path is_dir fold index
-  pub last : (later : ℕ) → AnswersAt patterns path is_dir fold later → later ≤ index
+pub record IsLastMatch (patterns : List GlobPattern) (path : List ℕ) (is_dir fold : Bool) (index : ℕ) : Type 0 where
+  pub answers : PatternAnswersAt patterns path is_dir fold index
+  pub last : (later : ℕ) → PatternAnswersAt patterns path is_dir fold later → later ≤ index
 
 -- an index past the list's end stands for none
 abbrev pub index_of : List GlobPattern → ℕ → Option ℕ
@@ -57,7 +58,7 @@ index_of patterns index = if nat_lt index (length patterns) then Some index else
 -- The last of the patterns that answers, where one does.
 abbrev pub LastAnswer : List GlobPattern → List ℕ → Bool → Bool → Option ℕ → Type 0
 LastAnswer patterns path is_dir fold index =
-    MatchOption index ((i : ℕ) → ¬ AnswersAt patterns path is_dir fold i) (IsLastAnswer patterns path is_dir fold)
+    MatchOption index ((i : ℕ) → ¬ PatternAnswersAt patterns path is_dir fold i) (IsLastMatch patterns path is_dir fold)
 
 -- ---- the same patterns as a list
 

@@ -5,7 +5,7 @@ ghost use Rattle.std.specs.Prelude.{◌≡◌, ◌↔◌, true, false, IsTrue};
 ghost use Rattle.gix_glob.specs.Bytes.{HasByte, slash};
 ghost use Rattle.gix_glob.specs.Matching.{Splits};
 ghost use Rattle.gix_glob.specs.Patterns.{HasReading, IsPattern};
-ghost use Rattle.gix_glob_c.specs.Parts.{LineAnswers, case_of, place_in};
+ghost use Rattle.gix_glob_c.specs.Parts.{LineAnswersFor, case_of, place_in};
 
 pub mod ignore_file;
 pub mod laws;
@@ -30,7 +30,7 @@ pub extern "C" fn gix_glob_wildmatch(pattern: &[u8], value: &[u8], mode: u8) -> 
 pub extern "C" fn gix_glob_matches_path(line: &[u8], path: &[u8], is_dir: bool, fold: bool) -> bool
     ensures blank { ¬ HasReading line.now true → result ≡ false }
     ensures absolute { HasByte path.now 0 slash → result ≡ false }
-    ensures answers { HasReading line.now true → ¬ HasByte path.now 0 slash → LineAnswers line.now path.now is_dir fold result }
+    ensures answers { HasReading line.now true → ¬ HasByte path.now 0 slash → LineAnswersFor line.now path.now is_dir fold result }
 {
     let Some(view) = PatternView::from_bytes(line) else {
         return false;

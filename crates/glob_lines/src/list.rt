@@ -3,7 +3,7 @@ ghost use Rattle.std.specs.Prelude.{◌≡◌, ◌↔◌, ◌||◌, ◌∷◌, [
 ghost use Rattle.std.specs.Option.{ForSome, option_copied};
 ghost use Rattle.std.specs.Vec.{vec_items};
 ghost use Rattle.std.specs.Io.KnownBytes.{Appends};
-ghost use Rattle.gix_glob.specs.Bytes.{HasByte};
+ghost use Rattle.gix_glob.specs.Bytes.{HasByte, slash};
 ghost use Rattle.gix_glob.specs.Lists.{entry_of};
 ghost use Rattle.gix_glob.specs.Paths.{IsFolder, IsPlainPath, has_file_part};
 ghost use Rattle.gix_glob.specs.RepositoryPaths.{IsBasenameStart};
@@ -172,7 +172,7 @@ fn append_numbers(
     is_dir: bool,
     case: Case,
 ) -> Result<(), AllocError>
-    requires relative { ¬ HasByte rest.now 0 47 }
+    requires relative { ¬ HasByte rest.now 0 slash }
     requires basename { IsBasenameStart rest.now position }
     ensures { OnOk result (Adds
         (WritesNumbers (map (entry_of (λ _. tt)) mappings.now) case is_dir rest.now)

@@ -4,6 +4,7 @@ use Rattle.gix_glob.specs.declared.pattern.Case.TheVariants.{Sensitive}
 use Rattle.gix_glob.specs.declared.pattern.Mode.{Mode}
 use Rattle.gix_glob.specs.Patterns.{Reads}
 use Rattle.gix_glob.specs.RepositoryPaths.{Answers, IsBasenameStart}
+use Rattle.gix_glob.specs.Deciding.{path_mode}
 
 -- The answer is yes exactly if the pattern that the line reads as answers for the path of a file, in path mode.
 pub record LineAnswers (line path : List ℕ) (answer : Bool) : Type 0 where
@@ -13,4 +14,4 @@ pub record LineAnswers (line path : List ℕ) (answer : Bool) : Type 0 where
   pub position : Option ℕ
   pub read : Reads line true text mode place
   pub start : IsBasenameStart path position
-  pub exact : IsTrue answer ↔ Answers text mode path position (Some false) Sensitive (record { 0 = 1 })
+  pub exact : IsTrue answer ↔ Answers text mode path position (Some false) Sensitive path_mode

@@ -4,7 +4,7 @@ use Rattle.gix_glob.specs.declared.pattern.Mode as pattern
 use Rattle.gix_glob.specs.declared.wildmatch.Mode as wildmatch
 use Rattle.gix_glob.specs.Matching.{Splits}
 use Rattle.gix_glob.specs.Patterns.{IsPattern}
-use Rattle.gix_glob_c.proofs.Bits.{match_mode_of, pattern_mode_of}
+use Rattle.gix_glob_c.proofs.lemmas.Bits.{match_mode_of, pattern_mode_of}
 use Rattle.gix_glob_c.proofs.gix_glob_matches.Goals as goal
 
 pub returns : goal.returns

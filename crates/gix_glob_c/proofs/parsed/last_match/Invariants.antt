@@ -1,8 +1,8 @@
 use Rattle.std.specs.Prelude.{All}
-use Rattle.gix_glob_c.specs.Parsed.{AnswersAt, IsLawful}
-use Rattle.gix_glob.proofs.LastNumbers.{NoneFrom}
+use Rattle.gix_glob_c.specs.Parsed.{PatternAnswersAt, IsLawful}
+use Rattle.gix_glob.proofs.lemmas.LastNumbers.{NoneFrom}
 use Rattle.gix_glob_c.proofs.parsed.last_match.Given as goal
 
 -- no pattern from here on answers, where all of them are lawful
 abbrev pub invariant-loop-i : goal.invariant-loop-i
-invariant-loop-i l = All IsLawful l.patterns → NoneFrom (AnswersAt l.patterns l.path l.is_dir l.fold) l.i
+invariant-loop-i l = All IsLawful l.patterns → NoneFrom (PatternAnswersAt l.patterns l.path l.is_dir l.fold) l.i

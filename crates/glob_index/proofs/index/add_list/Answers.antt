@@ -6,8 +6,8 @@ use Rattle.gix_glob.specs.EntryLists.{entry_list_of}
 use Rattle.gix_glob.specs.PatternParts.{mode_of, text_of}
 use Rattle.glob_index.specs.declared.row.Row.{Row}
 use Rattle.glob_index.specs.Private.Tables.{AreRowsUpTo}
-use Rattle.gix_glob.proofs.Elements.{slice_get-map_at}
-use Rattle.glob_index.proofs.RowLemmas.{Asks-linked, rows_more, rows_of_list}
+use Rattle.gix_glob.proofs.lemmas.Elements.{slice_get-map_at}
+use Rattle.glob_index.proofs.lemmas.RowLemmas.{Asks-linked, rows_more, rows_of_list}
 use Rattle.glob_index.proofs.index.add_list.Goals as goal
 
 pub mappings-preserved : goal.mappings-preserved

@@ -1,5 +1,5 @@
 -- By the two laws of matched values.
-use Rattle.glob_index.proofs.PrefilterLemmas.{answering_passes}
+use Rattle.glob_index.proofs.lemmas.PrefilterLemmas.{answering_passes}
 use Rattle.glob_index.proofs.laws.answering_patterns_pass.Goals as goal
 
 pub returns : goal.returns

@@ -1,6 +1,6 @@
 -- One byte more is one bit more.
 use Rattle.std.proofs.Common.{ℕ, ◌+◌, arith, sym, subst, bit_or}
-use Rattle.glob_index.proofs.BitLemmas.{HoldsUpTo, holds_more}
+use Rattle.glob_index.proofs.lemmas.BitLemmas.{HoldsUpTo, holds_more}
 use Rattle.glob_index.proofs.literals.bytes_of.Goals as goal
 
 pub loop-byte-preserved : goal.loop-byte-preserved

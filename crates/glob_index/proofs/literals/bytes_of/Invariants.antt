@@ -1,4 +1,4 @@
-use Rattle.glob_index.proofs.BitLemmas.{HoldsUpTo}
+use Rattle.glob_index.proofs.lemmas.BitLemmas.{HoldsUpTo}
 use Rattle.glob_index.proofs.literals.bytes_of.Given as goal
 
 -- the set has the bytes so far

@@ -1,6 +1,6 @@
 -- Bit by bit: nothing is needed that isn't held.
 use Rattle.std.proofs.lemmas.Bool.{eq-eqb, eqb-true}
-use Rattle.glob_index.proofs.BitLemmas.{missing_bits-HasAll, HasAll-none_missing}
+use Rattle.glob_index.proofs.lemmas.BitLemmas.{missing_bits-HasAll, HasAll-none_missing}
 use Rattle.glob_index.proofs.literals.has_all.Goals as goal
 
 pub returns : goal.returns

@@ -1,7 +1,7 @@
 -- Each byte that stands for itself adds its bit; no set and no escape began before.
 use Rattle.std.proofs.Common.{◌+◌, ◌∙◌, List, ℕ, get_or, sym}
 use Rattle.glob_index.specs.Private.Literals.{bit_of}
-use Rattle.glob_index.proofs.BitLemmas.{IsReadUpTo, IsReadUpTo-more, IsReadUpTo-none, IsReadUpTo-past, with_bit}
+use Rattle.glob_index.proofs.lemmas.BitLemmas.{IsReadUpTo, IsReadUpTo-more, IsReadUpTo-none, IsReadUpTo-past, with_bit}
 use Rattle.glob_index.proofs.literals.needed_bytes.Goals as goal
 use Rattle.glob_index.proofs.literals.needed_bytes.Goals.{then-not-is_joining, else-not-is_joining}
 

@@ -1,4 +1,4 @@
-use Rattle.glob_index.proofs.BitLemmas.{IsReadUpTo}
+use Rattle.glob_index.proofs.lemmas.BitLemmas.{IsReadUpTo}
 use Rattle.glob_index.proofs.literals.needed_bytes.Given as goal
 
 -- the text was read so far

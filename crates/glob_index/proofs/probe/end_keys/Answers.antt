@@ -2,7 +2,7 @@
 use Rattle.std.proofs.Common.{◌≡◌, ◌∙◌, ℕ, ◌+◌, ◌<◌, get_or, length, refl, replicate, subst, arith}
 use Rattle.std.proofs.lemmas.List.{length-replicate, length-set}
 use Rattle.glob_index.specs.Private.Literals.{end_key}
-use Rattle.glob_index.proofs.KeyLemmas.{end_keys_more}
+use Rattle.glob_index.proofs.lemmas.KeyLemmas.{end_keys_more}
 use Rattle.glob_index.proofs.probe.end_keys.Goals as goal
 
 pub ends-init : goal.ends-init

@@ -1,5 +1,5 @@
 -- The place after the last slash is not before the end of the base, and what is left begins with no slash.
-use Rattle.glob_index.proofs.StrippingLemmas.{IsPlaced-basename, rest_and_place}
+use Rattle.glob_index.proofs.lemmas.StrippingLemmas.{IsPlaced-basename, rest_and_place}
 use Rattle.glob_index.proofs.rests.rest_of.Goals as goal
 
 pub strip_base_handle_recompute_basename_pos-requires : goal.strip_base_handle_recompute_basename_pos-requires

@@ -4,7 +4,7 @@ use Rattle.std.specs.Vec.{vec_items}
 use Rattle.gix_glob.specs.Deciding.{BasesAreFolders, HasFolder}
 use Rattle.gix_glob.specs.EntryLists.{entry_list_of}
 use Rattle.gix_glob.specs.Paths.{IsFolder}
-use Rattle.gix_glob.proofs.Elements.{All-map_at}
+use Rattle.gix_glob.proofs.lemmas.Elements.{All-map_at}
 use Rattle.glob_lines.proofs.deciding.bases_are_folders.Goals as goal
 
 pub returns-in-loop-list : goal.returns-in-loop-list

@@ -2,8 +2,8 @@
 use Rattle.std.proofs.Common.{◌≡◌, ◌+◌, ◌-◌, ◌<◌, length, arith}
 use Rattle.gix_glob.specs.Deciding.{HasFolder}
 use Rattle.gix_glob.specs.EntryLists.{entry_list_of}
-use Rattle.gix_glob.proofs.Elements.{All-map_at, slice_get-map_at}
-use Rattle.glob_lines.proofs.DecidingLemmas.{Decides-found, Decides-none, NoListFrom-less}
+use Rattle.gix_glob.proofs.lemmas.Elements.{All-map_at, slice_get-map_at}
+use Rattle.glob_lines.proofs.lemmas.DecidingLemmas.{Decides-found, Decides-none, NoListFrom-less}
 use Rattle.glob_lines.proofs.deciding.decide.Goals as goal
 
 pub last_match-requires-clause-folder : goal.last_match-requires-clause-folder

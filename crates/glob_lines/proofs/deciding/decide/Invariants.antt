@@ -1,6 +1,6 @@
 use Rattle.std.proofs.Common.{map}
 use Rattle.gix_glob.specs.EntryLists.{entry_list_of}
-use Rattle.glob_lines.proofs.DecidingLemmas.{NoListFrom}
+use Rattle.glob_lines.proofs.lemmas.DecidingLemmas.{NoListFrom}
 use Rattle.glob_lines.proofs.deciding.decide.Given as goal
 
 -- no list from here on has a mapping that answers

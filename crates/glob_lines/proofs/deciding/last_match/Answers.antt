@@ -4,10 +4,10 @@ use Rattle.std.specs.Vec.{vec_items}
 use Rattle.gix_glob.specs.Deciding.{AnswersAt, AnswersUnder}
 use Rattle.gix_glob.specs.Lists.{entry_of}
 use Rattle.gix_glob.specs.EntryLists.{entry_list_of}
-use Rattle.gix_glob.proofs.Answering.{AnswersAt-only, AnswersAt-yes, AnswersUnder-only, AnswersUnder-yes}
-use Rattle.gix_glob.proofs.Elements.{slice_get-map_at}
-use Rattle.gix_glob.proofs.LastNumbers.{NoneFrom-all, NoneFrom-less}
-use Rattle.glob_lines.proofs.DecidingLemmas.{LastOf-found}
+use Rattle.gix_glob.proofs.lemmas.Answering.{AnswersAt-only, AnswersAt-yes, AnswersUnder-only, AnswersUnder-yes}
+use Rattle.gix_glob.proofs.lemmas.Elements.{slice_get-map_at}
+use Rattle.gix_glob.proofs.lemmas.LastNumbers.{NoneFrom-all, NoneFrom-less}
+use Rattle.glob_lines.proofs.lemmas.DecidingLemmas.{LastOf-found}
 use Rattle.glob_lines.proofs.deciding.last_match.Goals as goal
 
 pub returns-then-matches_repo_relative_path : goal.returns-then-matches_repo_relative_path

@@ -1,6 +1,6 @@
 use Rattle.gix_glob.specs.Deciding.{AnswersAt}
 use Rattle.gix_glob.specs.EntryLists.{entry_list_of}
-use Rattle.gix_glob.proofs.LastNumbers.{NoneFrom}
+use Rattle.gix_glob.proofs.lemmas.LastNumbers.{NoneFrom}
 use Rattle.glob_lines.proofs.deciding.last_match.Given as goal
 
 -- no mapping from here on answers

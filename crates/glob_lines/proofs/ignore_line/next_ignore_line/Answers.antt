@@ -1,6 +1,6 @@
 -- A comment gives nothing, and another line its text without the spaces at its end.
 use Rattle.std.proofs.Common.{sym}
-use Rattle.glob_lines.proofs.IgnoreLemmas.{IsCutBehind, begins_with_comment, begins_with_text}
+use Rattle.glob_lines.proofs.lemmas.IgnoreLemmas.{IsCutBehind, begins_with_comment, begins_with_text}
 use Rattle.glob_lines.proofs.ignore_line.next_ignore_line.Goals.{then-is_comment, else-is_comment}
 use Rattle.glob_lines.proofs.ignore_line.next_ignore_line.Goals as goal
 

@@ -1,7 +1,7 @@
 -- A carriage return before the line feed is cut off.
 use Rattle.std.proofs.Common.{◌+◌, length, take, drop, refl, sym, le_refl}
 use Rattle.std.proofs.lemmas.List.{drop_all, take_rest}
-use Rattle.glob_lines.proofs.IgnoreLemmas.{IsCutAtFeed-found, ignore_line-first, ignore_line-last}
+use Rattle.glob_lines.proofs.lemmas.IgnoreLemmas.{IsCutAtFeed-found, ignore_line-first, ignore_line-last}
 use Rattle.glob_lines.proofs.ignore_line.split_ended_line.Goals as goal
 
 pub returns-in-Some-clause-lines : goal.returns-in-Some-clause-lines

@@ -1,6 +1,6 @@
 -- The last byte that is another one ends the front.
 use Rattle.std.proofs.Common.{rules}
-use Rattle.glob_lines.proofs.TrimLemmas.{StandsBefore-last, StandsBefore-none}
+use Rattle.glob_lines.proofs.lemmas.TrimLemmas.{StandsBefore-last, StandsBefore-none}
 use Rattle.glob_lines.proofs.ignore_line.without_trailing.Goals as goal
 
 pub returns-in-Some : goal.returns-in-Some

@@ -1,6 +1,6 @@
 -- A backslash that escapes what follows it keeps one space.
 use Rattle.std.proofs.Common.{sym}
-use Rattle.glob_lines.proofs.TrimLemmas.{Trims-closed, Trims-open, Trims-whole}
+use Rattle.glob_lines.proofs.lemmas.TrimLemmas.{Trims-closed, Trims-open, Trims-whole}
 use Rattle.glob_lines.proofs.ignore_line.without_trailing_spaces.Goals.{else-front-line-via-then-front-line+else-escapes_the_next, else-front-line-via-else-front-line}
 use Rattle.glob_lines.proofs.ignore_line.without_trailing_spaces.Goals as goal
 

@@ -1,6 +1,6 @@
 -- The first tab parts the line.
 use Rattle.std.proofs.lemmas.List.{take_rest}
-use Rattle.glob_lines.proofs.LabelLemmas.{GivesLabel-found, GivesLabel-none}
+use Rattle.glob_lines.proofs.lemmas.LabelLemmas.{GivesLabel-found, GivesLabel-none}
 use Rattle.glob_lines.proofs.label.split_label.Goals as goal
 
 pub returns-in-Some : goal.returns-in-Some

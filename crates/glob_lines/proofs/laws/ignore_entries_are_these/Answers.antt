@@ -1,6 +1,6 @@
 use Rattle.glob_lines.specs.Ignore.{GivesTrimmed, ignore_content, without_mark, without_returns}
-use Rattle.glob_lines.proofs.IgnoreLemmas.{Tells-ignore_content}
-use Rattle.glob_lines.proofs.EntriesLemmas.{entries_are_these}
+use Rattle.glob_lines.proofs.lemmas.IgnoreLemmas.{Tells-ignore_content}
+use Rattle.glob_lines.proofs.lemmas.EntriesLemmas.{entries_are_these}
 use Rattle.glob_lines.proofs.laws.ignore_entries_are_these.Goals as goal
 
 pub returns : goal.returns

@@ -1,6 +1,6 @@
 use Rattle.std.proofs.Common.{subst, sym}
 use Rattle.glob_lines.specs.Lines.{Lines}
-use Rattle.glob_lines.proofs.LinesLemmas.{Lines-lines_of, Lines-only}
+use Rattle.glob_lines.proofs.lemmas.LinesLemmas.{Lines-lines_of, Lines-only}
 use Rattle.glob_lines.proofs.laws.lines_are_these.Goals as goal
 
 pub returns : goal.returns

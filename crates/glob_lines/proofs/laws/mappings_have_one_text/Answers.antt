@@ -1,7 +1,7 @@
 -- The entries, the base and the lines are the same for both.
 use Rattle.std.proofs.Common.{◌≡◌, sym, subst, ◌∙◌}
 use Rattle.glob_lines.specs.Mappings.{MatchesText, WritesMatches}
-use Rattle.glob_lines.proofs.OneText.{base_once, matches_once, text_once}
+use Rattle.glob_lines.proofs.lemmas.OneText.{base_once, matches_once, text_once}
 use Rattle.glob_lines.proofs.laws.mappings_have_one_text.Goals as goal
 
 pub returns : goal.returns

@@ -1,6 +1,6 @@
 use Rattle.glob_lines.specs.Plain.{GivesItself, plain_content}
-use Rattle.glob_lines.proofs.EntriesLemmas.{entries_are_these}
-use Rattle.glob_lines.proofs.PlainLemmas.{Tells-plain_content}
+use Rattle.glob_lines.proofs.lemmas.EntriesLemmas.{entries_are_these}
+use Rattle.glob_lines.proofs.lemmas.PlainLemmas.{Tells-plain_content}
 use Rattle.glob_lines.proofs.laws.plain_entries_are_these.Goals as goal
 
 pub returns : goal.returns

@@ -1,6 +1,6 @@
 use Rattle.std.proofs.Common.{sym, ◌∙◌}
 use Rattle.glob_lines.specs.Values.{WritesAnswer}
-use Rattle.glob_lines.proofs.OneText.{answer_once, text_once}
+use Rattle.glob_lines.proofs.lemmas.OneText.{answer_once, text_once}
 use Rattle.glob_lines.proofs.laws.values_have_one_text.Goals as goal
 
 pub returns : goal.returns

@@ -1,7 +1,7 @@
 use Rattle.std.proofs.Common.{ap, sym, ◌∙◌, ◌∷◌, ◌+◌, take}
 use Rattle.std.proofs.lemmas.List.{take_rest}
 use Rattle.glob_lines.specs.Lines.{lines_of}
-use Rattle.glob_lines.proofs.LinesLemmas.{first_line, last_line}
+use Rattle.glob_lines.proofs.lemmas.LinesLemmas.{first_line, last_line}
 use Rattle.glob_lines.proofs.lines.split_first_line.Goals as goal
 
 pub returns-in-Some : goal.returns-in-Some

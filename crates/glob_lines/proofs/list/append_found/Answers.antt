@@ -6,9 +6,9 @@ use Rattle.gix_glob.specs.Lists.{entry_of}
 use Rattle.gix_glob.specs.EntryLists.{entry_list_of}
 use Rattle.glob_lines.specs.Numbers.{text_of_numbers}
 use Rattle.glob_lines.specs.Plain.{PlainEntry}
-use Rattle.gix_glob.proofs.Elements.{slice_get-map_at, slice_get-map_within}
-use Rattle.glob_lines.proofs.FoundLemmas.{folders_of_one, IsListedThrough-all, IsListedThrough-more, IsListedThrough-none, places_in}
-use Rattle.glob_lines.proofs.MappingsLemmas.{numbers_of}
+use Rattle.gix_glob.proofs.lemmas.Elements.{slice_get-map_at, slice_get-map_within}
+use Rattle.glob_lines.proofs.lemmas.FoundLemmas.{folders_of_one, IsListedThrough-all, IsListedThrough-more, IsListedThrough-none, places_in}
+use Rattle.glob_lines.proofs.lemmas.MappingsLemmas.{numbers_of}
 use Rattle.glob_lines.proofs.list.append_found.Goals as goal
 
 pub matches_into-requires-clause-folders : goal.matches_into-requires-clause-folders

@@ -6,7 +6,7 @@ use Rattle.gix_glob.specs.Lists.{entry_of}
 use Rattle.glob_lines.specs.Mappings.{EntryAnswers}
 use Rattle.glob_lines.specs.Numbers.{Picks, text_of_numbers}
 use Rattle.glob_lines.specs.Plain.{PlainEntry}
-use Rattle.glob_lines.proofs.MappingsLemmas.{IsListedUpTo-more, IsListedUpTo-none, IsListedUpTo-skip, numbers_of}
+use Rattle.glob_lines.proofs.lemmas.MappingsLemmas.{IsListedUpTo-more, IsListedUpTo-none, IsListedUpTo-skip, numbers_of}
 use Rattle.glob_lines.proofs.list.append_numbers.Goals as goal
 use Rattle.glob_lines.proofs.list.append_numbers.Goals.{then-matches_repo_relative_path+in_ok-extend_from_slice+in_ok-append_decimal, else-matches_repo_relative_path}
 

@@ -1,7 +1,7 @@
 use Rattle.std.proofs.Common.{map, take}
 use Rattle.gix_glob.specs.Lists.{entry_of}
 use Rattle.glob_lines.specs.Mappings.{EntryAnswers}
-use Rattle.glob_lines.proofs.MappingsLemmas.{IsListedUpTo}
+use Rattle.glob_lines.proofs.lemmas.MappingsLemmas.{IsListedUpTo}
 use Rattle.glob_lines.proofs.list.append_numbers.Given as goal
 
 -- the text has the numbers of the mappings so far

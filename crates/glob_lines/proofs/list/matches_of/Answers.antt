@@ -1,6 +1,6 @@
 -- What is written for a path line, and its line feed, is the next line of the text.
 use Rattle.std.proofs.Common.{◌++◌, ◌∷◌, [], ap, ◌∙◌, append_assoc}
-use Rattle.glob_lines.proofs.LinesLemmas.{IsWrittenUpTo-all, IsWrittenUpTo-more, Lines-lines_of}
+use Rattle.glob_lines.proofs.lemmas.LinesLemmas.{IsWrittenUpTo-all, IsWrittenUpTo-more, Lines-lines_of}
 use Rattle.glob_lines.proofs.list.matches_of.Goals as goal
 
 pub loop-line-preserved : goal.loop-line-preserved

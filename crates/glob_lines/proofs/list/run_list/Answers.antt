@@ -3,7 +3,7 @@ use Rattle.std.proofs.lemmas.Result.{on_ok_weaker, IfErr-at_err}
 use Rattle.std.specs.Io.KnownBytes.{Appends}
 use Rattle.gix_glob.specs.Watched.{inner}
 use Rattle.glob_lines.specs.Transfers.{AppendsFront}
-use Rattle.glob_lines.proofs.MappingsLemmas.{mappings_text}
+use Rattle.glob_lines.proofs.lemmas.MappingsLemmas.{mappings_text}
 use Rattle.glob_lines.proofs.list.run_list.Goals as goal
 
 pub returns-clause-ok : goal.returns-clause-ok

@@ -1,5 +1,5 @@
 use Rattle.gix_glob.specs.Bytes.{HasByte, slash}
-use Rattle.glob_lines.proofs.PathsLemmas.{IsPlainPath-refused}
+use Rattle.glob_lines.proofs.lemmas.PathsLemmas.{IsPlainPath-refused}
 use Rattle.glob_lines.proofs.paths.plain_path.Goals as goal
 
 pub returns-then-is_after_slash : goal.returns-then-is_after_slash

@@ -1,4 +1,4 @@
-use Rattle.glob_lines.proofs.PathsLemmas.{IsPlainUpTo}
+use Rattle.glob_lines.proofs.lemmas.PathsLemmas.{IsPlainUpTo}
 use Rattle.glob_lines.proofs.paths.plain_path.Given as goal
 
 -- the bytes so far are those of a plain path

@@ -1,6 +1,6 @@
 -- What a write appends joins what was written so far.
 use Rattle.std.proofs.Common.{rules}
-use Rattle.glob_lines.proofs.TransferLemmas.{Appends-more, AppendsFront-at, Keeps-of_none}
+use Rattle.glob_lines.proofs.lemmas.TransferLemmas.{Appends-more, AppendsFront-at, Keeps-of_none}
 use Rattle.glob_lines.proofs.transfer.write_whole.Goals as goal
 
 pub pieces-preserved : goal.pieces-preserved

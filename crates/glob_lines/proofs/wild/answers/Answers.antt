@@ -1,7 +1,7 @@
 -- A value's answer is the next line of the text.
 use Rattle.std.proofs.Common.{refl, rules}
 use Rattle.glob_lines.specs.Values.{WritesAnswer, word_of}
-use Rattle.glob_lines.proofs.LinesLemmas.{IsWrittenUpTo-more, IsWrittenUpTo-all, Lines-lines_of}
+use Rattle.glob_lines.proofs.lemmas.LinesLemmas.{IsWrittenUpTo-more, IsWrittenUpTo-all, Lines-lines_of}
 use Rattle.glob_lines.proofs.wild.answers.Goals as goal
 
 pub loop-value-preserved : goal.loop-value-preserved

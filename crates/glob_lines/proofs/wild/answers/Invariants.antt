@@ -1,6 +1,6 @@
 use Rattle.glob_lines.specs.Lines.{lines_of}
 use Rattle.glob_lines.specs.Values.{WritesAnswer}
-use Rattle.glob_lines.proofs.LinesLemmas.{IsWrittenUpTo}
+use Rattle.glob_lines.proofs.lemmas.LinesLemmas.{IsWrittenUpTo}
 use Rattle.glob_lines.proofs.wild.answers.Given as goal
 
 -- the values so far have their lines in the text

@@ -1,6 +1,6 @@
 use Rattle.std.proofs.Common.{◌∙◌}
 use Rattle.std.specs.String.{string_bytes}
-use Rattle.globline.proofs.IgnoreFilesLemmas.{are_files_is}
+use Rattle.globline.proofs.lemmas.IgnoreFilesLemmas.{are_files_is}
 use Rattle.globline.proofs.command.are_files.Goals as goal
 
 pub returns-then-not-is_empty : goal.returns-then-not-is_empty

@@ -2,7 +2,7 @@ use Rattle.std.proofs.Common.{◌≡◌, ◌-◌, length, map, take, drop, true,
 use Rattle.std.specs.Prelude.{codes}
 use Rattle.std.specs.String.{string_bytes}
 use Rattle.globline.specs.Words.{NamesCase, are_files}
-use Rattle.globline.proofs.WordsLemmas.{map-of_three_and_more}
+use Rattle.globline.proofs.lemmas.WordsLemmas.{map-of_three_and_more}
 use Rattle.globline.proofs.command.ignore_of.Goals as goal
 
 pub returns-in_err-case : goal.returns-in_err-case

@@ -3,7 +3,7 @@ use Rattle.std.specs.Prelude.{codes}
 use Rattle.std.specs.String.{string_bytes}
 use Rattle.gix_glob.specs.Paths.{has_file_part}
 use Rattle.globline.specs.Words.{NamesCase}
-use Rattle.globline.proofs.WordsLemmas.{map-of_four}
+use Rattle.globline.proofs.lemmas.WordsLemmas.{map-of_four}
 use Rattle.globline.proofs.command.list_of.Goals as goal
 
 pub returns-in_err-case : goal.returns-in_err-case

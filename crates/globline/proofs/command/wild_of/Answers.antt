@@ -2,7 +2,7 @@ use Rattle.std.proofs.Common.{◌≡◌, subst, rules}
 use Rattle.std.specs.Prelude.{codes}
 use Rattle.std.specs.String.{string_bytes}
 use Rattle.globline.specs.Words.{NamesMode}
-use Rattle.globline.proofs.WordsLemmas.{map-of_three}
+use Rattle.globline.proofs.lemmas.WordsLemmas.{map-of_three}
 use Rattle.globline.proofs.command.wild_of.Goals as goal
 
 pub returns-in_err-mode : goal.returns-in_err-mode

@@ -6,7 +6,7 @@ use Rattle.std.specs.String.{string_bytes}
 use Rattle.gix_glob.specs.EntryLists.{entry_list_of}
 use Rattle.gix_glob.specs.Paths.{has_file_part}
 use Rattle.globline.specs.Words.{AreIgnoreLists}
-use Rattle.globline.proofs.IgnoreFilesLemmas.{bases_are_folders, file_at, one_more_file}
+use Rattle.globline.proofs.lemmas.IgnoreFilesLemmas.{bases_are_folders, file_at, one_more_file}
 use Rattle.globline.proofs.ignore_files.lists_of.Goals as goal
 
 pub add_patterns_file-requires : goal.add_patterns_file-requires

@@ -4,7 +4,7 @@ use Rattle.std.proofs.Common.{map}
 use Rattle.std.specs.Option.{option_copied}
 use Rattle.std.specs.String.{string_bytes}
 use Rattle.gix_glob.specs.EntryLists.{entry_list_of}
-use Rattle.globline.proofs.WordsLemmas.{answers_ignore, answers_list, answers_wild, on_each_fault}
+use Rattle.globline.proofs.lemmas.WordsLemmas.{answers_ignore, answers_list, answers_wild, on_each_fault}
 use Rattle.globline.proofs.words.run.Goals as goal
 
 pub returns-in-Wild : goal.returns-in-Wild

@@ -1,5 +1,5 @@
 -- What the engine did answers the words.
-use Rattle.globline.proofs.WordsLemmas.{answers_words, or_answers_words}
+use Rattle.globline.proofs.lemmas.WordsLemmas.{answers_words, or_answers_words}
 use Rattle.globline.proofs.words.run_words.Goals as goal
 
 pub returns-in-Ok-clause-answered : goal.returns-in-Ok-clause-answered

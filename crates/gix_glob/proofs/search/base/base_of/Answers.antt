@@ -1,7 +1,7 @@
 use Rattle.std.proofs.Common.{◌≡◌, ◌≢◌, ◌++◌, ℕ, List, rules}
 use Rattle.gix_glob.specs.Paths.{parts}
 use Rattle.gix_glob.specs.Private.PartsLeft.{parts_left}
-use Rattle.gix_glob.proofs.Bases.{Base-of_answer, Base-aside}
+use Rattle.gix_glob.proofs.lemmas.Bases.{Base-of_answer, Base-aside}
 use Rattle.gix_glob.proofs.search.base.base_of.Goals as goal
 
 pub returns-in-Some-parts_below : goal.returns-in-Some-parts_below

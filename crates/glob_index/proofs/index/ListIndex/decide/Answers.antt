@@ -4,8 +4,8 @@ use Rattle.std.proofs.lemmas.Bool.{iff_false}
 use Rattle.gix_glob.specs.EntryLists.{entry_list_of}
 use Rattle.glob_index.specs.Private.Tables.{IsTableOf}
 use Rattle.glob_index.specs.Private.Walking.{NonePasses}
-use Rattle.glob_index.proofs.IndexLemmas.{to_value}
-use Rattle.glob_index.proofs.RowLemmas.{last_answer, decides_none, entry_of_next, law_holds, NoneAnswers-passed, none_answers}
+use Rattle.glob_index.proofs.lemmas.IndexLemmas.{to_value}
+use Rattle.glob_index.proofs.lemmas.RowLemmas.{last_answer, decides_none, entry_of_next, law_holds, NoneAnswers-passed, none_answers}
 use Rattle.glob_index.proofs.index.ListIndex.decide.Goals as goal
 
 pub matches_at-requires-clause-there : goal.matches_at-requires-clause-there

@@ -8,10 +8,10 @@ use Rattle.gix_glob.specs.Deciding.{BasesAreFolders, HasFolder, PairAnswers}
 use Rattle.gix_glob.specs.Lists.{entry_of}
 use Rattle.gix_glob.specs.EntryLists.{EntryList, entry_list_of}
 use Rattle.gix_glob.specs.Stripping.{NothingLeft}
-use Rattle.gix_glob.proofs.Answering.{AnswersAt-only, AnswersAt-yes, AnswersUnder-only, AnswersUnder-yes, PairAnswers-nothing_left, PairAnswers-only, PairAnswers-yes}
-use Rattle.gix_glob.proofs.Elements.{All-map_at, slice_get-map_at, slice_get-map_within}
+use Rattle.gix_glob.proofs.lemmas.Answering.{AnswersAt-only, AnswersAt-yes, AnswersUnder-only, AnswersUnder-yes, PairAnswers-nothing_left, PairAnswers-only, PairAnswers-yes}
+use Rattle.gix_glob.proofs.lemmas.Elements.{All-map_at, slice_get-map_at, slice_get-map_within}
 use Rattle.glob_index.specs.Private.Tables.{HasEntryAt}
-use Rattle.glob_index.proofs.IndexLemmas.{from_value, to_value}
+use Rattle.glob_index.proofs.lemmas.IndexLemmas.{from_value, to_value}
 use Rattle.glob_index.proofs.index.ListIndex.matches_at.Goals as goal
 
 pub bounds-lists-list : goal.bounds-lists-list

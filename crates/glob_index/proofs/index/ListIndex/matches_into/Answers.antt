@@ -5,8 +5,8 @@ use Rattle.gix_glob.specs.EntryLists.{entry_list_of}
 use Rattle.glob_index.specs.Index.{AreMatches}
 use Rattle.glob_index.specs.Private.Tables.{IsTableOf}
 use Rattle.glob_index.specs.Private.Walking.{NonePasses}
-use Rattle.glob_index.proofs.IndexLemmas.{to_value}
-use Rattle.glob_index.proofs.RowLemmas.{AreFoundFrom, entry_of_next, AreFoundFrom-all, AreFoundFrom-more, AreFoundFrom-same, AreFoundFrom-skip, law_holds}
+use Rattle.glob_index.proofs.lemmas.IndexLemmas.{to_value}
+use Rattle.glob_index.proofs.lemmas.RowLemmas.{AreFoundFrom, entry_of_next, AreFoundFrom-all, AreFoundFrom-more, AreFoundFrom-same, AreFoundFrom-skip, law_holds}
 use Rattle.glob_index.proofs.index.ListIndex.matches_into.Goals as goal
 
 pub matches_at-requires-clause-there : goal.matches_at-requires-clause-there

@@ -2,7 +2,7 @@
 use Rattle.std.proofs.Common.{map, arith}
 use Rattle.std.proofs.lemmas.List.{length-map}
 use Rattle.gix_glob.specs.EntryLists.{entry_list_of}
-use Rattle.glob_index.proofs.RowLemmas.{rows_all, rows_none}
+use Rattle.glob_index.proofs.lemmas.RowLemmas.{rows_all, rows_none}
 use Rattle.glob_index.proofs.index.ListIndex.new.Goals as goal
 
 pub lists-init : goal.lists-init

@@ -1,7 +1,7 @@
 -- The last part's bytes are those that no slash follows.
 use Rattle.std.proofs.Common.{◌∙◌, List, ℕ, subst}
 use Rattle.glob_index.specs.Private.Showing.{HoldsBits}
-use Rattle.glob_index.proofs.KeyLemmas.{name_bits}
+use Rattle.glob_index.proofs.lemmas.KeyLemmas.{name_bits}
 use Rattle.glob_index.proofs.probe.Probe.new.Goals as goal
 
 pub returns-clause-shows : goal.returns-clause-shows

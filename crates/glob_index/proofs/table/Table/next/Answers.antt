@@ -4,7 +4,7 @@ use Rattle.std.proofs.lemmas.Bool.{iff_false}
 use Rattle.glob_index.specs.declared.row.Row.{Row}
 use Rattle.glob_index.specs.declared.table.Walk.{Walk}
 use Rattle.glob_index.specs.Private.Walking.{IsAt}
-use Rattle.glob_index.proofs.ChainLemmas.{none_between, other_step, own_step, NonePasses-above_chains, without_bytes, without_end}
+use Rattle.glob_index.proofs.lemmas.ChainLemmas.{none_between, other_step, own_step, NonePasses-above_chains, without_bytes, without_end}
 use Rattle.glob_index.proofs.table.Table.next.Goals as goal
 
 pub places-init : goal.places-init

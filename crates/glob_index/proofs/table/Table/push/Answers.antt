@@ -2,7 +2,7 @@
 use Rattle.std.proofs.Common.{List, ◌∙◌, sym, subst, arith, slice_set}
 use Rattle.glob_index.specs.declared.row.Row.{Row}
 use Rattle.glob_index.specs.Private.Chains.{IsChained, classes_of, links_of}
-use Rattle.glob_index.proofs.ChainLemmas.{IsChained-push}
+use Rattle.glob_index.proofs.lemmas.ChainLemmas.{IsChained-push}
 use Rattle.glob_index.proofs.table.Table.push.Goals as goal
 
 pub returns-clause-chained : goal.returns-clause-chained

@@ -1,7 +1,7 @@
 -- No row, and each head is 0.
 use Rattle.std.proofs.Common.{ap, refl}
 use Rattle.glob_index.specs.Private.Chains.{classes_of}
-use Rattle.glob_index.proofs.ChainLemmas.{IsChained-none}
+use Rattle.glob_index.proofs.lemmas.ChainLemmas.{IsChained-none}
 use Rattle.glob_index.proofs.table.Table.with_capacity.Goals as goal
 
 pub returns : goal.returns

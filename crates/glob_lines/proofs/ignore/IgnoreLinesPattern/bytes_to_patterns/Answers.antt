@@ -2,8 +2,8 @@
 use Rattle.std.proofs.Common.{◌+◌, length, None, Some, ap, arith}
 use Rattle.glob_lines.specs.Ignore.{BeginsWithLine, ignore_of, ignore_content, without_returns}
 use Rattle.glob_lines.specs.Lines.{lines_of}
-use Rattle.glob_lines.proofs.IgnoreLemmas.{ignore_content-comment, length-ignore_lines-le, ignore_content-text}
-use Rattle.glob_lines.proofs.EntriesLemmas.{meant-more, meant-skip}
+use Rattle.glob_lines.proofs.lemmas.IgnoreLemmas.{ignore_content-comment, length-ignore_lines-le, ignore_content-text}
+use Rattle.glob_lines.proofs.lemmas.EntriesLemmas.{meant-more, meant-skip}
 use Rattle.glob_lines.proofs.ignore.IgnoreLinesPattern.bytes_to_patterns.Goals.{in-Some-text+in_ok-push_pattern, in_default-text}
 use Rattle.glob_lines.proofs.ignore.IgnoreLinesPattern.bytes_to_patterns.Goals as goal
 

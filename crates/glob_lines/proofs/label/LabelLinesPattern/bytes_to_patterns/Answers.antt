@@ -3,9 +3,9 @@ use Rattle.std.proofs.Common.{◌+◌, length, ap, arith}
 use Rattle.std.specs.Vec.{vec_items}
 use Rattle.glob_lines.specs.Label.{label_of, label_content}
 use Rattle.glob_lines.specs.Lines.{lines_of}
-use Rattle.glob_lines.proofs.LabelLemmas.{label_content-label}
-use Rattle.glob_lines.proofs.LinesLemmas.{length-lines_of-le}
-use Rattle.glob_lines.proofs.EntriesLemmas.{meant-more}
+use Rattle.glob_lines.proofs.lemmas.LabelLemmas.{label_content-label}
+use Rattle.glob_lines.proofs.lemmas.LinesLemmas.{length-lines_of-le}
+use Rattle.glob_lines.proofs.lemmas.EntriesLemmas.{meant-more}
 use Rattle.glob_lines.proofs.label.LabelLinesPattern.bytes_to_patterns.Goals as goal
 
 pub overflow_add-number : goal.overflow_add-number

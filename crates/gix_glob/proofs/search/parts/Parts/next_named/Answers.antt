@@ -1,6 +1,6 @@
 use Rattle.std.proofs.Common.{arith}
 use Rattle.std.proofs.lemmas.Grind.{common_steps}
-use Rattle.gix_glob.proofs.PathParts.{named_parts-pieces}
+use Rattle.gix_glob.proofs.lemmas.PathParts.{named_parts-pieces}
 use Rattle.gix_glob.proofs.search.parts.Parts.next_named.Goals as goal
 
 pub returns-then-ne-clause-found : goal.returns-then-ne-clause-found

@@ -1,6 +1,6 @@
 use Rattle.std.proofs.Common.{◌∙◌, ◌∷◌, length, arith, ap}
 use Rattle.std.proofs.lemmas.Grind.{common_steps}
-use Rattle.gix_glob.proofs.PathParts.{parts-by_piece, parts-by_slash}
+use Rattle.gix_glob.proofs.lemmas.PathParts.{parts-by_piece, parts-by_slash}
 use Rattle.gix_glob.proofs.search.parts.PartsIterator.next.Goals as goal
 
 pub returns-then-first-ne47-clause-steps : goal.returns-then-first-ne47-clause-steps

@@ -1,5 +1,5 @@
 use Rattle.std.proofs.Common.{◌≡◌, ◌<◌, length, get_or, ap, arith}
-use Rattle.gix_glob.proofs.Copies.{equal_mappings, pointwise-next}
+use Rattle.gix_glob.proofs.lemmas.Copies.{equal_mappings, pointwise-next}
 use Rattle.gix_glob.proofs.search.pattern.list.clone_mappings.Goals as goal
 
 pub mappings-preserved : goal.mappings-preserved

@@ -1,6 +1,6 @@
 use Rattle.std.proofs.Common.{◌≡◌, true, take}
 use Rattle.std.specs.Cmp.Lexicographic.{pointwise}
-use Rattle.gix_glob.proofs.Copies.{equal_mappings}
+use Rattle.gix_glob.proofs.lemmas.Copies.{equal_mappings}
 use Rattle.gix_glob.proofs.search.pattern.list.clone_mappings.Given as goal
 
 -- the copies so far are equal to the mappings so far

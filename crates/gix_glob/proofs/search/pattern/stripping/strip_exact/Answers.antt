@@ -1,4 +1,4 @@
-use Rattle.gix_glob.proofs.Rests.{exact_answer}
+use Rattle.gix_glob.proofs.lemmas.Rests.{exact_answer}
 use Rattle.gix_glob.proofs.search.pattern.stripping.strip_exact.Goals as goal
 
 pub returns : goal.returns

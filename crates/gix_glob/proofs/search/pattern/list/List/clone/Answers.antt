@@ -1,4 +1,4 @@
-use Rattle.gix_glob.proofs.Copies.{all_three}
+use Rattle.gix_glob.proofs.lemmas.Copies.{all_three}
 use Rattle.gix_glob.proofs.search.pattern.list.List.clone.Goals as goal
 
 pub returns : goal.returns

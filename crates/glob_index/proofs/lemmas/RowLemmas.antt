@@ -18,8 +18,8 @@ use Rattle.glob_index.specs.Private.Tables.{AreRows, AreRowsUpTo, HasEntryAt, Is
 use Rattle.glob_index.specs.Private.Rows.{Asks}
 use Rattle.glob_index.specs.Private.Showing.{Passes, Shows}
 use Rattle.glob_index.specs.Private.Walking.{IsNextPair, NonePasses}
-use Rattle.gix_glob.proofs.Answering.{AnswersAt-only, PairAnswers-only}
-use Rattle.glob_index.proofs.PrefilterLemmas.{AnsweringPasses}
+use Rattle.gix_glob.proofs.lemmas.Answering.{AnswersAt-only, PairAnswers-only}
+use Rattle.glob_index.proofs.lemmas.PrefilterLemmas.{AnsweringPasses}
 
 -- ---- the order of places
 

@@ -11,10 +11,10 @@ use Rattle.glob_lines.specs.Lines.{HasNo, HasNoLineFeed, line_feed, lines_of}
 use Rattle.glob_lines.specs.Entries.{LineContent}
 use Rattle.glob_lines.specs.Private.Trimming.{ends_in_return, return_of}
 use Rattle.glob_lines.specs.Ignore.{BeginsWithLine, GivesTrimmed, Trims, byte_order_mark, carriage_return, is_comment, text_before_spaces, ignore_content, without_mark, without_returns}
-use Rattle.glob_lines.proofs.ListLemmas.{AllByRecursion-append_parts}
-use Rattle.glob_lines.proofs.LinesLemmas.{HasNo-take, last_line, lines_of-line, length-lines_of-le}
-use Rattle.glob_lines.proofs.EntriesLemmas.{Tells}
-use Rattle.glob_lines.proofs.TrimLemmas.{Trims-only, Trims-text_before_spaces}
+use Rattle.glob_lines.proofs.lemmas.ListLemmas.{AllByRecursion-append_parts}
+use Rattle.glob_lines.proofs.lemmas.LinesLemmas.{HasNo-take, last_line, lines_of-line, length-lines_of-le}
+use Rattle.glob_lines.proofs.lemmas.EntriesLemmas.{Tells}
+use Rattle.glob_lines.proofs.lemmas.TrimLemmas.{Trims-only, Trims-text_before_spaces}
 
 -- ---- carriage returns
 

@@ -11,7 +11,7 @@ use Rattle.std.proofs.lemmas.Slice.Eq.{bytes_eq-Decides}
 use Rattle.gix_glob.specs.Bytes.{backslash}
 use Rattle.glob_lines.specs.Ignore.{Trims, units_before_spaces, space, text_before_spaces, units_of}
 use Rattle.glob_lines.specs.Private.Trimming.{StandsBefore, is_open}
-use Rattle.glob_lines.proofs.ListLemmas.{AllByRecursion-append_parts, push_not-nil}
+use Rattle.glob_lines.proofs.lemmas.ListLemmas.{AllByRecursion-append_parts, push_not-nil}
 
 -- ---- the last unit that is kept
 

@@ -12,9 +12,9 @@ use Rattle.glob_lines.specs.Label.{GivesLabel, Label, is_tab, label_of, label_co
 use Rattle.glob_lines.specs.Lines.{HasNo, line_feed, lines_of}
 use Rattle.glob_lines.specs.Entries.{LineContent, entries_from, entry_of_content, entry_of_line}
 use Rattle.glob_lines.specs.Plain.{GivesItself, Plain, PlainEntry, plain_content}
-use Rattle.glob_lines.proofs.LinesLemmas.{HasNo-take}
-use Rattle.glob_lines.proofs.EntriesLemmas.{Entries-entries_of, Entries-only, ReadingsAreThese, Tells}
-use Rattle.glob_lines.proofs.PlainLemmas.{Tells-plain_content}
+use Rattle.glob_lines.proofs.lemmas.LinesLemmas.{HasNo-take}
+use Rattle.glob_lines.proofs.lemmas.EntriesLemmas.{Entries-entries_of, Entries-only, ReadingsAreThese, Tells}
+use Rattle.glob_lines.proofs.lemmas.PlainLemmas.{Tells-plain_content}
 
 -- ---- the first tab
 

@@ -10,7 +10,7 @@ use Rattle.glob_lines.specs.Numbers.{Picks, text_of_numbers}
 use Rattle.glob_lines.specs.PathLines.{IsPlainPath, MarksDirectory}
 use Rattle.glob_lines.specs.Plain.{Plain, PlainEntry, plain_of}
 use Rattle.glob_lines.specs.Private.Growing.{Adds}
-use Rattle.glob_lines.proofs.NumbersLemmas.{Picks-more, Picks-skip, separator_after, text_of_numbers-more}
+use Rattle.glob_lines.proofs.lemmas.NumbersLemmas.{Picks-more, Picks-skip, separator_after, text_of_numbers-more}
 
 abbrev pub numbers_of : List PlainEntry → List ℕ
 numbers_of entries = map (λ entry. entry.number) entries

@@ -8,7 +8,7 @@ use Rattle.gix_glob.specs.declared.wildmatch.Mode.{Mode}
 use Rattle.gix_glob.specs.Matching.{Splits}
 use Rattle.gix_glob.specs.Paths.{Base, folders, parts}
 use Rattle.gix_glob.specs.Stripping.{NothingLeft, RestOf}
-use Rattle.gix_glob.proofs.Answering.{basename_once, rest_once}
+use Rattle.gix_glob.proofs.lemmas.Answering.{basename_once, rest_once}
 use Rattle.glob_lines.specs.Lines.{WritesEach, text_of_lines}
 use Rattle.glob_lines.specs.Mappings.{EntryAnswers, WritesMatches, WritesNumbers, WritesPath}
 use Rattle.glob_lines.specs.Numbers.{Picks, text_of_numbers}

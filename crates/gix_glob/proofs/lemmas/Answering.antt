@@ -9,7 +9,7 @@ use Rattle.gix_glob.specs.Deciding.{AnswersAt, AnswersUnder, PairAnswers, path_m
 use Rattle.gix_glob.specs.EntryLists.{EntryList}
 use Rattle.gix_glob.specs.Lists.{Entry}
 use Rattle.gix_glob.specs.Stripping.{NothingLeft, RestOf}
-use Rattle.gix_glob.proofs.Rests.{Rest-front}
+use Rattle.gix_glob.proofs.lemmas.Rests.{Rest-front}
 
 -- ---- one rest, and one place in it
 

@@ -15,8 +15,8 @@ use Rattle.glob_lines.specs.Numbers.{Picks}
 use Rattle.glob_lines.specs.Plain.{PlainEntry}
 use Rattle.glob_lines.specs.Private.Answering.{WritesNumbersUnder}
 use Rattle.glob_lines.specs.Private.Growing.{Adds}
-use Rattle.gix_glob.proofs.Answering.{AnswersUnder-only, AnswersUnder-yes}
-use Rattle.glob_lines.proofs.MappingsLemmas.{IsListedUpTo, IsListedUpTo-more, IsListedUpTo-none, IsListedUpTo-skip}
+use Rattle.gix_glob.proofs.lemmas.Answering.{AnswersUnder-only, AnswersUnder-yes}
+use Rattle.glob_lines.proofs.lemmas.MappingsLemmas.{IsListedUpTo, IsListedUpTo-more, IsListedUpTo-none, IsListedUpTo-skip}
 
 -- ---- the places of the entries of which P holds
 

@@ -11,7 +11,7 @@ use Rattle.glob_matcher.specs.Bytes.{EndsInSlash, HasByte, slash}
 use Rattle.glob_patterns.specs.RepositoryPaths.{IsAfterLastSlash, IsBasenameStart}
 use Rattle.gix_glob.specs.Stripping.{folding_by, Rest, stripped_place}
 use Rattle.gix_glob.specs.Paths.{IsFolder}
-use Rattle.gix_glob.proofs.Rests.{Rest-front, length-folding_by}
+use Rattle.gix_glob.proofs.lemmas.Rests.{Rest-front, length-folding_by}
 
 -- a byte of the rest is a byte of the path, so much further on
 pub later_byte : (front rest : List ℕ) (i b : ℕ) → HasByte rest i b → HasByte (front ++ rest) (length front + i) b

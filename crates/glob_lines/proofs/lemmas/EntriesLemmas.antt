@@ -10,7 +10,7 @@ use Rattle.gix_glob.specs.Patterns.{Reads}
 use Rattle.gix_glob.specs.Readings.{Reading, reading_of}
 use Rattle.glob_lines.specs.Lines.{lines_of}
 use Rattle.glob_lines.specs.Entries.{Entries, EntriesFrom, HasNoEntry, IsEntryOf, LineContent, entries_from, entries_of, entry_of_content, entry_of_line}
-use Rattle.glob_lines.proofs.LinesLemmas.{Lines-lines_of, Lines-only}
+use Rattle.glob_lines.proofs.lemmas.LinesLemmas.{Lines-lines_of, Lines-only}
 
 -- the law `readings_are_these` of the crate below
 abbrev pub ReadingsAreThese : Type 0

@@ -2,7 +2,7 @@
 use Rattle.std.proofs.Common.{◌≡◌, List, ℕ, Some, sym, ap}
 use Rattle.glob_lines.specs.Entries.{LineContent}
 use Rattle.glob_lines.specs.Plain.{GivesItself, plain_content}
-use Rattle.glob_lines.proofs.EntriesLemmas.{Tells}
+use Rattle.glob_lines.proofs.lemmas.EntriesLemmas.{Tells}
 
 pub Tells-plain_content : Tells GivesItself plain_content
 Tells-plain_content = record {

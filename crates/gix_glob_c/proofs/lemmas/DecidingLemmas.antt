@@ -2,13 +2,13 @@
 use Rattle.std.proofs.Common.{◌≡◌, inr, ℕ, ◌<◌, Bool, List, [], ◌∷◌, get_or, map, option_map, Option, None, Some, refl, sym, ap, subst, ◌∙◌, arith}
 use Rattle.std.specs.Prelude.{slice_get}
 use Rattle.std.proofs.lemmas.Option.{same_Some, slice_get-get_or, slice_get-map, slice_get_within}
-use Rattle.gix_glob.specs.Deciding.{AnswersUnder, Decides, PairAnswers}
+use Rattle.gix_glob.specs.Deciding.{AnswersUnder, Decides, PairAnswers, path_mode}
 use Rattle.gix_glob.specs.Lists.{Entry}
 use Rattle.gix_glob.specs.EntryLists.{EntryList}
 use Rattle.gix_glob.specs.RepositoryPaths.{Answers, IsBasenameStart}
-use Rattle.gix_glob.proofs.Elements.{slice_get-map_within}
+use Rattle.gix_glob.proofs.lemmas.Elements.{slice_get-map_within}
 use Rattle.gix_glob_c.specs.declared.parsed.GlobPattern.{GlobPattern}
-use Rattle.gix_glob_c.specs.Parsed.{AnswersAt, AnswersPath, IsPathOfFile, LastAnswer, entry_of_parts, list_of}
+use Rattle.gix_glob_c.specs.Parsed.{PatternAnswersAt, AnswersPath, IsPathOfFile, LastAnswer, entry_of_parts, list_of}
 use Rattle.gix_glob_c.specs.Parts.{case_of}
 
 abbrev blank : GlobPattern
@@ -20,11 +20,11 @@ under_none pattern path is_dir fold is h = record {
   is = is;
   position = h.position;
   start = subst (λ rest. IsBasenameStart rest h.position) h.left h.basename;
-  answers = subst (λ rest. Answers pattern.text.now (entry_of_parts pattern).mode rest h.position (Some is_dir) (case_of fold) (record { 0 = 1 })) h.left h.answers;
+  answers = subst (λ rest. Answers pattern.text.now (entry_of_parts pattern).mode rest h.position (Some is_dir) (case_of fold) path_mode) h.left h.answers;
 }
 
 module _ (patterns : List GlobPattern) (path : List ℕ) (is_dir fold : Bool) where
-  pair_answers : (m : ℕ) → AnswersAt patterns path is_dir fold m → PairAnswers (list_of patterns ∷ []) path is_dir (case_of fold) 0 m
+  pair_answers : (m : ℕ) → PatternAnswersAt patterns path is_dir fold m → PairAnswers (list_of patterns ∷ []) path is_dir (case_of fold) 0 m
   pair_answers m h = record {
     list = list_of patterns;
     there = refl;
@@ -37,7 +37,7 @@ module _ (patterns : List GlobPattern) (path : List ℕ) (is_dir fold : Bool) wh
 
   -- an entry of the list is that of the pattern at its place
   at_entry : (m : ℕ) (entry : Entry (Unit {0})) → IsPathOfFile path → slice_get (map entry_of_parts patterns) m ≡ Some entry
-      → AnswersUnder None entry path is_dir (case_of fold) → AnswersAt patterns path is_dir fold m
+      → AnswersUnder None entry path is_dir (case_of fold) → PatternAnswersAt patterns path is_dir fold m
   at_entry m entry is there h =
       let inside = slice_get-map_within entry_of_parts patterns m entry there in
       let pattern : GlobPattern = get_or patterns m blank in
@@ -50,7 +50,7 @@ module _ (patterns : List GlobPattern) (path : List ℕ) (is_dir fold : Bool) wh
         answers = under_none pattern path is_dir fold is (subst (λ (e : Entry (Unit {0})). AnswersUnder None e path is_dir (case_of fold)) same h);
       }
 
-  at_pair : IsPathOfFile path → (i m : ℕ) → PairAnswers (list_of patterns ∷ []) path is_dir (case_of fold) i m → (i ≡ 0) × AnswersAt patterns path is_dir fold m
+  at_pair : IsPathOfFile path → (i m : ℕ) → PairAnswers (list_of patterns ∷ []) path is_dir (case_of fold) i m → (i ≡ 0) × PatternAnswersAt patterns path is_dir fold m
   at_pair is i m h =
       let inside : i < 1 = slice_get_within (list_of patterns ∷ []) i h.list h.there in
       let first : i ≡ 0 = omega arith in

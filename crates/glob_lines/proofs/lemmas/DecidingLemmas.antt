@@ -5,8 +5,8 @@ use Rattle.std.proofs.lemmas.Bool.{cases_eq}
 use Rattle.gix_glob.specs.declared.pattern.Case.{Case}
 use Rattle.gix_glob.specs.Deciding.{AnswersAt, Decides, PairAnswers}
 use Rattle.gix_glob.specs.EntryLists.{EntryList}
-use Rattle.gix_glob.proofs.Answering.{PairAnswers-only}
-use Rattle.gix_glob.proofs.LastNumbers.{NoneFrom, NoneFrom-all, NoneFrom-last, NoneFrom-less}
+use Rattle.gix_glob.proofs.lemmas.Answering.{PairAnswers-only}
+use Rattle.gix_glob.proofs.lemmas.LastNumbers.{NoneFrom, NoneFrom-all, NoneFrom-last, NoneFrom-less}
 
 -- ---- one list, from its end
 

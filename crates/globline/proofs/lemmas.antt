@@ -1,0 +1,2 @@
+pub mod IgnoreFilesLemmas
+pub mod WordsLemmas
