@@ -7,7 +7,7 @@ use super::engine::{Engine, Mark, Match};
 use super::needle::Needle;
 use std::sync::ledger::Ledger;
 
-/// How many bytes are looked at before the value's end is looked for again.
+/// How many places are tried before the value's end is tested again.
 const STRIDE: usize = 8;
 
 /// What a scan comes to.
@@ -22,9 +22,9 @@ pub enum Scan {
 }
 
 impl<'c, 'a, S: Ledger, L: Ledger, M: Match> Engine<'c, 'a, S, L, M> {
-    /// At a mark inside the value: looks at one byte, which may be a slash.
+    /// Tries the place of a mark inside the value, whose byte may be a slash.
     #[inline(always)]
-    fn glance<N: Needle>(&mut self, mark: Mark, needle: N) -> Scan
+    fn try_place<N: Needle>(&mut self, mark: Mark, needle: N) -> Scan
         requires { mark.at < length M.value }
         ensures scan { IsScan M.value (N.suits needle) mark result self.old self.new }
         ensures free { IsUnblocked result }
@@ -36,9 +36,9 @@ impl<'c, 'a, S: Ledger, L: Ledger, M: Match> Engine<'c, 'a, S, L, M> {
         Scan::Undecided(self.pass_inside(mark))
     }
 
-    /// Looks at bytes one after the other, slashes too, at most as many as the stride has, all of which the value holds.
+    /// Tries places one after the other, over slashes too, at most as many as the stride has, all of which the value holds.
     #[inline(always)]
-    fn glance_on<N: Needle>(&mut self, mark: Mark, needle: N) -> Scan
+    fn try_places<N: Needle>(&mut self, mark: Mark, needle: N) -> Scan
         requires { mark.at + STRIDE ≤ length M.value }
         ensures scan { IsScan M.value (N.suits needle) mark result self.old self.new }
         ensures free { IsUnblocked result }
@@ -46,7 +46,7 @@ impl<'c, 'a, S: Ledger, L: Ledger, M: Match> Engine<'c, 'a, S, L, M> {
     {
         let mut reached = mark;
         'stride: for _ in 0..STRIDE {
-            match self.glance(reached, needle) {
+            match self.try_place(reached, needle) {
                 Scan::Undecided(moved) => reached = moved,
                 ended => return ended,
             }
@@ -65,9 +65,9 @@ impl<'c, 'a, S: Ledger, L: Ledger, M: Match> Engine<'c, 'a, S, L, M> {
         let mut reached = mark;
         'bytes: while self.has_left(reached, 1) {
             let scan = if self.has_left(reached, STRIDE) {
-                self.glance_on(reached, needle)
+                self.try_places(reached, needle)
             } else {
-                self.glance(reached, needle)
+                self.try_place(reached, needle)
             };
             match scan {
                 Scan::Undecided(moved) => reached = moved,
@@ -77,9 +77,9 @@ impl<'c, 'a, S: Ledger, L: Ledger, M: Match> Engine<'c, 'a, S, L, M> {
         Scan::Undecided(reached)
     }
 
-    /// At a mark inside the value: looks at one byte.
+    /// Tries the place of a mark inside the value, which no slash passes.
     #[inline(always)]
-    fn look<N: Needle>(&mut self, mark: Mark, needle: N) -> Scan
+    fn try_place_within<N: Needle>(&mut self, mark: Mark, needle: N) -> Scan
         requires { mark.at < length M.value }
         ensures scan { IsScan M.value (N.suits needle) mark result self.old self.new }
         ensures bare { NoSlash M.value mark.at (reached_by result).at }
@@ -94,9 +94,9 @@ impl<'c, 'a, S: Ledger, L: Ledger, M: Match> Engine<'c, 'a, S, L, M> {
         }
     }
 
-    /// Looks at bytes one after the other, at most as many as the stride has, all of which the value holds.
+    /// Tries places one after the other, within the component, at most as many as the stride has, all of which the value holds.
     #[inline(always)]
-    fn look_on<N: Needle>(&mut self, mark: Mark, needle: N) -> Scan
+    fn try_places_within<N: Needle>(&mut self, mark: Mark, needle: N) -> Scan
         requires { mark.at + STRIDE ≤ length M.value }
         ensures scan { IsScan M.value (N.suits needle) mark result self.old self.new }
         ensures bare { NoSlash M.value mark.at (reached_by result).at }
@@ -104,7 +104,7 @@ impl<'c, 'a, S: Ledger, L: Ledger, M: Match> Engine<'c, 'a, S, L, M> {
     {
         let mut reached = mark;
         'stride: for _ in 0..STRIDE {
-            match self.look(reached, needle) {
+            match self.try_place_within(reached, needle) {
                 Scan::Undecided(moved) => reached = moved,
                 ended => return ended,
             }
@@ -123,9 +123,9 @@ impl<'c, 'a, S: Ledger, L: Ledger, M: Match> Engine<'c, 'a, S, L, M> {
         let mut reached = mark;
         'component: while self.has_left(reached, 1) {
             let scan = if self.has_left(reached, STRIDE) {
-                self.look_on(reached, needle)
+                self.try_places_within(reached, needle)
             } else {
-                self.look(reached, needle)
+                self.try_place_within(reached, needle)
             };
             match scan {
                 Scan::Undecided(moved) => reached = moved,

@@ -1,7 +1,7 @@
 use Rattle.std.proofs.Common.{arith}
 use Rattle.glob_matcher.proofs.lemmas.two_marks.Prices.{Takes-on}
 use Rattle.glob_matcher.proofs.lemmas.two_marks.Scans.{passed_on, scan_on}
-use Rattle.glob_matcher.proofs.wildmatch.engine.Engine.glance_on.Goals as goal
+use Rattle.glob_matcher.proofs.wildmatch.engine.Engine.try_places.Goals as goal
 
 pub stride-preserved : goal.stride-preserved
 stride-preserved g c =
@@ -15,4 +15,4 @@ stride-preserved g c =
     }
 
 pub returns-in_default-clause-scan : goal.returns-in_default-clause-scan
-returns-in_default-clause-scan g c = scan_on c.stride.invariant.passed c.stride.invariant.count c.glance.ensures.scan
+returns-in_default-clause-scan g c = scan_on c.stride.invariant.passed c.stride.invariant.count c.try_place.ensures.scan

@@ -2,7 +2,7 @@
 use Rattle.std.proofs.Common.{◌≡◌, ◌+◌, ◌-◌, ◌*◌}
 use Rattle.glob_matcher.specs.Private.Scans.{HasPassed}
 use Rattle.glob_matcher.specs.Private.Takes.{Takes}
-use Rattle.glob_matcher.proofs.wildmatch.engine.Engine.glance_on.Given as goal
+use Rattle.glob_matcher.proofs.wildmatch.engine.Engine.try_places.Given as goal
 
 abbrev pub invariant-stride : goal.invariant-stride
 invariant-stride g l = record {

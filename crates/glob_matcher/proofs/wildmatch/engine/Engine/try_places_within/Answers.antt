@@ -2,7 +2,7 @@ use Rattle.std.proofs.Common.{arith}
 use Rattle.glob_matcher.proofs.lemmas.cutting.SplitLemmas.{no_slash_join}
 use Rattle.glob_matcher.proofs.lemmas.two_marks.Prices.{Takes-on}
 use Rattle.glob_matcher.proofs.lemmas.two_marks.Scans.{passed_on, scan_on}
-use Rattle.glob_matcher.proofs.wildmatch.engine.Engine.look_on.Goals as goal
+use Rattle.glob_matcher.proofs.wildmatch.engine.Engine.try_places_within.Goals as goal
 
 pub stride-preserved : goal.stride-preserved
 stride-preserved g c =
@@ -18,4 +18,4 @@ stride-preserved g c =
     }
 
 pub returns-in_default-clause-scan : goal.returns-in_default-clause-scan
-returns-in_default-clause-scan g c = scan_on c.stride.invariant.passed c.stride.invariant.count c.look.ensures.scan
+returns-in_default-clause-scan g c = scan_on c.stride.invariant.passed c.stride.invariant.count c.try_place_within.ensures.scan
