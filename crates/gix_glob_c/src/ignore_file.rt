@@ -16,8 +16,9 @@ pub struct GlobLines<'a> {
     pub number: usize,
 }
 
-/// Takes the next line off an ignore file, by the rules of [`next_ignore_line`], and reads its pattern. `false` is answered
-/// where no line is left. A line without a pattern leaves `out` as it was, and `has_pattern` false.
+/// Takes the next line off an ignore file, by the rules of [`next_ignore_line`], and reads its pattern. A byte order mark is
+/// passed over before the first line, and `lines.number` becomes the line's. `false` is answered where no line is left. A
+/// line without a pattern leaves `out` as it was, and `has_pattern` false.
 #[unsafe(no_mangle)]
 pub extern "C" fn gix_glob_parse_ignore_line<'a>(
     lines: &mut GlobLines<'a>,

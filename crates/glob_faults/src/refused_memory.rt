@@ -1,4 +1,4 @@
-//! Calls that want memory: each refuses for want of it, or gives the answer of ample memory.
+//! Calls that want memory: each tells that it was refused, or answers as with ample memory.
 //!
 //! `.ci/refuse-memory` runs each of these tests with each of its allocations refused in turn. The test then ends with the
 //! fault of memory, and with no other; what the call leaves is looked at first. Here, with ample memory, each one answers.

@@ -1,4 +1,4 @@
-//! Lists of patterns with an index: which of them decides about a path.
+//! Lists of patterns with an index: which of their patterns match a path, and which one decides.
 ghost use Rattle.std.specs.Prelude.{◌≡◌, ◌↔◌, ◌+◌, ◌<◌, IfOk, IsTrue, OnOk, length, map};
 ghost use Rattle.gix_glob.specs.Deciding.{BasesAreFolders, Decides, PairAnswers};
 ghost use Rattle.gix_glob.specs.EntryLists.{entry_list_of};
@@ -45,7 +45,7 @@ impl<'a, T: search::Pattern> ListIndex<'a, T> {
     /// The index of the lists. It takes 24 bytes for each pattern, and some 2 KB once.
     ///
     /// # Errors
-    /// Where memory was refused, or where there are 2^32 - 1 patterns or more.
+    /// Where memory was refused, or where there are 2^32 patterns or more, or more than 2^32 lists.
     pub fn new(
         alloc: Global,
         lists: &'a [List<T>],

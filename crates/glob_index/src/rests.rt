@@ -11,8 +11,11 @@ use gix_glob::pattern::Case;
 use gix_glob::search::pattern::List;
 use gix_glob::{laws, search};
 
-/// What is left of a path under the base of the list, and where the last part of it begins. `position` is where that of the
-/// path begins.
+/// What is left of a path under the base of the list, and the place after the last slash of that, counted in bytes from 0.
+/// `None` where the path doesn't begin with the base.
+///
+/// The path has no leading slash, no two slashes in a row, and isn't empty. `position` is what `basename_start` answers for
+/// it. The base of the list is missing, or empty, or ends in a slash.
 pub fn rest_of<'a, T: search::Pattern>(
     list: &List<T>,
     path: &'a [u8],

@@ -47,7 +47,7 @@ impl Table {
         })
     }
 
-    /// Adds a row after the others. More than 2^32 - 2 of them are refused as memory is.
+    /// Adds a row after the others. More than 2^32 - 1 of them are refused as memory is.
     pub(crate) fn push(&mut self, row: Row) -> Result<(), AllocError>
         requires class { row.class ≤ always }
         requires chained { IsChained (classes_of self.old.rows.items) (links_of self.old.rows.items) self.old.heads }

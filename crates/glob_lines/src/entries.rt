@@ -1,4 +1,4 @@
-//! Mappings of numbered lines, one line after the other.
+//! What the parsers of lines share: a text is read as a pattern, and put behind the others with its value and its number.
 ghost use Rattle.std.specs.Prelude.{◌≡◌, ◌++◌, true, map, option_map, OnOk};
 ghost use Rattle.std.specs.Option.{option_to_list};
 ghost use Rattle.gix_glob.specs.Lists.{entry_of, entry_with};

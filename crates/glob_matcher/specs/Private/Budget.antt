@@ -1,5 +1,5 @@
 -- What the functions of the engine with two marks say of its budget to one another: how much is left at a state, of its steps
--- as of its looks. After the look at the last byte, which is one step, each pair of a token and a place of the value is tested
+-- as of its looks. After the test of the last byte, which is one step, each pair of a token and a place of the value is tested
 -- at most once, since a star between two slashes of the pattern looks at one component of the value. Nothing public cites it.
 use Rattle.std.specs.Prelude.{◌≡◌, ℕ, ◌+◌, ◌*◌, ◌<◌, ◌≤◌, List, length, Option, Some, None}
 use Rattle.glob_matcher.specs.declared.wildmatch.mode.Mode.{Mode}
@@ -105,7 +105,7 @@ CountsOutcome turn.NoMatch before after = Unit {0}
 CountsOutcome (turn.Miss state) before after = before < after
 CountsOutcome (turn.On next) before after = before < after
 
--- What a search takes, for texts of so many bytes: with a look at the last byte, which is one step and two looks, it is within
+-- What a search takes, for texts of so many bytes: with the test of the last byte, which is one step and two looks, it is within
 -- the limits.
 pub record IsWithinLimits (pattern value : ℕ) (before after : Counts) : Type 0 where
   pub steps : after.steps + 1 ≤ before.steps + step_limit pattern value

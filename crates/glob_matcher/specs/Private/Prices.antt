@@ -44,7 +44,7 @@ unfoldable pub trial : Measure → List SizedToken → ℕ
 trial measure [] = 1
 trial measure (x ∷ xs) = test measure x
 
--- where the token after one begins its look
+-- where the tests of the token after one begin
 unfoldable pub onward : Mode → List ℕ → Bool → ℕ → ℕ
 onward mode v apart k = if apart then next_component mode v k else k
 
@@ -57,7 +57,7 @@ unfoldable pub cost : Measure → Mode → List ℕ → List SizedToken → ℕ 
 cost measure mode v [] k = left v k
 cost measure mode v (x ∷ xs) k = each measure x * left v k + cost measure mode v xs (onward mode v (separates mode x.token) k)
 
--- the place where the next look at these tokens may begin
+-- the place where the next tests of these tokens may begin
 unfoldable pub hop : Mode → List ℕ → List SizedToken → ℕ → ℕ
 hop mode v [] k = next_component mode v k
 hop mode v (x ∷ xs) k = if separates mode x.token then k + 1 else next_component mode v k

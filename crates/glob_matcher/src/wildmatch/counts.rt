@@ -83,7 +83,7 @@ impl<S: Ledger, L: Ledger> Counts<S, L> {
         self.steps.add(1);
     }
 
-    /// Counts one step that reads a byte.
+    /// Counts one step that reads a byte, or finds that the value has none there.
     #[inline(always)]
     pub(super) fn step_with_look(&mut self)
         ensures { TakesExactly self.old self.new 1 1 }
@@ -100,7 +100,7 @@ impl<S: Ledger, L: Ledger> Counts<S, L> {
         self.looks.add(1);
     }
 
-    /// Counts looks at so many bytes. A caller who decides a match without the matcher counts so what it reads.
+    /// Counts looks at so many bytes. A caller that decides a match without the matcher counts in this way what it reads.
     #[inline(always)]
     pub fn looks(&mut self, count: usize)
         ensures steps { self.new.steps ≡ self.old.steps }

@@ -3,7 +3,7 @@
 //!
 //! The bytes of both texts are read by the methods of this module alone: each counts a look for a byte that it reads and, for
 //! one of the value, a step, which for a set comes after the look, if a set begins at all. So no other module can read a byte
-//! without a count, or count in another place. `has_left` looks at the length alone, and counts none.
+//! without a count, or count in another place. `has_left` reads no byte, and counts nothing.
 ghost use Rattle.std.specs.Prelude.{◌≡◌, ◌≢◌, ◌↔◌, ◌⊎◌, ℕ, ◌+◌, ◌-◌, ◌^◌, ◌<◌, ◌≤◌, IsTrue, IfSome, IfNone, MatchOption, length, slice_index, slice_range, take};
 ghost use Rattle.glob_matcher.specs.declared.wildmatch.items.Class.{Class};
 ghost use Rattle.glob_matcher.specs.Bytes.{HasByte, folds, is_path, open_bracket, slash};
@@ -256,7 +256,7 @@ impl<'c, 'a, S: Ledger, L: Ledger, M: Match> Engine<'c, 'a, S, L, M> {
     }
 
     /// Reads the set whose bracket stands at a place of the pattern by an engine of its own, so that this one may stay in
-    /// registers, and the reader of sets has one caller: the place after it, and whether it holds a byte. `None` where no set
+    /// registers, and the reader of sets has one copy: the place after it, and whether it holds a byte. `None` where no set
     /// begins.
     #[inline(always)]
     pub fn set_apart(&mut self, place: usize, byte: u8) -> Option<(usize, bool)>

@@ -74,6 +74,7 @@ impl Needle for End {
 pub fn stands_for_itself(byte: u8) -> bool
     ensures { IsTrue result ↔ StandsForItself byte }
 {
+    // apart: with `[` and `\` side by side in it, the test would be one of a range, and each way out would copy the state
     !(matches!(byte, b'*' | b'?' | b'[') || byte == b'\\')
 }
 

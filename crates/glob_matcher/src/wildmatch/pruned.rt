@@ -14,7 +14,7 @@ use super::slices::token_at;
 use super::tokens::TokenKind;
 use memchr::{memchr, memchr2};
 
-/// How many star tokens an attempt may stand below.
+/// The depth at which an attempt gives up: so many star tokens it would stand below.
 const MAX_DEPTH: usize = 64;
 
 /// What one attempt found out: whether the value matches here, and whether it may match elsewhere.

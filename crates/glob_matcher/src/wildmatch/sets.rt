@@ -333,7 +333,7 @@ impl<'c, 'a, S: Ledger, L: Ledger, M: Match> Engine<'c, 'a, S, L, M> {
     }
 
     /// Whether the set whose bracket stands at this place is negated, and where its items begin.
-    fn opened(&mut self, place: usize) -> (bool, Cursor)
+    fn set_opening(&mut self, place: usize) -> (bool, Cursor)
         requires { HasByte M.pattern place open_bracket }
         ensures sign { IsTrue result.0 ↔ IsSign M.pattern (place + 1) }
         ensures begin { result.1 ≡ at_first (first_item result.0 place) }
@@ -355,7 +355,7 @@ impl<'c, 'a, S: Ledger, L: Ledger, M: Match> Engine<'c, 'a, S, L, M> {
         ensures count { LookedOver 4 self.old self.new place (read_end M.pattern result) }
     {
         let mode = self.mode();
-        let (is_negated, first) = self.opened(place);
+        let (is_negated, first) = self.set_opening(place);
         let mut is_held = false;
         let mut cursor = first;
         'items: loop {

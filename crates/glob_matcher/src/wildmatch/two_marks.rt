@@ -6,7 +6,7 @@
 //!
 //! Its turns are in `advance`, the ways back to a mark in `backtrack`, and the scans from one in `scan`. All of them read the
 //! two texts through `engine`.
-ghost use Rattle.std.specs.Prelude.{◌≢◌, ◌↔◌, ◌+◌, ◌<◌, ◌≤◌, true, IsTrue, IfSome, length};
+ghost use Rattle.std.specs.Prelude.{◌≢◌, ◌↔◌, ◌+◌, ◌≤◌, true, IsTrue, IfSome, length};
 ghost use Rattle.glob_matcher.specs.Bytes.{close_bracket, question_mark, slash, star};
 ghost use Rattle.glob_matcher.specs.Matching.{Splits};
 ghost use Rattle.glob_matcher.specs.Private.Takes.{Takes};

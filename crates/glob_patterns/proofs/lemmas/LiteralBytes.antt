@@ -7,7 +7,7 @@ use Rattle.glob_patterns.specs.Folding.{HasAlike}
 use Rattle.glob_patterns.specs.Patterns.{IsUnescapedUpTo, is_joining}
 use Rattle.glob_matcher.specs.Tokens.{Token, Byte, Any, OneOf, Free, Local, Dirs, Nothing, TokenAt, From}
 use Rattle.glob_matcher.specs.Matching.{Splits, SplitsFrom}
-use Rattle.glob_matcher.proofs.lemmas.cutting.CutLemmas.{step_out, one_out}
+use Rattle.glob_matcher.proofs.lemmas.cutting.CutLemmas.{token_out, one_out}
 use Rattle.glob_matcher.proofs.lemmas.reading.Existence.{TokenAt-past}
 
 module _ (mode : Mode) (p v : List ℕ) (i b : ℕ) (clean : IsUnescapedUpTo p i) (h : HasByte p i b) (plain : is_joining b ≡ false) where
@@ -44,7 +44,7 @@ module _ (mode : Mode) (p v : List ℕ) (i b : ℕ) (clean : IsUnescapedUpTo p i
   unfolding Onward
   from_token j k [] read low inside later all = let within = h.inside in absurd (omega (arith, read))
   from_token j k (t ∷ ts) read low inside later all =
-      let out = step_out mode p v j read.0 k t read.1 inside all in
+      let out = token_out mode p v j read.0 k t read.1 inside all in
       let past : j < read.0 = TokenAt-past mode p j t read.0 read.1 in
       elim (cases_lt i read.0) [
         | inl covered ↦ covers j read.0 k t low covered inside read.1 all

@@ -11,7 +11,7 @@ use Rattle.glob_patterns.specs.Folding.{EndsAlike}
 use Rattle.glob_patterns.specs.Patterns.{is_joining}
 use Rattle.glob_matcher.specs.Tokens.{Token, Byte, Any, OneOf, Free, Local, Dirs, Nothing, TokenAt, From}
 use Rattle.glob_matcher.specs.Matching.{Splits, SplitsFrom}
-use Rattle.glob_matcher.proofs.lemmas.cutting.CutLemmas.{step_out, one_out, end_out, nothing_out}
+use Rattle.glob_matcher.proofs.lemmas.cutting.CutLemmas.{token_out, one_out, end_out, nothing_out}
 use Rattle.glob_matcher.proofs.lemmas.reading.Existence.{items_close, TokenAt-past}
 use Rattle.glob_patterns.proofs.lemmas.LiteralLemmas.{IsLiteral, IsCopied, literal_out, AreAlike-from}
 
@@ -89,7 +89,7 @@ from_before_tail : (mode : Mode) (p v : List ℕ) (n i k : ℕ) (ts : List Token
 unfolding Later
 from_before_tail mode p v n i k [] read tail low inside later all = let high = tail.inside in absurd (omega (arith, read))
 from_before_tail mode p v n i k (t ∷ ts) read tail low inside later all =
-    let out = step_out mode p v i read.0 k t read.1 inside all in
+    let out = token_out mode p v i read.0 k t read.1 inside all in
     let past : i < read.0 = TokenAt-past mode p i t read.0 read.1 in
     elim (cases_lt n read.0) [
       | inr within ↦ later read.0 out.0 past within out.2.high out.4

@@ -12,7 +12,7 @@ impl Clone for Pattern {
 
     ghost is_clone = { SamePattern };
 
-    /// The same pattern, in memory of its own.
+    /// The same pattern, in memory of its own. The error is want of memory for the text.
     fn clone(&self) -> Result<Pattern, AllocError> {
         let text = self.text.clone()?;
         Ok(Pattern {

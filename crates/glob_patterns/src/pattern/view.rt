@@ -126,7 +126,8 @@ impl<'a> PatternView<'a> {
         wildmatch::marked(self.text, value, mode, counts)
     }
 
-    /// Whether a path of a repository matches, as [`super::Pattern::matches_repo_relative_path`] answers.
+    /// Whether a path of a repository matches, as [`super::Pattern::matches_repo_relative_path`] answers, and
+    /// with its conditions on the path and the place.
     pub fn matches_repo_relative_path(
         self,
         path: &[u8],

@@ -94,17 +94,17 @@ one_is_lang mode Dirs piece w = absurd w.2
 one_is_lang mode Nothing piece w = absurd w.2
 
 -- What the first token takes, and what the rest splits.
-pub step_in : (mode : Mode) (p v : List ℕ) (i j k e : ℕ) (t : Token) (piece : List ℕ) → TokenAt mode p i t j
+pub token_in : (mode : Mode) (p v : List ℕ) (i j k e : ℕ) (t : Token) (piece : List ℕ) → TokenAt mode p i t j
     → IsPiece v k e piece → Lang mode t piece → SplitsFrom v e p j mode → SplitsFrom v k p i mode
-step_in mode p v i j k e t piece here x w later = record {
+token_in mode p v i j k e t piece here x w later = record {
   tokens = t ∷ later.tokens;
   read = (j, here, later.read);
   cut = (piece, drop e v, x.joined, w, later.cut);
 }
 
-pub step_out : (mode : Mode) (p v : List ℕ) (i j k : ℕ) (t : Token) → TokenAt mode p i t j → k ≤ length v
+pub token_out : (mode : Mode) (p v : List ℕ) (i j k : ℕ) (t : Token) → TokenAt mode p i t j → k ≤ length v
     → SplitsFrom v k p i mode → (e : ℕ) × (piece : List ℕ) × IsPiece v k e piece × Lang mode t piece × SplitsFrom v e p j mode
-step_out mode p v i j k t here inside all = out all.tokens all.read all.cut where
+token_out mode p v i j k t here inside all = out all.tokens all.read all.cut where
   out : (ts : List Token) → From mode p i ts → IsCut mode ts (drop k v)
       → (e : ℕ) × (piece : List ℕ) × IsPiece v k e piece × Lang mode t piece × SplitsFrom v e p j mode
   out [] read cut = let here_inside = TokenAt-inside mode p i t j here in absurd (omega arith)
@@ -168,12 +168,12 @@ one_out mode p v i j k t one here all = out all.tokens all.read all.cut where
 pub free_in : (mode : Mode) (p v : List ℕ) (i j k e : ℕ) → TokenAt mode p i Free j → k ≤ e → e ≤ length v
     → SplitsFrom v e p j mode → SplitsFrom v k p i mode
 free_in mode p v i j k e here low high later =
-    step_in mode p v i j k e Free (take (e - k) (drop k v)) here (stretch_is_piece v k e low high) tt later
+    token_in mode p v i j k e Free (take (e - k) (drop k v)) here (stretch_is_piece v k e low high) tt later
 
 pub free_out : (mode : Mode) (p v : List ℕ) (i j k : ℕ) → TokenAt mode p i Free j → k ≤ length v
     → SplitsFrom v k p i mode → (e : ℕ) × (k ≤ e) × (e ≤ length v) × SplitsFrom v e p j mode
 free_out mode p v i j k here inside all =
-    let out = step_out mode p v i j k Free here inside all in (out.0, out.2.low, out.2.high, out.4)
+    let out = token_out mode p v i j k Free here inside all in (out.0, out.2.low, out.2.high, out.4)
 
 -- A run within a component takes a stretch without slash.
 pub local_in : (mode : Mode) (p v : List ℕ) (i j k e : ℕ) → TokenAt mode p i Local j → k ≤ e → e ≤ length v → NoSlash v k e
@@ -185,12 +185,12 @@ local_in mode p v i j k e here low high none later =
           let long = x.long in
           rw (piece_at v k e (take (e - k) (drop k v)) x m below) (none.at (k + m) (omega arith) (omega arith));
     } in
-    step_in mode p v i j k e Local (take (e - k) (drop k v)) here x bare later
+    token_in mode p v i j k e Local (take (e - k) (drop k v)) here x bare later
 
 pub local_out : (mode : Mode) (p v : List ℕ) (i j k : ℕ) → TokenAt mode p i Local j → k ≤ length v
     → SplitsFrom v k p i mode → (e : ℕ) × (k ≤ e) × (e ≤ length v) × NoSlash v k e × SplitsFrom v e p j mode
 local_out mode p v i j k here inside all =
-    let out = step_out mode p v i j k Local here inside all in
+    let out = token_out mode p v i j k Local here inside all in
     let x : IsPiece v k out.0 out.1 = out.2 in
     let none : NoSlash v k out.0 = record {
       at = λ m low below.
@@ -241,21 +241,21 @@ slash_before v k e piece x (inr ends) =
 pub dirs_in_empty : (mode : Mode) (p v : List ℕ) (i j k : ℕ) → TokenAt mode p i Dirs j → k ≤ length v
     → SplitsFrom v k p j mode → SplitsFrom v k p i mode
 dirs_in_empty mode p v i j k here inside later =
-    step_in mode p v i j k k Dirs [] here (record { low = omega arith; high = inside; joined = refl; long = omega arith }) (inl refl) later
+    token_in mode p v i j k k Dirs [] here (record { low = omega arith; high = inside; joined = refl; long = omega arith }) (inl refl) later
 
 pub dirs_in : (mode : Mode) (p v : List ℕ) (i j k e : ℕ) → TokenAt mode p i Dirs j → AfterSlash v k e
     → SplitsFrom v e p j mode → SplitsFrom v k p i mode
 dirs_in mode p v i j k e here after later =
     let x = stretch_is_piece v k e (omega (arith, after.past)) after.inside in
-    step_in mode p v i j k e Dirs (take (e - k) (drop k v)) here x (inr (ends_in_slash v k e after)) later
+    token_in mode p v i j k e Dirs (take (e - k) (drop k v)) here x (inr (ends_in_slash v k e after)) later
 
 pub dirs_out : (mode : Mode) (p v : List ℕ) (i j k : ℕ) → TokenAt mode p i Dirs j → k ≤ length v
     → SplitsFrom v k p i mode → (e : ℕ) × ((e ≡ k) ⊎ AfterSlash v k e) × SplitsFrom v e p j mode
 dirs_out mode p v i j k here inside all =
-    let out = step_out mode p v i j k Dirs here inside all in
+    let out = token_out mode p v i j k Dirs here inside all in
     (out.0, slash_before v k out.0 out.1 out.2 out.3, out.4)
 
 -- What matches nothing splits nothing.
 pub nothing_out : (mode : Mode) (p v : List ℕ) (i j k : ℕ) → TokenAt mode p i Nothing j → k ≤ length v
     → SplitsFrom v k p i mode → ⊥
-nothing_out mode p v i j k here inside all = (step_out mode p v i j k Nothing here inside all).3
+nothing_out mode p v i j k here inside all = (token_out mode p v i j k Nothing here inside all).3

@@ -7,7 +7,7 @@ use Rattle.glob_matcher.specs.Bytes.{HasByte, close_bracket, is_path, question_m
 use Rattle.glob_matcher.specs.Tokens.{Token, Byte, Any, OneOf, Free, Local, Dirs, Nothing, TokenAt, From, IsRun}
 use Rattle.glob_matcher.specs.Matching.{Splits, SplitsFrom}
 use Rattle.glob_matcher.specs.Private.Reader.{Fits}
-use Rattle.glob_matcher.proofs.lemmas.cutting.CutLemmas.{step_out, one_out, end_in, end_out, free_in, nothing_out}
+use Rattle.glob_matcher.proofs.lemmas.cutting.CutLemmas.{token_out, one_out, end_in, end_out, free_in, nothing_out}
 use Rattle.glob_matcher.proofs.lemmas.reading.Existence.{items_close, From-short, TokenAt-past}
 
 -- a byte that ends no star token, question mark or set
@@ -59,7 +59,7 @@ module _ (mode : Mode) (p v : List ℕ) (alone : IsAlone (last p)) where
       → SplitsFrom v k p i mode → EndsInLast mode p v
   ends_later i k [] read low inside later all = absurd (omega (arith, read))
   ends_later i k (t ∷ ts) read low inside later all =
-      let out = step_out mode p v i read.0 k t read.1 inside all in
+      let out = token_out mode p v i read.0 k t read.1 inside all in
       let past : i < read.0 = TokenAt-past mode p i t read.0 read.1 in
       let short : read.0 + length ts ≤ length p = From-short mode p read.0 ts read.2 in
       elim (cases_lt read.0 (length p)) [

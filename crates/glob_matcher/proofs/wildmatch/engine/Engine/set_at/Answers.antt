@@ -7,7 +7,7 @@ use Rattle.glob_matcher.proofs.wildmatch.engine.Engine.set_at.Goals as goal
 
 pub items-init : goal.items-init
 items-init g c =
-    let begin = c.opened-is_negated.ensures in
+    let begin = c.set_opening-is_negated.ensures in
     reading_first {test = item_holds c.mode-mode.result c.args.byte} begin.begin begin.inside.0 begin.inside.1 begin.count
 
 pub items-preserved : goal.items-preserved
@@ -23,7 +23,7 @@ items-smaller g c =
 
 pub returns-in-Close-clause-read : goal.returns-in-Close-clause-read
 returns-in-Close-clause-read g c =
-    let begin = c.opened-is_negated in
+    let begin = c.set_opening-is_negated in
     let so_far = c.items.invariant in
     let entry = c.in-Close.ensures.entry in
     let all =
@@ -53,4 +53,4 @@ returns-in-Broken-clause-count g c =
 
 pub returns-in-Broken-clause-read : goal.returns-in-Broken-clause-read
 returns-in-Broken-clause-read g c =
-    set_broken c.args.place c.opened-is_negated.result.0 c.opened-is_negated.ensures.sign c.items.invariant.underway c.in-Broken.ensures.entry
+    set_broken c.args.place c.set_opening-is_negated.result.0 c.set_opening-is_negated.ensures.sign c.items.invariant.underway c.in-Broken.ensures.entry
