@@ -45,8 +45,8 @@ impl<L: Ledger> Count<L> {
 /// How many steps and how many looks were taken, each in a ledger of its own.
 ///
 /// A step is one token, or the pattern's end, tested at one place of the value; one mark set; or one mark moved by one byte
-/// or found unable to move. A look is one byte of the pattern or of the value that is read. The bounds are in
-/// `docs/ENGINES.md`.
+/// or found unable to move. A look reads at most one byte of the pattern or of the value: it is counted also where the
+/// value has none there. The bounds are in `docs/ENGINES.md`.
 #[derive(Drop)]
 pub struct Counts<S: Ledger, L: Ledger> {
     steps: Count<S>,

@@ -1,9 +1,9 @@
 //! One match as the engine with two marks sees it: its pattern, its value, its mode and the counts of what it takes, as one
 //! value.
 //!
-//! The bytes of both texts are read by the methods of this module alone: each counts a look for a byte that it reads and, for
-//! one of the value, a step, which for a set comes after the look, if a set begins at all. So no other module can read a byte
-//! without a count, or count in another place. `has_left` reads no byte, and counts nothing.
+//! The bytes of both texts are read by the methods of this module alone: each counts a look where it may read a byte and, for
+//! one of the value, a step. So no other module can read a byte without a count, or count in another place. `has_left` reads
+//! no byte, and counts nothing.
 ghost use Rattle.std.specs.Prelude.{◌≡◌, ◌≢◌, ◌↔◌, ◌⊎◌, ℕ, ◌+◌, ◌-◌, ◌^◌, ◌<◌, ◌≤◌, IsTrue, IfSome, IfNone, MatchOption, length, slice_index, slice_range, take};
 ghost use Rattle.glob_matcher.specs.declared.wildmatch.items.Class.{Class};
 ghost use Rattle.glob_matcher.specs.Bytes.{HasByte, folds, is_path, open_bracket, slash};
@@ -268,7 +268,8 @@ impl<'c, 'a, S: Ledger, L: Ledger, M: Match> Engine<'c, 'a, S, L, M> {
     }
 
     /// Tests the set whose bracket stands at a place of the pattern: the place after it, and whether it fits the byte of the
-    /// value. Where the value ends, any byte will do. `None` where no set begins, which is no step.
+    /// value. Where the value ends, any byte will do. `None` where no set begins, which is no step: the value is looked at
+    /// first, and the step is counted once a set is known to begin.
     #[inline(always)]
     pub fn fits_set(&mut self, place: usize, at: usize) -> Option<(usize, bool)>
         requires { HasByte M.pattern place open_bracket }

@@ -10,7 +10,7 @@ ghost use Rattle.std.specs.Prelude.{◌≢◌, ◌↔◌, ◌+◌, ◌≤◌, tr
 ghost use Rattle.glob_matcher.specs.Bytes.{close_bracket, question_mark, slash, star};
 ghost use Rattle.glob_matcher.specs.Matching.{Splits};
 ghost use Rattle.glob_matcher.specs.Private.Takes.{Takes};
-ghost use Rattle.glob_matcher.specs.Steps.{look_limit, step_bound, step_limit};
+ghost use Rattle.glob_matcher.specs.Steps.{look_limit, step_limit};
 ghost use Rattle.glob_matcher.specs.Private.Budget.{IsWithinLimits};
 
 use super::counts::Counts;
@@ -97,10 +97,9 @@ impl<'c, 'a, S: Ledger, L: Ledger, M: Match> Engine<'c, 'a, S, L, M> {
 
 /// Whether `pattern` matches the whole of `value`, as `wildmatch` answers it, with its steps and looks counted.
 ///
-/// The count of steps rises by at most `2 * (p + 1) * (v + 1)` in plain mode, and by at most `2 * (p + 1) * (v + 1) * (v + 1)`
-/// in path mode, `p` and `v` being the lengths in bytes of pattern and value; and in fact by at most the first in both. The
-/// count of looks rises by at most `8 * (p + 1) * (v + 1)`. It takes no memory, and no recursion. The rules are in
-/// `docs/MATCHING.md`.
+/// The count of steps rises by at most `2 * (p + 1) * (v + 1)` in both modes, `p` and `v` being the lengths in bytes of pattern
+/// and value, and the count of looks by at most `8 * (p + 1) * (v + 1)`. It takes no memory, and no recursion. The rules are
+/// in `docs/MATCHING.md`.
 pub fn marked<S: Ledger, L: Ledger>(
     pattern: &[u8],
     value: &[u8],
@@ -108,7 +107,6 @@ pub fn marked<S: Ledger, L: Ledger>(
     counts: &mut Counts<S, L>,
 ) -> bool
     ensures exact { IsTrue result ↔ Splits value.now pattern.now mode }
-    ensures bound { counts.new.steps ≤ counts.old.steps + step_bound mode (length pattern.now) (length value.now) }
     ensures limit { counts.new.steps ≤ counts.old.steps + step_limit (length pattern.now) (length value.now) }
     ensures looks { counts.new.looks ≤ counts.old.looks + look_limit (length pattern.now) (length value.now) }
 {
