@@ -378,7 +378,7 @@ impl<'c, 'a, S: Ledger, L: Ledger, M: Match> Engine<'c, 'a, S, L, M> {
         ensures count { TakesExactly self.old self.new 1 1 }
     {
         self.counts.step_with_look();
-        needle.takes(self.value[mark.at])
+        needle.suits(self.value[mark.at])
     }
 }
 

@@ -26,7 +26,7 @@ pub trait Needle: Copy {
     ghost suits: { Self → ℕ → Type 0 };
 
     /// Whether a byte of the value is what is looked for.
-    fn takes(self, byte: u8) -> bool
+    fn suits(self, byte: u8) -> bool
         ensures { IsTrue result ↔ suits self byte };
 }
 
@@ -46,7 +46,7 @@ impl Needle for Exact {
     ghost suits = { λ n b. b ≡ n.0 };
 
     #[inline(always)]
-    fn takes(self, byte: u8) -> bool {
+    fn suits(self, byte: u8) -> bool {
         byte == self.0
     }
 }
@@ -55,7 +55,7 @@ impl Needle for Folded {
     ghost suits = { λ n b. to_ascii_lowercase b ≡ to_ascii_lowercase n.0 };
 
     #[inline(always)]
-    fn takes(self, byte: u8) -> bool {
+    fn suits(self, byte: u8) -> bool {
         byte.to_ascii_lowercase() == self.0.to_ascii_lowercase()
     }
 }
@@ -64,7 +64,7 @@ impl Needle for End {
     ghost suits = { λ n b. ⊥ };
 
     #[inline(always)]
-    fn takes(self, _: u8) -> bool {
+    fn suits(self, _: u8) -> bool {
         false
     }
 }
