@@ -9,7 +9,7 @@ ghost use Rattle.glob_matcher.specs.Private.Turns.{IsBacktrack, IsBacktrackLocal
 
 use super::barrier::{Barrier, NoBarrier, Slash};
 use super::engine::{Engine, Mark, Match};
-use super::needle::{End, Exact, Folded, Follow};
+use super::needle::{ExactByte, FoldedByte, Follow, NoByte};
 use super::scan::Scan;
 use super::state::{Crossing, State};
 use std::sync::ledger::Ledger;
@@ -41,9 +41,9 @@ impl<'c, 'a, S: Ledger, L: Ledger, M: Match> Engine<'c, 'a, S, L, M> {
         ensures { IsScanFor M.mode M.pattern M.value B.stops mark result self.old self.new }
     {
         match self.follow_at(mark.place()) {
-            Some(Follow::Byte(byte)) => self.scan(mark, Exact(byte), barrier),
-            Some(Follow::Folded(byte)) => self.scan(mark, Folded(byte), barrier),
-            Some(Follow::End) => self.scan(mark, End, barrier),
+            Some(Follow::Byte(byte)) => self.scan(mark, ExactByte(byte), barrier),
+            Some(Follow::Folded(byte)) => self.scan(mark, FoldedByte(byte), barrier),
+            Some(Follow::End) => self.scan(mark, NoByte, barrier),
             None => Scan::Undecided(mark),
         }
     }

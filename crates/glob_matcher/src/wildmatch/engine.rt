@@ -431,7 +431,7 @@ fn search_whole<'c, 'a, S: Ledger, L: Ledger, M: Match>(
 
 /// Whether the pattern matches the value, and the counts of what it took.
 #[inline(always)]
-pub fn run<'c, 'a, S: Ledger, L: Ledger, M: Match>(
+pub fn decide<'c, 'a, S: Ledger, L: Ledger, M: Match>(
     pattern: &'a [u8],
     value: &'a [u8],
     mode: Mode,

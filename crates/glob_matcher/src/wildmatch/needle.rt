@@ -32,17 +32,17 @@ pub trait Needle: Copy {
 
 /// A byte, where case counts.
 #[derive(Copy, Clone)]
-pub struct Exact(pub u8);
+pub struct ExactByte(pub u8);
 
 /// A byte, where case does not count.
 #[derive(Copy, Clone)]
-pub struct Folded(pub u8);
+pub struct FoldedByte(pub u8);
 
-/// The pattern's end, which is at no byte.
+/// No byte, which leads to the pattern's end.
 #[derive(Copy, Clone)]
-pub struct End;
+pub struct NoByte;
 
-impl Needle for Exact {
+impl Needle for ExactByte {
     ghost suits = { λ n b. b ≡ n.0 };
 
     #[inline(always)]
@@ -51,7 +51,7 @@ impl Needle for Exact {
     }
 }
 
-impl Needle for Folded {
+impl Needle for FoldedByte {
     ghost suits = { λ n b. to_ascii_lowercase b ≡ to_ascii_lowercase n.0 };
 
     #[inline(always)]
@@ -60,7 +60,7 @@ impl Needle for Folded {
     }
 }
 
-impl Needle for End {
+impl Needle for NoByte {
     ghost suits = { λ n b. ⊥ };
 
     #[inline(always)]
