@@ -106,7 +106,7 @@ last_below classes class end nearer r near low h = record { below = low; others 
 
 class_at : (rows : List Row) (m : ℕ) (row : Row) → slice_get rows m ≡ Some row → get_or (classes_of rows) m 0 ≡ row.class
 class_at rows m row got =
-    get_or-map (λ (r : Row). r.class) rows m row 0 (slice_get_within rows m row got) ∙ ap (λ (r : Row). r.class) (get_or_from_slice_get rows m row row got)
+    get_or-map (λ (x : Row). x.class) rows m row 0 (slice_get_within rows m row got) ∙ ap (λ (x : Row). x.class) (get_or_from_slice_get rows m row row got)
 
 -- what lies between both chains' next places and their end doesn't pass
 pub NonePasses-above_chains : (rows : List Row) (probe : Probe) (end own other near to : ℕ) → IsLastBelow (classes_of rows) probe.class end own → IsLastBelow (classes_of rows) always end other
@@ -124,7 +124,7 @@ pub NonePasses-place : (rows : List Row) (probe : Probe) (place to : ℕ) (row :
 NonePasses-place rows probe place to row there fails none m other from below got passes = ⊎_elim
     (λ (here : m ≡ place).
     let same : other ≡ row = sym (get_or_from_slice_get rows m other row got) ∙ (ap (λ (k : ℕ). get_or rows k row) here ∙ get_or_from_slice_get rows place row row there) in
-    fails (subst (λ (r : Row). Passes r probe) same passes))
+    fails (subst (λ (x : Row). Passes x probe) same passes))
     (λ (later : m ≡ place → ⊥). none m other (omega arith) below got passes)
     (cases_eq m place)
 
@@ -139,14 +139,14 @@ module _ (rows : List Row) (heads : List ℕ) (probe : Probe) (walk : Walk) (pla
   there below = slice_get_read rows (length rows) place row refl (inside below) read
 
   link_is : place + 1 ≤ walk.end → get_or (links_of rows) place 0 ≡ row.before
-  link_is below = get_or-map (λ (r : Row). r.before) rows place row 0 (inside below) ∙ ap (λ (r : Row). r.before) (sym read)
+  link_is below = get_or-map (λ (x : Row). x.before) rows place row 0 (inside below) ∙ ap (λ (x : Row). x.before) (sym read)
 
   next_link : (class r : ℕ) → place + 1 ≡ r → IsLastBelow (classes_of rows) class walk.end r → IsLastBelow (classes_of rows) class place row.before
   next_link class r is h =
       let below = h.below in
       let all = at.inside in
       let same : r - 1 ≡ place = omega arith in
-      let long : length (classes_of rows) ≡ length rows = length-map rows (λ (r : Row). r.class) in
+      let long : length (classes_of rows) ≡ length rows = length-map rows (λ (x : Row). x.class) in
       subst (IsLastBelow (classes_of rows) class place) (link_is (omega arith))
       (subst (λ (k : ℕ). IsLastBelow (classes_of rows) class k (get_or (links_of rows) k 0)) same
       (next_of_chain (classes_of rows) (links_of rows) heads class walk.end r chained (omega arith) (omega arith) h))
@@ -204,14 +204,14 @@ pub IsChained-push : (rows : List Row) (heads : List ℕ) (row added : Row) (cla
     → added ≡ record row { before = get_or heads class 0 } → IsChained (classes_of rows) (links_of rows) heads
     → IsChained (classes_of (rows ++ added ∷ [])) (links_of (rows ++ added ∷ [])) (slice_set heads class place)
 IsChained-push rows heads row added class place small is wide here same h =
-    let long : length (classes_of rows) ≡ length rows = length-map rows (λ (r : Row). r.class) in
-    let long' : length (links_of rows) ≡ length rows = length-map rows (λ (r : Row). r.before) in
-    let class_is : class ≡ added.class = is ∙ sym (ap (λ (r : Row). r.class) same) in
-    let link_is : get_or heads class 0 ≡ added.before = sym (ap (λ (r : Row). r.before) same) in
+    let long : length (classes_of rows) ≡ length rows = length-map rows (λ (x : Row). x.class) in
+    let long' : length (links_of rows) ≡ length rows = length-map rows (λ (x : Row). x.before) in
+    let class_is : class ≡ added.class = is ∙ sym (ap (λ (x : Row). x.class) same) in
+    let link_is : get_or heads class 0 ≡ added.before = sym (ap (λ (x : Row). x.before) same) in
     let classes : classes_of rows ++ class ∷ [] ≡ classes_of (rows ++ added ∷ []) =
-    ap (λ (c : ℕ). classes_of rows ++ c ∷ []) class_is ∙ sym (map-append (λ (r : Row). r.class) rows (added ∷ [])) in
+    ap (λ (c : ℕ). classes_of rows ++ c ∷ []) class_is ∙ sym (map-append (λ (x : Row). x.class) rows (added ∷ [])) in
     let links : links_of rows ++ get_or heads class 0 ∷ [] ≡ links_of (rows ++ added ∷ []) =
-    ap (λ (c : ℕ). links_of rows ++ c ∷ []) link_is ∙ sym (map-append (λ (r : Row). r.before) rows (added ∷ [])) in
+    ap (λ (c : ℕ). links_of rows ++ c ∷ []) link_is ∙ sym (map-append (λ (x : Row). x.before) rows (added ∷ [])) in
     subst (λ (xs : List ℕ). IsChained xs (links_of (rows ++ added ∷ [])) (slice_set heads class place)) classes
     (subst (λ (xs : List ℕ). IsChained (classes_of rows ++ class ∷ []) xs (slice_set heads class place)) links
     (IsChained-more (classes_of rows) (links_of rows) heads class place (omega arith) (omega arith) wide (omega arith) h))

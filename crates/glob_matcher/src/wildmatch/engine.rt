@@ -379,7 +379,7 @@ impl<'c, 'a, S: Ledger, L: Ledger, M: Match> Engine<'c, 'a, S, L, M> {
         ensures count { TakesExactly self.old self.new 1 1 }
     {
         self.counts.step_with_look();
-        needle.takes(self.value[mark.at])
+        needle.suits(self.value[mark.at])
     }
 }
 
@@ -432,7 +432,7 @@ fn search_whole<'c, 'a, S: Ledger, L: Ledger, M: Match>(
 
 /// Whether the pattern matches the value, and the counts of what it took.
 #[inline(always)]
-pub fn run<'c, 'a, S: Ledger, L: Ledger, M: Match>(
+pub fn decide<'c, 'a, S: Ledger, L: Ledger, M: Match>(
     pattern: &'a [u8],
     value: &'a [u8],
     mode: Mode,

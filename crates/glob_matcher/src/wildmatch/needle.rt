@@ -26,45 +26,45 @@ pub trait Needle: Copy {
     ghost suits: { Self → ℕ → Type 0 };
 
     /// Whether a byte of the value is what is looked for.
-    fn takes(self, byte: u8) -> bool
+    fn suits(self, byte: u8) -> bool
         ensures { IsTrue result ↔ suits self byte };
 }
 
 /// A byte, where case counts.
 #[derive(Copy, Clone)]
-pub struct Exact(pub u8);
+pub struct ExactByte(pub u8);
 
 /// A byte, where case does not count.
 #[derive(Copy, Clone)]
-pub struct Folded(pub u8);
+pub struct FoldedByte(pub u8);
 
-/// The pattern's end, which is at no byte.
+/// No byte, which leads to the pattern's end.
 #[derive(Copy, Clone)]
-pub struct End;
+pub struct NoByte;
 
-impl Needle for Exact {
+impl Needle for ExactByte {
     ghost suits = { λ n b. b ≡ n.0 };
 
     #[inline(always)]
-    fn takes(self, byte: u8) -> bool {
+    fn suits(self, byte: u8) -> bool {
         byte == self.0
     }
 }
 
-impl Needle for Folded {
+impl Needle for FoldedByte {
     ghost suits = { λ n b. to_ascii_lowercase b ≡ to_ascii_lowercase n.0 };
 
     #[inline(always)]
-    fn takes(self, byte: u8) -> bool {
+    fn suits(self, byte: u8) -> bool {
         byte.to_ascii_lowercase() == self.0.to_ascii_lowercase()
     }
 }
 
-impl Needle for End {
+impl Needle for NoByte {
     ghost suits = { λ n b. ⊥ };
 
     #[inline(always)]
-    fn takes(self, _: u8) -> bool {
+    fn suits(self, _: u8) -> bool {
         false
     }
 }

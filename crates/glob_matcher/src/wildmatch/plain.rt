@@ -61,10 +61,3 @@ pub fn splits_from(pattern: &[u8], place: usize, value: &[u8], at: usize, mode: 
     }
     splits_from(pattern, next, value, at + 1, mode)
 }
-
-/// Whether the pattern matches the value.
-pub fn splits(pattern: &[u8], value: &[u8], mode: Mode) -> bool
-    ensures { IsTrue result ↔ SplitsFrom value.now 0 pattern.now 0 mode }
-{
-    splits_from(pattern, 0, value, 0, mode)
-}

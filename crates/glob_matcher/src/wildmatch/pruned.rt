@@ -198,7 +198,7 @@ impl<'a> Level<'a> {
             depth: self.depth + 1,
             ..*self
         };
-        'places: while let Some(found) = self.next_at(at, self.value.len(), wanted) {
+        'value: while let Some(found) = self.next_at(at, self.value.len(), wanted) {
             match below.attempt(place, found) {
                 Answer::NoMatch | Answer::AbortToStarStar => at = found + 1,
                 answer => return answer,
@@ -229,7 +229,7 @@ impl<'a> Level<'a> {
             depth: self.depth + 1,
             ..*self
         };
-        'places: while let Some(found) = self.next_at(at, until, wanted) {
+        'component: while let Some(found) = self.next_at(at, until, wanted) {
             match below.attempt(place, found) {
                 Answer::NoMatch => at = found + 1,
                 answer => return answer,

@@ -14,7 +14,7 @@ ghost use Rattle.glob_matcher.specs.Steps.{look_limit, step_limit};
 ghost use Rattle.glob_matcher.specs.Private.Budget.{IsWithinLimits};
 
 use super::counts::Counts;
-use super::engine::{Engine, Match, is_short, run};
+use super::engine::{Engine, Match, decide, is_short};
 use super::mode::Mode;
 use super::state::{Crossing, State, Turn};
 use std::marker::Brand;
@@ -112,5 +112,5 @@ pub fn marked<S: Ledger, L: Ledger>(
 {
     is_short(pattern);
     is_short(value);
-    run::<S, L, Brand>(pattern, value, mode, counts).0
+    decide::<S, L, Brand>(pattern, value, mode, counts).0
 }

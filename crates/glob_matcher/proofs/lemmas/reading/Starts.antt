@@ -1,11 +1,11 @@
 -- Where an attempt may begin: starts lie inside the pattern, and a token leads from one to the next.
 use Rattle.std.proofs.Common.{◌≡◌, ◌⊎◌, inl, inr, ℕ, ◌+◌, ◌-◌, ◌<◌, ◌≤◌, List, [], ◌∷◌, ◌++◌, length, refl, sym, subst, arith}
 use Rattle.glob_matcher.specs.declared.wildmatch.mode.Mode.{Mode}
-use Rattle.glob_matcher.specs.Bytes.{HasByte, star, close_bracket, slash}
+use Rattle.glob_matcher.specs.Bytes.{HasByte, star, slash}
 use Rattle.glob_matcher.specs.Tokens.{Token, Byte, Any, OneOf, Free, Local, Dirs, Nothing, TokenAt, DirsAt, IsRun, Spells}
 use Rattle.glob_matcher.specs.Pruning.{IsBoundary, IsDirsSlash, IsStart}
 use Rattle.glob_matcher.proofs.lemmas.reading.TokenLemmas.{TokenAt-unique, TokenAt-inside}
-use Rattle.glob_matcher.proofs.lemmas.reading.Existence.{items_close, TokenAt-past}
+use Rattle.glob_matcher.proofs.lemmas.reading.Existence.{set_inside, TokenAt-past}
 use Rattle.glob_matcher.proofs.lemmas.cutting.SplitLemmas.{slash_token}
 
 run_inside : (p : List ℕ) (i j : ℕ) → IsRun p i j → j ≤ length p
@@ -15,118 +15,116 @@ run_inside p i j run =
     let inside : j - 1 < length p = last.inside in
     omega arith
 
--- a token ends inside the pattern
-pub token_end : (mode : Mode) (p : List ℕ) (i : ℕ) (t : Token) (j : ℕ) → TokenAt mode p i t j → j ≤ length p
-token_end mode p i (Byte b) j (inl e) = let inside : i + 1 < length p = e.0.byte.inside in let after : j ≡ i + 2 = e.1 in omega arith
-token_end mode p i (Byte b) j (inr e) = let inside : i < length p = e.0.inside in let after : j ≡ i + 1 = e.2 in omega arith
-token_end mode p i Any j e = let inside : i < length p = e.0.inside in let after : j ≡ i + 1 = e.1 in omega arith
-token_end mode p i (OneOf s) j e =
-    let close : HasByte p e.close close_bracket = items_close p _ _ _ s.items e.close e.items in
-    let inside : e.close < length p = close.inside in
-    let after : j ≡ e.close + 1 = e.after in
-    omega arith
-token_end mode p i Free j e = run_inside p i j e.run
-token_end mode p i Local j e = run_inside p i j e.run
-token_end mode p i Dirs j e =
-    let inside : e.run_end < length p = e.slash.inside in
-    let after : j ≡ e.run_end + 1 = e.after in
-    omega arith
-token_end mode p i Nothing j e = let after : j ≡ length p = e.1 in omega arith
+module _ (mode : Mode) (p : List ℕ) where
+  -- a token ends inside the pattern
+  pub token_end : (i : ℕ) (t : Token) (j : ℕ) → TokenAt mode p i t j → j ≤ length p
+  token_end i (Byte b) j (inl e) = let inside : i + 1 < length p = e.0.byte.inside in let after : j ≡ i + 2 = e.1 in omega arith
+  token_end i (Byte b) j (inr e) = let inside : i < length p = e.0.inside in let after : j ≡ i + 1 = e.2 in omega arith
+  token_end i Any j e = let inside : i < length p = e.0.inside in let after : j ≡ i + 1 = e.1 in omega arith
+  token_end i (OneOf s) j e = set_inside p i s j e
+  token_end i Free j e = run_inside p i j e.run
+  token_end i Local j e = run_inside p i j e.run
+  token_end i Dirs j e =
+      let inside : e.run_end < length p = e.slash.inside in
+      let after : j ≡ e.run_end + 1 = e.after in
+      omega arith
+  token_end i Nothing j e = let after : j ≡ length p = e.1 in omega arith
 
-spells_inside : (mode : Mode) (p : List ℕ) (i : ℕ) (ts : List Token) (j : ℕ) → i ≤ length p → Spells mode p i ts j → j ≤ length p
-spells_inside mode p i [] j inside e = omega arith
-spells_inside mode p i (t ∷ ts) j inside e = spells_inside mode p e.0 ts j (token_end mode p i t e.0 e.1) e.2
+  spells_inside : (i : ℕ) (ts : List Token) (j : ℕ) → i ≤ length p → Spells mode p i ts j → j ≤ length p
+  spells_inside i [] j inside e = omega arith
+  spells_inside i (t ∷ ts) j inside e = spells_inside e.0 ts j (token_end i t e.0 e.1) e.2
 
--- one more token
-spells_more : (mode : Mode) (p : List ℕ) (i : ℕ) (ts : List Token) (j : ℕ) (t : Token) (m : ℕ) → Spells mode p i ts j
-    → TokenAt mode p j t m → Spells mode p i (ts ++ t ∷ []) m
-spells_more mode p i [] j t m e here = (m, subst (λ (n : ℕ). TokenAt mode p n t m) (sym e) here, refl)
-spells_more mode p i (u ∷ ts) j t m e here = (e.0, e.1, spells_more mode p e.0 ts j t m e.2 here)
+  -- one more token
+  spells_more : (i : ℕ) (ts : List Token) (j : ℕ) (t : Token) (m : ℕ) → Spells mode p i ts j
+      → TokenAt mode p j t m → Spells mode p i (ts ++ t ∷ []) m
+  spells_more i [] j t m e here = (m, subst (λ (n : ℕ). TokenAt mode p n t m) (sym e) here, refl)
+  spells_more i (u ∷ ts) j t m e here = (e.0, e.1, spells_more e.0 ts j t m e.2 here)
 
-pub boundary_next : {mode : Mode} {p : List ℕ} {i : ℕ} (t : Token) (j : ℕ) → IsBoundary p i mode → TokenAt mode p i t j → IsBoundary p j mode
-boundary_next {mode} {p} {i} t j x here =
-    record { tokens = x.tokens ++ t ∷ []; spelled = spells_more mode p 0 x.tokens i t j x.spelled here }
+  -- the slash of a double star's token
+  pub dirs_slash : (i j : ℕ) → DirsAt mode p i (j + 1) → HasByte p j slash
+  dirs_slash i j e =
+      let after : j + 1 ≡ e.run_end + 1 = e.after in
+      let same : e.run_end ≡ j = omega arith in
+      subst (λ (n : ℕ). HasByte p n slash) same e.slash
 
-pub boundary_inside : {mode : Mode} {p : List ℕ} {i : ℕ} → IsBoundary p i mode → i ≤ length p
-boundary_inside {mode} {p} {i} x = spells_inside mode p 0 x.tokens i (omega arith) x.spelled
+  -- A scan over the tokens stands at a place, and what spells the pattern up to the place sought passes here.
+  pub record Scan (from place : ℕ) : Type 0 where
+    pub boundary : IsBoundary p place mode
+    pub ahead : (x : IsBoundary p from mode) → (ts : List Token) × Spells mode p place ts from
+    pub slash_ahead : (x : IsDirsSlash p from mode) → (ts : List Token) × Spells mode p place ts x.begin
 
--- the slash of a double star's token
-pub dirs_slash : (mode : Mode) (p : List ℕ) (i j : ℕ) → DirsAt mode p i (j + 1) → HasByte p j slash
-dirs_slash mode p i j e =
-    let after : j + 1 ≡ e.run_end + 1 = e.after in
-    let same : e.run_end ≡ j = omega arith in
-    subst (λ (n : ℕ). HasByte p n slash) same e.slash
+  -- the tokens after the first
+  spells_rest : (place : ℕ) (t : Token) (next : ℕ) (ts : List Token) (to : ℕ) → TokenAt mode p place t next
+      → (place ≡ to → ⊥) → Spells mode p place ts to → (us : List Token) × Spells mode p next us to
+  spells_rest place t next [] to here differ e = absurd (differ e)
+  spells_rest place t next (u ∷ us) to here differ e =
+      let same = TokenAt-unique mode p place u t e.0 next e.1 here in
+      (us, subst (λ (n : ℕ). Spells mode p n us to) same.1 e.2)
 
-pub start_inside : {mode : Mode} {p : List ℕ} {i : ℕ} → IsStart p i mode → i ≤ length p
-start_inside {mode} {p} {i} x = by x.place where
-  by : IsBoundary p i mode ⊎ IsDirsSlash p i mode → i ≤ length p
-  by (inl here) = boundary_inside here
-  by (inr here) =
-      let at_slash : HasByte p i slash = dirs_slash mode p here.begin i here.dirs in
-      let inside : i < length p = at_slash.inside in
+  -- tokens lead forwards
+  pub spells_forward : (i : ℕ) (ts : List Token) (j : ℕ) → Spells mode p i ts j → i ≤ j
+  spells_forward i [] j e = omega arith
+  spells_forward i (t ∷ ts) j e =
+      let later : e.0 ≤ j = spells_forward e.0 ts j e.2 in
+      let past : i < e.0 = TokenAt-past mode p i t e.0 e.1 in
       omega arith
 
--- a token leads from a start to a token's start
-pub start_next : {mode : Mode} {p : List ℕ} {i : ℕ} (t : Token) (j : ℕ) → IsStart p i mode → TokenAt mode p i t j → IsBoundary p j mode
-start_next {mode} {p} {i} t j x here = by x.place where
-  by : IsBoundary p i mode ⊎ IsDirsSlash p i mode → IsBoundary p j mode
-  by (inl at) = boundary_next t j at here
-  by (inr at) =
-      let at_slash : HasByte p i slash = dirs_slash mode p at.begin i at.dirs in
-      let same = TokenAt-unique mode p i (Byte slash) t (i + 1) j (slash_token mode p i at_slash) here in
-      subst (λ (n : ℕ). IsBoundary p n mode) same.1 (boundary_next Dirs (i + 1) at.boundary at.dirs)
+module _ {mode : Mode} {p : List ℕ} where
+  pub boundary_next : {i : ℕ} (t : Token) (j : ℕ) → IsBoundary p i mode → TokenAt mode p i t j → IsBoundary p j mode
+  boundary_next {i} t j x here =
+      record { tokens = x.tokens ++ t ∷ []; spelled = spells_more mode p 0 x.tokens i t j x.spelled here }
 
--- A scan over the tokens stands at a place, and what spells the pattern up to the place sought passes here.
-pub record Scan (mode : Mode) (p : List ℕ) (from place : ℕ) : Type 0 where
-  pub boundary : IsBoundary p place mode
-  pub ahead : (x : IsBoundary p from mode) → (ts : List Token) × Spells mode p place ts from
-  pub slash_ahead : (x : IsDirsSlash p from mode) → (ts : List Token) × Spells mode p place ts x.begin
+  pub boundary_inside : {i : ℕ} → IsBoundary p i mode → i ≤ length p
+  boundary_inside {i} x = spells_inside mode p 0 x.tokens i (omega arith) x.spelled
 
--- the tokens after the first
-spells_rest : (mode : Mode) (p : List ℕ) (place : ℕ) (t : Token) (next : ℕ) (ts : List Token) (to : ℕ) → TokenAt mode p place t next
-    → (place ≡ to → ⊥) → Spells mode p place ts to → (us : List Token) × Spells mode p next us to
-spells_rest mode p place t next [] to here differ e = absurd (differ e)
-spells_rest mode p place t next (u ∷ us) to here differ e =
-    let same = TokenAt-unique mode p place u t e.0 next e.1 here in
-    (us, subst (λ (n : ℕ). Spells mode p n us to) same.1 e.2)
+  pub start_inside : {i : ℕ} → IsStart p i mode → i ≤ length p
+  start_inside {i} x = by x.place where
+    by : IsBoundary p i mode ⊎ IsDirsSlash p i mode → i ≤ length p
+    by (inl here) = boundary_inside here
+    by (inr here) =
+        let at_slash : HasByte p i slash = dirs_slash mode p here.begin i here.dirs in
+        let inside : i < length p = at_slash.inside in
+        omega arith
 
-pub scan_next : {mode : Mode} {p : List ℕ} {from place : ℕ} (t : Token) (next : ℕ) → Scan mode p from place → TokenAt mode p place t next
-    → place < from → (t ≡ Dirs → next ≡ from + 1 → ⊥) → Scan mode p from next
-scan_next {mode} {p} {from} {place} t next x here before other = record {
-  boundary = boundary_next t next x.boundary here;
-  ahead = λ y. let on = x.ahead y in spells_rest mode p place t next on.0 from here (λ is. omega arith) on.1;
-  slash_ahead = λ y. let on = x.slash_ahead y in spells_rest mode p place t next on.0 y.begin here (differ y) on.1;
-} where
-  differ : (y : IsDirsSlash p from mode) → place ≡ y.begin → ⊥
-  differ y is =
-      let same = TokenAt-unique mode p place t Dirs next (from + 1) here
-      (subst (λ (n : ℕ). DirsAt mode p n (from + 1)) (sym is) y.dirs) in
-      other same.0 same.1
+  -- a token leads from a start to a token's start
+  pub start_next : {i : ℕ} (t : Token) (j : ℕ) → IsStart p i mode → TokenAt mode p i t j → IsBoundary p j mode
+  start_next {i} t j x here = by x.place where
+    by : IsBoundary p i mode ⊎ IsDirsSlash p i mode → IsBoundary p j mode
+    by (inl at) = boundary_next t j at here
+    by (inr at) =
+        let at_slash : HasByte p i slash = dirs_slash mode p at.begin i at.dirs in
+        let same = TokenAt-unique mode p i (Byte slash) t (i + 1) j (slash_token mode p i at_slash) here in
+        subst (λ (n : ℕ). IsBoundary p n mode) same.1 (boundary_next Dirs (i + 1) at.boundary at.dirs)
 
--- tokens lead forwards
-pub spells_forward : (mode : Mode) (p : List ℕ) (i : ℕ) (ts : List Token) (j : ℕ) → Spells mode p i ts j → i ≤ j
-spells_forward mode p i [] j e = omega arith
-spells_forward mode p i (t ∷ ts) j e =
-    let later : e.0 ≤ j = spells_forward mode p e.0 ts j e.2 in
-    let past : i < e.0 = TokenAt-past mode p i t e.0 e.1 in
-    omega arith
+  pub scan_next : {from place : ℕ} (t : Token) (next : ℕ) → Scan mode p from place → TokenAt mode p place t next
+      → place < from → (t ≡ Dirs → next ≡ from + 1 → ⊥) → Scan mode p from next
+  scan_next {from} {place} t next x here before other = record {
+    boundary = boundary_next t next x.boundary here;
+    ahead = λ y. let on = x.ahead y in spells_rest mode p place t next on.0 from here (λ is. omega arith) on.1;
+    slash_ahead = λ y. let on = x.slash_ahead y in spells_rest mode p place t next on.0 y.begin here (differ y) on.1;
+  } where
+    differ : (y : IsDirsSlash p from mode) → place ≡ y.begin → ⊥
+    differ y is =
+        let same = TokenAt-unique mode p place t Dirs next (from + 1) here
+        (subst (λ (n : ℕ). DirsAt mode p n (from + 1)) (sym is) y.dirs) in
+        other same.0 same.1
 
--- where the scan ends, the place sought is this one or none
-pub scan_end : {mode : Mode} {p : List ℕ} {from place : ℕ} → Scan mode p from place → (place < from → length p ≤ place)
-    → IsStart p from mode → place ≡ from
-scan_end {mode} {p} {from} {place} x stopped start = by start.place where
-  by : IsBoundary p from mode ⊎ IsDirsSlash p from mode → place ≡ from
-  by (inl y) =
-      let on = x.ahead y in
-      let forward : place ≤ from = spells_forward mode p place on.0 from on.1 in
-      let inside : from ≤ length p = boundary_inside y in
-      let less : place < from → ⊥ = λ before. let past : length p ≤ place = stopped before in omega arith in
-      omega arith
-  by (inr y) =
-      let on = x.slash_ahead y in
-      let forward : place ≤ y.begin = spells_forward mode p place on.0 y.begin on.1 in
-      let after : from + 1 ≡ y.dirs.run_end + 1 = y.dirs.after in
-      let longer : y.begin < y.dirs.run_end = y.dirs.run.some in
-      let inside : y.begin < length p = TokenAt-inside mode p y.begin Dirs (from + 1) y.dirs in
-      let past : length p ≤ place = stopped (omega arith) in
-      omega arith
+  -- where the scan ends, the place sought is this one or none
+  pub scan_end : {from place : ℕ} → Scan mode p from place → (place < from → length p ≤ place)
+      → IsStart p from mode → place ≡ from
+  scan_end {from} {place} x stopped start = by start.place where
+    by : IsBoundary p from mode ⊎ IsDirsSlash p from mode → place ≡ from
+    by (inl y) =
+        let on = x.ahead y in
+        let forward : place ≤ from = spells_forward mode p place on.0 from on.1 in
+        let inside : from ≤ length p = boundary_inside y in
+        let less : place < from → ⊥ = λ before. let past : length p ≤ place = stopped before in omega arith in
+        omega arith
+    by (inr y) =
+        let on = x.slash_ahead y in
+        let forward : place ≤ y.begin = spells_forward mode p place on.0 y.begin on.1 in
+        let after : from + 1 ≡ y.dirs.run_end + 1 = y.dirs.after in
+        let longer : y.begin < y.dirs.run_end = y.dirs.run.some in
+        let inside : y.begin < length p = TokenAt-inside mode p y.begin Dirs (from + 1) y.dirs in
+        let past : length p ≤ place = stopped (omega arith) in
+        omega arith

@@ -3,8 +3,8 @@ use Rattle.std.proofs.Common.{◌-◌, ◌^◌, take}
 use Rattle.glob_matcher.proofs.lemmas.two_marks.Texts.{short}
 use Rattle.glob_matcher.proofs.wildmatch.two_marks.marked.Given as goal
 
-abbrev pub ghosts-run : goal.ghosts-run
-ghosts-run g a = record {
+abbrev pub ghosts-decide : goal.ghosts-decide
+ghosts-decide g a = record {
   pattern = take (2 ^ 64 - 1) a.pattern.now;
   value = take (2 ^ 64 - 1) a.value.now;
   mode = a.mode;

@@ -73,19 +73,19 @@ attempt-returns t c =
 pub cross-returns-in_default-attempt : goal.cross-returns-in_default-attempt
 cross-returns-in_default-attempt t c =
     let first = first_token c.requires.no_star c.first_literal-wanted.ensures in
-    cross_answer c.attempt.result c.requires.no_star c.places.invariant first c.in-Some.ensures.found c.in-Some.ensures.inside c.attempt.ensures
+    cross_answer c.attempt.result c.requires.no_star c.value.invariant first c.in-Some.ensures.found c.in-Some.ensures.inside c.attempt.ensures
     c.in_default-attempt.not-NoMatch c.in_default-attempt.not-AbortToStarStar
 
-pub cross-places-preserved : goal.cross-places-preserved
-cross-places-preserved t c =
+pub cross-value-preserved : goal.cross-value-preserved
+cross-value-preserved t c =
     let first = first_token c.requires.no_star c.first_literal-wanted.ensures in
-    tried_next c.places.invariant first c.in-Some.ensures.found c.in-Some.ensures.inside c.attempt.ensures
+    tried_next c.value.invariant first c.in-Some.ensures.found c.in-Some.ensures.inside c.attempt.ensures
     (not_match c.attempt.result c.in-NoMatch.is)
 
 pub cross-returns : goal.cross-returns
 cross-returns t c =
     let first = first_token c.requires.no_star c.first_literal-wanted.ensures in
-    cross_none c.places.invariant first c.in_default.ensures.none
+    cross_none c.value.invariant first c.in_default.ensures.none
 
 pub descend-returns-in-Match : goal.descend-returns-in-Match
 descend-returns-in-Match t c = λ i here. descent_here here c.requires.inside (c.attempt.ensures.split c.in-Match.is)
@@ -99,22 +99,22 @@ pub stay-returns-then-end-self : goal.stay-returns-then-end-self
 stay-returns-then-end-self t c =
     stay_more c.if-place-self.true c.requires.inside c.component_end-end.ensures (λ e. let before = c.if-end-self.true in omega arith)
 
-pub stay-places-preserved : goal.stay-places-preserved
-stay-places-preserved t c =
+pub stay-component-preserved : goal.stay-component-preserved
+stay-component-preserved t c =
     let first = first_token c.requires.no_star c.first_literal-wanted.ensures in
-    tried_next c.places.invariant first c.in-Some.ensures.found c.in-Some.ensures.inside c.attempt.ensures
+    tried_next c.component.invariant first c.in-Some.ensures.found c.in-Some.ensures.inside c.attempt.ensures
     (λ e. let same = c.in-NoMatch.is in cc)
 
 pub stay-returns-in_default-attempt : goal.stay-returns-in_default-attempt
 stay-returns-in_default-attempt t c =
     let first = first_token c.requires.no_star c.first_literal-wanted.ensures in
-    stay_answer c.attempt.result c.requires.no_star c.component_end-end.ensures c.min-until.ensures c.places.invariant first
+    stay_answer c.attempt.result c.requires.no_star c.component_end-end.ensures c.min-until.ensures c.component.invariant first
     c.in-Some.ensures.found c.in-Some.ensures.inside c.attempt.ensures c.in_default-attempt.not-NoMatch
 
 pub stay-returns : goal.stay-returns
 stay-returns t c =
     let first = first_token c.requires.no_star c.first_literal-wanted.ensures in
-    stay_none c.component_end-end.ensures c.min-until.ensures c.places.invariant first c.in_default.ensures.none
+    stay_none c.component_end-end.ensures c.min-until.ensures c.component.invariant first c.in_default.ensures.none
 
 pub attempt-cross-requires : goal.attempt-cross-requires
 attempt-cross-requires t c =

@@ -22,14 +22,14 @@ invariant-attempt-tokens l = Aligned l.self.mode l.self.pattern.now l.self.value
 abbrev pub decreases-attempt-tokens : goal.decreases-attempt-tokens
 decreases-attempt-tokens l = length l.self.pattern.now - l.place
 
-abbrev pub invariant-cross-places : goal.invariant-cross-places
-invariant-cross-places l = Tried l.self.mode l.self.pattern.now l.self.value.now l.place (l.self.depth + 1) l.fn.at l.at (length l.self.value.now)
+abbrev pub invariant-cross-value : goal.invariant-cross-value
+invariant-cross-value l = Tried l.self.mode l.self.pattern.now l.self.value.now l.place (l.self.depth + 1) l.fn.at l.at (length l.self.value.now)
 
-abbrev pub decreases-cross-places : goal.decreases-cross-places
-decreases-cross-places l = length l.self.value.now - l.at
+abbrev pub decreases-cross-value : goal.decreases-cross-value
+decreases-cross-value l = length l.self.value.now - l.at
 
-abbrev pub invariant-stay-places : goal.invariant-stay-places
-invariant-stay-places l = Tried l.self.mode l.self.pattern.now l.self.value.now l.place (l.self.depth + 1) l.fn.at l.at l.until
+abbrev pub invariant-stay-component : goal.invariant-stay-component
+invariant-stay-component l = Tried l.self.mode l.self.pattern.now l.self.value.now l.place (l.self.depth + 1) l.fn.at l.at l.until
 
-abbrev pub decreases-stay-places : goal.decreases-stay-places
-decreases-stay-places l = l.until - l.at
+abbrev pub decreases-stay-component : goal.decreases-stay-component
+decreases-stay-component l = l.until - l.at
