@@ -1,10 +1,9 @@
 //! Rows in order, with a chain through those of each class: a path walks down two chains, and meets only rows that can pass.
 ghost use Rattle.std.specs.Prelude.{◌≡◌, ◌+◌, ◌++◌, ◌∷◌, [], ◌<◌, ◌≤◌, IfOk, MatchOption, OnOk, length, slice_index};
-ghost use Rattle.glob_index.specs.Private.Chains.{IsChained, classes_of, links_of};
 ghost use Rattle.gix_glob.specs.RepositoryPaths.{IsBasenameStart};
-ghost use Rattle.glob_index.specs.declared.row.Row.{Row};
 ghost use Rattle.glob_index.specs.Private.Rows.{always};
 ghost use Rattle.glob_index.specs.Private.Showing.{Shows};
+ghost use Rattle.glob_index.specs.Private.Tables.{AreChained};
 ghost use Rattle.glob_index.specs.Private.Walking.{IsAt, IsNextPair, NonePasses};
 
 use crate::probe::Probe;
@@ -38,7 +37,7 @@ pub(crate) struct Walk {
 impl Table {
     /// A table of no rows, with room for so many.
     pub(crate) fn with_capacity(alloc: Global, capacity: usize) -> Result<Table, AllocError>
-        ensures { IfOk result (λ table. (table.rows.items ≡ []) × IsChained (classes_of table.rows.items) (links_of table.rows.items) table.heads) }
+        ensures { IfOk result (λ table. (table.rows.items ≡ []) × AreChained table) }
     {
         Ok(Table {
             rows: Vec::with_capacity(alloc, capacity)?,
@@ -50,9 +49,9 @@ impl Table {
     /// Adds a row after the others. More than 2^32 - 1 of them are refused as memory is.
     pub(crate) fn push(&mut self, row: Row) -> Result<(), AllocError>
         requires class { row.class ≤ always }
-        requires chained { IsChained (classes_of self.old.rows.items) (links_of self.old.rows.items) self.old.heads }
+        requires chained { AreChained self.old }
         ensures rows { OnOk result (self.new.rows.items ≡ self.old.rows.items ++ (record row { before = slice_index self.old.heads row.class }) ∷ []) }
-        ensures chained { OnOk result (IsChained (classes_of self.new.rows.items) (links_of self.new.rows.items) self.new.heads) }
+        ensures chained { OnOk result (AreChained self.new) }
     {
         let Ok(place) = u32::try_from(self.rows.len()) else {
             return Err(AllocError);
@@ -71,7 +70,7 @@ impl Table {
     /// The start of a walk that meets what can pass of a path with this last byte.
     pub(crate) fn walk(&self, class: u16) -> Walk
         requires class { class < 256 }
-        requires chained { IsChained (classes_of self.now.rows.items) (links_of self.now.rows.items) self.now.heads }
+        requires chained { AreChained self.now }
         ensures at { IsAt self.now.rows.items class result }
         ensures all { result.end ≡ length self.now.rows.items }
     {
@@ -103,7 +102,7 @@ impl Table {
 
     /// The places of the list and of the mapping of the next row of a walk that passes, from the last one to the first.
     pub(crate) fn next_pair(&self, probe: &Probe, walk: &mut Walk) -> Option<(usize, usize)>
-        requires chained { IsChained (classes_of self.now.rows.items) (links_of self.now.rows.items) self.now.heads }
+        requires chained { AreChained self.now }
         requires at { IsAt self.now.rows.items probe.now.class walk.old }
         ensures at { IsAt self.now.rows.items probe.now.class walk.new }
         ensures next { MatchOption result
@@ -117,7 +116,7 @@ impl Table {
     /// The next place of a walk whose row passes, from the last one to the first.
     #[inline(always)]
     fn next(&self, probe: &Probe, walk: &mut Walk) -> Option<usize>
-        requires chained { IsChained (classes_of self.now.rows.items) (links_of self.now.rows.items) self.now.heads }
+        requires chained { AreChained self.now }
         requires at { IsAt self.now.rows.items probe.now.class walk.old }
         ensures at { IsAt self.now.rows.items probe.now.class walk.new }
         ensures next { MatchOption result

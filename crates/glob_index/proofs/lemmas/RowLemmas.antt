@@ -141,13 +141,6 @@ module _ {V : Type 0} (lists : List (EntryList V)) where
         before;
   }
 
-  pub rows_all : (rows : List Row) (j : ℕ) → length lists ≤ j → AreRowsUpTo lists j 0 rows → AreRows lists rows
-  rows_all rows j past h = record {
-    each = h.each;
-    rising = h.rising;
-    all = λ i m has. (let e = has.1 in let inside = slice_get_within lists i e.list e.there in h.all i m has (inl (omega arith)));
-  }
-
 -- ---- walking over rows
 
 module _ {V : Type 0} (lists : List (EntryList V)) (rows : List Row) (path : List ℕ) (is_dir : Bool) (case : Case) where
@@ -155,7 +148,7 @@ module _ {V : Type 0} (lists : List (EntryList V)) (rows : List Row) (path : Lis
   abbrev pub NoneAnswers : ℕ → Type 0
   NoneAnswers k = (l : ℕ) (row : Row) → k ≤ l → slice_get rows l ≡ Some row → ¬ PairAnswers lists path is_dir case row.list row.mapping
 
-  -- what the law of candidates says, of one row
+  -- what the law `answering_patterns_pass` says of one row
   abbrev pub Law : Probe → Type 0
   Law probe = (row : Row) → IsRowOf lists row → PairAnswers lists path is_dir case row.list row.mapping → Passes row probe
 
@@ -179,8 +172,9 @@ module _ {V : Type 0} (lists : List (EntryList V)) (rows : List Row) (path : Lis
       let under = AnswersAt-only e.list path is_dir case row.mapping of.entry e.here (PairAnswers-only lists path is_dir case row.list row.mapping e.list e.there answers) in
       law of.entry.text of.entry.mode e.list.base path under.rest under.position (Some is_dir) case path_mode row probe shows of.asks under.left under.basename under.answers
 
-  entry_of_pair : (i m : ℕ) → PairAnswers lists path is_dir case i m → HasEntryAt lists i m
-  entry_of_pair i m h = (h.answers.entry, record { list = h.list; there = h.there; here = h.answers.there })
+  row_of_pair : (i m : ℕ) → AreRows lists rows → PairAnswers lists path is_dir case i m → (k : ℕ) × IsAtPlace rows i m k
+  row_of_pair i m are h =
+      are.all i m (h.answers.entry, record { list = h.list; there = h.there; here = h.answers.there }) (inl (slice_get_within lists i h.list h.there))
 
   row_answers : (i m k : ℕ) (at : IsAtPlace rows i m k) → PairAnswers lists path is_dir case i m → PairAnswers lists path is_dir case at.row.list at.row.mapping
   row_answers i m k at answers =
@@ -189,7 +183,7 @@ module _ {V : Type 0} (lists : List (EntryList V)) (rows : List Row) (path : Lis
 
   pub decides_none : AreRows lists rows → NoneAnswers 0 → (i m : ℕ) → ¬ PairAnswers lists path is_dir case i m
   decides_none are none i m answers =
-      let k = are.all i m (entry_of_pair i m answers) in
+      let k = row_of_pair i m are answers in
       none k.0 k.1.row (omega arith) k.1.there (row_answers i m k.0 k.1 answers)
 
   pub decides_here : (k : ℕ) (row : Row) → AreRows lists rows → slice_get rows k ≡ Some row → PairAnswers lists path is_dir case row.list row.mapping → NoneAnswers (k + 1)
@@ -197,7 +191,7 @@ module _ {V : Type 0} (lists : List (EntryList V)) (rows : List Row) (path : Lis
   decides_here k row are there answers later = record {
     answers = answers;
     last = λ i m other.
-        let l = are.all i m (entry_of_pair i m other) in
+        let l = row_of_pair i m are other in
         let at = l.1 in elim (cases_order l.0 k) [
           | inl same ↦
               (let is : at.row ≡ row = same_Some at.row row (sym at.there ∙ (ap (slice_get rows) same ∙ there)) in
@@ -287,7 +281,7 @@ module _ {V : Type 0} (lists : List (EntryList V)) (rows : List Row) (path : Lis
         let long = length-reverse found in
         h.falling (length found - 1 - y) (length found - 1 - x) b a (omega arith) (slice_get-reverse found y b got_b) (slice_get-reverse found x a got_a);
     all = λ i m answers.
-        let k = are.all i m (entry_of_pair i m answers) in
+        let k = row_of_pair i m are answers in
         let at = k.1 in
         let x = h.all k.0 at.row (omega arith) at.there (row_answers i m k.0 at answers) in
         let pair : (at.row.list, at.row.mapping) ≡ (i, m) = ap (λ (a : ℕ). (a, at.row.mapping)) at.list ∙ ap (λ (b : ℕ). (i, b)) at.mapping in
