@@ -4,7 +4,7 @@ ghost use Rattle.gix_glob.specs.RepositoryPaths.{IsBasenameStart};
 ghost use Rattle.glob_index.specs.Private.Rows.{always};
 ghost use Rattle.glob_index.specs.Private.Showing.{Shows};
 ghost use Rattle.glob_index.specs.Private.Tables.{AreChained};
-ghost use Rattle.glob_index.specs.Private.Walking.{IsAt, IsNextPair, NonePasses};
+ghost use Rattle.glob_index.specs.Private.Walking.{IsNextPair, IsWalkDown, NonePasses};
 
 use crate::probe::Probe;
 use crate::row::{ALWAYS, Row};
@@ -30,8 +30,8 @@ pub(crate) struct Walk {
     own: u32,
     /// One more than the next place of the class [`ALWAYS`], or 0.
     other: u32,
-    /// The place that was met last; what lies from it on was passed.
-    end: usize,
+    /// The place from which on all rows were passed.
+    passed_from: usize,
 }
 
 impl Table {
@@ -71,13 +71,13 @@ impl Table {
     pub(crate) fn walk(&self, class: u16) -> Walk
         requires class { class < 256 }
         requires chained { AreChained self.now }
-        ensures at { IsAt self.now.rows.items class result }
-        ensures all { result.end ≡ length self.now.rows.items }
+        ensures down { IsWalkDown self.now.rows.items class result }
+        ensures all { result.passed_from ≡ length self.now.rows.items }
     {
         Walk {
             own: self.heads[usize::from(class)],
             other: self.heads[usize::from(ALWAYS)],
-            end: self.rows.len(),
+            passed_from: self.rows.len(),
         }
     }
 
@@ -103,11 +103,11 @@ impl Table {
     /// The places of the list and of the mapping of the next row of a walk that passes, from the last one to the first.
     pub(crate) fn next_pair(&self, probe: &Probe, walk: &mut Walk) -> Option<(usize, usize)>
         requires chained { AreChained self.now }
-        requires at { IsAt self.now.rows.items probe.now.class walk.old }
-        ensures at { IsAt self.now.rows.items probe.now.class walk.new }
+        requires down { IsWalkDown self.now.rows.items probe.now.class walk.old }
+        ensures down { IsWalkDown self.now.rows.items probe.now.class walk.new }
         ensures next { MatchOption result
-            (NonePasses self.now.rows.items probe.now 0 walk.old.end)
-            (IsNextPair self.now.rows.items probe.now walk.new.end walk.old.end) }
+            (NonePasses self.now.rows.items probe.now 0 walk.old.passed_from)
+            (IsNextPair self.now.rows.items probe.now walk.new.passed_from walk.old.passed_from) }
     {
         let place = self.next(probe, walk)?;
         Some(self.rows[place].pair())
@@ -117,18 +117,18 @@ impl Table {
     #[inline(always)]
     fn next(&self, probe: &Probe, walk: &mut Walk) -> Option<usize>
         requires chained { AreChained self.now }
-        requires at { IsAt self.now.rows.items probe.now.class walk.old }
-        ensures at { IsAt self.now.rows.items probe.now.class walk.new }
+        requires down { IsWalkDown self.now.rows.items probe.now.class walk.old }
+        ensures down { IsWalkDown self.now.rows.items probe.now.class walk.new }
         ensures next { MatchOption result
-            (NonePasses self.now.rows.items probe.now 0 walk.old.end)
-            (λ place. (place < walk.old.end) × (walk.new.end ≡ place) × NonePasses self.now.rows.items probe.now (place + 1) walk.old.end) }
+            (NonePasses self.now.rows.items probe.now 0 walk.old.passed_from)
+            (λ place. (place < walk.old.passed_from) × (walk.new.passed_from ≡ place) × NonePasses self.now.rows.items probe.now (place + 1) walk.old.passed_from) }
     {
         'places: loop {
             if walk.own > walk.other {
                 let place = walk.own as usize - 1;
                 let row = &self.rows[place];
                 walk.own = row.before();
-                walk.end = place;
+                walk.passed_from = place;
                 if row.has_end(probe) {
                     return Some(place);
                 }
@@ -136,7 +136,7 @@ impl Table {
                 let place = walk.other as usize - 1;
                 let row = &self.rows[place];
                 walk.other = row.before();
-                walk.end = place;
+                walk.passed_from = place;
                 if row.has_bytes(probe) {
                     return Some(place);
                 }

@@ -12,7 +12,7 @@ use Rattle.glob_index.specs.declared.table.Walk.{Walk}
 use Rattle.glob_index.specs.Private.Chains.{IsChained, IsLastBelow, classes_of, links_of}
 use Rattle.glob_index.specs.Private.Rows.{always}
 use Rattle.glob_index.specs.Private.Showing.{HasBytes, HasEnd, Passes}
-use Rattle.glob_index.specs.Private.Walking.{IsAt, NonePasses}
+use Rattle.glob_index.specs.Private.Walking.{IsWalkDown, NonePasses}
 
 -- ---- building
 
@@ -131,17 +131,17 @@ NonePasses-place rows probe place to row there fails none m other from below got
 -- ---- one step of a walk
 
 module _ (rows : List Row) (heads : List ℕ) (probe : Probe) (walk : Walk) (place : ℕ) (row : Row)
-    (chained : IsChained (classes_of rows) (links_of rows) heads) (at : IsAt rows probe.class walk) (read : row ≡ get_or rows place row) where
-  inside : place + 1 ≤ walk.end → place < length rows
+    (chained : IsChained (classes_of rows) (links_of rows) heads) (at : IsWalkDown rows probe.class walk) (read : row ≡ get_or rows place row) where
+  inside : place + 1 ≤ walk.passed_from → place < length rows
   inside below = let all = at.inside in omega arith
 
-  there : place + 1 ≤ walk.end → slice_get rows place ≡ Some row
+  there : place + 1 ≤ walk.passed_from → slice_get rows place ≡ Some row
   there below = slice_get_read rows (length rows) place row refl (inside below) read
 
-  link_is : place + 1 ≤ walk.end → get_or (links_of rows) place 0 ≡ row.before
+  link_is : place + 1 ≤ walk.passed_from → get_or (links_of rows) place 0 ≡ row.before
   link_is below = get_or-map (λ (r : Row). r.before) rows place row 0 (inside below) ∙ ap (λ (r : Row). r.before) (sym read)
 
-  next_link : (class r : ℕ) → place + 1 ≡ r → IsLastBelow (classes_of rows) class walk.end r → IsLastBelow (classes_of rows) class place row.before
+  next_link : (class r : ℕ) → place + 1 ≡ r → IsLastBelow (classes_of rows) class walk.passed_from r → IsLastBelow (classes_of rows) class place row.before
   next_link class r is h =
       let below = h.below in
       let all = at.inside in
@@ -149,23 +149,23 @@ module _ (rows : List Row) (heads : List ℕ) (probe : Probe) (walk : Walk) (pla
       let long : length (classes_of rows) ≡ length rows = length-map rows (λ (r : Row). r.class) in
       subst (IsLastBelow (classes_of rows) class place) (link_is (omega arith))
       (subst (λ (k : ℕ). IsLastBelow (classes_of rows) class k (get_or (links_of rows) k 0)) same
-      (next_of_chain (classes_of rows) (links_of rows) heads class walk.end r chained (omega arith) (omega arith) h))
+      (next_of_chain (classes_of rows) (links_of rows) heads class walk.passed_from r chained (omega arith) (omega arith) h))
 
-  pub own_step : walk.other < walk.own → place + 1 ≡ walk.own → IsAt rows probe.class (record { own = row.before; other = walk.other; end = place })
+  pub own_step : walk.other < walk.own → place + 1 ≡ walk.own → IsWalkDown rows probe.class (record { own = row.before; other = walk.other; passed_from = place })
   own_step first is =
       let low = at.own.below in
       let all = at.inside in record {
         apart = at.apart;
         inside = omega arith;
         own = next_link probe.class walk.own is at.own;
-        other = last_below (classes_of rows) always walk.end place walk.other (omega arith) (omega arith) at.other;
+        other = last_below (classes_of rows) always walk.passed_from place walk.other (omega arith) (omega arith) at.other;
       }
 
   apart_places : walk.own ≡ walk.other → 0 < walk.own → ⊥
   apart_places same some =
       at.apart (sym (at.own.here some) ∙ (ap (λ (k : ℕ). get_or (classes_of rows) (k - 1) 0) same ∙ at.other.here (omega arith)))
 
-  pub other_step : walk.own ≤ walk.other → place + 1 ≡ walk.other → IsAt rows probe.class (record { own = walk.own; other = row.before; end = place })
+  pub other_step : walk.own ≤ walk.other → place + 1 ≡ walk.other → IsWalkDown rows probe.class (record { own = walk.own; other = row.before; passed_from = place })
   other_step first is =
       let low = at.other.below in
       let all = at.inside in
@@ -175,13 +175,13 @@ module _ (rows : List Row) (heads : List ℕ) (probe : Probe) (walk : Walk) (pla
       (cases_eq walk.own walk.other) in record {
         apart = at.apart;
         inside = omega arith;
-        own = last_below (classes_of rows) probe.class walk.end place walk.own (omega arith) (omega arith) at.own;
+        own = last_below (classes_of rows) probe.class walk.passed_from place walk.own (omega arith) (omega arith) at.own;
         other = next_link always walk.other is at.other;
       }
 
-  -- what lies between the walk's end and the place
-  pub none_between : (to : ℕ) → walk.own ≤ place + 1 → walk.other ≤ place + 1 → NonePasses rows probe walk.end to → NonePasses rows probe (place + 1) to
-  none_between to low low' none = NonePasses-above_chains rows probe walk.end walk.own walk.other (place + 1) to at.own at.other low low' none
+  -- what lies between the place and where the walk came from
+  pub NonePasses-between : (to : ℕ) → walk.own ≤ place + 1 → walk.other ≤ place + 1 → NonePasses rows probe walk.passed_from to → NonePasses rows probe (place + 1) to
+  NonePasses-between to low low' none = NonePasses-above_chains rows probe walk.passed_from walk.own walk.other (place + 1) to at.own at.other low low' none
 
   pub without_end : (to : ℕ) → place + 1 ≡ walk.own → ¬ HasEnd row probe → NonePasses rows probe (place + 1) to → NonePasses rows probe place to
   without_end to is fails none =

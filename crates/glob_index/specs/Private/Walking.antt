@@ -7,12 +7,12 @@ use Rattle.glob_index.specs.Private.Chains.{IsLastBelow, classes_of}
 use Rattle.glob_index.specs.Private.Rows.{always}
 use Rattle.glob_index.specs.Private.Showing.{Passes}
 
--- a walk down two chains, that of a class and that of the rows which are always looked at, has come to its end
-pub record IsAt (rows : List Row) (class : ℕ) (walk : Walk) : Type 0 where
+-- Below the place `walk.passed_from`, `own` and `other` lead to the last rows of the path's class and of `always`.
+pub record IsWalkDown (rows : List Row) (class : ℕ) (walk : Walk) : Type 0 where
   pub apart : class ≢ always
-  pub inside : walk.end ≤ length rows
-  pub own : IsLastBelow (classes_of rows) class walk.end walk.own
-  pub other : IsLastBelow (classes_of rows) always walk.end walk.other
+  pub inside : walk.passed_from ≤ length rows
+  pub own : IsLastBelow (classes_of rows) class walk.passed_from walk.own
+  pub other : IsLastBelow (classes_of rows) always walk.passed_from walk.other
 
 -- no row from one place up to another passes
 abbrev pub NonePasses : List Row → Probe → ℕ → ℕ → Type 0

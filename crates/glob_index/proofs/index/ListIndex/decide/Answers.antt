@@ -24,7 +24,7 @@ pub candidates-preserved : goal.candidates-preserved
 candidates-preserved g c =
     let made = to_value g.T.Pattern.seen _ _ c.self.view_is (λ lists _. IsTableOf lists c.self.inside.table) c.self.invariant in
     record {
-      at = c.in-Some.ensures.at;
+      down = c.in-Some.ensures.down;
       none = none_answers _ _ c.args.path.now c.args.is_dir c.args.self.now.case _ _ _ _ _ made.rows
           (law_holds _ c.self.inside.table.rows.items c.args.path.now c.args.is_dir c.args.self.now.case c.answering_patterns_pass.ensures c.probe-probe.result c.probe-probe.ensures.shows)
           c.in-Some.ensures.next (iff_false c.matches_at.ensures c.if-matches_at.false) c.candidates.invariant.none;
@@ -34,8 +34,8 @@ pub returns : goal.returns
 returns g c =
     let made = to_value g.T.Pattern.seen _ _ c.self.view_is (λ lists _. IsTableOf lists c.self.inside.table) c.self.invariant in
     let lists = map (entry_list_of g.T.Pattern.seen) c.args.self.now.lists in
-    let none : NonePasses c.self.inside.table.rows.items c.probe-probe.result 0 c.candidates.walk.end = rw c.in_default.is at c.next_pair.ensures.next in
+    let none : NonePasses c.self.inside.table.rows.items c.probe-probe.result 0 c.candidates.walk.passed_from = rw c.in_default.is at c.next_pair.ensures.next in
     decides_none lists c.self.inside.table.rows.items c.args.path.now c.args.is_dir c.args.self.now.case made.rows
-    (NoneAnswers-passed lists c.self.inside.table.rows.items c.args.path.now c.args.is_dir c.args.self.now.case c.probe-probe.result 0 c.candidates.walk.end made.rows
+    (NoneAnswers-passed lists c.self.inside.table.rows.items c.args.path.now c.args.is_dir c.args.self.now.case c.probe-probe.result 0 c.candidates.walk.passed_from made.rows
     (law_holds lists c.self.inside.table.rows.items c.args.path.now c.args.is_dir c.args.self.now.case c.answering_patterns_pass.ensures c.probe-probe.result c.probe-probe.ensures.shows)
     none c.candidates.invariant.none)
