@@ -3,13 +3,17 @@ ghost use Rattle.std.specs.Prelude.{◌≡◌, ◌<◌, length, slice_index, if�
 ghost use Rattle.gix_glob.specs.RepositoryPaths.{IsBasenameStart};
 ghost use Rattle.glob_index.specs.Private.Showing.{HasEndKeys, Shows, last_part};
 
-use crate::literals::{LONGEST, bytes_or_all, longer_key};
+use crate::literals::{LONGEST_END, bytes_or_all, longer_key};
+use crate::row::ALWAYS;
+
+/// How many lengths the end of a path can have: from 0 to the longest.
+const ENDS: usize = LONGEST_END + 1;
 
 /// What a path shows of itself.
 #[derive(Debug, Copy, Clone)]
-pub struct Probe {
+pub(crate) struct Probe {
     /// The numbers of the ends of the path, by their length in bytes.
-    keys: [u64; 9],
+    keys: [u64; ENDS],
     /// The last byte, letters as small ones.
     class: u16,
     /// The bytes of the path, as a set.
@@ -24,7 +28,7 @@ impl Probe {
         requires some { 0 < length path.now }
         requires basename { IsBasenameStart path.now position }
         ensures shows { Shows path.now result }
-        ensures class { result.class < 256 }
+        ensures class { result.class < ALWAYS }
     {
         let name = last_part(path, position);
         Probe {
@@ -74,11 +78,11 @@ fn last_part(path: &[u8], position: Option<usize>) -> &[u8]
 }
 
 /// The numbers of the ends of a path, by their length, up to its own.
-fn end_keys(path: &[u8]) -> [u64; 9]
+fn end_keys(path: &[u8]) -> [u64; ENDS]
     ensures { HasEndKeys path.now result }
 {
-    let mut keys = [0; 9];
-    let most = path.len().min(LONGEST);
+    let mut keys = [0; ENDS];
+    let most = path.len().min(LONGEST_END);
     'ends: for n in 0..most {
         keys[n + 1] = longer_key(keys[n], path[path.len() - (n + 1)]);
     }

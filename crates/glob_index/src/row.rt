@@ -16,7 +16,7 @@ pub(crate) const ALWAYS: u16 = 256;
 
 /// What a pattern asks of a path, and where its mapping stands.
 #[derive(Debug, Copy, Clone)]
-pub struct Row {
+pub(crate) struct Row {
     /// The number of the text's literal end; in the class [`ALWAYS`] the set of the bytes that are needed.
     key: u64,
     /// One more than the place of the row before this one that has its class, or 0.
@@ -27,7 +27,7 @@ pub struct Row {
     mapping: u32,
     /// The last byte of the text, letters as small ones, where it stands for itself; else [`ALWAYS`].
     class: u16,
-    /// The length of the literal end, at most eight bytes.
+    /// The length of the literal end in bytes, at most [`LONGEST_END`].
     length: u8,
     /// Whether the pattern looks at the last part of a path alone.
     is_name: bool,

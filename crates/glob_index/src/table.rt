@@ -1,7 +1,6 @@
 //! Rows in order, with a chain through those of each class: a path walks down two chains, and meets only rows that can pass.
 ghost use Rattle.std.specs.Prelude.{◌≡◌, ◌+◌, ◌++◌, ◌∷◌, [], ◌<◌, ◌≤◌, IfOk, MatchOption, OnOk, length, slice_index};
 ghost use Rattle.gix_glob.specs.RepositoryPaths.{IsBasenameStart};
-ghost use Rattle.glob_index.specs.Private.Rows.{always};
 ghost use Rattle.glob_index.specs.Private.Showing.{Shows};
 ghost use Rattle.glob_index.specs.Private.Tables.{AreChained};
 ghost use Rattle.glob_index.specs.Private.Walking.{IsNextPair, IsWalkDown, NonePasses};
@@ -10,17 +9,20 @@ use crate::probe::Probe;
 use crate::row::{ALWAYS, Row};
 use std::alloc::{AllocError, Global};
 
+/// How many classes there are: one for each byte, and [`ALWAYS`].
+const CLASSES: usize = 257;
+
 /// The fewest rows for which a walk costs less than a look at each row.
-const FEWEST: usize = 8;
+const FEWEST_ROWS: usize = 8;
 
 /// Rows, and the last row of each class.
 #[derive(Debug, Drop)]
 pub(crate) struct Table {
     rows: Vec<Row>,
     /// One more than the place of the last row of each class, or 0.
-    heads: [u32; 257],
+    heads: [u32; CLASSES],
     /// How many rows each class has.
-    counts: [u32; 257],
+    counts: [u32; CLASSES],
 }
 
 /// How far a walk down two chains has come.
@@ -41,14 +43,14 @@ impl Table {
     {
         Ok(Table {
             rows: Vec::with_capacity(alloc, capacity)?,
-            heads: [0; 257],
-            counts: [0; 257],
+            heads: [0; CLASSES],
+            counts: [0; CLASSES],
         })
     }
 
     /// Adds a row after the others. More than 2^32 - 1 of them are refused as memory is.
     pub(crate) fn push(&mut self, row: Row) -> Result<(), AllocError>
-        requires class { row.class ≤ always }
+        requires class { row.class ≤ ALWAYS }
         requires chained { AreChained self.old }
         ensures rows { OnOk result (self.new.rows.items ≡ self.old.rows.items ++ (record row { before = slice_index self.old.heads row.class }) ∷ []) }
         ensures chained { OnOk result (AreChained self.new) }
@@ -69,7 +71,7 @@ impl Table {
 
     /// The start of a walk that meets what can pass of a path with this last byte.
     pub(crate) fn walk(&self, class: u16) -> Walk
-        requires class { class < 256 }
+        requires class { class < ALWAYS }
         requires chained { AreChained self.now }
         ensures down { IsWalkDown self.now.rows.items class result }
         ensures all { result.passed_from ≡ length self.now.rows.items }
@@ -86,7 +88,7 @@ impl Table {
         let own = self.counts[usize::from(last.to_ascii_lowercase())] as usize;
         let other = self.counts[usize::from(ALWAYS)] as usize;
         let len = self.rows.len();
-        len >= FEWEST && own.saturating_add(other).saturating_mul(2) <= len
+        len >= FEWEST_ROWS && own.saturating_add(other).saturating_mul(2) <= len
     }
 
     /// What a path shows. The sets of its bytes are made where that is less work than the rows that they pass over.
@@ -94,7 +96,7 @@ impl Table {
         requires some { 0 < length path.now }
         requires basename { IsBasenameStart path.now position }
         ensures shows { Shows path.now result }
-        ensures class { result.class < 256 }
+        ensures class { result.class < ALWAYS }
     {
         let has_sets = self.heads[usize::from(ALWAYS)] > 0 && path.len() <= self.rows.len();
         Probe::new(path, position, has_sets)

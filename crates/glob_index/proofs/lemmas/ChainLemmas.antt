@@ -8,19 +8,20 @@ use Rattle.std.proofs.lemmas.List.{get_or-set_same, get_or-set_other, get_or-map
 use Rattle.std.proofs.lemmas.Option.{get_or_from_slice_get, slice_get_read, slice_get_within}
 use Rattle.glob_index.specs.declared.probe.Probe.{Probe}
 use Rattle.glob_index.specs.declared.row.Row.{Row}
+use Rattle.glob_index.specs.declared.row.TheConstants.{ALWAYS}
+use Rattle.glob_index.specs.declared.table.TheConstants.{CLASSES}
 use Rattle.glob_index.specs.declared.table.Walk.{Walk}
 use Rattle.glob_index.specs.Private.Chains.{IsChained, IsLastBelow, classes_of, links_of}
-use Rattle.glob_index.specs.Private.Rows.{always}
 use Rattle.glob_index.specs.Private.Showing.{HasBytes, HasEnd, Passes}
 use Rattle.glob_index.specs.Private.Walking.{IsWalkDown, NonePasses}
 
 -- ---- building
 
-pub IsChained-none : (classes links heads : List ℕ) → classes ≡ [] → heads ≡ replicate 257 0 → IsChained classes links heads
+pub IsChained-none : (classes links heads : List ℕ) → classes ≡ [] → heads ≡ replicate CLASSES 0 → IsChained classes links heads
 IsChained-none classes links heads none zeros =
     let short : length classes ≡ 0 = ap (λ (xs : List ℕ). length xs) none in record {
       head = λ class below.
-          let first : get_or heads class 0 ≡ 0 = ap (λ (xs : List ℕ). get_or xs class 0) zeros ∙ get_or-replicate 257 class 0 0 (omega arith) in
+          let first : get_or heads class 0 ≡ 0 = ap (λ (xs : List ℕ). get_or xs class 0) zeros ∙ get_or-replicate CLASSES class 0 0 (omega arith) in
           record { below = omega arith; others = λ m low high. absurd (omega arith); here = λ some. absurd (omega arith) };
       link = λ i inside. absurd (omega arith);
     }
@@ -58,7 +59,7 @@ last_of_its_own classes added =
           ap (λ (k : ℕ). get_or (classes ++ added ∷ []) k 0) place ∙ get_or-append_seam classes added [] 0);
     }
 
-pub IsChained-more : (classes links heads : List ℕ) (added place : ℕ) → added ≤ always → length links ≡ length classes → length heads ≡ 257 → place ≡ length classes + 1 → IsChained classes links heads
+pub IsChained-more : (classes links heads : List ℕ) (added place : ℕ) → added < CLASSES → length links ≡ length classes → length heads ≡ CLASSES → place ≡ length classes + 1 → IsChained classes links heads
     → IsChained (classes ++ added ∷ []) (links ++ get_or heads added 0 ∷ []) (slice_set heads added place)
 IsChained-more classes links heads added place small same wide is h =
     let long : length (classes ++ added ∷ []) ≡ length classes + 1 = length-append classes (added ∷ []) in record {
@@ -109,14 +110,14 @@ class_at rows m row got =
     get_or-map (λ (r : Row). r.class) rows m row 0 (slice_get_within rows m row got) ∙ ap (λ (r : Row). r.class) (get_or_from_slice_get rows m row row got)
 
 -- what lies between both chains' next places and their end doesn't pass
-pub NonePasses-above_chains : (rows : List Row) (probe : Probe) (end own other near to : ℕ) → IsLastBelow (classes_of rows) probe.class end own → IsLastBelow (classes_of rows) always end other
+pub NonePasses-above_chains : (rows : List Row) (probe : Probe) (end own other near to : ℕ) → IsLastBelow (classes_of rows) probe.class end own → IsLastBelow (classes_of rows) ALWAYS end other
     → own ≤ near → other ≤ near → NonePasses rows probe end to → NonePasses rows probe near to
 NonePasses-above_chains rows probe end own other near to h h' low low' none m row from below got passes = elim (cases_lt m end) [
   | inr past ↦ none m row past below got passes
   | inl between ↦ (let class_is = class_at rows m row got in ⊎_elim
-      (λ (is : row.class ≡ always). h'.others m (omega arith) between (class_is ∙ is))
-      (λ (not : row.class ≡ always → ⊥). h.others m (omega arith) between (class_is ∙ passes.last not))
-      (cases_eq row.class always))
+      (λ (is : row.class ≡ ALWAYS). h'.others m (omega arith) between (class_is ∙ is))
+      (λ (not : row.class ≡ ALWAYS → ⊥). h.others m (omega arith) between (class_is ∙ passes.last not))
+      (cases_eq row.class ALWAYS))
 ]
 
 -- nor does the place itself, where it was tested
@@ -158,7 +159,7 @@ module _ (rows : List Row) (heads : List ℕ) (probe : Probe) (walk : Walk) (pla
         apart = at.apart;
         inside = omega arith;
         own = next_link probe.class walk.own is at.own;
-        other = last_below (classes_of rows) always walk.passed_from place walk.other (omega arith) (omega arith) at.other;
+        other = last_below (classes_of rows) ALWAYS walk.passed_from place walk.other (omega arith) (omega arith) at.other;
       }
 
   apart_places : walk.own ≡ walk.other → 0 < walk.own → ⊥
@@ -176,7 +177,7 @@ module _ (rows : List Row) (heads : List ℕ) (probe : Probe) (walk : Walk) (pla
         apart = at.apart;
         inside = omega arith;
         own = last_below (classes_of rows) probe.class walk.passed_from place walk.own (omega arith) (omega arith) at.own;
-        other = next_link always walk.other is at.other;
+        other = next_link ALWAYS walk.other is at.other;
       }
 
   -- what lies between the place and where the walk came from
@@ -195,12 +196,12 @@ module _ (rows : List Row) (heads : List ℕ) (probe : Probe) (walk : Walk) (pla
   without_bytes to is fails none =
       let low = at.other.below in
       let same : walk.other - 1 ≡ place = omega arith in
-      let class_is : row.class ≡ always =
+      let class_is : row.class ≡ ALWAYS =
       sym (class_at rows place row (there (omega arith))) ∙ (ap (λ (k : ℕ). get_or (classes_of rows) k 0) (sym same) ∙ at.other.here (omega arith)) in
       NonePasses-place rows probe place to row (there (omega arith)) (λ passes. fails (passes.bytes class_is)) none
 
 -- one row more
-pub IsChained-push : (rows : List Row) (heads : List ℕ) (row added : Row) (class place : ℕ) → row.class ≤ always → class ≡ row.class → length heads ≡ 257 → place ≡ length rows + 1
+pub IsChained-push : (rows : List Row) (heads : List ℕ) (row added : Row) (class place : ℕ) → row.class ≤ ALWAYS → class ≡ row.class → length heads ≡ CLASSES → place ≡ length rows + 1
     → added ≡ record row { before = get_or heads class 0 } → IsChained (classes_of rows) (links_of rows) heads
     → IsChained (classes_of (rows ++ added ∷ [])) (links_of (rows ++ added ∷ [])) (slice_set heads class place)
 IsChained-push rows heads row added class place small is wide here same h =

@@ -16,6 +16,7 @@ use Rattle.gix_glob.specs.Matching.{Splits}
 use Rattle.gix_glob.specs.Patterns.{IsUnescapedUpTo, is_absolute, is_joining, is_without_sub_dir}
 use Rattle.gix_glob.specs.RepositoryPaths.{Answers, IsBasenameStart, subject, with_case}
 use Rattle.gix_glob.specs.Stripping.{RestOf}
+use Rattle.glob_index.specs.declared.literals.TheConstants.{LONGEST_END}
 use Rattle.glob_index.specs.declared.probe.Probe.{Probe}
 use Rattle.glob_index.specs.declared.row.Row.{Row}
 use Rattle.glob_index.specs.Private.Literals.{EndsLiterally, NeedsBits, bit_of, end_key, from_end}
@@ -130,7 +131,7 @@ module _ (ends : EndsAsTheText) (bytes : HasTheBytes) (text path value : List �
   long : length value ≡ length path - at
   long = ap (λ (xs : List ℕ). length xs) is ∙ length-drop at path
 
-  class_and_end : HasLiteralEnd text row.length row.class row.key → row.length ≤ 8 → (row.class ≡ probe.class) × HasEnd row probe
+  class_and_end : HasLiteralEnd text row.length row.class row.key → row.length ≤ LONGEST_END → (row.class ≡ probe.class) × HasEnd row probe
   class_and_end e short =
       let some = e.some in
       let alike = ends_alike ends text value mode row.length e.literal s in

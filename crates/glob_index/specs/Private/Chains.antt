@@ -1,7 +1,7 @@
 -- Chains: through the rows of each class, from the last one to the first.
 use Rattle.std.specs.Prelude.{◌≡◌, ◌≢◌, ℕ, ◌-◌, ◌<◌, ◌≤◌, List, length, map, slice_index}
 use Rattle.glob_index.specs.declared.row.Row.{Row}
-use Rattle.glob_index.specs.Private.Rows.{always}
+use Rattle.glob_index.specs.declared.table.TheConstants.{CLASSES}
 
 -- the classes of the rows
 abbrev pub classes_of : List Row → List ℕ
@@ -19,5 +19,5 @@ pub record IsLastBelow (classes : List ℕ) (class end r : ℕ) : Type 0 where
 
 -- Each class has its last place at its head, and each place is linked to the one before it that has its class.
 pub record IsChained (classes links heads : List ℕ) : Type 0 where
-  pub head : (class : ℕ) → class ≤ always → IsLastBelow classes class (length classes) (slice_index heads class)
+  pub head : (class : ℕ) → class < CLASSES → IsLastBelow classes class (length classes) (slice_index heads class)
   pub link : (i : ℕ) → i < length classes → IsLastBelow classes (slice_index classes i) i (slice_index links i)

@@ -3,18 +3,19 @@ use Rattle.std.specs.Prelude.{◌≡◌, ◌≢◌, ℕ, ◌<◌, ◌≤◌, Lis
 use Rattle.std.specs.Char.{to_ascii_lowercase}
 use Rattle.std.specs.Int.{bit_at}
 use Rattle.gix_glob.specs.Bytes.{HasByte, slash}
+use Rattle.glob_index.specs.declared.literals.TheConstants.{LONGEST_END}
 use Rattle.glob_index.specs.declared.probe.Probe.{Probe}
 use Rattle.glob_index.specs.declared.row.Row.{Row}
+use Rattle.glob_index.specs.declared.row.TheConstants.{ALWAYS}
 use Rattle.glob_index.specs.Private.Literals.{bit_of, end_key, from_end}
-use Rattle.glob_index.specs.Private.Rows.{always}
 
 -- the set has each byte of the text
 abbrev pub HoldsBits : List ℕ → ℕ → Type 0
 HoldsBits text set = (j : ℕ) → j < length text → bit_at set (bit_of (slice_index text j)) ≡ 1
 
--- the numbers of the ends of a path, up to its own length and eight bytes
+-- the numbers of the ends of a path, up to its own length and the longest
 abbrev pub HasEndKeys : List ℕ → List ℕ → Type 0
-HasEndKeys path keys = (n : ℕ) → n ≤ 8 → n ≤ length path → slice_index keys n ≡ end_key path n
+HasEndKeys path keys = (n : ℕ) → n ≤ LONGEST_END → n ≤ length path → slice_index keys n ≡ end_key path n
 
 -- the set has each byte of the last part of the path: those that no slash follows
 abbrev pub HoldsNameBits : List ℕ → ℕ → Type 0
@@ -47,6 +48,6 @@ HasBytes row probe = HasAll (if row.is_name then probe.name_bytes else probe.byt
 
 -- What the path shows has what the row asks for.
 pub record Passes (row : Row) (probe : Probe) : Type 0 where
-  pub last : row.class ≢ always → row.class ≡ probe.class
-  pub end : row.class ≢ always → HasEnd row probe
-  pub bytes : row.class ≡ always → HasBytes row probe
+  pub last : row.class ≢ ALWAYS → row.class ≡ probe.class
+  pub end : row.class ≢ ALWAYS → HasEnd row probe
+  pub bytes : row.class ≡ ALWAYS → HasBytes row probe

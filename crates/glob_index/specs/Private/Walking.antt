@@ -2,17 +2,17 @@
 use Rattle.std.specs.Prelude.{◌≡◌, ◌≢◌, ℕ, ◌+◌, ◌<◌, ◌≤◌, List, Some, length, slice_get}
 use Rattle.glob_index.specs.declared.probe.Probe.{Probe}
 use Rattle.glob_index.specs.declared.row.Row.{Row}
+use Rattle.glob_index.specs.declared.row.TheConstants.{ALWAYS}
 use Rattle.glob_index.specs.declared.table.Walk.{Walk}
 use Rattle.glob_index.specs.Private.Chains.{IsLastBelow, classes_of}
-use Rattle.glob_index.specs.Private.Rows.{always}
 use Rattle.glob_index.specs.Private.Showing.{Passes}
 
--- Below the place `walk.passed_from`, `own` and `other` lead to the last rows of the path's class and of `always`.
+-- Below the place `walk.passed_from`, `own` and `other` lead to the last rows of the path's class and of `ALWAYS`.
 pub record IsWalkDown (rows : List Row) (class : ℕ) (walk : Walk) : Type 0 where
-  pub apart : class ≢ always
+  pub apart : class ≢ ALWAYS
   pub inside : walk.passed_from ≤ length rows
   pub own : IsLastBelow (classes_of rows) class walk.passed_from walk.own
-  pub other : IsLastBelow (classes_of rows) always walk.passed_from walk.other
+  pub other : IsLastBelow (classes_of rows) ALWAYS walk.passed_from walk.other
 
 -- no row from one place up to another passes
 abbrev pub NonePasses : List Row → Probe → ℕ → ℕ → Type 0
