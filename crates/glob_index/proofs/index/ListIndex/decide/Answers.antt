@@ -4,8 +4,9 @@ use Rattle.std.proofs.lemmas.Bool.{iff_false}
 use Rattle.gix_glob.specs.EntryLists.{entry_list_of}
 use Rattle.glob_index.specs.Private.Tables.{IsTableOf}
 use Rattle.glob_index.specs.Private.Walking.{NonePasses}
+use Rattle.glob_index.proofs.lemmas.AnsweringRows.{NoneAnswers-passed, decides_none, law_holds}
+use Rattle.glob_index.proofs.lemmas.CandidateLemmas.{entry_of_next, last_answer, none_answers}
 use Rattle.glob_index.proofs.lemmas.IndexLemmas.{to_value}
-use Rattle.glob_index.proofs.lemmas.RowLemmas.{last_answer, decides_none, entry_of_next, law_holds, NoneAnswers-passed, none_answers}
 use Rattle.glob_index.proofs.index.ListIndex.decide.Goals as goal
 
 pub matches_at-requires-clause-there : goal.matches_at-requires-clause-there

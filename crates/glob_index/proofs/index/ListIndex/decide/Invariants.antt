@@ -1,7 +1,7 @@
 use Rattle.std.proofs.Common.{map}
 use Rattle.gix_glob.specs.EntryLists.{entry_list_of}
 use Rattle.glob_index.specs.Private.Walking.{IsWalkDown}
-use Rattle.glob_index.proofs.lemmas.RowLemmas.{NoneAnswers}
+use Rattle.glob_index.proofs.lemmas.AnsweringRows.{NoneAnswers}
 use Rattle.glob_index.proofs.index.ListIndex.decide.Given as goal
 
 -- no row that was passed answers

@@ -5,8 +5,10 @@ use Rattle.gix_glob.specs.EntryLists.{entry_list_of}
 use Rattle.glob_index.specs.Index.{AreMatches}
 use Rattle.glob_index.specs.Private.Tables.{IsTableOf}
 use Rattle.glob_index.specs.Private.Walking.{NonePasses}
+use Rattle.glob_index.proofs.lemmas.AnsweringRows.{law_holds}
+use Rattle.glob_index.proofs.lemmas.CandidateLemmas.{AreFoundFrom-more, AreFoundFrom-same, entry_of_next}
+use Rattle.glob_index.proofs.lemmas.FoundPairs.{AreFoundFrom, AreFoundFrom-all, AreFoundFrom-skip}
 use Rattle.glob_index.proofs.lemmas.IndexLemmas.{to_value}
-use Rattle.glob_index.proofs.lemmas.RowLemmas.{AreFoundFrom, entry_of_next, AreFoundFrom-all, AreFoundFrom-more, AreFoundFrom-same, AreFoundFrom-skip, law_holds}
 use Rattle.glob_index.proofs.index.ListIndex.matches_into.Goals as goal
 
 pub matches_at-requires-clause-there : goal.matches_at-requires-clause-there

@@ -1,7 +1,7 @@
 use Rattle.std.proofs.Common.{map}
 use Rattle.gix_glob.specs.EntryLists.{entry_list_of}
 use Rattle.glob_index.specs.Private.Walking.{IsWalkDown}
-use Rattle.glob_index.proofs.lemmas.RowLemmas.{AreFoundFrom}
+use Rattle.glob_index.proofs.lemmas.FoundPairs.{AreFoundFrom}
 use Rattle.glob_index.proofs.index.ListIndex.matches_into.Given as goal
 
 -- what answers of the rows that were passed was found
