@@ -107,7 +107,7 @@ last_below classes class end nearer r near low h = record { below = low; others 
 
 class_at : (rows : List Row) (m : ℕ) (row : Row) → slice_get rows m ≡ Some row → get_or (classes_of rows) m 0 ≡ row.class
 class_at rows m row got =
-    get_or-map (λ (r : Row). r.class) rows m row 0 (slice_get_within rows m row got) ∙ ap (λ (r : Row). r.class) (get_or_from_slice_get rows m row row got)
+    get_or-map (λ (seen : Row). seen.class) rows m row 0 (slice_get_within rows m row got) ∙ ap (λ (seen : Row). seen.class) (get_or_from_slice_get rows m row row got)
 
 -- what lies between both chains' next places and their end doesn't pass
 pub NonePasses-above_chains : (rows : List Row) (probe : Probe) (end own other near to : ℕ) → IsLastBelow (classes_of rows) probe.class end own → IsLastBelow (classes_of rows) ALWAYS end other
@@ -140,7 +140,7 @@ module _ (rows : List Row) (heads : List ℕ) (probe : Probe) (walk : Walk) (pla
   there below = slice_get_read rows (length rows) place row refl (inside below) read
 
   link_is : place + 1 ≤ walk.passed_from → get_or (links_of rows) place 0 ≡ row.before
-  link_is below = get_or-map (λ (r : Row). r.before) rows place row 0 (inside below) ∙ ap (λ (r : Row). r.before) (sym read)
+  link_is below = get_or-map (λ (seen : Row). seen.before) rows place row 0 (inside below) ∙ ap (λ (seen : Row). seen.before) (sym read)
 
   next_link : (class r : ℕ) → place + 1 ≡ r → IsLastBelow (classes_of rows) class walk.passed_from r → IsLastBelow (classes_of rows) class place row.before
   next_link class r is h =
