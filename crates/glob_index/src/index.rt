@@ -97,7 +97,7 @@ impl<'a, T: search::Pattern> ListIndex<'a, T> {
         laws::answering_patterns_pass();
         let position = basename_start(path);
         let probe = self.table.probe(path, position);
-        let mut walk = self.table.walk(probe.class());
+        let mut walk = self.table.walk(probe.last());
         'candidates: while let Some((list, mapping)) = self.table.next_pair(&probe, &mut walk) {
             if self.matches_at(list, mapping, path, position, is_dir) {
                 return Some((list, mapping));
@@ -149,7 +149,7 @@ impl<'a, T: search::Pattern> ListIndex<'a, T> {
         // a law does nothing: it is called for what it ensures
         laws::answering_patterns_pass();
         let probe = self.table.probe(path, position);
-        let mut walk = self.table.walk(probe.class());
+        let mut walk = self.table.walk(probe.last());
         pairs.clear();
         'candidates: while let Some((list, mapping)) = self.table.next_pair(&probe, &mut walk) {
             if self.matches_at(list, mapping, path, position, is_dir) {

@@ -1,16 +1,15 @@
 //! Rows in order, with a chain through those of each class: a path walks down two chains, and meets only rows that can pass.
-ghost use Rattle.std.specs.Prelude.{◌≡◌, ◌+◌, ◌++◌, ◌∷◌, [], ◌<◌, ◌≤◌, IfOk, MatchOption, OnOk, length, slice_index};
+ghost use Rattle.std.specs.Prelude.{◌≡◌, ◌+◌, ◌++◌, ◌∷◌, [], ◌<◌, IfOk, MatchOption, OnOk, length, slice_index};
 ghost use Rattle.gix_glob.specs.RepositoryPaths.{IsBasenameStart};
+ghost use Rattle.glob_index.specs.Private.Chains.{place_of};
 ghost use Rattle.glob_index.specs.Private.Showing.{Shows};
 ghost use Rattle.glob_index.specs.Private.Tables.{AreChained};
 ghost use Rattle.glob_index.specs.Private.Walking.{IsNextPair, IsWalkDown, NonePasses};
 
+use crate::chains::{CLASSES, Class};
 use crate::probe::Probe;
-use crate::row::{ALWAYS, Row};
+use crate::row::Row;
 use std::alloc::{AllocError, Global};
-
-/// How many classes there are: one for each byte, and [`ALWAYS`].
-const CLASSES: usize = 257;
 
 /// The fewest rows for which a walk costs less than a look at each row.
 const FEWEST_ROWS: usize = 8;
@@ -30,7 +29,7 @@ pub(crate) struct Table {
 pub(crate) struct Walk {
     /// One more than the next place of the path's own class, or 0.
     own: u32,
-    /// One more than the next place of the class [`ALWAYS`], or 0.
+    /// One more than the next place of the class [`Class::Always`], or 0.
     other: u32,
     /// The place from which on all rows were passed.
     passed_from: usize,
@@ -50,9 +49,8 @@ impl Table {
 
     /// Adds a row after the others. More than 2^32 - 1 of them are refused as memory is.
     pub(crate) fn push(&mut self, row: Row) -> Result<(), AllocError>
-        requires class { row.class ≤ ALWAYS }
-        requires chained { AreChained self.old }
-        ensures rows { OnOk result (self.new.rows.items ≡ self.old.rows.items ++ (record row { before = slice_index self.old.heads row.class }) ∷ []) }
+        requires { AreChained self.old }
+        ensures rows { OnOk result (self.new.rows.items ≡ self.old.rows.items ++ (record row { before = slice_index self.old.heads (place_of row.class) }) ∷ []) }
         ensures chained { OnOk result (AreChained self.new) }
     {
         let Ok(place) = u32::try_from(self.rows.len()) else {
@@ -61,7 +59,7 @@ impl Table {
         let Some(head) = place.checked_add(1) else {
             return Err(AllocError);
         };
-        let class = usize::from(row.class());
+        let class = row.class().place();
         let chained_row = row.after(self.heads[class]);
         self.rows.push(chained_row)?;
         self.heads[class] = head;
@@ -70,23 +68,22 @@ impl Table {
     }
 
     /// The start of a walk that meets what can pass of a path with this last byte.
-    pub(crate) fn walk(&self, class: u16) -> Walk
-        requires class { class < ALWAYS }
-        requires chained { AreChained self.now }
-        ensures down { IsWalkDown self.now.rows.items class result }
+    pub(crate) fn walk(&self, last: u8) -> Walk
+        requires { AreChained self.now }
+        ensures down { IsWalkDown self.now.rows.items last result }
         ensures all { result.passed_from ≡ length self.now.rows.items }
     {
         Walk {
-            own: self.heads[usize::from(class)],
-            other: self.heads[usize::from(ALWAYS)],
+            own: self.heads[Class::EndsIn(last).place()],
+            other: self.heads[Class::Always.place()],
             passed_from: self.rows.len(),
         }
     }
 
     /// Whether a path that ends in this byte meets at most half of the rows, and there are enough rows for that to pay.
     pub(crate) fn is_selective(&self, last: u8) -> bool {
-        let own = self.counts[usize::from(last.to_ascii_lowercase())] as usize;
-        let other = self.counts[usize::from(ALWAYS)] as usize;
+        let own = self.counts[Class::EndsIn(last.to_ascii_lowercase()).place()] as usize;
+        let other = self.counts[Class::Always.place()] as usize;
         let len = self.rows.len();
         len >= FEWEST_ROWS && own.saturating_add(other).saturating_mul(2) <= len
     }
@@ -95,18 +92,17 @@ impl Table {
     pub(crate) fn probe(&self, path: &[u8], position: Option<usize>) -> Probe
         requires some { 0 < length path.now }
         requires basename { IsBasenameStart path.now position }
-        ensures shows { Shows path.now result }
-        ensures class { result.class < ALWAYS }
+        ensures { Shows path.now result }
     {
-        let has_sets = self.heads[usize::from(ALWAYS)] > 0 && path.len() <= self.rows.len();
+        let has_sets = self.heads[Class::Always.place()] > 0 && path.len() <= self.rows.len();
         Probe::new(path, position, has_sets)
     }
 
     /// The places of the list and of the mapping of the next row of a walk that passes, from the last one to the first.
     pub(crate) fn next_pair(&self, probe: &Probe, walk: &mut Walk) -> Option<(usize, usize)>
         requires chained { AreChained self.now }
-        requires down { IsWalkDown self.now.rows.items probe.now.class walk.old }
-        ensures down { IsWalkDown self.now.rows.items probe.now.class walk.new }
+        requires down { IsWalkDown self.now.rows.items probe.now.last walk.old }
+        ensures down { IsWalkDown self.now.rows.items probe.now.last walk.new }
         ensures next { MatchOption result
             (NonePasses self.now.rows.items probe.now 0 walk.old.passed_from)
             (IsNextPair self.now.rows.items probe.now walk.new.passed_from walk.old.passed_from) }
@@ -119,8 +115,8 @@ impl Table {
     #[inline(always)]
     fn next(&self, probe: &Probe, walk: &mut Walk) -> Option<usize>
         requires chained { AreChained self.now }
-        requires down { IsWalkDown self.now.rows.items probe.now.class walk.old }
-        ensures down { IsWalkDown self.now.rows.items probe.now.class walk.new }
+        requires down { IsWalkDown self.now.rows.items probe.now.last walk.old }
+        ensures down { IsWalkDown self.now.rows.items probe.now.last walk.new }
         ensures next { MatchOption result
             (NonePasses self.now.rows.items probe.now 0 walk.old.passed_from)
             (λ place. (place < walk.old.passed_from) × (walk.new.passed_from ≡ place) × NonePasses self.now.rows.items probe.now (place + 1) walk.old.passed_from) }

@@ -1,18 +1,19 @@
 -- Chains through the places of a class: one place more, and one step down.
-use Rattle.std.proofs.Common.{◌≡◌, ◌≢◌, inl, inr, ⊎_elim, ℕ, ◌+◌, ◌-◌, ◌<◌, ◌≤◌, List, [], ◌∷◌, ◌++◌, length, get_or, slice_set, replicate, refl, sym, ◌∙◌, ap, subst, arith, length-append}
+use Rattle.std.proofs.Common.{◌≡◌, ◌≢◌, ◌⊎◌, inl, inr, ⊎_elim, ℕ, ◌+◌, ◌-◌, ◌<◌, ◌≤◌, List, [], ◌∷◌, ◌++◌, length, get_or, slice_set, replicate, refl, sym, ◌∙◌, ap, subst, arith, length-append}
 use Rattle.std.specs.Prelude.{Some, slice_get}
 use Rattle.std.proofs.Math.Seq.{get_or-append_seam}
 use Rattle.std.proofs.Math.ListN.{get_or-append}
 use Rattle.std.proofs.lemmas.Bool.{cases_lt, cases_eq}
 use Rattle.std.proofs.lemmas.List.{get_or-set_same, get_or-set_other, get_or-map, get_or-replicate, length-map, map-append}
 use Rattle.std.proofs.lemmas.Option.{get_or_from_slice_get, slice_get_read, slice_get_within}
+use Rattle.glob_index.specs.declared.chains.Class.{Class}
+use Rattle.glob_index.specs.declared.chains.Class.TheVariants.{Always, EndsIn}
+use Rattle.glob_index.specs.declared.chains.TheConstants.{CLASSES}
 use Rattle.glob_index.specs.declared.probe.Probe.{Probe}
 use Rattle.glob_index.specs.declared.row.Row.{Row}
-use Rattle.glob_index.specs.declared.row.TheConstants.{ALWAYS}
-use Rattle.glob_index.specs.declared.table.TheConstants.{CLASSES}
 use Rattle.glob_index.specs.declared.table.Walk.{Walk}
-use Rattle.glob_index.specs.Private.Chains.{IsChained, IsLastBelow, classes_of, links_of}
-use Rattle.glob_index.specs.Private.Showing.{HasBytes, HasEnd, Passes}
+use Rattle.glob_index.specs.Private.Chains.{IsChained, IsLastBelow, classes_of, links_of, place_of}
+use Rattle.glob_index.specs.Private.Showing.{HasBytes, HasEnd, Passes, PassesBy}
 use Rattle.glob_index.specs.Private.Walking.{IsWalkDown, NonePasses}
 
 -- ---- building
@@ -105,19 +106,32 @@ next_of_chain classes links heads class end r chained inside some h =
 pub last_below : (classes : List ℕ) (class end nearer r : ℕ) → nearer ≤ end → r ≤ nearer → IsLastBelow classes class end r → IsLastBelow classes class nearer r
 last_below classes class end nearer r near low h = record { below = low; others = λ m from below. h.others m from (omega arith); here = h.here }
 
-class_at : (rows : List Row) (m : ℕ) (row : Row) → slice_get rows m ≡ Some row → get_or (classes_of rows) m 0 ≡ row.class
+class_at : (rows : List Row) (m : ℕ) (row : Row) → slice_get rows m ≡ Some row → get_or (classes_of rows) m 0 ≡ place_of row.class
 class_at rows m row got =
-    get_or-map (λ (seen : Row). seen.class) rows m row 0 (slice_get_within rows m row got) ∙ ap (λ (seen : Row). seen.class) (get_or_from_slice_get rows m row row got)
+    get_or-map (λ (seen : Row). place_of seen.class) rows m row 0 (slice_get_within rows m row got) ∙ ap (λ (seen : Row). place_of seen.class) (get_or_from_slice_get rows m row row got)
+
+-- what passes is of the class of the path's last byte, or always looked at
+class_of_passing : (row : Row) (probe : Probe) (class : Class) → PassesBy row probe class → (place_of class ≡ place_of Always) ⊎ (place_of class ≡ place_of (EndsIn probe.last))
+class_of_passing row probe Always passes = inl refl
+class_of_passing row probe (EndsIn byte) passes = inr (ap (λ (b : ℕ). b + 1) passes.0)
+
+HasEnd-passing : (row : Row) (probe : Probe) (class : Class) → place_of class ≡ place_of (EndsIn probe.last) → PassesBy row probe class → HasEnd row probe
+HasEnd-passing row probe Always same passes = absurd (omega (arith, same))
+HasEnd-passing row probe (EndsIn byte) same passes = passes.1
+
+HasBytes-passing : (row : Row) (probe : Probe) (class : Class) → place_of class ≡ place_of Always → PassesBy row probe class → HasBytes row probe
+HasBytes-passing row probe Always same passes = passes
+HasBytes-passing row probe (EndsIn byte) same passes = absurd (omega (arith, same))
 
 -- what lies between both chains' next places and their end doesn't pass
-pub NonePasses-above_chains : (rows : List Row) (probe : Probe) (end own other near to : ℕ) → IsLastBelow (classes_of rows) probe.class end own → IsLastBelow (classes_of rows) ALWAYS end other
+pub NonePasses-above_chains : (rows : List Row) (probe : Probe) (end own other near to : ℕ) → IsLastBelow (classes_of rows) (place_of (EndsIn probe.last)) end own → IsLastBelow (classes_of rows) (place_of Always) end other
     → own ≤ near → other ≤ near → NonePasses rows probe end to → NonePasses rows probe near to
 NonePasses-above_chains rows probe end own other near to h h' low low' none m row from below got passes = elim (cases_lt m end) [
   | inr past ↦ none m row past below got passes
-  | inl between ↦ (let class_is = class_at rows m row got in ⊎_elim
-      (λ (is : row.class ≡ ALWAYS). h'.others m (omega arith) between (class_is ∙ is))
-      (λ (not : row.class ≡ ALWAYS → ⊥). h.others m (omega arith) between (class_is ∙ passes.last not))
-      (cases_eq row.class ALWAYS))
+  | inl between ↦ (let class_is = class_at rows m row got in elim (class_of_passing row probe row.class passes.shown) [
+    | inl always ↦ h'.others m (omega arith) between (class_is ∙ always)
+    | inr own_class ↦ h.others m (omega arith) between (class_is ∙ own_class)
+  ])
 ]
 
 -- nor does the place itself, where it was tested
@@ -132,7 +146,7 @@ NonePasses-place rows probe place to row there fails none m other from below got
 -- ---- one step of a walk
 
 module _ (rows : List Row) (heads : List ℕ) (probe : Probe) (walk : Walk) (place : ℕ) (row : Row)
-    (chained : IsChained (classes_of rows) (links_of rows) heads) (at : IsWalkDown rows probe.class walk) (read : row ≡ get_or rows place row) where
+    (chained : IsChained (classes_of rows) (links_of rows) heads) (at : IsWalkDown rows probe.last walk) (read : row ≡ get_or rows place row) where
   inside : place + 1 ≤ walk.passed_from → place < length rows
   inside below = let all = at.inside in omega arith
 
@@ -147,26 +161,26 @@ module _ (rows : List Row) (heads : List ℕ) (probe : Probe) (walk : Walk) (pla
       let below = h.below in
       let all = at.inside in
       let same : r - 1 ≡ place = omega arith in
-      let long : length (classes_of rows) ≡ length rows = length-map rows (λ (r : Row). r.class) in
+      let long : length (classes_of rows) ≡ length rows = length-map rows (λ (seen : Row). place_of seen.class) in
       subst (IsLastBelow (classes_of rows) class place) (link_is (omega arith))
       (subst (λ (k : ℕ). IsLastBelow (classes_of rows) class k (get_or (links_of rows) k 0)) same
       (next_of_chain (classes_of rows) (links_of rows) heads class walk.passed_from r chained (omega arith) (omega arith) h))
 
-  pub own_step : walk.other < walk.own → place + 1 ≡ walk.own → IsWalkDown rows probe.class (record { own = row.before; other = walk.other; passed_from = place })
+  pub own_step : walk.other < walk.own → place + 1 ≡ walk.own → IsWalkDown rows probe.last (record { own = row.before; other = walk.other; passed_from = place })
   own_step first is =
       let low = at.own.below in
       let all = at.inside in record {
-        apart = at.apart;
         inside = omega arith;
-        own = next_link probe.class walk.own is at.own;
-        other = last_below (classes_of rows) ALWAYS walk.passed_from place walk.other (omega arith) (omega arith) at.other;
+        own = next_link (place_of (EndsIn probe.last)) walk.own is at.own;
+        other = last_below (classes_of rows) (place_of Always) walk.passed_from place walk.other (omega arith) (omega arith) at.other;
       }
 
   apart_places : walk.own ≡ walk.other → 0 < walk.own → ⊥
   apart_places same some =
-      at.apart (sym (at.own.here some) ∙ (ap (λ (k : ℕ). get_or (classes_of rows) (k - 1) 0) same ∙ at.other.here (omega arith)))
+      let both : place_of (EndsIn probe.last) ≡ place_of Always =
+      sym (at.own.here some) ∙ (ap (λ (k : ℕ). get_or (classes_of rows) (k - 1) 0) same ∙ at.other.here (omega arith)) in absurd (omega (arith, both))
 
-  pub other_step : walk.own ≤ walk.other → place + 1 ≡ walk.other → IsWalkDown rows probe.class (record { own = walk.own; other = row.before; passed_from = place })
+  pub other_step : walk.own ≤ walk.other → place + 1 ≡ walk.other → IsWalkDown rows probe.last (record { own = walk.own; other = row.before; passed_from = place })
   other_step first is =
       let low = at.other.below in
       let all = at.inside in
@@ -174,10 +188,9 @@ module _ (rows : List Row) (heads : List ℕ) (probe : Probe) (walk : Walk) (pla
       (λ (same : walk.own ≡ walk.other). absurd (apart_places same (omega arith)))
       (λ (apart : walk.own ≡ walk.other → ⊥). omega arith)
       (cases_eq walk.own walk.other) in record {
-        apart = at.apart;
         inside = omega arith;
-        own = last_below (classes_of rows) probe.class walk.passed_from place walk.own (omega arith) (omega arith) at.own;
-        other = next_link ALWAYS walk.other is at.other;
+        own = last_below (classes_of rows) (place_of (EndsIn probe.last)) walk.passed_from place walk.own (omega arith) (omega arith) at.own;
+        other = next_link (place_of Always) walk.other is at.other;
       }
 
   -- what lies between the place and where the walk came from
@@ -188,31 +201,31 @@ module _ (rows : List Row) (heads : List ℕ) (probe : Probe) (walk : Walk) (pla
   without_end to is fails none =
       let low = at.own.below in
       let same : walk.own - 1 ≡ place = omega arith in
-      let class_is : row.class ≡ probe.class =
+      let class_is : place_of row.class ≡ place_of (EndsIn probe.last) =
       sym (class_at rows place row (there (omega arith))) ∙ (ap (λ (k : ℕ). get_or (classes_of rows) k 0) (sym same) ∙ at.own.here (omega arith)) in
-      NonePasses-place rows probe place to row (there (omega arith)) (λ passes. fails (passes.end (λ always_is. at.apart (sym class_is ∙ always_is)))) none
+      NonePasses-place rows probe place to row (there (omega arith)) (λ passes. fails (HasEnd-passing row probe row.class class_is passes.shown)) none
 
   pub without_bytes : (to : ℕ) → place + 1 ≡ walk.other → ¬ HasBytes row probe → NonePasses rows probe (place + 1) to → NonePasses rows probe place to
   without_bytes to is fails none =
       let low = at.other.below in
       let same : walk.other - 1 ≡ place = omega arith in
-      let class_is : row.class ≡ ALWAYS =
+      let class_is : place_of row.class ≡ place_of Always =
       sym (class_at rows place row (there (omega arith))) ∙ (ap (λ (k : ℕ). get_or (classes_of rows) k 0) (sym same) ∙ at.other.here (omega arith)) in
-      NonePasses-place rows probe place to row (there (omega arith)) (λ passes. fails (passes.bytes class_is)) none
+      NonePasses-place rows probe place to row (there (omega arith)) (λ passes. fails (HasBytes-passing row probe row.class class_is passes.shown)) none
 
 -- one row more
-pub IsChained-push : (rows : List Row) (heads : List ℕ) (row added : Row) (class place : ℕ) → row.class ≤ ALWAYS → class ≡ row.class → length heads ≡ CLASSES → place ≡ length rows + 1
+pub IsChained-push : (rows : List Row) (heads : List ℕ) (row added : Row) (class place : ℕ) → class < CLASSES → class ≡ place_of row.class → length heads ≡ CLASSES → place ≡ length rows + 1
     → added ≡ record row { before = get_or heads class 0 } → IsChained (classes_of rows) (links_of rows) heads
     → IsChained (classes_of (rows ++ added ∷ [])) (links_of (rows ++ added ∷ [])) (slice_set heads class place)
 IsChained-push rows heads row added class place small is wide here same h =
-    let long : length (classes_of rows) ≡ length rows = length-map rows (λ (r : Row). r.class) in
-    let long' : length (links_of rows) ≡ length rows = length-map rows (λ (r : Row). r.before) in
-    let class_is : class ≡ added.class = is ∙ sym (ap (λ (r : Row). r.class) same) in
-    let link_is : get_or heads class 0 ≡ added.before = sym (ap (λ (r : Row). r.before) same) in
+    let long : length (classes_of rows) ≡ length rows = length-map rows (λ (seen : Row). place_of seen.class) in
+    let long' : length (links_of rows) ≡ length rows = length-map rows (λ (seen : Row). seen.before) in
+    let class_is : class ≡ place_of added.class = is ∙ sym (ap (λ (seen : Row). place_of seen.class) same) in
+    let link_is : get_or heads class 0 ≡ added.before = sym (ap (λ (seen : Row). seen.before) same) in
     let classes : classes_of rows ++ class ∷ [] ≡ classes_of (rows ++ added ∷ []) =
-    ap (λ (c : ℕ). classes_of rows ++ c ∷ []) class_is ∙ sym (map-append (λ (r : Row). r.class) rows (added ∷ [])) in
+    ap (λ (c : ℕ). classes_of rows ++ c ∷ []) class_is ∙ sym (map-append (λ (seen : Row). place_of seen.class) rows (added ∷ [])) in
     let links : links_of rows ++ get_or heads class 0 ∷ [] ≡ links_of (rows ++ added ∷ []) =
-    ap (λ (c : ℕ). links_of rows ++ c ∷ []) link_is ∙ sym (map-append (λ (r : Row). r.before) rows (added ∷ [])) in
+    ap (λ (c : ℕ). links_of rows ++ c ∷ []) link_is ∙ sym (map-append (λ (seen : Row). seen.before) rows (added ∷ [])) in
     subst (λ (xs : List ℕ). IsChained xs (links_of (rows ++ added ∷ [])) (slice_set heads class place)) classes
     (subst (λ (xs : List ℕ). IsChained (classes_of rows ++ class ∷ []) xs (slice_set heads class place)) links
     (IsChained-more (classes_of rows) (links_of rows) heads class place (omega arith) (omega arith) wide (omega arith) h))

@@ -73,4 +73,4 @@ module _ {V : Type 0} (lists : List (EntryList V)) where
 
 -- a row asks for the same, whatever it is chained to
 pub Asks-linked : (text : List ℕ) (mode : pattern.Mode) (row : Row) (before : ℕ) → Asks text mode row → Asks text mode (record row { before = before })
-Asks-linked text mode row before a = record { short = a.short; class = a.class; end = a.end; bytes = a.bytes; name = a.name }
+Asks-linked text mode row before a = record { short = a.short; needs = a.needs; name = a.name }

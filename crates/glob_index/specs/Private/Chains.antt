@@ -1,11 +1,18 @@
 -- Chains: through the rows of each class, from the last one to the first.
-use Rattle.std.specs.Prelude.{◌≡◌, ◌≢◌, ℕ, ◌-◌, ◌<◌, ◌≤◌, List, length, map, slice_index}
+use Rattle.std.specs.Prelude.{◌≡◌, ◌≢◌, ℕ, ◌+◌, ◌-◌, ◌<◌, ◌≤◌, List, length, map, slice_index}
+use Rattle.glob_index.specs.declared.chains.Class.{Class}
+use Rattle.glob_index.specs.declared.chains.Class.TheVariants.{Always, EndsIn}
+use Rattle.glob_index.specs.declared.chains.TheConstants.{CLASSES}
 use Rattle.glob_index.specs.declared.row.Row.{Row}
-use Rattle.glob_index.specs.declared.table.TheConstants.{CLASSES}
 
--- the classes of the rows
+-- the place of a class among all
+abbrev pub place_of : Class → ℕ
+place_of Always = 0
+place_of (EndsIn byte) = byte + 1
+
+-- the classes of the rows, by their places
 abbrev pub classes_of : List Row → List ℕ
-classes_of rows = map (λ (row : Row). row.class) rows
+classes_of rows = map (λ (row : Row). place_of row.class) rows
 
 -- the links of the rows
 abbrev pub links_of : List Row → List ℕ

@@ -1,18 +1,18 @@
 -- A walk down the chains of two classes. No public contract cites it.
-use Rattle.std.specs.Prelude.{◌≡◌, ◌≢◌, ℕ, ◌+◌, ◌<◌, ◌≤◌, List, Some, length, slice_get}
+use Rattle.std.specs.Prelude.{◌≡◌, ℕ, ◌+◌, ◌<◌, ◌≤◌, List, Some, length, slice_get}
+use Rattle.glob_index.specs.declared.chains.Class.{Class}
+use Rattle.glob_index.specs.declared.chains.Class.TheVariants.{Always, EndsIn}
 use Rattle.glob_index.specs.declared.probe.Probe.{Probe}
 use Rattle.glob_index.specs.declared.row.Row.{Row}
-use Rattle.glob_index.specs.declared.row.TheConstants.{ALWAYS}
 use Rattle.glob_index.specs.declared.table.Walk.{Walk}
-use Rattle.glob_index.specs.Private.Chains.{IsLastBelow, classes_of}
+use Rattle.glob_index.specs.Private.Chains.{IsLastBelow, classes_of, place_of}
 use Rattle.glob_index.specs.Private.Showing.{Passes}
 
--- Below the place `walk.passed_from`, `own` and `other` lead to the last rows of the path's class and of `ALWAYS`.
-pub record IsWalkDown (rows : List Row) (class : ℕ) (walk : Walk) : Type 0 where
-  pub apart : class ≢ ALWAYS
+-- Below the place `walk.passed_from`, `own` and `other` lead to the last rows that end in this byte, and of the class `Always`.
+pub record IsWalkDown (rows : List Row) (last : ℕ) (walk : Walk) : Type 0 where
   pub inside : walk.passed_from ≤ length rows
-  pub own : IsLastBelow (classes_of rows) class walk.passed_from walk.own
-  pub other : IsLastBelow (classes_of rows) ALWAYS walk.passed_from walk.other
+  pub own : IsLastBelow (classes_of rows) (place_of (EndsIn last)) walk.passed_from walk.own
+  pub other : IsLastBelow (classes_of rows) (place_of Always) walk.passed_from walk.other
 
 -- no row from one place up to another passes
 abbrev pub NonePasses : List Row → Probe → ℕ → ℕ → Type 0

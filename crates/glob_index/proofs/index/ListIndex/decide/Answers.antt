@@ -18,7 +18,7 @@ pub returns-then-matches_at : goal.returns-then-matches_at
 returns-then-matches_at g c =
     let made = to_value g.T.Pattern.seen _ _ c.self.view_is (λ lists _. IsTableOf lists c.self.inside.table) c.self.invariant in
     last_answer _ _ c.args.path.now c.args.is_dir c.args.self.now.case _ _ _ _ _ made.rows
-    (law_holds _ c.self.inside.table.rows.items c.args.path.now c.args.is_dir c.args.self.now.case c.answering_patterns_pass.ensures c.probe-probe.result c.probe-probe.ensures.shows)
+    (law_holds _ c.self.inside.table.rows.items c.args.path.now c.args.is_dir c.args.self.now.case c.answering_patterns_pass.ensures c.probe-probe.result c.probe-probe.ensures)
     c.in-Some.ensures.next (c.matches_at.ensures.0 c.if-matches_at.true) c.candidates.invariant.none
 
 pub candidates-preserved : goal.candidates-preserved
@@ -27,7 +27,7 @@ candidates-preserved g c =
     record {
       down = c.in-Some.ensures.down;
       none = none_answers _ _ c.args.path.now c.args.is_dir c.args.self.now.case _ _ _ _ _ made.rows
-          (law_holds _ c.self.inside.table.rows.items c.args.path.now c.args.is_dir c.args.self.now.case c.answering_patterns_pass.ensures c.probe-probe.result c.probe-probe.ensures.shows)
+          (law_holds _ c.self.inside.table.rows.items c.args.path.now c.args.is_dir c.args.self.now.case c.answering_patterns_pass.ensures c.probe-probe.result c.probe-probe.ensures)
           c.in-Some.ensures.next (iff_false c.matches_at.ensures c.if-matches_at.false) c.candidates.invariant.none;
     }
 
@@ -38,5 +38,5 @@ returns g c =
     let none : NonePasses c.self.inside.table.rows.items c.probe-probe.result 0 c.candidates.walk.passed_from = rw c.in_default.is at c.next_pair.ensures.next in
     decides_none lists c.self.inside.table.rows.items c.args.path.now c.args.is_dir c.args.self.now.case made.rows
     (NoneAnswers-passed lists c.self.inside.table.rows.items c.args.path.now c.args.is_dir c.args.self.now.case c.probe-probe.result 0 c.candidates.walk.passed_from made.rows
-    (law_holds lists c.self.inside.table.rows.items c.args.path.now c.args.is_dir c.args.self.now.case c.answering_patterns_pass.ensures c.probe-probe.result c.probe-probe.ensures.shows)
+    (law_holds lists c.self.inside.table.rows.items c.args.path.now c.args.is_dir c.args.self.now.case c.answering_patterns_pass.ensures c.probe-probe.result c.probe-probe.ensures)
     none c.candidates.invariant.none)

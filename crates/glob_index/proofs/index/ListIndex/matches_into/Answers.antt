@@ -24,7 +24,7 @@ candidates-preserved-in-Continue-1 g c =
       found = subst (λ (found : List (ℕ × ℕ)). AreFoundFrom (map (entry_list_of g.T.Pattern.seen) c.args.self.now.lists) c.self.inside.table.rows.items c.args.path.now c.args.is_dir c.args.self.now.case c.next_pair.new.walk.passed_from found)
           (sym c.in_ok-push.ensures.items)
           (AreFoundFrom-more _ _ c.args.path.now c.args.is_dir c.args.self.now.case _ _ _ _ _ made.rows
-          (law_holds _ c.self.inside.table.rows.items c.args.path.now c.args.is_dir c.args.self.now.case c.answering_patterns_pass.ensures c.probe-probe.result c.probe-probe.ensures.shows)
+          (law_holds _ c.self.inside.table.rows.items c.args.path.now c.args.is_dir c.args.self.now.case c.answering_patterns_pass.ensures c.probe-probe.result c.probe-probe.ensures)
           c.in-Some.ensures.next c.candidates.pairs.items (c.matches_at.ensures.0 c.if-matches_at.true) c.candidates.invariant.found);
     }
 
@@ -34,7 +34,7 @@ candidates-preserved g c =
     record {
       down = c.in-Some.ensures.down;
       found = AreFoundFrom-same _ _ c.args.path.now c.args.is_dir c.args.self.now.case _ _ _ _ _ made.rows
-          (law_holds _ c.self.inside.table.rows.items c.args.path.now c.args.is_dir c.args.self.now.case c.answering_patterns_pass.ensures c.probe-probe.result c.probe-probe.ensures.shows)
+          (law_holds _ c.self.inside.table.rows.items c.args.path.now c.args.is_dir c.args.self.now.case c.answering_patterns_pass.ensures c.probe-probe.result c.probe-probe.ensures)
           c.in-Some.ensures.next c.candidates.pairs.items (iff_false c.matches_at.ensures c.if-matches_at.false) c.candidates.invariant.found;
     }
 
@@ -46,5 +46,5 @@ returns g c =
     subst (AreMatches lists c.args.path.now c.args.is_dir c.args.self.now.case) (sym c.reverse.ensures.items)
     (AreFoundFrom-all lists c.self.inside.table.rows.items c.args.path.now c.args.is_dir c.args.self.now.case c.candidates.pairs.items made.rows
     (AreFoundFrom-skip lists c.self.inside.table.rows.items c.args.path.now c.args.is_dir c.args.self.now.case c.probe-probe.result 0 c.candidates.walk.passed_from c.candidates.pairs.items (omega arith) made.rows
-    (law_holds lists c.self.inside.table.rows.items c.args.path.now c.args.is_dir c.args.self.now.case c.answering_patterns_pass.ensures c.probe-probe.result c.probe-probe.ensures.shows)
+    (law_holds lists c.self.inside.table.rows.items c.args.path.now c.args.is_dir c.args.self.now.case c.answering_patterns_pass.ensures c.probe-probe.result c.probe-probe.ensures)
     none c.candidates.invariant.found))

@@ -7,7 +7,7 @@ use Rattle.glob_index.proofs.index.ListIndex.matches_into.Given as goal
 -- what answers of the rows that were passed was found
 abbrev pub invariant-candidates : goal.invariant-candidates
 invariant-candidates g l = record {
-  down : IsWalkDown l.self-inside.table.rows.items l.probe.class l.walk;
+  down : IsWalkDown l.self-inside.table.rows.items l.probe.last l.walk;
   found : AreFoundFrom (map (entry_list_of g.T.Pattern.seen) l.self.lists) l.self-inside.table.rows.items l.path l.is_dir l.self.case l.walk.passed_from l.pairs.items;
 }
 

@@ -18,7 +18,7 @@ index-row-requires c =
 pub returns-then-has_end-clause-down : goal.returns-then-has_end-clause-down
 returns-then-has_end-clause-down c =
     let walk : Walk = c.places.walk in
-    subst (λ (link : ℕ). IsWalkDown c.args.self.now.rows.items c.args.probe.now.class (record { own = link; other = walk.other; passed_from = walk.own - 1 })) (sym c.before-walk.ensures)
+    subst (λ (link : ℕ). IsWalkDown c.args.self.now.rows.items c.args.probe.now.last (record { own = link; other = walk.other; passed_from = walk.own - 1 })) (sym c.before-walk.ensures)
     (own_step c.args.self.now.rows.items c.args.self.now.heads c.args.probe.now walk (walk.own - 1) c.index-row.result.now
     c.requires.chained c.places.invariant.down c.index-row.ensures c.if-walk.true (omega arith))
 
@@ -39,7 +39,7 @@ places-preserved-else-has_end c =
     let rows : List Row = c.args.self.now.rows.items in
     let low = c.places.invariant.down.own.below in
     let below = c.places.invariant.low in record {
-      down = subst (λ (link : ℕ). IsWalkDown rows c.args.probe.now.class (record { own = link; other = walk.other; passed_from = walk.own - 1 })) (sym c.before-walk.ensures)
+      down = subst (λ (link : ℕ). IsWalkDown rows c.args.probe.now.last (record { own = link; other = walk.other; passed_from = walk.own - 1 })) (sym c.before-walk.ensures)
           (own_step rows c.args.self.now.heads c.args.probe.now walk (walk.own - 1) c.index-row.result.now
           c.requires.chained c.places.invariant.down c.index-row.ensures c.if-walk.true (omega arith));
       low = omega arith;
@@ -57,7 +57,7 @@ index-row-requires-then-walk-gt0 c =
 pub returns-then-has_bytes-clause-down : goal.returns-then-has_bytes-clause-down
 returns-then-has_bytes-clause-down c =
     let walk : Walk = c.places.walk in
-    subst (λ (link : ℕ). IsWalkDown c.args.self.now.rows.items c.args.probe.now.class (record { own = walk.own; other = link; passed_from = walk.other - 1 })) (sym c.before-walk-then-walk-gt0.ensures)
+    subst (λ (link : ℕ). IsWalkDown c.args.self.now.rows.items c.args.probe.now.last (record { own = walk.own; other = link; passed_from = walk.other - 1 })) (sym c.before-walk-then-walk-gt0.ensures)
     (other_step c.args.self.now.rows.items c.args.self.now.heads c.args.probe.now walk (walk.other - 1) c.index-row-then-walk-gt0.result.now
     c.requires.chained c.places.invariant.down c.index-row-then-walk-gt0.ensures c.if-walk.false (omega arith))
 
@@ -78,7 +78,7 @@ places-preserved c =
     let rows : List Row = c.args.self.now.rows.items in
     let low = c.places.invariant.down.other.below in
     let below = c.places.invariant.low in record {
-      down = subst (λ (link : ℕ). IsWalkDown rows c.args.probe.now.class (record { own = walk.own; other = link; passed_from = walk.other - 1 })) (sym c.before-walk-then-walk-gt0.ensures)
+      down = subst (λ (link : ℕ). IsWalkDown rows c.args.probe.now.last (record { own = walk.own; other = link; passed_from = walk.other - 1 })) (sym c.before-walk-then-walk-gt0.ensures)
           (other_step rows c.args.self.now.heads c.args.probe.now walk (walk.other - 1) c.index-row-then-walk-gt0.result.now
           c.requires.chained c.places.invariant.down c.index-row-then-walk-gt0.ensures c.if-walk.false (omega arith));
       low = omega arith;

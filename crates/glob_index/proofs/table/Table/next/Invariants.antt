@@ -5,7 +5,7 @@ use Rattle.glob_index.proofs.table.Table.next.Given as goal
 -- what lies between where the walk is and where it began doesn't pass
 abbrev pub invariant-places : goal.invariant-places
 invariant-places l = record {
-  down : IsWalkDown l.self.rows.items l.probe.class l.walk;
+  down : IsWalkDown l.self.rows.items l.probe.last l.walk;
   low : l.walk.passed_from ≤ l.fn.walk.passed_from;
   none : NonePasses l.self.rows.items l.probe l.walk.passed_from l.fn.walk.passed_from;
 }
