@@ -1,5 +1,5 @@
-//! What a chain goes through: rows of one class.
-ghost use Rattle.std.specs.Prelude.{◌≡◌, ◌<◌};
+//! What chains are made of: the classes of rows, and links between rows.
+ghost use Rattle.std.specs.Prelude.{◌≡◌, ◌↔◌, ◌+◌, ◌<◌, IfSome, IsTrue, MatchOption};
 ghost use Rattle.glob_index.specs.Private.Chains.{place_of};
 
 /// How many classes there are: one for each byte, and [`Class::Always`].
@@ -25,5 +25,40 @@ impl Class {
             Class::Always => 0,
             Class::EndsIn(byte) => usize::from(byte) + 1,
         }
+    }
+}
+
+/// Where a row stands, or that there is none, in four bytes: one more than its place, or 0.
+#[derive(Debug, Copy, Clone)]
+pub(crate) struct Link(u32);
+
+impl Link {
+    /// The link to no row.
+    pub(crate) const NONE: Link = Link(0);
+
+    /// The link to the row at a place, where it fits.
+    pub(crate) fn to(place: usize) -> Option<Link>
+        ensures { IfSome result (λ link. link.0 ≡ place + 1) }
+    {
+        let Ok(place) = u32::try_from(place) else {
+            return None;
+        };
+        Some(Link(place.checked_add(1)?))
+    }
+
+    /// The place of the row, where there is one.
+    #[inline(always)]
+    pub(crate) fn place(self) -> Option<usize>
+        ensures { MatchOption result (self.0 ≡ 0) (λ place. place + 1 ≡ self.0) }
+    {
+        (self.0 as usize).checked_sub(1)
+    }
+
+    /// Whether there is a row that stands after that of another link, if that has one.
+    #[inline(always)]
+    pub(crate) fn is_after(self, other: Link) -> bool
+        ensures { IsTrue result ↔ other.0 < self.0 }
+    {
+        self.0 > other.0
     }
 }

@@ -5,7 +5,7 @@ ghost use Rattle.gix_glob.specs.Patterns.{is_absolute, is_without_sub_dir};
 ghost use Rattle.glob_index.specs.Private.Rows.{Asks};
 ghost use Rattle.glob_index.specs.Private.Showing.{HasBytes, HasEnd};
 
-use crate::chains::Class;
+use crate::chains::{Class, Link};
 use crate::literals::{end_key, has_all, literal_end, needed_bytes};
 use crate::probe::Probe;
 use bitflags::Flags;
@@ -17,8 +17,8 @@ use gix_glob::pattern::Mode;
 pub(crate) struct Row {
     /// What is asked for: the number of the text's literal end; in the class [`Class::Always`] the set of the bytes that are needed.
     asked: u64,
-    /// One more than the place of the row before this one that has its class, or 0.
-    before: u32,
+    /// The row before this one that has its class.
+    before: Link,
     /// The place of the list.
     list: u32,
     /// The place of the mapping in its list.
@@ -44,7 +44,7 @@ impl Row {
         if length == 0 {
             return Row {
                 asked: needed_bytes(text),
-                before: 0,
+                before: Link::NONE,
                 list,
                 mapping,
                 class: Class::Always,
@@ -54,7 +54,7 @@ impl Row {
         }
         Row {
             asked: end_key(text, length),
-            before: 0,
+            before: Link::NONE,
             list,
             mapping,
             class: Class::EndsIn(text[text.len() - 1].to_ascii_lowercase()),
@@ -77,16 +77,16 @@ impl Row {
         (self.list as usize, self.mapping as usize)
     }
 
-    /// One more than the place of the row before this one that has its class, or 0.
+    /// The row before this one that has its class.
     #[inline(always)]
-    pub(crate) fn before(&self) -> u32
+    pub(crate) fn before(&self) -> Link
         ensures { result ≡ self.now.before }
     {
         self.before
     }
 
     /// The row, chained to another.
-    pub(crate) fn after(self, before: u32) -> Row
+    pub(crate) fn after(self, before: Link) -> Row
         ensures { result ≡ record self { before = before } }
     {
         Row { before, ..self }

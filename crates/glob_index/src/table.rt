@@ -1,12 +1,12 @@
 //! Rows in order, with a chain through those of each class: a path walks down two chains, and meets only rows that can pass.
-ghost use Rattle.std.specs.Prelude.{◌≡◌, ◌+◌, ◌++◌, ◌∷◌, [], ◌<◌, IfOk, MatchOption, OnOk, length, slice_index};
+ghost use Rattle.std.specs.Prelude.{◌≡◌, ◌+◌, ◌++◌, ◌∷◌, [], ◌<◌, IfOk, MatchOption, OnOk, length, slice_index_or};
 ghost use Rattle.gix_glob.specs.RepositoryPaths.{IsBasenameStart};
 ghost use Rattle.glob_index.specs.Private.Chains.{place_of};
 ghost use Rattle.glob_index.specs.Private.Showing.{Shows};
 ghost use Rattle.glob_index.specs.Private.Tables.{AreChained};
 ghost use Rattle.glob_index.specs.Private.Walking.{IsNextPair, IsWalkDown, NonePasses};
 
-use crate::chains::{CLASSES, Class};
+use crate::chains::{CLASSES, Class, Link};
 use crate::probe::Probe;
 use crate::row::Row;
 use std::alloc::{AllocError, Global};
@@ -18,8 +18,8 @@ const FEWEST_ROWS: usize = 8;
 #[derive(Debug, Drop)]
 pub(crate) struct Table {
     rows: Vec<Row>,
-    /// One more than the place of the last row of each class, or 0.
-    heads: [u32; CLASSES],
+    /// The last row of each class.
+    heads: [Link; CLASSES],
     /// How many rows each class has.
     counts: [u32; CLASSES],
 }
@@ -27,10 +27,10 @@ pub(crate) struct Table {
 /// How far a walk down two chains has come.
 #[derive(Debug, Copy, Clone)]
 pub(crate) struct Walk {
-    /// One more than the next place of the path's own class, or 0.
-    own: u32,
-    /// One more than the next place of the class [`Class::Always`], or 0.
-    other: u32,
+    /// The next row of the path's own class.
+    own: Link,
+    /// The next row of the class [`Class::Always`].
+    other: Link,
     /// The place from which on all rows were passed.
     passed_from: usize,
 }
@@ -42,7 +42,7 @@ impl Table {
     {
         Ok(Table {
             rows: Vec::with_capacity(alloc, capacity)?,
-            heads: [0; CLASSES],
+            heads: [Link::NONE; CLASSES],
             counts: [0; CLASSES],
         })
     }
@@ -50,13 +50,10 @@ impl Table {
     /// Adds a row after the others. More than 2^32 - 1 of them are refused as memory is.
     pub(crate) fn push(&mut self, row: Row) -> Result<(), AllocError>
         requires { AreChained self.old }
-        ensures rows { OnOk result (self.new.rows.items ≡ self.old.rows.items ++ (record row { before = slice_index self.old.heads (place_of row.class) }) ∷ []) }
+        ensures rows { OnOk result (self.new.rows.items ≡ self.old.rows.items ++ (record row { before = slice_index_or self.old.heads (place_of row.class) Link.NONE }) ∷ []) }
         ensures chained { OnOk result (AreChained self.new) }
     {
-        let Ok(place) = u32::try_from(self.rows.len()) else {
-            return Err(AllocError);
-        };
-        let Some(head) = place.checked_add(1) else {
+        let Some(head) = Link::to(self.rows.len()) else {
             return Err(AllocError);
         };
         let class = row.class().place();
@@ -94,7 +91,7 @@ impl Table {
         requires basename { IsBasenameStart path.now position }
         ensures { Shows path.now result }
     {
-        let has_sets = self.heads[Class::Always.place()] > 0 && path.len() <= self.rows.len();
+        let has_sets = self.counts[Class::Always.place()] > 0 && path.len() <= self.rows.len();
         Probe::new(path, position, has_sets)
     }
 
@@ -122,24 +119,22 @@ impl Table {
             (λ place. (place < walk.old.passed_from) × (walk.new.passed_from ≡ place) × NonePasses self.now.rows.items probe.now (place + 1) walk.old.passed_from) }
     {
         'places: loop {
-            if walk.own > walk.other {
-                let place = walk.own as usize - 1;
+            if walk.own.is_after(walk.other) {
+                let place = walk.own.place()?;
                 let row = &self.rows[place];
                 walk.own = row.before();
                 walk.passed_from = place;
                 if row.has_end(probe) {
                     return Some(place);
                 }
-            } else if walk.other > 0 {
-                let place = walk.other as usize - 1;
+            } else {
+                let place = walk.other.place()?;
                 let row = &self.rows[place];
                 walk.other = row.before();
                 walk.passed_from = place;
                 if row.has_bytes(probe) {
                     return Some(place);
                 }
-            } else {
-                return None;
             }
         }
     }

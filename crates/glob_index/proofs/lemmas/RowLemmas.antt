@@ -6,6 +6,7 @@ use Rattle.std.proofs.lemmas.Option.{same_Some, slice_get_within}
 use Rattle.gix_glob.specs.declared.pattern.Mode as pattern
 use Rattle.gix_glob.specs.Lists.{Entry}
 use Rattle.gix_glob.specs.EntryLists.{EntryList}
+use Rattle.glob_index.specs.declared.chains.Link.{Link}
 use Rattle.glob_index.specs.declared.row.Row.{Row}
 use Rattle.glob_index.specs.Index.{ComesBefore}
 use Rattle.glob_index.specs.Private.Tables.{AreRowsUpTo, IsEntryAt, IsRowOf}
@@ -72,5 +73,5 @@ module _ {V : Type 0} (lists : List (EntryList V)) where
   }
 
 -- a row asks for the same, whatever it is chained to
-pub Asks-linked : (text : List ℕ) (mode : pattern.Mode) (row : Row) (before : ℕ) → Asks text mode row → Asks text mode (record row { before = before })
+pub Asks-linked : (text : List ℕ) (mode : pattern.Mode) (row : Row) (before : Link) → Asks text mode row → Asks text mode (record row { before = before })
 Asks-linked text mode row before a = record { short = a.short; needs = a.needs; name = a.name }
