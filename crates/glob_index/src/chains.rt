@@ -28,7 +28,7 @@ impl Class {
     }
 }
 
-/// Where a row stands, or that there is none, in four bytes: one more than its place, or 0.
+/// Where a row stands, or that there is none, in four bytes: the number is one more than its place, or 0.
 #[derive(Debug, Copy, Clone)]
 pub(crate) struct Link(u32);
 
@@ -54,7 +54,7 @@ impl Link {
         (self.0 as usize).checked_sub(1)
     }
 
-    /// Whether there is a row that stands after that of another link, if that has one.
+    /// Whether there is a row, and it stands after that of another link, if that has one.
     #[inline(always)]
     pub(crate) fn is_after(self, other: Link) -> bool
         ensures { IsTrue result ↔ other.0 < self.0 }

@@ -15,7 +15,8 @@ use gix_glob::pattern::Mode;
 /// What a pattern asks of a path, and where its mapping stands.
 #[derive(Debug, Copy, Clone)]
 pub(crate) struct Row {
-    /// What is asked for: the number of the text's literal end; in the class [`Class::Always`] the set of the bytes that are needed.
+    /// What is asked for: the number of the text's literal end; in the class [`Class::Always`] the set of the bytes that are
+    /// needed.
     asked: u64,
     /// The row before this one that has its class.
     before: Link,

@@ -1,4 +1,4 @@
--- One candidate: what it is to find that its mapping answers, or that it does not.
+-- One candidate: the pair of its row answers, or it does not, and what that says of the rows from its place on.
 use Rattle.std.proofs.Common.{◌≡◌, ℕ, ◌+◌, Bool, List, [], ◌∷◌, ◌++◌, sym, ◌∙◌, ap, subst, arith}
 use Rattle.gix_glob.specs.declared.pattern.Case.{Case}
 use Rattle.gix_glob.specs.Deciding.{IsLastAnswer, PairAnswers}

@@ -7,7 +7,7 @@ use Rattle.glob_index.specs.declared.chains.TheConstants.{CLASSES}
 use Rattle.glob_index.specs.declared.chains.TheConstants.Link.{NONE}
 use Rattle.glob_index.specs.declared.row.Row.{Row}
 
--- the place of a class among all
+-- the place of a class among all: the one that is always looked at, and then one for each byte
 abbrev pub place_of : Class → ℕ
 place_of Always = 0
 place_of (EndsIn byte) = byte + 1
@@ -20,7 +20,8 @@ classes_of rows = map (λ (row : Row). place_of row.class) rows
 abbrev pub links_of : List Row → List Link
 links_of rows = map (λ (row : Row). row.before) rows
 
--- the link leads to the last place below `end` that has this class, or there is none
+-- The link leads to the last place below `end` that has this class, or there is none, and it leads nowhere. Its number is one
+-- more than the place, or 0.
 pub record IsLastBelow (classes : List ℕ) (class end : ℕ) (link : Link) : Type 0 where
   pub below : link.0 ≤ end
   pub others : (m : ℕ) → link.0 ≤ m → m < end → slice_index classes m ≢ class
