@@ -1,7 +1,12 @@
+pub mod AnsweringRows
 pub mod BitLemmas
+pub mod CandidateLemmas
 pub mod ChainLemmas
+pub mod Elements
+pub mod FoundPairs
 pub mod IndexLemmas
 pub mod KeyLemmas
+pub mod PlaceOrder
 pub mod PrefilterLemmas
 pub mod RowLemmas
 pub mod StrippingLemmas

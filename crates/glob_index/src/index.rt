@@ -4,9 +4,8 @@ ghost use Rattle.gix_glob.specs.Deciding.{BasesAreFolders, Decides, PairAnswers}
 ghost use Rattle.gix_glob.specs.EntryLists.{entry_list_of};
 ghost use Rattle.gix_glob.specs.Paths.{IsPlainPath};
 ghost use Rattle.gix_glob.specs.RepositoryPaths.{IsBasenameStart};
-ghost use Rattle.glob_index.specs.Private.Chains.{IsChained, classes_of, links_of};
 ghost use Rattle.glob_index.specs.Index.{AreMatches};
-ghost use Rattle.glob_index.specs.Private.Tables.{AreRowsUpTo, HasEntryAt};
+ghost use Rattle.glob_index.specs.Private.Tables.{AreChained, AreRowsUpTo, HasEntryAt};
 
 use crate::laws;
 use crate::rests::rest_of;
@@ -98,7 +97,7 @@ impl<'a, T: search::Pattern> ListIndex<'a, T> {
         laws::answering_patterns_pass();
         let position = basename_start(path);
         let probe = self.table.probe(path, position);
-        let mut walk = self.table.walk(probe.class());
+        let mut walk = self.table.walk(probe.last());
         'candidates: while let Some((list, mapping)) = self.table.next_pair(&probe, &mut walk) {
             if self.matches_at(list, mapping, path, position, is_dir) {
                 return Some((list, mapping));
@@ -150,7 +149,7 @@ impl<'a, T: search::Pattern> ListIndex<'a, T> {
         // a law does nothing: it is called for what it ensures
         laws::answering_patterns_pass();
         let probe = self.table.probe(path, position);
-        let mut walk = self.table.walk(probe.class());
+        let mut walk = self.table.walk(probe.last());
         pairs.clear();
         'candidates: while let Some((list, mapping)) = self.table.next_pair(&probe, &mut walk) {
             if self.matches_at(list, mapping, path, position, is_dir) {
@@ -205,9 +204,9 @@ fn add_list<T: search::Pattern>(
 ) -> Result<(), AllocError>
     requires inside { i < length lists.now }
     requires rows { AreRowsUpTo (map (entry_list_of T.seen) lists.now) i 0 table.old.rows.items }
-    requires chained { IsChained (classes_of table.old.rows.items) (links_of table.old.rows.items) table.old.heads }
+    requires chained { AreChained table.old }
     ensures rows { OnOk result (AreRowsUpTo (map (entry_list_of T.seen) lists.now) (i + 1) 0 table.new.rows.items) }
-    ensures chained { OnOk result (IsChained (classes_of table.new.rows.items) (links_of table.new.rows.items) table.new.heads) }
+    ensures chained { OnOk result (AreChained table.new) }
 {
     let Ok(list_place) = u32::try_from(i) else {
         return Err(AllocError);

@@ -1,6 +1,7 @@
 //! An index over lists of patterns: of thousands of patterns it finds the few that can match a path, and tests only those.
 #![tactic(auto)]
 
+mod chains;
 mod index;
 mod laws;
 mod literals;

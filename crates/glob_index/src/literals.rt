@@ -7,7 +7,7 @@ ghost use Rattle.glob_index.specs.Private.Literals.{EndsLiterally, NeedsBits, bi
 ghost use Rattle.glob_index.specs.Private.Showing.{HasAll, HoldsBits};
 
 /// The longest end of a text that is looked at, in bytes.
-pub(crate) const LONGEST: usize = 8;
+pub(crate) const LONGEST_END: usize = 8;
 
 /// Whether a byte may be the last of a token of more than one byte.
 fn is_joining(byte: u8) -> bool
@@ -23,12 +23,12 @@ fn is_opening(byte: u8) -> bool
     matches!(byte, b'[' | b'\\')
 }
 
-/// How many bytes at the end of a text stand for themselves, up to eight.
+/// How many bytes at the end of a text stand for themselves, up to [`LONGEST_END`].
 pub(crate) fn literal_end(text: &[u8]) -> usize
-    ensures short { result ≤ 8 }
+    ensures short { result ≤ LONGEST_END }
     ensures literal { EndsLiterally text.now result }
 {
-    let most = text.len().min(LONGEST);
+    let most = text.len().min(LONGEST_END);
     'bytes: for n in 0..most {
         if is_joining(text[text.len() - (n + 1)]) {
             return n;

@@ -3,15 +3,18 @@ ghost use Rattle.std.specs.Prelude.{◌≡◌, ◌<◌, length, slice_index, if�
 ghost use Rattle.gix_glob.specs.RepositoryPaths.{IsBasenameStart};
 ghost use Rattle.glob_index.specs.Private.Showing.{HasEndKeys, Shows, last_part};
 
-use crate::literals::{LONGEST, bytes_or_all, longer_key};
+use crate::literals::{LONGEST_END, bytes_or_all, longer_key};
+
+/// How many lengths the end of a path can have: from 0 to the longest.
+const ENDS: usize = LONGEST_END + 1;
 
 /// What a path shows of itself.
 #[derive(Debug, Copy, Clone)]
-pub struct Probe {
+pub(crate) struct Probe {
     /// The numbers of the ends of the path, by their length in bytes.
-    keys: [u64; 9],
+    keys: [u64; ENDS],
     /// The last byte, letters as small ones.
-    class: u16,
+    last: u8,
     /// The bytes of the path, as a set.
     bytes: u64,
     /// The bytes of the last part of the path, as a set.
@@ -23,23 +26,22 @@ impl Probe {
     pub(crate) fn new(path: &[u8], position: Option<usize>, has_sets: bool) -> Probe
         requires some { 0 < length path.now }
         requires basename { IsBasenameStart path.now position }
-        ensures shows { Shows path.now result }
-        ensures class { result.class < 256 }
+        ensures { Shows path.now result }
     {
         let name = last_part(path, position);
         Probe {
             keys: end_keys(path),
-            class: u16::from(path[path.len() - 1].to_ascii_lowercase()),
+            last: path[path.len() - 1].to_ascii_lowercase(),
             bytes: bytes_or_all(path, has_sets),
             name_bytes: bytes_or_all(name, has_sets),
         }
     }
 
     /// The last byte, letters as small ones.
-    pub(crate) fn class(&self) -> u16
-        ensures { result ≡ self.now.class }
+    pub(crate) fn last(&self) -> u8
+        ensures { result ≡ self.now.last }
     {
-        self.class
+        self.last
     }
 
     /// The number of the end of this length, or 0 past the longest.
@@ -74,11 +76,11 @@ fn last_part(path: &[u8], position: Option<usize>) -> &[u8]
 }
 
 /// The numbers of the ends of a path, by their length, up to its own.
-fn end_keys(path: &[u8]) -> [u64; 9]
+fn end_keys(path: &[u8]) -> [u64; ENDS]
     ensures { HasEndKeys path.now result }
 {
-    let mut keys = [0; 9];
-    let most = path.len().min(LONGEST);
+    let mut keys = [0; ENDS];
+    let most = path.len().min(LONGEST_END);
     'ends: for n in 0..most {
         keys[n + 1] = longer_key(keys[n], path[path.len() - (n + 1)]);
     }

@@ -5,29 +5,28 @@ ghost use Rattle.gix_glob.specs.Patterns.{is_absolute, is_without_sub_dir};
 ghost use Rattle.glob_index.specs.Private.Rows.{Asks};
 ghost use Rattle.glob_index.specs.Private.Showing.{HasBytes, HasEnd};
 
+use crate::chains::{Class, Link};
 use crate::literals::{end_key, has_all, literal_end, needed_bytes};
 use crate::probe::Probe;
 use bitflags::Flags;
 use gix_glob::Pattern;
 use gix_glob::pattern::Mode;
 
-/// The class of the patterns whose texts end in no byte that stands for itself.
-pub(crate) const ALWAYS: u16 = 256;
-
 /// What a pattern asks of a path, and where its mapping stands.
 #[derive(Debug, Copy, Clone)]
-pub struct Row {
-    /// The number of the text's literal end; in the class [`ALWAYS`] the set of the bytes that are needed.
-    key: u64,
-    /// One more than the place of the row before this one that has its class, or 0.
-    before: u32,
+pub(crate) struct Row {
+    /// What is asked for: the number of the text's literal end; in the class [`Class::Always`] the set of the bytes that are
+    /// needed.
+    asked: u64,
+    /// The row before this one that has its class.
+    before: Link,
     /// The place of the list.
     list: u32,
     /// The place of the mapping in its list.
     mapping: u32,
-    /// The last byte of the text, letters as small ones, where it stands for itself; else [`ALWAYS`].
-    class: u16,
-    /// The length of the literal end, at most eight bytes.
+    /// How the text ends.
+    class: Class,
+    /// The length of the literal end, in bytes.
     length: u8,
     /// Whether the pattern looks at the last part of a path alone.
     is_name: bool,
@@ -45,28 +44,28 @@ impl Row {
         let is_name = looks_at_name(pattern.mode());
         if length == 0 {
             return Row {
-                key: needed_bytes(text),
-                before: 0,
+                asked: needed_bytes(text),
+                before: Link::NONE,
                 list,
                 mapping,
-                class: ALWAYS,
+                class: Class::Always,
                 length: 0,
                 is_name,
             };
         }
         Row {
-            key: end_key(text, length),
-            before: 0,
+            asked: end_key(text, length),
+            before: Link::NONE,
             list,
             mapping,
-            class: u16::from(text[text.len() - 1].to_ascii_lowercase()),
+            class: Class::EndsIn(text[text.len() - 1].to_ascii_lowercase()),
             length: length as u8,
             is_name,
         }
     }
 
     /// The class of the row.
-    pub(crate) fn class(&self) -> u16
+    pub(crate) fn class(&self) -> Class
         ensures { result ≡ self.now.class }
     {
         self.class
@@ -79,16 +78,16 @@ impl Row {
         (self.list as usize, self.mapping as usize)
     }
 
-    /// One more than the place of the row before this one that has its class, or 0.
+    /// The row before this one that has its class.
     #[inline(always)]
-    pub(crate) fn before(&self) -> u32
+    pub(crate) fn before(&self) -> Link
         ensures { result ≡ self.now.before }
     {
         self.before
     }
 
     /// The row, chained to another.
-    pub(crate) fn after(self, before: u32) -> Row
+    pub(crate) fn after(self, before: Link) -> Row
         ensures { result ≡ record self { before = before } }
     {
         Row { before, ..self }
@@ -99,7 +98,7 @@ impl Row {
     pub(crate) fn has_end(&self, probe: &Probe) -> bool
         ensures { IsTrue result ↔ HasEnd self.now probe.now }
     {
-        self.key == probe.key(self.length)
+        self.asked == probe.key(self.length)
     }
 
     /// Whether the path has the bytes that are needed.
@@ -107,7 +106,7 @@ impl Row {
     pub(crate) fn has_bytes(&self, probe: &Probe) -> bool
         ensures { IsTrue result ↔ HasBytes self.now probe.now }
     {
-        has_all(probe.bytes_for(self.is_name), self.key)
+        has_all(probe.bytes_for(self.is_name), self.asked)
     }
 }
 

@@ -16,11 +16,14 @@ use Rattle.gix_glob.specs.Matching.{Splits}
 use Rattle.gix_glob.specs.Patterns.{IsUnescapedUpTo, is_absolute, is_joining, is_without_sub_dir}
 use Rattle.gix_glob.specs.RepositoryPaths.{Answers, IsBasenameStart, subject, with_case}
 use Rattle.gix_glob.specs.Stripping.{RestOf}
+use Rattle.glob_index.specs.declared.chains.Class.{Class}
+use Rattle.glob_index.specs.declared.chains.Class.TheVariants.{Always, EndsIn}
+use Rattle.glob_index.specs.declared.literals.TheConstants.{LONGEST_END}
 use Rattle.glob_index.specs.declared.probe.Probe.{Probe}
 use Rattle.glob_index.specs.declared.row.Row.{Row}
 use Rattle.glob_index.specs.Private.Literals.{EndsLiterally, NeedsBits, bit_of, end_key, from_end}
-use Rattle.glob_index.specs.Private.Rows.{Asks, HasLiteralEnd}
-use Rattle.glob_index.specs.Private.Showing.{HasBytes, HasEnd, Passes, Shows}
+use Rattle.glob_index.specs.Private.Rows.{Asks, AsksFor, HasLiteralEnd}
+use Rattle.glob_index.specs.Private.Showing.{HasBytes, HasEnd, Passes, PassesBy, Shows}
 
 -- the two laws that the choice stands on
 abbrev pub EndsAsTheText : Type 0
@@ -127,15 +130,15 @@ name_has_no_slash pattern_mode rest (Some k) name start m there =
 
 module _ (ends : EndsAsTheText) (bytes : HasTheBytes) (text path value : List ℕ) (mode : wildmatch.Mode) (at : ℕ) (row : Row) (probe : Probe)
     (shows : Shows path probe) (is : value ≡ drop at path) (s : Splits value text mode) where
-  long : length value ≡ length path - at
-  long = ap (λ (xs : List ℕ). length xs) is ∙ length-drop at path
+  value_length : length value ≡ length path - at
+  value_length = ap (λ (xs : List ℕ). length xs) is ∙ length-drop at path
 
-  class_and_end : HasLiteralEnd text row.length row.class row.key → row.length ≤ 8 → (row.class ≡ probe.class) × HasEnd row probe
-  class_and_end e short =
+  class_and_end : (byte : ℕ) → HasLiteralEnd text row.length byte row.asked → row.length ≤ LONGEST_END → (byte ≡ probe.last) × HasEnd row probe
+  class_and_end byte e short =
       let some = e.some in
       let alike = ends_alike ends text value mode row.length e.literal s in
       let fits = alike.0 in
-      let whole = long in
+      let whole = value_length in
       let same : SameEnd text path row.length =
       λ m below. alike.1 m below ∙ ap to_ascii_lowercase (end_of path value at is m (omega arith)) in (
         e.last ∙ (same 0 (omega arith) ∙ sym shows.last),
@@ -143,31 +146,35 @@ module _ (ends : EndsAsTheText) (bytes : HasTheBytes) (text path value : List �
       )
 
   -- a byte of the value stands in the path
-  byte_of : (x : ℕ) → get_or value x 0 ≡ get_or path (at + x) 0
-  byte_of x = ap (λ (xs : List ℕ). get_or xs x 0) is ∙ get_or-drop at path x 0
+  byte_in_path : (x : ℕ) → get_or value x 0 ≡ get_or path (at + x) 0
+  byte_in_path x = ap (λ (xs : List ℕ). get_or xs x 0) is ∙ get_or-drop at path x 0
 
   bit_is_shown : (x : ℕ) → x < length value → (row.is_name ≡ true → (m : ℕ) → ¬ HasByte value m slash)
       → bit_at (if row.is_name then probe.name_bytes else probe.bytes) (bit_of (get_or path (at + x) 0)) ≡ 1
   bit_is_shown x inside bare =
-      let whole = long in
+      let whole = value_length in
       cond_both row.is_name probe.name_bytes probe.bytes (λ (held : ℕ). bit_at held (bit_of (get_or path (at + x) 0)) ≡ 1)
       (λ name. shows.name_bytes (at + x) (omega arith)
       (λ m past there.
       let within = there.inside in
       let place : at + (m - at) ≡ m = omega arith in
-      bare name (m - at) (record { inside = omega arith; is = byte_of (m - at) ∙ (ap (λ (k : ℕ). get_or path k 0) place ∙ there.is) })))
+      bare name (m - at) (record { inside = omega arith; is = byte_in_path (m - at) ∙ (ap (λ (k : ℕ). get_or path k 0) place ∙ there.is) })))
       (λ other. shows.bytes (at + x) (omega arith))
 
-  HasBytes-needed : NeedsBits text row.key → (row.is_name ≡ true → (m : ℕ) → ¬ HasByte value m slash) → HasBytes row probe
+  HasBytes-needed : NeedsBits text row.asked → (row.is_name ≡ true → (m : ℕ) → ¬ HasByte value m slash) → HasBytes row probe
   HasBytes-needed needs bare i bit =
       let needed = needs i bit in
       let n = needed.1 in
       let has = bytes text value mode needed.0 n.byte n.unescaped n.there n.literal s in
       let same : bit_of (get_or path (at + has.place) 0) ≡ i =
-      ap (λ (b : ℕ). b % 32) (ap to_ascii_lowercase (sym (byte_of has.place)) ∙ fold_lower mode (get_or value has.place 0) n.byte has.alike) ∙ sym n.bit in
+      ap (λ (b : ℕ). b % 32) (ap to_ascii_lowercase (sym (byte_in_path has.place)) ∙ fold_lower mode (get_or value has.place 0) n.byte has.alike) ∙ sym n.bit in
       subst (λ (k : ℕ). bit_at (if row.is_name then probe.name_bytes else probe.bytes) k ≡ 1) same (bit_is_shown has.place has.inside bare)
 
--- what the law of candidates says
+  passes_by : (class : Class) → row.length ≤ LONGEST_END → AsksFor text row.length row.asked class → (row.is_name ≡ true → (m : ℕ) → ¬ HasByte value m slash) → PassesBy row probe class
+  passes_by Always short needs bare = HasBytes-needed needs bare
+  passes_by (EndsIn byte) short needs bare = class_and_end byte needs short
+
+-- the law `answering_patterns_pass`, restated: a lemma can't cite a clause
 abbrev pub AnsweringPasses : Type 0
 AnsweringPasses = (text : List ℕ) (pattern_mode : pattern.Mode) (base : Option (List ℕ)) (path rest : List ℕ) (position : Option ℕ) (is_dir : Option Bool) (case : Case) (mode : wildmatch.Mode)
     (row : Row) (probe : Probe) → Shows path probe → Asks text pattern_mode row → RestOf case base path rest → IsBasenameStart rest position → Answers text pattern_mode rest position is_dir case mode → Passes row probe
@@ -181,8 +188,6 @@ answering_passes ends bytes text pattern_mode base path rest position is_dir cas
     let at : ℕ = below.0 + within.0 in
     let is : value ≡ drop at path = within.1 ∙ (ap (drop within.0) below.1 ∙ drop-drop within.0 below.0 path) in
     let s = answers.splits in record {
-      last = λ ended. (class_and_end ends bytes text path value (with_case mode case) at row probe shows is s (asks.end ended) asks.short).0;
-      end = λ ended. (class_and_end ends bytes text path value (with_case mode case) at row probe shows is s (asks.end ended) asks.short).1;
-      bytes = λ always_is. HasBytes-needed ends bytes text path value (with_case mode case) at row probe shows is s (asks.bytes always_is)
+      shown = passes_by ends bytes text path value (with_case mode case) at row probe shows is s row.class asks.short asks.needs
           (λ name. name_has_no_slash pattern_mode rest position (sym asks.name ∙ name) start);
     }

@@ -1,5 +1,5 @@
 -- The rows of lists: one for each entry, in order, and their chains.
-use Rattle.std.specs.Prelude.{◌≡◌, ℕ, ◌<◌, List, Some, slice_get}
+use Rattle.std.specs.Prelude.{◌≡◌, ℕ, ◌<◌, List, Some, length, slice_get}
 use Rattle.gix_glob.specs.EntryLists.{EntryList}
 use Rattle.gix_glob.specs.Lists.{Entry}
 use Rattle.glob_index.specs.declared.row.Row.{Row}
@@ -31,12 +31,6 @@ pub record IsAtPlace (rows : List Row) (i m k : ℕ) : Type 0 where
   pub list : row.list ≡ i
   pub mapping : row.mapping ≡ m
 
--- The rows are those of the entries, one for each, in order.
-pub record AreRows {V : Type 0} (lists : List (EntryList V)) (rows : List Row) : Type 0 where
-  pub each : (k : ℕ) (row : Row) → slice_get rows k ≡ Some row → IsRowOf lists row
-  pub rising : (k l : ℕ) (a b : Row) → k < l → slice_get rows k ≡ Some a → slice_get rows l ≡ Some b → ComesBefore a.list a.mapping b.list b.mapping
-  pub all : (i m : ℕ) → HasEntryAt lists i m → (k : ℕ) × IsAtPlace rows i m k
-
 -- The rows are those of the entries before (j, n), one for each, in order.
 pub record AreRowsUpTo {V : Type 0} (lists : List (EntryList V)) (j n : ℕ) (rows : List Row) : Type 0 where
   pub each : (k : ℕ) (row : Row) → slice_get rows k ≡ Some row → IsRowOf lists row
@@ -44,7 +38,15 @@ pub record AreRowsUpTo {V : Type 0} (lists : List (EntryList V)) (j n : ℕ) (ro
   pub rising : (k l : ℕ) (a b : Row) → k < l → slice_get rows k ≡ Some a → slice_get rows l ≡ Some b → ComesBefore a.list a.mapping b.list b.mapping
   pub all : (i m : ℕ) → HasEntryAt lists i m → ComesBefore i m j n → (k : ℕ) × IsAtPlace rows i m k
 
+-- the rows are those of all entries
+abbrev pub AreRows : {V : Type 0} → List (EntryList V) → List Row → Type 0
+AreRows lists rows = AreRowsUpTo lists (length lists) 0 rows
+
+-- the rows of the table are chained
+abbrev pub AreChained : Table → Type 0
+AreChained table = IsChained (classes_of table.rows.items) (links_of table.rows.items) table.heads
+
 -- The table has the rows of the lists, and they are chained.
 pub record IsTableOf {V : Type 0} (lists : List (EntryList V)) (table : Table) : Type 0 where
   pub rows : AreRows lists table.rows.items
-  pub chained : IsChained (classes_of table.rows.items) (links_of table.rows.items) table.heads
+  pub chained : AreChained table

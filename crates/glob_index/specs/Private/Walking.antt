@@ -1,18 +1,17 @@
 -- A walk down the chains of two classes. No public contract cites it.
-use Rattle.std.specs.Prelude.{◌≡◌, ◌≢◌, ℕ, ◌+◌, ◌<◌, ◌≤◌, List, Some, length, slice_get}
+use Rattle.std.specs.Prelude.{◌≡◌, ℕ, ◌+◌, ◌<◌, ◌≤◌, List, Some, length, slice_get}
+use Rattle.glob_index.specs.declared.chains.Class.TheVariants.{Always, EndsIn}
 use Rattle.glob_index.specs.declared.probe.Probe.{Probe}
 use Rattle.glob_index.specs.declared.row.Row.{Row}
 use Rattle.glob_index.specs.declared.table.Walk.{Walk}
-use Rattle.glob_index.specs.Private.Chains.{IsLastBelow, classes_of}
-use Rattle.glob_index.specs.Private.Rows.{always}
+use Rattle.glob_index.specs.Private.Chains.{IsLastBelow, classes_of, place_of}
 use Rattle.glob_index.specs.Private.Showing.{Passes}
 
--- a walk down two chains, that of a class and that of the rows which are always looked at, has come to its end
-pub record IsAt (rows : List Row) (class : ℕ) (walk : Walk) : Type 0 where
-  pub apart : class ≢ always
-  pub inside : walk.end ≤ length rows
-  pub own : IsLastBelow (classes_of rows) class walk.end walk.own
-  pub other : IsLastBelow (classes_of rows) always walk.end walk.other
+-- Below the place `walk.passed_from`, `own` and `other` lead to the last rows that end in this byte, and of the class `Always`.
+pub record IsWalkDown (rows : List Row) (last : ℕ) (walk : Walk) : Type 0 where
+  pub inside : walk.passed_from ≤ length rows
+  pub own : IsLastBelow (classes_of rows) (place_of (EndsIn last)) walk.passed_from walk.own
+  pub other : IsLastBelow (classes_of rows) (place_of Always) walk.passed_from walk.other
 
 -- no row from one place up to another passes
 abbrev pub NonePasses : List Row → Probe → ℕ → ℕ → Type 0

@@ -1,10 +1,13 @@
 -- The mapping's row comes after those of the mappings before it.
-use Rattle.std.proofs.Common.{◌+◌, ◌<◌, ◌≤◌, ℕ, length, get_or, map, ap, sym, subst, arith}
+use Rattle.std.proofs.Common.{◌+◌, ◌<◌, ◌≤◌, length, get_or, map, ap, sym, subst, arith}
 use Rattle.std.proofs.lemmas.List.{get_or_default, length-map}
 use Rattle.gix_glob.specs.Lists.{entry_of}
 use Rattle.gix_glob.specs.EntryLists.{entry_list_of}
 use Rattle.gix_glob.specs.PatternParts.{mode_of, text_of}
+use Rattle.glob_index.specs.declared.chains.Link.{Link}
+use Rattle.glob_index.specs.declared.chains.TheConstants.Link.{NONE}
 use Rattle.glob_index.specs.declared.row.Row.{Row}
+use Rattle.glob_index.specs.Private.Chains.{place_of}
 use Rattle.glob_index.specs.Private.Tables.{AreRowsUpTo}
 use Rattle.gix_glob.proofs.lemmas.Elements.{slice_get-map_at}
 use Rattle.glob_index.proofs.lemmas.RowLemmas.{Asks-linked, rows_more, rows_of_list}
@@ -17,7 +20,7 @@ mappings-preserved g c =
     let within : c.mappings.m < length held.patterns.items = omega (arith, ap length c.as_slice-mappings.ensures.value) in
     let is = rw c.as_slice-mappings.ensures.value at c.index-mappings-m.is in
     let asks = rw (← c.index-mappings-m.is) at c.new.ensures.asks in
-    let link : ℕ = get_or c.mappings.table.heads c.new.result.class 0 in
+    let link : Link = get_or c.mappings.table.heads (place_of c.new.result.class) NONE in
     let added : Row = record c.new.result { before = link } in record {
       rows = subst (AreRowsUpTo (map (entry_list_of g.T.Pattern.seen) c.args.lists.now) c.args.i (c.mappings.m + 1)) (sym c.in_ok-push.ensures.rows)
           (rows_more (map (entry_list_of g.T.Pattern.seen) c.args.lists.now) c.mappings.table.rows.items added c.args.i c.mappings.m (entry_of g.T.Pattern.seen c.index-mappings-m.result)

@@ -1,12 +1,11 @@
 use Rattle.std.proofs.Common.{map}
 use Rattle.gix_glob.specs.EntryLists.{entry_list_of}
-use Rattle.glob_index.specs.Private.Chains.{IsChained, classes_of, links_of}
-use Rattle.glob_index.specs.Private.Tables.{AreRowsUpTo}
+use Rattle.glob_index.specs.Private.Tables.{AreChained, AreRowsUpTo}
 use Rattle.glob_index.proofs.index.add_list.Given as goal
 
 -- the rows of the mappings so far, chained
 abbrev pub invariant-mappings : goal.invariant-mappings
 invariant-mappings g l = record {
   rows : AreRowsUpTo (map (entry_list_of g.T.Pattern.seen) l.lists) l.i l.m l.table.rows.items;
-  chained : IsChained (classes_of l.table.rows.items) (links_of l.table.rows.items) l.table.heads;
+  chained : AreChained l.table;
 }

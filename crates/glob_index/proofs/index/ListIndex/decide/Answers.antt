@@ -4,8 +4,9 @@ use Rattle.std.proofs.lemmas.Bool.{iff_false}
 use Rattle.gix_glob.specs.EntryLists.{entry_list_of}
 use Rattle.glob_index.specs.Private.Tables.{IsTableOf}
 use Rattle.glob_index.specs.Private.Walking.{NonePasses}
+use Rattle.glob_index.proofs.lemmas.AnsweringRows.{NoneAnswers-passed, decides_none, law_holds}
+use Rattle.glob_index.proofs.lemmas.CandidateLemmas.{entry_of_next, last_answer, none_answers}
 use Rattle.glob_index.proofs.lemmas.IndexLemmas.{to_value}
-use Rattle.glob_index.proofs.lemmas.RowLemmas.{last_answer, decides_none, entry_of_next, law_holds, NoneAnswers-passed, none_answers}
 use Rattle.glob_index.proofs.index.ListIndex.decide.Goals as goal
 
 pub matches_at-requires-clause-there : goal.matches_at-requires-clause-there
@@ -17,16 +18,16 @@ pub returns-then-matches_at : goal.returns-then-matches_at
 returns-then-matches_at g c =
     let made = to_value g.T.Pattern.seen _ _ c.self.view_is (λ lists _. IsTableOf lists c.self.inside.table) c.self.invariant in
     last_answer _ _ c.args.path.now c.args.is_dir c.args.self.now.case _ _ _ _ _ made.rows
-    (law_holds _ c.self.inside.table.rows.items c.args.path.now c.args.is_dir c.args.self.now.case c.answering_patterns_pass.ensures c.probe-probe.result c.probe-probe.ensures.shows)
+    (law_holds _ c.self.inside.table.rows.items c.args.path.now c.args.is_dir c.args.self.now.case c.answering_patterns_pass.ensures c.probe-probe.result c.probe-probe.ensures)
     c.in-Some.ensures.next (c.matches_at.ensures.0 c.if-matches_at.true) c.candidates.invariant.none
 
 pub candidates-preserved : goal.candidates-preserved
 candidates-preserved g c =
     let made = to_value g.T.Pattern.seen _ _ c.self.view_is (λ lists _. IsTableOf lists c.self.inside.table) c.self.invariant in
     record {
-      at = c.in-Some.ensures.at;
+      down = c.in-Some.ensures.down;
       none = none_answers _ _ c.args.path.now c.args.is_dir c.args.self.now.case _ _ _ _ _ made.rows
-          (law_holds _ c.self.inside.table.rows.items c.args.path.now c.args.is_dir c.args.self.now.case c.answering_patterns_pass.ensures c.probe-probe.result c.probe-probe.ensures.shows)
+          (law_holds _ c.self.inside.table.rows.items c.args.path.now c.args.is_dir c.args.self.now.case c.answering_patterns_pass.ensures c.probe-probe.result c.probe-probe.ensures)
           c.in-Some.ensures.next (iff_false c.matches_at.ensures c.if-matches_at.false) c.candidates.invariant.none;
     }
 
@@ -34,8 +35,8 @@ pub returns : goal.returns
 returns g c =
     let made = to_value g.T.Pattern.seen _ _ c.self.view_is (λ lists _. IsTableOf lists c.self.inside.table) c.self.invariant in
     let lists = map (entry_list_of g.T.Pattern.seen) c.args.self.now.lists in
-    let none : NonePasses c.self.inside.table.rows.items c.probe-probe.result 0 c.candidates.walk.end = rw c.in_default.is at c.next_pair.ensures.next in
+    let none : NonePasses c.self.inside.table.rows.items c.probe-probe.result 0 c.candidates.walk.passed_from = rw c.in_default.is at c.next_pair.ensures.next in
     decides_none lists c.self.inside.table.rows.items c.args.path.now c.args.is_dir c.args.self.now.case made.rows
-    (NoneAnswers-passed lists c.self.inside.table.rows.items c.args.path.now c.args.is_dir c.args.self.now.case c.probe-probe.result 0 c.candidates.walk.end made.rows
-    (law_holds lists c.self.inside.table.rows.items c.args.path.now c.args.is_dir c.args.self.now.case c.answering_patterns_pass.ensures c.probe-probe.result c.probe-probe.ensures.shows)
+    (NoneAnswers-passed lists c.self.inside.table.rows.items c.args.path.now c.args.is_dir c.args.self.now.case c.probe-probe.result 0 c.candidates.walk.passed_from made.rows
+    (law_holds lists c.self.inside.table.rows.items c.args.path.now c.args.is_dir c.args.self.now.case c.answering_patterns_pass.ensures c.probe-probe.result c.probe-probe.ensures)
     none c.candidates.invariant.none)

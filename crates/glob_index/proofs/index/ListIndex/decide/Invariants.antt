@@ -1,15 +1,15 @@
 use Rattle.std.proofs.Common.{map}
 use Rattle.gix_glob.specs.EntryLists.{entry_list_of}
-use Rattle.glob_index.specs.Private.Walking.{IsAt}
-use Rattle.glob_index.proofs.lemmas.RowLemmas.{NoneAnswers}
+use Rattle.glob_index.specs.Private.Walking.{IsWalkDown}
+use Rattle.glob_index.proofs.lemmas.AnsweringRows.{NoneAnswers}
 use Rattle.glob_index.proofs.index.ListIndex.decide.Given as goal
 
--- no row from the walk's end on answers
+-- no row that was passed answers
 abbrev pub invariant-candidates : goal.invariant-candidates
 invariant-candidates g l = record {
-  at : IsAt l.self-inside.table.rows.items l.probe.class l.walk;
-  none : NoneAnswers (map (entry_list_of g.T.Pattern.seen) l.self.lists) l.self-inside.table.rows.items l.path l.is_dir l.self.case l.walk.end;
+  down : IsWalkDown l.self-inside.table.rows.items l.probe.last l.walk;
+  none : NoneAnswers (map (entry_list_of g.T.Pattern.seen) l.self.lists) l.self-inside.table.rows.items l.path l.is_dir l.self.case l.walk.passed_from;
 }
 
 abbrev pub decreases-candidates : goal.decreases-candidates
-decreases-candidates g l = l.walk.end
+decreases-candidates g l = l.walk.passed_from

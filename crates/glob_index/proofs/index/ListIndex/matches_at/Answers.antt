@@ -1,85 +1,55 @@
 -- What the base leaves of the path is what the pattern is asked about.
-use Rattle.std.proofs.Common.{◌≡◌, ◌↔◌, ◌<◌, false, IsTrue, length, map, option_map, Some, rules, sym, subst, ◌∙◌, arith}
-use Rattle.std.specs.Prelude.{slice_get}
+use Rattle.std.proofs.Common.{◌↔◌, ◌<◌, false, IsTrue, length, map, option_map, rules, arith}
 use Rattle.std.specs.Vec.{vec_items}
 use Rattle.std.proofs.lemmas.Bool.{false≢true}
-use Rattle.std.proofs.lemmas.Option.{same_Some}
 use Rattle.gix_glob.specs.Deciding.{BasesAreFolders, HasFolder, PairAnswers}
 use Rattle.gix_glob.specs.Lists.{entry_of}
-use Rattle.gix_glob.specs.EntryLists.{EntryList, entry_list_of}
+use Rattle.gix_glob.specs.EntryLists.{entry_list_of}
 use Rattle.gix_glob.specs.Stripping.{NothingLeft}
 use Rattle.gix_glob.proofs.lemmas.Answering.{AnswersAt-only, AnswersAt-yes, AnswersUnder-only, AnswersUnder-yes, PairAnswers-nothing_left, PairAnswers-only, PairAnswers-yes}
-use Rattle.gix_glob.proofs.lemmas.Elements.{All-map_at, slice_get-map_at, slice_get-map_within}
-use Rattle.glob_index.specs.Private.Tables.{HasEntryAt}
-use Rattle.glob_index.proofs.lemmas.IndexLemmas.{from_value, to_value}
+use Rattle.gix_glob.proofs.lemmas.Elements.{All-map_at, slice_get-map_at}
+use Rattle.glob_index.proofs.lemmas.IndexLemmas.{from_value, list_at, list_within, mapping_within, to_value}
 use Rattle.glob_index.proofs.index.ListIndex.matches_at.Goals as goal
 
 pub bounds-lists-list : goal.bounds-lists-list
-bounds-lists-list g c =
-    let has = from_value g.T.Pattern.seen _ _ c.self.view_is (λ lists _. HasEntryAt lists c.args.list c.args.mapping) c.requires.there in
-    slice_get-map_within (entry_list_of g.T.Pattern.seen) c.self.inside.lists.now c.args.list has.1.list has.1.there
+bounds-lists-list g c = list_within g.T.Pattern.seen _ _ c.self.view_is c.args.list c.args.mapping c.requires.there
 
 pub offset_bounds-lists-list : goal.offset_bounds-lists-list
 offset_bounds-lists-list g c =
     let fields = c.self in
-    let has = from_value g.T.Pattern.seen _ _ fields.view_is (λ lists _. HasEntryAt lists c.args.list c.args.mapping) c.requires.there in
-    let within : c.args.list < length fields.inside.lists.now =
-    slice_get-map_within (entry_list_of g.T.Pattern.seen) fields.inside.lists.now c.args.list has.1.list has.1.there in
+    let within : c.args.list < length fields.inside.lists.now = list_within g.T.Pattern.seen _ _ fields.view_is c.args.list c.args.mapping c.requires.there in
     search rules
 
 pub rest_of-requires-clause-folder : goal.rest_of-requires-clause-folder
 rest_of-requires-clause-folder g c =
-    let has = from_value g.T.Pattern.seen _ _ c.self.view_is (λ lists _. HasEntryAt lists c.args.list c.args.mapping) c.requires.there in
-    let there = has.1 in
-    let within = slice_get-map_within (entry_list_of g.T.Pattern.seen) c.self.inside.lists.now c.args.list there.list there.there in
-    let held = c.index-lists-list.result in
-    let is = c.index-lists-list.is in
-    All-map_at (entry_list_of g.T.Pattern.seen) HasFolder c.self.inside.lists.now c.args.list held (from_value g.T.Pattern.seen _ _ c.self.view_is (λ lists _. BasesAreFolders lists) c.requires.folders) within is
+    let folders = from_value g.T.Pattern.seen _ _ c.self.view_is (λ lists _. BasesAreFolders lists) c.requires.folders in
+    let within = list_within g.T.Pattern.seen _ _ c.self.view_is c.args.list c.args.mapping c.requires.there in
+    All-map_at (entry_list_of g.T.Pattern.seen) HasFolder c.self.inside.lists.now c.args.list c.index-lists-list.result folders within c.index-lists-list.is
 
 pub returns-in_default : goal.returns-in_default
 returns-in_default g c =
-    let has = from_value g.T.Pattern.seen _ _ c.self.view_is (λ lists _. HasEntryAt lists c.args.list c.args.mapping) c.requires.there in
-    let there = has.1 in
-    let within = slice_get-map_within (entry_list_of g.T.Pattern.seen) c.self.inside.lists.now c.args.list there.list there.there in
-    let held = c.index-lists-list.result in
-    let is = c.index-lists-list.is in
-    let nothing : NothingLeft c.self.inside.case (option_map vec_items held.base) c.args.path.now = rw c.in_default.is at c.rest_of.ensures in
+    let list = entry_list_of g.T.Pattern.seen c.index-lists-list.result in
+    let at = list_at g.T.Pattern.seen _ _ c.self.view_is c.args.list c.args.mapping c.index-lists-list.result c.requires.there c.index-lists-list.is in
+    let nothing : NothingLeft c.self.inside.case (option_map vec_items c.index-lists-list.result.base) c.args.path.now = rw c.in_default.is at c.rest_of.ensures in
     to_value g.T.Pattern.seen _ _ c.self.view_is (λ lists case. IsTrue false ↔ PairAnswers lists c.args.path.now c.args.is_dir case c.args.list c.args.mapping) (
       λ no. absurd (false≢true no),
-      λ yes. absurd (PairAnswers-nothing_left (map (entry_list_of g.T.Pattern.seen) c.self.inside.lists.now) c.args.path.now c.args.is_dir c.self.inside.case c.args.list c.args.mapping
-          (entry_list_of g.T.Pattern.seen held)
-          (slice_get-map_at (entry_list_of g.T.Pattern.seen) c.self.inside.lists.now c.args.list held within is) nothing yes),
+      λ yes. absurd (PairAnswers-nothing_left (map (entry_list_of g.T.Pattern.seen) c.self.inside.lists.now) c.args.path.now c.args.is_dir c.self.inside.case c.args.list c.args.mapping list at nothing yes),
     )
 
 pub index-requires : goal.index-requires
 index-requires g c =
-    let has = from_value g.T.Pattern.seen _ _ c.self.view_is (λ lists _. HasEntryAt lists c.args.list c.args.mapping) c.requires.there in
-    let there = has.1 in
-    let within = slice_get-map_within (entry_list_of g.T.Pattern.seen) c.self.inside.lists.now c.args.list there.list there.there in
-    let held = c.index-lists-list.result in
-    let is = c.index-lists-list.is in
-    let same : there.list ≡ entry_list_of g.T.Pattern.seen held =
-    same_Some _ _ (sym there.there ∙ slice_get-map_at (entry_list_of g.T.Pattern.seen) c.self.inside.lists.now c.args.list held within is) in
-    let inside : c.args.mapping < length held.patterns.items =
-    slice_get-map_within (entry_of g.T.Pattern.seen) held.patterns.items c.args.mapping has.0
-    (subst (λ (l : EntryList g.T.Pattern.Seen). slice_get l.entries c.args.mapping ≡ Some has.0) same there.here) in
+    let inside : c.args.mapping < length c.index-lists-list.result.patterns.items =
+    mapping_within g.T.Pattern.seen _ _ c.self.view_is c.args.list c.args.mapping c.index-lists-list.result c.requires.there c.index-lists-list.is in
     omega arith
 
 pub returns : goal.returns
 returns g c =
-    let has = from_value g.T.Pattern.seen _ _ c.self.view_is (λ lists _. HasEntryAt lists c.args.list c.args.mapping) c.requires.there in
-    let there = has.1 in
     let lists = map (entry_list_of g.T.Pattern.seen) c.self.inside.lists.now in
-    let within = slice_get-map_within (entry_list_of g.T.Pattern.seen) c.self.inside.lists.now c.args.list there.list there.there in
     let held = c.index-lists-list.result in
-    let is = c.index-lists-list.is in
     let list = entry_list_of g.T.Pattern.seen held in
     let entry = entry_of g.T.Pattern.seen c.index.result.now in
-    let at = slice_get-map_at (entry_list_of g.T.Pattern.seen) c.self.inside.lists.now c.args.list held within is in
-    let same : there.list ≡ entry_list_of g.T.Pattern.seen held = same_Some _ _ (sym there.there ∙ at) in
-    let inside : c.args.mapping < length held.patterns.items =
-    slice_get-map_within (entry_of g.T.Pattern.seen) held.patterns.items c.args.mapping has.0
-    (subst (λ (l : EntryList g.T.Pattern.Seen). slice_get l.entries c.args.mapping ≡ Some has.0) same there.here) in
+    let at = list_at g.T.Pattern.seen _ _ c.self.view_is c.args.list c.args.mapping held c.requires.there c.index-lists-list.is in
+    let inside = mapping_within g.T.Pattern.seen _ _ c.self.view_is c.args.list c.args.mapping held c.requires.there c.index-lists-list.is in
     let here = slice_get-map_at (entry_of g.T.Pattern.seen) held.patterns.items c.args.mapping c.index.result.now inside c.index.ensures in
     to_value g.T.Pattern.seen _ _ c.self.view_is (λ lists case. IsTrue c.matches_repo_relative_path.result ↔ PairAnswers lists c.args.path.now c.args.is_dir case c.args.list c.args.mapping) (
       λ yes. PairAnswers-yes lists c.args.path.now c.args.is_dir c.self.inside.case c.args.list c.args.mapping list at

@@ -1,15 +1,15 @@
 use Rattle.std.proofs.Common.{map}
 use Rattle.gix_glob.specs.EntryLists.{entry_list_of}
-use Rattle.glob_index.specs.Private.Walking.{IsAt}
-use Rattle.glob_index.proofs.lemmas.RowLemmas.{AreFoundFrom}
+use Rattle.glob_index.specs.Private.Walking.{IsWalkDown}
+use Rattle.glob_index.proofs.lemmas.FoundPairs.{AreFoundFrom}
 use Rattle.glob_index.proofs.index.ListIndex.matches_into.Given as goal
 
--- what answers from the walk's end on was found
+-- what answers of the rows that were passed was found
 abbrev pub invariant-candidates : goal.invariant-candidates
 invariant-candidates g l = record {
-  at : IsAt l.self-inside.table.rows.items l.probe.class l.walk;
-  found : AreFoundFrom (map (entry_list_of g.T.Pattern.seen) l.self.lists) l.self-inside.table.rows.items l.path l.is_dir l.self.case l.walk.end l.pairs.items;
+  down : IsWalkDown l.self-inside.table.rows.items l.probe.last l.walk;
+  found : AreFoundFrom (map (entry_list_of g.T.Pattern.seen) l.self.lists) l.self-inside.table.rows.items l.path l.is_dir l.self.case l.walk.passed_from l.pairs.items;
 }
 
 abbrev pub decreases-candidates : goal.decreases-candidates
-decreases-candidates g l = l.walk.end
+decreases-candidates g l = l.walk.passed_from

@@ -1,12 +1,12 @@
 -- The last part's bytes are those that no slash follows.
-use Rattle.std.proofs.Common.{◌∙◌, List, ℕ, subst}
+use Rattle.std.proofs.Common.{List, ℕ, subst}
 use Rattle.glob_index.specs.Private.Showing.{HoldsBits}
 use Rattle.glob_index.proofs.lemmas.KeyLemmas.{name_bits}
 use Rattle.glob_index.proofs.probe.Probe.new.Goals as goal
 
-pub returns-clause-shows : goal.returns-clause-shows
-returns-clause-shows c = record {
-  last = c.from.ensures ∙ c.to_ascii_lowercase.ensures.value;
+pub returns : goal.returns
+returns c = record {
+  last = c.to_ascii_lowercase.ensures.value;
   ends = c.end_keys.ensures;
   bytes = c.bytes_or_all.ensures;
   name_bytes = name_bits c.args.path.now c.args.position c.bytes_or_all-2.result c.requires.basename

@@ -4,5 +4,5 @@ use Rattle.glob_index.proofs.table.Table.next_pair.Goals as goal
 
 pub index-requires : goal.index-requires
 index-requires c =
-    let all = c.requires.at.inside in
+    let all = c.requires.down.inside in
     let below = c.in_ok-place.ensures.next.0 in omega arith
