@@ -7,7 +7,7 @@ use crate::literals::{LONGEST, bytes_or_all, longer_key};
 
 /// What a path shows of itself.
 #[derive(Debug, Copy, Clone)]
-pub struct Probe {
+pub(crate) struct Probe {
     /// The numbers of the ends of the path, by their length in bytes.
     keys: [u64; 9],
     /// The last byte, letters as small ones.

@@ -16,7 +16,7 @@ pub(crate) const ALWAYS: u16 = 256;
 
 /// What a pattern asks of a path, and where its mapping stands.
 #[derive(Debug, Copy, Clone)]
-pub struct Row {
+pub(crate) struct Row {
     /// The number of the text's literal end; in the class [`ALWAYS`] the set of the bytes that are needed.
     key: u64,
     /// One more than the place of the row before this one that has its class, or 0.

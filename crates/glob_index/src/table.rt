@@ -2,7 +2,6 @@
 ghost use Rattle.std.specs.Prelude.{◌≡◌, ◌+◌, ◌++◌, ◌∷◌, [], ◌<◌, ◌≤◌, IfOk, MatchOption, OnOk, length, slice_index};
 ghost use Rattle.glob_index.specs.Private.Chains.{IsChained, classes_of, links_of};
 ghost use Rattle.gix_glob.specs.RepositoryPaths.{IsBasenameStart};
-ghost use Rattle.glob_index.specs.declared.row.Row.{Row};
 ghost use Rattle.glob_index.specs.Private.Rows.{always};
 ghost use Rattle.glob_index.specs.Private.Showing.{Shows};
 ghost use Rattle.glob_index.specs.Private.Walking.{IsAt, IsNextPair, NonePasses};

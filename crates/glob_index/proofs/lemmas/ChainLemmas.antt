@@ -180,8 +180,8 @@ module _ (rows : List Row) (heads : List ℕ) (probe : Probe) (walk : Walk) (pla
       }
 
   -- what lies between the walk's end and the place
-  pub none_between : (to : ℕ) → walk.own ≤ place + 1 → walk.other ≤ place + 1 → NonePasses rows probe walk.end to → NonePasses rows probe (place + 1) to
-  none_between to low low' none = NonePasses-above_chains rows probe walk.end walk.own walk.other (place + 1) to at.own at.other low low' none
+  pub NonePasses-between : (to : ℕ) → walk.own ≤ place + 1 → walk.other ≤ place + 1 → NonePasses rows probe walk.end to → NonePasses rows probe (place + 1) to
+  NonePasses-between to low low' none = NonePasses-above_chains rows probe walk.end walk.own walk.other (place + 1) to at.own at.other low low' none
 
   pub without_end : (to : ℕ) → place + 1 ≡ walk.own → ¬ HasEnd row probe → NonePasses rows probe (place + 1) to → NonePasses rows probe place to
   without_end to is fails none =

@@ -22,10 +22,11 @@ use Rattle.glob_index.specs.Private.Literals.{EndsLiterally, NeedsBits, bit_of, 
 use Rattle.glob_index.specs.Private.Rows.{Asks, HasLiteralEnd}
 use Rattle.glob_index.specs.Private.Showing.{HasBytes, HasEnd, Passes, Shows}
 
--- the two laws that the choice stands on
+-- the law `matched_values_end_as_the_text`, restated: a lemma can't cite a clause
 abbrev pub EndsAsTheText : Type 0
 EndsAsTheText = (front end value : List ℕ) (mode : wildmatch.Mode) → list_any is_joining end ≡ false → Splits value (front ++ end) mode → EndsAlike mode value end
 
+-- the law `matched_values_have_the_literal_bytes`, restated: a lemma can't cite a clause
 abbrev pub HasTheBytes : Type 0
 HasTheBytes = (text value : List ℕ) (mode : wildmatch.Mode) (i b : ℕ) → IsUnescapedUpTo text i → HasByte text i b → is_joining b ≡ false → Splits value text mode → HasAlike mode value b
 
@@ -127,15 +128,15 @@ name_has_no_slash pattern_mode rest (Some k) name start m there =
 
 module _ (ends : EndsAsTheText) (bytes : HasTheBytes) (text path value : List ℕ) (mode : wildmatch.Mode) (at : ℕ) (row : Row) (probe : Probe)
     (shows : Shows path probe) (is : value ≡ drop at path) (s : Splits value text mode) where
-  long : length value ≡ length path - at
-  long = ap (λ (xs : List ℕ). length xs) is ∙ length-drop at path
+  value_length : length value ≡ length path - at
+  value_length = ap (λ (xs : List ℕ). length xs) is ∙ length-drop at path
 
   class_and_end : HasLiteralEnd text row.length row.class row.key → row.length ≤ 8 → (row.class ≡ probe.class) × HasEnd row probe
   class_and_end e short =
       let some = e.some in
       let alike = ends_alike ends text value mode row.length e.literal s in
       let fits = alike.0 in
-      let whole = long in
+      let whole = value_length in
       let same : SameEnd text path row.length =
       λ m below. alike.1 m below ∙ ap to_ascii_lowercase (end_of path value at is m (omega arith)) in (
         e.last ∙ (same 0 (omega arith) ∙ sym shows.last),
@@ -143,19 +144,19 @@ module _ (ends : EndsAsTheText) (bytes : HasTheBytes) (text path value : List �
       )
 
   -- a byte of the value stands in the path
-  byte_of : (x : ℕ) → get_or value x 0 ≡ get_or path (at + x) 0
-  byte_of x = ap (λ (xs : List ℕ). get_or xs x 0) is ∙ get_or-drop at path x 0
+  byte_in_path : (x : ℕ) → get_or value x 0 ≡ get_or path (at + x) 0
+  byte_in_path x = ap (λ (xs : List ℕ). get_or xs x 0) is ∙ get_or-drop at path x 0
 
   bit_is_shown : (x : ℕ) → x < length value → (row.is_name ≡ true → (m : ℕ) → ¬ HasByte value m slash)
       → bit_at (if row.is_name then probe.name_bytes else probe.bytes) (bit_of (get_or path (at + x) 0)) ≡ 1
   bit_is_shown x inside bare =
-      let whole = long in
+      let whole = value_length in
       cond_both row.is_name probe.name_bytes probe.bytes (λ (held : ℕ). bit_at held (bit_of (get_or path (at + x) 0)) ≡ 1)
       (λ name. shows.name_bytes (at + x) (omega arith)
       (λ m past there.
       let within = there.inside in
       let place : at + (m - at) ≡ m = omega arith in
-      bare name (m - at) (record { inside = omega arith; is = byte_of (m - at) ∙ (ap (λ (k : ℕ). get_or path k 0) place ∙ there.is) })))
+      bare name (m - at) (record { inside = omega arith; is = byte_in_path (m - at) ∙ (ap (λ (k : ℕ). get_or path k 0) place ∙ there.is) })))
       (λ other. shows.bytes (at + x) (omega arith))
 
   HasBytes-needed : NeedsBits text row.key → (row.is_name ≡ true → (m : ℕ) → ¬ HasByte value m slash) → HasBytes row probe
@@ -164,10 +165,10 @@ module _ (ends : EndsAsTheText) (bytes : HasTheBytes) (text path value : List �
       let n = needed.1 in
       let has = bytes text value mode needed.0 n.byte n.unescaped n.there n.literal s in
       let same : bit_of (get_or path (at + has.place) 0) ≡ i =
-      ap (λ (b : ℕ). b % 32) (ap to_ascii_lowercase (sym (byte_of has.place)) ∙ fold_lower mode (get_or value has.place 0) n.byte has.alike) ∙ sym n.bit in
+      ap (λ (b : ℕ). b % 32) (ap to_ascii_lowercase (sym (byte_in_path has.place)) ∙ fold_lower mode (get_or value has.place 0) n.byte has.alike) ∙ sym n.bit in
       subst (λ (k : ℕ). bit_at (if row.is_name then probe.name_bytes else probe.bytes) k ≡ 1) same (bit_is_shown has.place has.inside bare)
 
--- what the law of candidates says
+-- the law `answering_patterns_pass`, restated: a lemma can't cite a clause
 abbrev pub AnsweringPasses : Type 0
 AnsweringPasses = (text : List ℕ) (pattern_mode : pattern.Mode) (base : Option (List ℕ)) (path rest : List ℕ) (position : Option ℕ) (is_dir : Option Bool) (case : Case) (mode : wildmatch.Mode)
     (row : Row) (probe : Probe) → Shows path probe → Asks text pattern_mode row → RestOf case base path rest → IsBasenameStart rest position → Answers text pattern_mode rest position is_dir case mode → Passes row probe

@@ -155,7 +155,7 @@ module _ {V : Type 0} (lists : List (EntryList V)) (rows : List Row) (path : Lis
   abbrev pub NoneAnswers : ℕ → Type 0
   NoneAnswers k = (l : ℕ) (row : Row) → k ≤ l → slice_get rows l ≡ Some row → ¬ PairAnswers lists path is_dir case row.list row.mapping
 
-  -- what the law of candidates says, of one row
+  -- what the law `answering_patterns_pass` says of one row
   abbrev pub Law : Probe → Type 0
   Law probe = (row : Row) → IsRowOf lists row → PairAnswers lists path is_dir case row.list row.mapping → Passes row probe
 

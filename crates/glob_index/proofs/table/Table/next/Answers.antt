@@ -4,7 +4,7 @@ use Rattle.std.proofs.lemmas.Bool.{iff_false}
 use Rattle.glob_index.specs.declared.row.Row.{Row}
 use Rattle.glob_index.specs.declared.table.Walk.{Walk}
 use Rattle.glob_index.specs.Private.Walking.{IsAt}
-use Rattle.glob_index.proofs.lemmas.ChainLemmas.{none_between, other_step, own_step, NonePasses-above_chains, without_bytes, without_end}
+use Rattle.glob_index.proofs.lemmas.ChainLemmas.{other_step, own_step, NonePasses-above_chains, NonePasses-between, without_bytes, without_end}
 use Rattle.glob_index.proofs.table.Table.next.Goals as goal
 
 pub places-init : goal.places-init
@@ -29,7 +29,7 @@ returns-then-has_end-clause-next c =
     let below = c.places.invariant.low in (
       omega arith,
       refl,
-      none_between c.args.self.now.rows.items c.args.self.now.heads c.args.probe.now walk (walk.own - 1) c.index-row.result.now
+      NonePasses-between c.args.self.now.rows.items c.args.self.now.heads c.args.probe.now walk (walk.own - 1) c.index-row.result.now
           c.requires.chained c.places.invariant.at c.index-row.ensures c.args.walk.now.end (omega arith) (omega arith) c.places.invariant.none,
     )
 
@@ -45,7 +45,7 @@ places-preserved-else-has_end c =
       low = omega arith;
       none = without_end rows c.args.self.now.heads c.args.probe.now walk (walk.own - 1) c.index-row.result.now
           c.requires.chained c.places.invariant.at c.index-row.ensures c.args.walk.now.end (omega arith) (iff_false c.has_end.ensures c.if-has_end.false)
-          (none_between rows c.args.self.now.heads c.args.probe.now walk (walk.own - 1) c.index-row.result.now
+          (NonePasses-between rows c.args.self.now.heads c.args.probe.now walk (walk.own - 1) c.index-row.result.now
           c.requires.chained c.places.invariant.at c.index-row.ensures c.args.walk.now.end (omega arith) (omega arith) c.places.invariant.none);
     }
 
@@ -68,7 +68,7 @@ returns-then-has_bytes-clause-next c =
     let below = c.places.invariant.low in (
       omega arith,
       refl,
-      none_between c.args.self.now.rows.items c.args.self.now.heads c.args.probe.now walk (walk.other - 1) c.index-row-then-walk-gt0.result.now
+      NonePasses-between c.args.self.now.rows.items c.args.self.now.heads c.args.probe.now walk (walk.other - 1) c.index-row-then-walk-gt0.result.now
           c.requires.chained c.places.invariant.at c.index-row-then-walk-gt0.ensures c.args.walk.now.end (omega arith) (omega arith) c.places.invariant.none,
     )
 
@@ -84,7 +84,7 @@ places-preserved c =
       low = omega arith;
       none = without_bytes rows c.args.self.now.heads c.args.probe.now walk (walk.other - 1) c.index-row-then-walk-gt0.result.now
           c.requires.chained c.places.invariant.at c.index-row-then-walk-gt0.ensures c.args.walk.now.end (omega arith) (iff_false c.has_bytes.ensures c.if-has_bytes.false)
-          (none_between rows c.args.self.now.heads c.args.probe.now walk (walk.other - 1) c.index-row-then-walk-gt0.result.now
+          (NonePasses-between rows c.args.self.now.heads c.args.probe.now walk (walk.other - 1) c.index-row-then-walk-gt0.result.now
           c.requires.chained c.places.invariant.at c.index-row-then-walk-gt0.ensures c.args.walk.now.end (omega arith) (omega arith) c.places.invariant.none);
     }
 
