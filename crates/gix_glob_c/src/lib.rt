@@ -42,7 +42,7 @@ pub extern "C" fn gix_glob_matches_path(line: &[u8], path: &[u8], is_dir: bool, 
         path,
         basename_start(path),
         Some(is_dir),
-        case_for(fold),
+        case_of(fold),
         Mode::NO_MATCH_SLASH_LITERAL,
     )
 }
@@ -80,7 +80,7 @@ fn place_in(text: &[u8], place: usize) -> Option<usize>
 }
 
 /// The case that `fold` asks for.
-fn case_for(fold: bool) -> Case
+fn case_of(fold: bool) -> Case
     ensures { result ≡ case_of fold }
 {
     if fold { Case::Fold } else { Case::Sensitive }

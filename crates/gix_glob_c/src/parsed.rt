@@ -4,7 +4,7 @@ ghost use Rattle.gix_glob.specs.Patterns.{HasReading, IsPattern};
 ghost use Rattle.gix_glob.specs.RepositoryPaths.{IsBasenameStart};
 ghost use Rattle.gix_glob_c.specs.Parsed.{AnswersPath, IsLawful, IsPathOfFile, IsRead, LastAnswer, first_of, index_of, mode_of};
 
-use crate::{case_for, place_in};
+use crate::{case_of, place_in};
 use bitflags::Flags;
 use gix_glob::pattern::{self, PatternView, basename_start};
 use gix_glob::wildmatch::Mode;
@@ -93,7 +93,7 @@ fn last_match(patterns: &[GlobPattern<'_>], path: &[u8], is_dir: bool, fold: boo
 }
 
 /// The parts of a pattern, as C keeps them.
-pub(crate) fn parts_of<'a>(view: PatternView<'a>) -> GlobPattern<'a>
+fn parts_of<'a>(view: PatternView<'a>) -> GlobPattern<'a>
     requires { IsPattern view.text.now view.mode view.first_wildcard_pos }
     ensures text { result.text.now ≡ view.entry.text.now }
     ensures mode { mode_of result ≡ view.entry.mode }
@@ -134,7 +134,7 @@ fn is_matched(
         path,
         position,
         Some(is_dir),
-        case_for(fold),
+        case_of(fold),
         Mode::NO_MATCH_SLASH_LITERAL,
     )
 }

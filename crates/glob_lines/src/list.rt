@@ -103,6 +103,17 @@ fn matches_of(
     Ok(text)
 }
 
+/// A path of a repository, or what the base of a list leaves of one.
+#[derive(Copy, Clone)]
+struct RepositoryPath<'a> {
+    /// Its bytes, without the slash that marks a directory.
+    bytes: &'a [u8],
+    /// What `basename_start` answers for the bytes.
+    position: Option<usize>,
+    /// Whether it is a directory's.
+    is_dir: bool,
+}
+
 /// Appends what is written for a path line, without the line feed. The index is that of the list. What `pairs` holds doesn't
 /// matter.
 fn append_matches(
@@ -129,9 +140,19 @@ fn append_matches(
         return Ok(());
     };
     if index.pays_for(path) {
-        append_found(text, pairs, index, list, path, position, is_dir)
+        let whole = RepositoryPath {
+            bytes: path,
+            position,
+            is_dir,
+        };
+        append_found(text, pairs, index, list, whole)
     } else {
-        append_numbers(text, &list.patterns, rest, start, is_dir, case)
+        let left = RepositoryPath {
+            bytes: rest,
+            position: start,
+            is_dir,
+        };
+        append_numbers(text, &list.patterns, left, case)
     }
 }
 
@@ -141,19 +162,17 @@ fn append_found(
     pairs: &mut Vec<(usize, usize)>,
     index: &ListIndex<'_, PlainLines>,
     list: &List<PlainLines>,
-    path: &[u8],
-    position: Option<usize>,
-    is_dir: bool,
+    path: RepositoryPath<'_>,
 ) -> Result<(), AllocError>
     requires one { index.now.lists ≡ list.now ∷ [] }
-    requires plain { IsPlainPath path.now }
-    requires basename { IsBasenameStart path.now position }
+    requires plain { IsPlainPath path.bytes.now }
+    requires basename { IsBasenameStart path.bytes.now path.position }
     requires folder { ForSome (option_map vec_items list.now.base) IsFolder }
     ensures { OnOk result (Adds
-        (WritesNumbersUnder (map (entry_of (λ _. tt)) list.now.patterns.items) (option_map vec_items list.now.base) path.now is_dir index.now.case)
+        (WritesNumbersUnder (map (entry_of (λ _. tt)) list.now.patterns.items) (option_map vec_items list.now.base) path.entry.bytes.now path.entry.is_dir index.now.case)
         text.old.items text.new.items) }
 {
-    index.matches_into(path, position, is_dir, pairs)?;
+    index.matches_into(path.bytes, path.position, path.is_dir, pairs)?;
     let mut separator: &[u8] = b"";
     for pair in pairs.as_slice() {
         text.extend_from_slice(separator)?;
@@ -167,25 +186,24 @@ fn append_found(
 fn append_numbers(
     text: &mut Vec<u8>,
     mappings: &[Mapping<()>],
-    rest: &[u8],
-    position: Option<usize>,
-    is_dir: bool,
+    rest: RepositoryPath<'_>,
     case: Case,
 ) -> Result<(), AllocError>
-    requires relative { ¬ HasByte rest.now 0 slash }
-    requires basename { IsBasenameStart rest.now position }
+    requires relative { ¬ HasByte rest.bytes.now 0 slash }
+    requires basename { IsBasenameStart rest.bytes.now rest.position }
     ensures { OnOk result (Adds
-        (WritesNumbers (map (entry_of (λ _. tt)) mappings.now) case is_dir rest.now)
+        (WritesNumbers (map (entry_of (λ _. tt)) mappings.now) case rest.entry.is_dir rest.entry.bytes.now)
         text.old.items text.new.items) }
 {
-    let mut separator = b"".as_slice();
+    let mut separator: &[u8] = b"";
     for mapping in mappings {
         let pattern = &mapping.pattern;
         let mode = Mode::NO_MATCH_SLASH_LITERAL;
-        if pattern.matches_repo_relative_path(rest, position, Some(is_dir), case, mode) {
+        let is_dir = Some(rest.is_dir);
+        if pattern.matches_repo_relative_path(rest.bytes, rest.position, is_dir, case, mode) {
             text.extend_from_slice(separator)?;
             append_decimal(text, mapping.sequence_number)?;
-            separator = b" ".as_slice();
+            separator = b" ";
         }
     }
     Ok(())

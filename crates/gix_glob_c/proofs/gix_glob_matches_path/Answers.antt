@@ -17,5 +17,5 @@ returns-clause-answers c = λ reading relative.
       start = c.basename_start.ensures;
       exact = subst (λ (case : Case). IsTrue c.matches_repo_relative_path.result
           ↔ Answers view.text.now view.mode c.args.path.now c.basename_start.result (Some c.args.is_dir) case path_mode)
-          c.case_for.ensures (c.matches_repo_relative_path.ensures c.in-Some.ensures.lawful);
+          c.case_of.ensures (c.matches_repo_relative_path.ensures c.in-Some.ensures.lawful);
     }

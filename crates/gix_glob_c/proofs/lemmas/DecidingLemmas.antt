@@ -11,7 +11,8 @@ use Rattle.gix_glob_c.specs.declared.parsed.GlobPattern.{GlobPattern}
 use Rattle.gix_glob_c.specs.Parsed.{PatternAnswersAt, AnswersPath, IsPathOfFile, LastAnswer, entry_of_parts, list_of}
 use Rattle.gix_glob_c.specs.Parts.{case_of}
 
-abbrev blank : GlobPattern
+-- what the reading of an element takes where there is none
+abbrev pub blank : GlobPattern
 blank = record { text = record { ref_ptr = (0, 0); now = [] }; first_wildcard_pos = 0; mode = 0 }
 
 -- an answer of a path without a base is one for the whole path

@@ -25,7 +25,7 @@ use Rattle.glob_index.specs.Private.Literals.{EndsLiterally, NeedsBits, bit_of, 
 use Rattle.glob_index.specs.Private.Rows.{Asks, AsksFor, HasLiteralEnd}
 use Rattle.glob_index.specs.Private.Showing.{HasBytes, HasEnd, Passes, PassesBy, Shows}
 
--- the two laws that the choice stands on
+-- The laws `matched_values_end_as_the_text` and `matched_values_have_the_literal_bytes`, restated: a lemma can't cite a clause.
 abbrev pub EndsAsTheText : Type 0
 EndsAsTheText = (front end value : List ℕ) (mode : wildmatch.Mode) → list_any is_joining end ≡ false → Splits value (front ++ end) mode → EndsAlike mode value end
 

@@ -14,7 +14,7 @@ use Rattle.gix_glob.proofs.lemmas.Places.{later_byte, slash_of_lowercase}
 
 -- ---- where the last part begins
 
--- what the law of positions says
+-- the law `positions_lie_past_the_base`, restated: a lemma can't cite a clause
 abbrev pub PositionsLiePastTheBase : Type 0
 PositionsLiePastTheBase = (case : Case) (base path rest : List ℕ) (at : ℕ) → IsFolder base → Rest case base path rest → IsAfterLastSlash path at → length base ≤ at
 
@@ -81,7 +81,7 @@ rest_is_relative case (Some base) path rest folder plain is here =
 
 -- ---- what stripping answers
 
--- what the law of stripped positions says
+-- the law `stripped_positions_are_the_rests_own`, restated: a lemma can't cite a clause
 abbrev pub StrippedPositionsAreTheRestsOwn : Type 0
 StrippedPositionsAreTheRestsOwn = (case : Case) (base path rest : List ℕ) (position : Option ℕ) → Rest case base path rest → IsBasenameStart path position → IsBasenameStart rest (stripped_place (length base) position)
 

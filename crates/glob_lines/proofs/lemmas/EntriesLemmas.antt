@@ -12,7 +12,7 @@ use Rattle.glob_lines.specs.Lines.{lines_of}
 use Rattle.glob_lines.specs.Entries.{Entries, EntriesFrom, HasNoEntry, IsEntryOf, LineContent, entries_from, entries_of, entry_of_content, entry_of_line}
 use Rattle.glob_lines.proofs.lemmas.LinesLemmas.{Lines-lines_of, Lines-only}
 
--- the law `readings_are_these` of the crate below
+-- the law `readings_are_these`, restated: a lemma can't cite a clause
 abbrev pub ReadingsAreThese : Type 0
 ReadingsAreThese = (line : List ℕ) (may_alter : Bool) (text : List ℕ) (mode : Mode) (place : Option ℕ)
     → Reads line may_alter text mode place ↔ (reading_of may_alter line ≡ Some (record { text = text; mode = mode; place = place }))
@@ -70,8 +70,8 @@ module _ {V : Type 0} (Gives : List ℕ → List ℕ → V → Type 0) (content_
     };
   }
 
-  some_reading : (number : ℕ) (line : List ℕ) (it : LineContent V) (reading : Reading) → content_of line ≡ Some it → reading_of true it.text ≡ Some reading → TellsEntry number line (entry_with it.value number reading)
-  some_reading number line it reading is read =
+  entry_of_reading : (number : ℕ) (line : List ℕ) (it : LineContent V) (reading : Reading) → content_of line ≡ Some it → reading_of true it.text ≡ Some reading → TellsEntry number line (entry_with it.value number reading)
+  entry_of_reading number line it reading is read =
       let entry_is : IsEntryOf Gives line number (entry_with it.value number reading) = record {
         text = it.text;
         given = tells.gives line it is;
@@ -86,7 +86,7 @@ module _ {V : Type 0} (Gives : List ℕ → List ℕ → V → Type 0) (content_
       (λ nothing. inl (no_content number line nothing))
       (λ some. ⊎_elim
       (λ blank. inl (no_reading number line some.0 some.1 blank))
-      (λ read. inr (entry_with some.0.value number read.0, some_reading number line some.0 read.0 some.1 read.1))
+      (λ read. inr (entry_with some.0.value number read.0, entry_of_reading number line some.0 read.0 some.1 read.1))
       (cases_Option (reading_of true some.0.text)))
       (cases_Option (content_of line))
 

@@ -1,18 +1,17 @@
 -- The lines of an ignore file: endings, comments, and the entries of all lines.
-use Rattle.std.proofs.Common.{◌≡◌, ◌≢◌, ⊎_elim, ℕ, ◌+◌, ◌<◌, ◌≤◌, Bool, true, false, cond, ◌&&◌, List, [], ◌∷◌, ◌++◌, length, take, drop, get_or, None, Some, refl, sym, ap, subst, ◌∙◌, append_assoc, append-nil, length-drop, le_refl, take_all, take-append-drop, arith}
+use Rattle.std.proofs.Common.{◌≡◌, ◌≢◌, ⊎_elim, ℕ, ◌<◌, ◌≤◌, Bool, true, false, cond, ◌&&◌, List, [], ◌∷◌, ◌++◌, length, drop, None, Some, refl, sym, ap, subst, ◌∙◌, append_assoc, append-nil, length-drop, le_refl, arith}
 use Rattle.std.specs.Prelude.{◌==◌, nat_eq}
 use Rattle.std.specs.List.{starts_with}
 use Rattle.std.proofs.lemmas.Bool.Decides.{Decides-eqb}
 use Rattle.std.proofs.lemmas.Slice.Eq.{ends_is}
-use Rattle.std.proofs.lemmas.Bool.{cases_Bool, false≢true, ne_eqb, eqb-true, eq-eqb}
-use Rattle.std.proofs.lemmas.List.{drop_more}
+use Rattle.std.proofs.lemmas.Bool.{cases_Bool, false≢true, ne_eqb}
 use Rattle.memchr.specs.Find.{IsFirstByte, is_byte}
 use Rattle.glob_lines.specs.Lines.{HasNo, HasNoLineFeed, line_feed, lines_of}
 use Rattle.glob_lines.specs.Entries.{LineContent}
 use Rattle.glob_lines.specs.Private.Trimming.{ends_in_return, return_of}
 use Rattle.glob_lines.specs.Ignore.{BeginsWithLine, GivesTrimmed, Trims, byte_order_mark, carriage_return, is_comment, text_before_spaces, ignore_content, without_mark, without_returns}
 use Rattle.glob_lines.proofs.lemmas.ListLemmas.{AllByRecursion-append_parts}
-use Rattle.glob_lines.proofs.lemmas.LinesLemmas.{HasNo-take, last_line, lines_of-line, length-lines_of-le}
+use Rattle.glob_lines.proofs.lemmas.LinesLemmas.{HasNo-not_found, IsCutAt, last_line, lines_of-line, length-lines_of-le}
 use Rattle.glob_lines.proofs.lemmas.EntriesLemmas.{Tells}
 use Rattle.glob_lines.proofs.lemmas.TrimLemmas.{Trims-only, Trims-text_before_spaces}
 
@@ -86,35 +85,21 @@ without_returns-none (b ∷ c ∷ bytes) none = stays b (c ∷ bytes) (no_feed_n
 
 -- ---- the first line
 
--- the bytes up to a line feed, and what follows it
-pub record IsCutAtFeed (bytes line rest : List ℕ) : Type 0 where
-  pub none : HasNoLineFeed line
-  pub joined : bytes ≡ line ++ line_feed ∷ rest
-
-pub IsCutAtFeed-found : (bytes : List ℕ) (end : ℕ) → IsFirstByte (is_byte line_feed) bytes (Some end) → IsCutAtFeed bytes (take end bytes) (drop (end + 1) bytes)
-IsCutAtFeed-found bytes end h =
-    let inside : end < length bytes = h.0.high in
-    let here : get_or bytes end 0 ≡ line_feed = eqb-true _ _ h.1 in
-    record {
-      none = HasNo-take line_feed bytes end (λ j below is. h.0.before j (omega arith) below (eq-eqb _ _ is));
-      joined = sym (take-append-drop end bytes) ∙ ap (λ l. take end bytes ++ l) (drop_more bytes end 0 inside ∙ ap (λ c. c ∷ drop (end + 1) bytes) here);
-    }
-
-pub ignore_line-by_return : (bytes line text rest : List ℕ) → IsCutAtFeed bytes line rest → line ≡ text ++ carriage_return ∷ [] → lines_of (without_returns bytes) ≡ text ∷ lines_of (without_returns rest)
+pub ignore_line-by_return : (bytes line text rest : List ℕ) → IsCutAt line_feed bytes line rest → line ≡ text ++ carriage_return ∷ [] → lines_of (without_returns bytes) ≡ text ∷ lines_of (without_returns rest)
 ignore_line-by_return bytes line text rest h is =
     let none = AllByRecursion-append_parts (λ b. b ≢ line_feed) text (carriage_return ∷ []) (subst (HasNo line_feed) is h.none) in
     ap (λ l. lines_of (without_returns l)) (h.joined ∙ ap (λ l. l ++ line_feed ∷ rest) is)
     ∙ ap lines_of (without_returns-return text rest none.0)
     ∙ lines_of-line text (without_returns rest) none.0
 
-pub ignore_line-by_feed : (bytes line rest : List ℕ) → IsCutAtFeed bytes line rest → ((before : List ℕ) → line ≢ before ++ carriage_return ∷ []) → lines_of (without_returns bytes) ≡ line ∷ lines_of (without_returns rest)
+pub ignore_line-by_feed : (bytes line rest : List ℕ) → IsCutAt line_feed bytes line rest → ((before : List ℕ) → line ≢ before ++ carriage_return ∷ []) → lines_of (without_returns bytes) ≡ line ∷ lines_of (without_returns rest)
 ignore_line-by_feed bytes line rest h other =
     ap (λ l. lines_of (without_returns l)) h.joined
     ∙ ap lines_of (without_returns-other line rest h.none other)
     ∙ lines_of-line line (without_returns rest) h.none
 
 -- without its carriage return, where it has one
-pub ignore_line-first : (bytes line text rest : List ℕ) → IsCutAtFeed bytes line rest → line ≡ text ++ return_of line → lines_of (without_returns bytes) ≡ text ∷ lines_of (without_returns rest)
+pub ignore_line-first : (bytes line text rest : List ℕ) → IsCutAt line_feed bytes line rest → line ≡ text ++ return_of line → lines_of (without_returns bytes) ≡ text ∷ lines_of (without_returns rest)
 ignore_line-first bytes line text rest h parts =
     ⊎_elim
     (λ (yes : ends_in_return line ≡ true). ignore_line-by_return bytes line text rest h (parts ∙ ap (λ b. text ++ cond b (carriage_return ∷ []) []) yes))
@@ -126,9 +111,7 @@ ignore_line-first bytes line text rest h parts =
 
 pub ignore_line-last : (bytes : List ℕ) → 0 < length bytes → IsFirstByte (is_byte line_feed) bytes None → lines_of (without_returns bytes) ≡ bytes ∷ []
 ignore_line-last bytes some h =
-    let none : HasNoLineFeed bytes =
-    subst HasNoLineFeed (take_all (length bytes) bytes (le_refl _)) (HasNo-take line_feed bytes (length bytes) (λ j below is. h j (omega arith) below (eq-eqb _ _ is))) in
-    ap lines_of (without_returns-none bytes none) ∙ last_line bytes some h
+    ap lines_of (without_returns-none bytes (HasNo-not_found line_feed bytes h)) ∙ last_line bytes some h
 
 -- ---- what a line gives
 

@@ -1,10 +1,10 @@
 -- Labels: what a line gives, by its first tab, and lines that have none.
-use Rattle.std.proofs.Common.{◌≡◌, ◌≢◌, inl, inr, ⊎_elim, ℕ, ◌+◌, ◌<◌, true, List, [], ◌∷◌, ◌++◌, length, take, drop, get_or, map, Option, None, Some, refl, sym, ap, subst, ◌∙◌, append_assoc, drop_at, le_refl, length-append, take_all, take_at, take-append-drop, arith}
+use Rattle.std.proofs.Common.{◌≡◌, ◌≢◌, inl, inr, ⊎_elim, ℕ, ◌+◌, true, List, [], ◌∷◌, ◌++◌, length, take, drop, map, Option, None, Some, refl, sym, ap, subst, ◌∙◌, append_assoc, drop_at, le_refl, length-append, take_all, take_at, arith}
 use Rattle.std.specs.List.{AllByRecursion, cons_option, onto_first, position_or_len}
 use Rattle.std.specs.Option.{option_and_then, option_map}
-use Rattle.std.proofs.lemmas.Bool.{ne_eqb, eqb-true, eq-eqb}
+use Rattle.std.proofs.lemmas.Bool.{ne_eqb}
 use Rattle.std.proofs.lemmas.Bool.Decides.{eqb_tells}
-use Rattle.std.proofs.lemmas.List.{drop_all, drop_more}
+use Rattle.std.proofs.lemmas.List.{drop_all}
 use Rattle.memchr.specs.Find.{IsFirstByte, is_byte}
 use Rattle.gix_glob.specs.Lists.{entry_with}
 use Rattle.gix_glob.specs.Readings.{Reading, reading_of}
@@ -12,7 +12,7 @@ use Rattle.glob_lines.specs.Label.{GivesLabel, Label, is_tab, label_of, label_co
 use Rattle.glob_lines.specs.Lines.{HasNo, line_feed, lines_of}
 use Rattle.glob_lines.specs.Entries.{LineContent, entries_from, entry_of_content, entry_of_line}
 use Rattle.glob_lines.specs.Plain.{GivesItself, Plain, PlainEntry, plain_content}
-use Rattle.glob_lines.proofs.lemmas.LinesLemmas.{HasNo-take}
+use Rattle.glob_lines.proofs.lemmas.LinesLemmas.{HasNo-not_found, IsCutAt-found}
 use Rattle.glob_lines.proofs.lemmas.EntriesLemmas.{Entries-entries_of, Entries-only, ReadingsAreThese, Tells}
 use Rattle.glob_lines.proofs.lemmas.PlainLemmas.{Tells-plain_content}
 
@@ -86,18 +86,10 @@ label_content-label line text value label h is = label_content-found line text v
 
 pub GivesLabel-found : (line : List ℕ) (place : ℕ) → IsFirstByte (is_byte tab) line (Some place) → GivesLabel line (take place line) (drop (place + 1) line)
 GivesLabel-found line place h =
-    let inside : place < length line = h.0.high in
-    let here : get_or line place 0 ≡ tab = eqb-true _ _ h.1 in
-    record {
-      first = HasNo-take tab line place (λ j below is. h.0.before j (omega arith) below (eq-eqb _ _ is));
-      cut = inl (sym (take-append-drop place line) ∙ ap (λ l. take place line ++ l) (drop_more line place 0 inside ∙ ap (λ c. c ∷ drop (place + 1) line) here));
-    }
+    let found = IsCutAt-found tab line place h in record { first = found.none; cut = inl found.joined }
 
 pub GivesLabel-none : (line : List ℕ) → IsFirstByte (is_byte tab) line None → GivesLabel line line []
-GivesLabel-none line h = record {
-  first = subst (HasNo tab) (take_all (length line) line (le_refl _)) (HasNo-take tab line (length line) (λ j below is. h j (omega arith) below (eq-eqb _ _ is)));
-  cut = inr (refl, refl);
-}
+GivesLabel-none line h = record { first = HasNo-not_found tab line h; cut = inr (refl, refl) }
 
 -- ---- lines without a tab
 

@@ -31,6 +31,26 @@ HasNo-take byte bytes zero h = tt
 HasNo-take byte [] (suc k) h = tt
 HasNo-take byte (b ∷ bytes) (suc k) h = (h 0 (omega arith), HasNo-take byte bytes k (λ j below. h (suc j) (omega arith)))
 
+-- ---- what a search for a byte tells
+
+-- the bytes before the first of this byte, and what follows it
+pub record IsCutAt (byte : ℕ) (bytes front rest : List ℕ) : Type 0 where
+  pub none : HasNo byte front
+  pub joined : bytes ≡ front ++ byte ∷ rest
+
+pub IsCutAt-found : (byte : ℕ) (bytes : List ℕ) (place : ℕ) → IsFirstByte (is_byte byte) bytes (Some place) → IsCutAt byte bytes (take place bytes) (drop (place + 1) bytes)
+IsCutAt-found byte bytes place h =
+    let inside : place < length bytes = h.0.high in
+    let here : get_or bytes place 0 ≡ byte = eqb-true _ _ h.1 in
+    record {
+      none = HasNo-take byte bytes place (λ j below is. h.0.before j (omega arith) below (eq-eqb _ _ is));
+      joined = sym (take-append-drop place bytes) ∙ ap (λ l. take place bytes ++ l) (drop_more bytes place 0 inside ∙ ap (λ c. c ∷ drop (place + 1) bytes) here);
+    }
+
+pub HasNo-not_found : (byte : ℕ) (bytes : List ℕ) → IsFirstByte (is_byte byte) bytes None → HasNo byte bytes
+HasNo-not_found byte bytes h =
+    subst (HasNo byte) (take_all (length bytes) bytes (le_refl _)) (HasNo-take byte bytes (length bytes) (λ j below is. h j (omega arith) below (eq-eqb _ _ is)))
+
 -- ---- uniqueness
 
 lines_of-text_of_lines : (texts : List (List ℕ)) (rest : List ℕ) → AllByRecursion HasNoLineFeed texts → lines_of (text_of_lines texts ++ rest) ≡ texts ++ lines_of rest
@@ -114,17 +134,12 @@ Lines-lines_of (b ∷ bytes) =
 
 pub first_line : (bytes : List ℕ) (end : ℕ) → IsFirstByte (is_byte line_feed) bytes (Some end) → lines_of bytes ≡ take end bytes ∷ lines_of (drop (end + 1) bytes)
 first_line bytes end h =
-    let inside : end < length bytes = h.0.high in
-    let here : get_or bytes end 0 ≡ line_feed = eqb-true _ _ h.1 in
-    let parts : bytes ≡ take end bytes ++ line_feed ∷ drop (end + 1) bytes =
-    sym (take-append-drop end bytes) ∙ ap (λ l. take end bytes ++ l) (drop_more bytes end 0 inside ∙ ap (λ c. c ∷ drop (end + 1) bytes) here) in
-    ap lines_of parts
-    ∙ lines_of-line (take end bytes) (drop (end + 1) bytes) (HasNo-take line_feed bytes end (λ j below is. h.0.before j (omega arith) below (eq-eqb _ _ is)))
+    let cut = IsCutAt-found line_feed bytes end h in
+    ap lines_of cut.joined ∙ lines_of-line (take end bytes) (drop (end + 1) bytes) cut.none
 
 pub last_line : (bytes : List ℕ) → 0 < length bytes → IsFirstByte (is_byte line_feed) bytes None → lines_of bytes ≡ bytes ∷ []
 last_line bytes some h =
-    lines_of-last bytes (λ e. absurd (subst (λ l. 0 < length l → ⊥) (sym e) (λ less. omega arith) some))
-    (subst HasNoLineFeed (take_all (length bytes) bytes (le_refl _)) (HasNo-take line_feed bytes (length bytes) (λ j below is. h j (omega arith) below (eq-eqb _ _ is))))
+    lines_of-last bytes (λ e. absurd (subst (λ l. 0 < length l → ⊥) (sym e) (λ less. omega arith) some)) (HasNo-not_found line_feed bytes h)
 
 -- ---- one line written after the other
 

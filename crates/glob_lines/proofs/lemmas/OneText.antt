@@ -57,8 +57,8 @@ numbers_once entries case is_dir rest a b x y =
     (subst (λ position. Picks (EntryAnswers case is_dir rest position) entries y.chosen) start y.picks) in
     x.shown ∙ ap (λ entries. text_of_numbers (map (λ entry. entry.number) entries)) chosen ∙ sym y.shown
 
-without_mark : (path other : List ℕ) (d : Bool) → path ++ (if d then codes "/" else []) ≡ other ++ (if d then codes "/" else []) → path ≡ other
-without_mark path other d same = append_cancel_right path other _ same
+marked_path_once : (path other : List ℕ) (d : Bool) → path ++ (if d then codes "/" else []) ≡ other ++ (if d then codes "/" else []) → path ≡ other
+marked_path_once path other d same = append_cancel_right path other _ same
 
 path_once : (entries : List PlainEntry) (base : Option (List ℕ)) (case : Case) (line a b : List ℕ)
     → WritesPath entries base case line a → WritesPath entries base case line b → a ≡ b
@@ -66,7 +66,7 @@ path_once entries base case line a b x y =
     let mark : y.is_dir ≡ x.is_dir = y.marked.marked ∙ sym x.marked.marked in
     let joined : line ≡ y.path ++ (if x.is_dir then codes "/" else []) =
     subst (λ d. line ≡ y.path ++ (if d then codes "/" else [])) mark y.marked.joined in
-    let same : y.path ≡ x.path = without_mark y.path x.path x.is_dir (sym joined ∙ x.marked.joined) in
+    let same : y.path ≡ x.path = marked_path_once y.path x.path x.is_dir (sym joined ∙ x.marked.joined) in
     by x.shown y.shown mark same
   where
     by : (NothingLeft case base x.path × (a ≡ [])) ⊎ ((rest : List ℕ) × RestOf case base x.path rest × WritesNumbers entries case x.is_dir rest a)

@@ -1,5 +1,5 @@
 -- What a stretch without special bytes splits: the value has the same bytes there, up to case where the mode folds.
-use Rattle.std.proofs.Common.{◌≡◌, ◌↔◌, ◌⊎◌, inr, ⊎_elim, ℕ, zero, suc, ◌+◌, ◌-◌, ◌<◌, ◌≤◌, Bool, true, false, not, ◌==◌, List, ◌∷◌, length, get_or, take, drop, map, None, Some, refl, sym, ◌∙◌, ap, subst, arith, codes, nat_lt}
+use Rattle.std.proofs.Common.{◌≡◌, ◌↔◌, ◌⊎◌, ⊎_elim, ℕ, zero, suc, ◌+◌, ◌-◌, ◌<◌, ◌≤◌, true, false, ◌==◌, List, ◌∷◌, length, get_or, take, drop, map, None, Some, refl, sym, ◌∙◌, ap, subst, arith, codes, nat_lt}
 use Rattle.std.specs.List.{list_any, position_or_len}
 use Rattle.std.proofs.lemmas.Bool.{and_parts, eq-eqb, ltb-false, cases_Bool, cases_eq, false≢true, false_from_ne_true, not-true}
 use Rattle.std.proofs.lemmas.Bool.Decides.{Decides-eqb}
@@ -14,6 +14,7 @@ use Rattle.glob_patterns.specs.Folding.{AreAlike}
 use Rattle.glob_patterns.specs.Patterns.{is_star_and_literal, first_special}
 use Rattle.glob_matcher.specs.Tokens.{Byte, Free, Local, TokenAt, IsRun}
 use Rattle.glob_matcher.specs.Matching.{Splits, SplitsFrom}
+use Rattle.glob_matcher.proofs.lemmas.reading.Reading.{TokenAt-bare}
 use Rattle.glob_matcher.proofs.lemmas.cutting.CutLemmas.{end_in, end_out, one_in, one_out, free_in, free_out, local_in, local_out}
 
 -- no byte is special from place i up to place j
@@ -24,10 +25,6 @@ pub record IsLiteral (p : List ℕ) (i j : ℕ) : Type 0 where
 pub record IsCopied (mode : Mode) (v p : List ℕ) (k i j : ℕ) : Type 0 where
   pub at : (x y : ℕ) → i ≤ y → y < j → x + i ≡ y + k → fold mode (get_or v x 0) ≡ fold mode (get_or p y 0)
 
--- a byte that isn't special is a token of its own
-literal_token : (mode : Mode) (p : List ℕ) (i : ℕ) → i < length p → is_special (get_or p i 0) ≡ false → TokenAt mode p i (Byte (get_or p i 0)) (i + 1)
-literal_token mode p i inside plain = inr (record { inside = inside; is = refl }, plain, refl)
-
 -- what splits a value past a literal stretch, where the value has its bytes
 pub literal_out : (mode : Mode) (p v : List ℕ) (n k e i j : ℕ) → k + n ≡ e → i + n ≡ j → j ≤ length p → k ≤ length v → IsLiteral p i j
     → SplitsFrom v k p i mode → (e ≤ length v) × IsCopied mode v p k i j × SplitsFrom v e p j mode
@@ -36,7 +33,7 @@ literal_out mode p v zero k e i j ke ij inside reach plain all =
     let i_is : i ≡ j = omega arith in
     (omega arith, record { at = λ x y low high same. absurd (omega arith) }, subst (λ (m : ℕ). SplitsFrom v m p j mode) k_is (subst (λ (m : ℕ). SplitsFrom v k p m mode) i_is all))
 literal_out mode p v (suc n) k e i j ke ij inside reach plain all =
-    let first = one_out mode p v i (i + 1) k (Byte (get_or p i 0)) tt (literal_token mode p i (omega arith) (plain.at i (omega arith) (omega arith))) all in
+    let first = one_out mode p v i (i + 1) k (Byte (get_or p i 0)) tt (TokenAt-bare mode p i (get_or p i 0) (record { inside = omega arith; is = refl }) (plain.at i (omega arith) (omega arith))) all in
     let rest = literal_out mode p v n (k + 1) e (i + 1) j (omega arith) (omega arith) inside (let below = first.0 in omega arith) (record { at = λ y low high. plain.at y (omega arith) high }) first.2 in (
       rest.0,
       record {
@@ -55,7 +52,7 @@ literal_in mode p v zero k e i j ke ij inside reach plain same all =
     let i_is : j ≡ i = omega arith in
     subst (λ (m : ℕ). SplitsFrom v m p i mode) k_is (subst (λ (m : ℕ). SplitsFrom v e p m mode) i_is all)
 literal_in mode p v (suc n) k e i j ke ij inside reach plain same all =
-    one_in mode p v i (i + 1) k (Byte (get_or p i 0)) (literal_token mode p i (omega arith) (plain.at i (omega arith) (omega arith))) (omega arith)
+    one_in mode p v i (i + 1) k (Byte (get_or p i 0)) (TokenAt-bare mode p i (get_or p i 0) (record { inside = omega arith; is = refl }) (plain.at i (omega arith) (omega arith))) (omega arith)
     (same.at k i (omega arith) (omega arith) (omega arith))
     (literal_in mode p v n (k + 1) e (i + 1) j (omega arith) (omega arith) inside reach (record { at = λ y low high. plain.at y (omega arith) high }) (record { at = λ x y low high sum. same.at x y (omega arith) high (omega arith) }) all)
 
@@ -117,19 +114,19 @@ literal_behind lit none zero low high = absurd (omega arith)
 literal_behind lit none (suc m) low high = (literal_everywhere lit none).at m (omega arith) (omega arith)
 
 module _ (mode : Mode) (lit : List ℕ) (none : list_any is_special lit ≡ false) where
-  star_run : IsRun (42 ∷ lit) 0 1
-  star_run = record {
+  leading_star_is_run : IsRun (42 ∷ lit) 0 1
+  leading_star_is_run = record {
     some = omega arith;
     stars = λ k low high. let first : 0 ≡ k = omega arith in subst (λ (m : ℕ). HasByte (42 ∷ lit) m star) first (record { inside = omega arith; is = refl });
     whole = λ h. let inside = h.inside in
         false≢true (sym (literal_behind lit none 1 (omega arith) (omega arith)) ∙ ap is_special h.is);
   }
 
-  free_star : is_path mode ≡ false → TokenAt mode (42 ∷ lit) 0 Free 1
-  free_star plain = record { run = star_run; bounded = λ path. absurd (false≢true (sym plain ∙ path)) }
+  leading_star_is_free : is_path mode ≡ false → TokenAt mode (42 ∷ lit) 0 Free 1
+  leading_star_is_free plain = record { run = leading_star_is_run; bounded = λ path. absurd (false≢true (sym plain ∙ path)) }
 
-  local_star : is_path mode ≡ true → TokenAt mode (42 ∷ lit) 0 Local 1
-  local_star path = record { path = path; run = star_run; unbounded = λ b. let many = b.many in absurd (omega arith) }
+  leading_star_is_local : is_path mode ≡ true → TokenAt mode (42 ∷ lit) 0 Local 1
+  leading_star_is_local path = record { path = path; run = leading_star_is_run; unbounded = λ b. let many = b.many in absurd (omega arith) }
 
   plain_behind : IsLiteral (42 ∷ lit) 1 (length (42 ∷ lit))
   plain_behind = record { at = literal_behind lit none }
@@ -147,10 +144,10 @@ module _ (mode : Mode) (lit : List ℕ) (none : list_any is_special lit ≡ fals
             (λ m below. rw get_or-drop (sym (out.1.at (length v - length lit + m) (suc m) (omega arith) (omega arith) (omega arith)))),
       )
 
-  star_out : (v : List ℕ) → Splits v (42 ∷ lit) mode → (length lit ≤ length v) × AreAlike mode lit (drop (length v - length lit) v)
-  star_out v s = ⊎_elim
-      (λ path. (let out = local_out mode (42 ∷ lit) v 0 1 0 (local_star path) (omega arith) s in literal_end v out.0 out.2 out.4))
-      (λ plain. (let out = free_out mode (42 ∷ lit) v 0 1 0 (free_star plain) (omega arith) s in literal_end v out.0 out.2 out.3))
+  star_before_literal_out : (v : List ℕ) → Splits v (42 ∷ lit) mode → (length lit ≤ length v) × AreAlike mode lit (drop (length v - length lit) v)
+  star_before_literal_out v s = ⊎_elim
+      (λ path. (let out = local_out mode (42 ∷ lit) v 0 1 0 (leading_star_is_local path) (omega arith) s in literal_end v out.0 out.2 out.4))
+      (λ plain. (let out = free_out mode (42 ∷ lit) v 0 1 0 (leading_star_is_free plain) (omega arith) s in literal_end v out.0 out.2 out.3))
       (cases_Bool (is_path mode))
 
   -- a value that ends in the literal has its bytes there
@@ -163,9 +160,9 @@ module _ (mode : Mode) (lit : List ℕ) (none : list_any is_special lit ≡ fals
       ∙ ap (fold mode) (sym (get_or-drop (length v - length lit) v m 0))
       ∙ sym (AreAlike-at mode lit (drop (length v - length lit) v) same m (omega arith))
 
-  star_in : (v : List ℕ) → (is_path mode ≡ false) ⊎ (has_slash v ≡ false)
+  star_before_literal_in : (v : List ℕ) → (is_path mode ≡ false) ⊎ (has_slash v ≡ false)
       → length lit ≤ length v → AreAlike mode lit (drop (length v - length lit) v) → Splits v (42 ∷ lit) mode
-  star_in v open_or_bare fits same =
+  star_before_literal_in v open_or_bare fits same =
       let later : SplitsFrom v (length v - length lit) (42 ∷ lit) 1 mode =
       literal_in mode (42 ∷ lit) v (length lit) (length v - length lit) (length v) 1 (length (42 ∷ lit)) (omega arith) (omega arith) (omega arith) (omega arith) plain_behind
       (record { at = ends_copied v fits same })
@@ -173,8 +170,8 @@ module _ (mode : Mode) (lit : List ℕ) (none : list_any is_special lit ≡ fals
       let bare : is_path mode ≡ true → NoSlash v 0 (length v) =
       λ path. ⊎_elim (λ (plain : is_path mode ≡ false). absurd (false≢true (sym plain ∙ path))) (no_slash v) open_or_bare in
       ⊎_elim
-      (λ path. local_in mode (42 ∷ lit) v 0 1 0 (length v - length lit) (local_star path) (omega arith) (omega arith) (record { at = λ m low high. (bare path).at m low (omega arith) }) later)
-      (λ plain. free_in mode (42 ∷ lit) v 0 1 0 (length v - length lit) (free_star plain) (omega arith) (omega arith) later)
+      (λ path. local_in mode (42 ∷ lit) v 0 1 0 (length v - length lit) (leading_star_is_local path) (omega arith) (omega arith) (record { at = λ m low high. (bare path).at m low (omega arith) }) later)
+      (λ plain. free_in mode (42 ∷ lit) v 0 1 0 (length v - length lit) (leading_star_is_free plain) (omega arith) (omega arith) later)
       (cases_Bool (is_path mode))
 
 -- A star and a literal split only values that end in the literal, up to case where the mode folds.
@@ -183,7 +180,7 @@ pub star_literal_out : (p v : List ℕ) (mode : Mode) → is_star_and_literal p 
 star_literal_out p v mode shape s =
     let both = and_parts _ _ shape in
     let whole : p ≡ 42 ∷ drop 1 p = (starts_is Decides-eqb p (codes "*") _ refl).0 both.0 in
-    star_out mode (drop 1 p) (not-true _ both.1) v (subst (λ (q : List ℕ). Splits v q mode) whole s)
+    star_before_literal_out mode (drop 1 p) (not-true _ both.1) v (subst (λ (q : List ℕ). Splits v q mode) whole s)
 
 -- They split all of them in plain mode, and in path mode those without slash.
 pub star_literal_in : (p v : List ℕ) (mode : Mode) → is_star_and_literal p ≡ true → (is_path mode ≡ false) ⊎ (has_slash v ≡ false)
@@ -191,7 +188,7 @@ pub star_literal_in : (p v : List ℕ) (mode : Mode) → is_star_and_literal p �
 star_literal_in p v mode shape open_or_bare fits same =
     let both = and_parts _ _ shape in
     let whole : p ≡ 42 ∷ drop 1 p = (starts_is Decides-eqb p (codes "*") _ refl).0 both.0 in
-    subst (λ (q : List ℕ). Splits v q mode) (sym whole) (star_in mode (drop 1 p) (not-true _ both.1) v open_or_bare fits same)
+    subst (λ (q : List ℕ). Splits v q mode) (sym whole) (star_before_literal_in mode (drop 1 p) (not-true _ both.1) v open_or_bare fits same)
 
 -- where a text has no special byte by the place of the first, it has none at all
 pub literal_from_place : (p : List ℕ) → first_special p ≡ None → list_any is_special p ≡ false

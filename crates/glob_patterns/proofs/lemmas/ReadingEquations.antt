@@ -122,8 +122,8 @@ record IsGivenReading (may_alter : Bool) (line : List ℕ) (reading : Reading) :
   is : reading_of may_alter line ≡ Some reading
   reads : Reads line may_alter reading.text reading.mode reading.place
 
-some_reading : (may_alter : Bool) (line : List ℕ) → is_blank (rest_of may_alter line) ≡ false → (reading : Reading) × IsGivenReading may_alter line reading
-some_reading may_alter line some =
+not_blank-some : (may_alter : Bool) (line : List ℕ) → is_blank (rest_of may_alter line) ≡ false → (reading : Reading) × IsGivenReading may_alter line reading
+not_blank-some may_alter line some =
     let sign = sign_of may_alter line in
     let rest = rest_of may_alter line in
     let lead = lead_of rest in
@@ -138,7 +138,7 @@ pub Reads-reading_of : (may_alter : Bool) (line : List ℕ) (reading : Reading) 
 Reads-reading_of may_alter line reading is =
     ⊎_elim
     (λ blank. let none : None ≡ Some reading = sym (blank-none may_alter line blank) ∙ is in absurd (cc))
-    (λ some. let found = some_reading may_alter line some in
+    (λ some. let found = not_blank-some may_alter line some in
     let same : found.0 ≡ reading = let both : Some found.0 ≡ Some reading = sym found.1.is ∙ is in cc in
     subst (λ (r : Reading). Reads line may_alter r.text r.mode r.place) same found.1.reads)
     (cases_Bool (is_blank (rest_of may_alter line)))
@@ -149,7 +149,7 @@ pub reading_of-none : (may_alter : Bool) (line : List ℕ) → ¬ HasReading lin
 reading_of-none may_alter line none =
     ⊎_elim
     (blank-none may_alter line)
-    (λ some. let found = some_reading may_alter line some in
+    (λ some. let found = not_blank-some may_alter line some in
     absurd (none (record { text = found.0.text; mode = found.0.mode; place = found.0.place; read = found.1.reads })))
     (cases_Bool (is_blank (rest_of may_alter line)))
 

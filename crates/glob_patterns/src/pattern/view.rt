@@ -1,5 +1,5 @@
 //! A pattern whose text is borrowed: the parts of a line that was read, without a copy of its text.
-ghost use Rattle.std.specs.Prelude.{◌≡◌, ◌↔◌, ◌+◌, ◌<◌, ◌≤◌, drop, length, take, true, IsTrue, MatchOption, IfSome};
+ghost use Rattle.std.specs.Prelude.{◌≡◌, ◌↔◌, ◌+◌, ◌≤◌, drop, length, take, true, IsTrue, MatchOption, IfSome};
 ghost use Rattle.std.specs.Option.{ForSome};
 ghost use Rattle.glob_matcher.specs.Bytes.{HasByte, slash};
 ghost use Rattle.glob_matcher.specs.Matching.{Splits};

@@ -21,9 +21,11 @@ IgnoreList = EntryList (Unit {0})
 
 -- ---- what the laws say
 
+-- the law `bases_end_in_a_slash`, restated: a lemma can't cite a clause
 abbrev pub BasesEndInASlash : Type 0
 BasesEndInASlash = (source : List ℕ) (root : Option (List ℕ)) (base : List ℕ) → Base source root (Some base) → EndsInSlash base
 
+-- the law `ignore_entries_are_these`, restated: a lemma can't cite a clause
 abbrev pub IgnoreEntriesAreThese : Type 0
 IgnoreEntriesAreThese = (bytes : List ℕ) (entries : List PlainEntry) → Ignore bytes entries ↔ (entries ≡ ignore_of bytes)
 

@@ -19,9 +19,9 @@ returns c = λ lawful.
     let held = subst (λ (m : pattern.Mode). IsPattern text m c.place_in.result) (sym pattern_mode)
     (subst (λ (place : Option ℕ). IsPattern text (mode_of parts) place) (sym c.place_in.ensures) lawful) in
     let told = subst (λ (case : Case). IsTrue c.matches_repo_relative_path.result
-    ↔ Answers text (mode_of parts) c.args.path.now c.args.position (Some c.args.is_dir) case path_mode) c.case_for.ensures
+    ↔ Answers text (mode_of parts) c.args.path.now c.args.position (Some c.args.is_dir) case path_mode) c.case_of.ensures
     (subst (λ (m : pattern.Mode). IsTrue c.matches_repo_relative_path.result
-    ↔ Answers text m c.args.path.now c.args.position (Some c.args.is_dir) c.case_for.result path_mode) pattern_mode
+    ↔ Answers text m c.args.path.now c.args.position (Some c.args.is_dir) c.case_of.result path_mode) pattern_mode
     (c.matches_repo_relative_path.ensures held)) in (
       λ yes. record { is = c.requires.path; position = c.args.position; start = c.requires.start; answers = told.0 yes },
       λ (h : AnswersPath parts c.args.path.now c.args.is_dir c.args.fold).

@@ -1,15 +1,11 @@
 -- The patterns are gone through from the last one on.
-use Rattle.std.proofs.Common.{◌≡◌, ◌+◌, ◌-◌, ◌<◌, [], true, length, slice_index_or, subst, sym, ◌∙◌, arith}
+use Rattle.std.proofs.Common.{◌≡◌, ◌+◌, ◌-◌, ◌<◌, true, length, slice_index_or, subst, sym, ◌∙◌, arith}
 use Rattle.std.proofs.lemmas.List.Elements.{All-get_or}
 use Rattle.std.proofs.lemmas.Option.{same_Some, slice_get-get_or}
-use Rattle.gix_glob_c.specs.declared.parsed.GlobPattern.{GlobPattern}
 use Rattle.gix_glob_c.specs.Parsed.{PatternAnswersAt, AnswersPath, IsLawful}
 use Rattle.gix_glob.proofs.lemmas.LastNumbers.{NoneFrom-all, NoneFrom-last, NoneFrom-less}
+use Rattle.gix_glob_c.proofs.lemmas.DecidingLemmas.{blank}
 use Rattle.gix_glob_c.proofs.parsed.last_match.Goals as goal
-
--- what the reading of an element takes where there is none
-abbrev blank : GlobPattern
-blank = record { text = record { ref_ptr = (0, 0); now = [] }; first_wildcard_pos = 0; mode = 0 }
 
 pub returns-then-is_matched-clause-exact : goal.returns-then-is_matched-clause-exact
 returns-then-is_matched-clause-exact c = λ lawful.

@@ -11,7 +11,7 @@ use Rattle.glob_lines.proofs.list.append_numbers.Goals as goal
 use Rattle.glob_lines.proofs.list.append_numbers.Goals.{then-matches_repo_relative_path+in_ok-extend_from_slice+in_ok-append_decimal, else-matches_repo_relative_path}
 
 pub loop-mapping-init : goal.loop-mapping-init
-loop-mapping-init c = IsListedUpTo-none _ _ _ _ _ refl refl c.as_slice-separator.ensures
+loop-mapping-init c = IsListedUpTo-none _ _ _ _ _ refl refl refl
 
 pub loop-mapping-preserved : goal.loop-mapping-preserved
 loop-mapping-preserved c =
@@ -22,7 +22,7 @@ loop-mapping-preserved c =
     let one_more : map (entry_of (λ _. tt)) (take (i + 1) mappings) ≡ map (entry_of (λ _. tt)) (take i mappings) ++ entry ∷ [] =
     map_more (entry_of (λ _. tt)) mappings i mapping c.loop-mapping-test.true
     ∙ ap (λ m. map (entry_of (λ _. tt)) (take i mappings) ++ entry_of (λ _. tt) m ∷ []) (sym c.mapping-item.is) in
-    let answered : IsTrue c.matches_repo_relative_path.result ↔ EntryAnswers c.args.case c.args.is_dir c.args.rest.now c.args.position entry =
+    let answered : IsTrue c.matches_repo_relative_path.result ↔ EntryAnswers c.args.case c.args.rest.is_dir c.args.rest.bytes.now c.args.rest.position entry =
     c.matches_repo_relative_path.ensures in
     elim c.if-matches_repo_relative_path.branch [
       | then-matches_repo_relative_path+in_ok-extend_from_slice+in_ok-append_decimal w ↦
@@ -39,10 +39,10 @@ returns c =
     record {
       added = text_of_numbers (numbers_of done.chosen);
       allowed = record {
-        position = c.args.position;
+        position = c.args.rest.position;
         basename = c.requires.basename;
         chosen = done.chosen;
-        picks = subst (λ l. Picks (EntryAnswers c.args.case c.args.is_dir c.args.rest.now c.args.position) (map (entry_of (λ _. tt)) l) done.chosen) all done.picks;
+        picks = subst (λ l. Picks (EntryAnswers c.args.case c.args.rest.is_dir c.args.rest.bytes.now c.args.rest.position) (map (entry_of (λ _. tt)) l) done.chosen) all done.picks;
         shown = refl;
       };
       grown = done.grown;

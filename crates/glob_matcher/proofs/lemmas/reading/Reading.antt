@@ -4,7 +4,7 @@ use Rattle.glob_matcher.specs.declared.wildmatch.mode.Mode.{Mode}
 use Rattle.glob_matcher.specs.declared.wildmatch.tokens.TokenKind.TheVariants as kind
 use Rattle.glob_matcher.specs.Bytes.{HasByte, IsEscaped, StandsForItself, is_path, question_mark, backslash, slash}
 use Rattle.glob_matcher.specs.Sets.{Set, SetAt}
-use Rattle.glob_matcher.specs.Tokens.{Byte, Any, OneOf, Free, Local, Dirs, Nothing, IsRun, IsBounded, IsBroken}
+use Rattle.glob_matcher.specs.Tokens.{Byte, Any, OneOf, Free, Local, Dirs, Nothing, TokenAt, IsRun, IsBounded, IsBroken}
 use Rattle.glob_matcher.specs.Private.Reader.{IsToken}
 
 pub escaped_token : (mode : Mode) (p : List ℕ) (i b : ℕ) → IsEscaped p i b → IsToken mode p i (kind.Byte b) (i + 2)
@@ -12,10 +12,14 @@ escaped_token mode p i b e =
     let inside : i + 1 < length p = e.byte.inside in
     record { token = Byte b; here = inl (e, refl); same_kind = refl; past = omega arith; inside = omega arith }
 
+-- a byte that stands for itself is a token
+abbrev pub TokenAt-bare : (mode : Mode) (p : List ℕ) (i b : ℕ) → HasByte p i b → StandsForItself b → TokenAt mode p i (Byte b) (i + 1)
+TokenAt-bare mode p i b e plain = inr (e, plain, refl)
+
 abbrev pub bare_token : (mode : Mode) (p : List ℕ) (i b : ℕ) → HasByte p i b → StandsForItself b → IsToken mode p i (kind.Byte b) (i + 1)
 bare_token mode p i b e plain =
     let inside : i < length p = e.inside in
-    record { token = Byte b; here = inr (e, plain, refl); same_kind = refl; past = omega arith; inside = omega arith }
+    record { token = Byte b; here = TokenAt-bare mode p i b e plain; same_kind = refl; past = omega arith; inside = omega arith }
 
 -- the byte at a place, where it stands for itself
 abbrev pub literal_token : (mode : Mode) (p : List ℕ) (i : ℕ) → i < length p → StandsForItself (get_or p i 0)

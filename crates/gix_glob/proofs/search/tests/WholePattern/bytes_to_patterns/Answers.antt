@@ -1,5 +1,5 @@
 -- The entry is that of the reading, or there is none.
-use Rattle.std.proofs.Common.{◌≡◌, true, Option, Some, sym, ap, ◌∙◌}
+use Rattle.std.proofs.Common.{◌≡◌, true, Option, Some, sym, ap}
 use Rattle.std.specs.Option.{option_map, option_to_list}
 use Rattle.glob_patterns.specs.Patterns.{HasReading}
 use Rattle.glob_patterns.specs.Readings.{Reading, reading_of}
