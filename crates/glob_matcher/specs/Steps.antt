@@ -17,15 +17,15 @@ pub record IsBlankOf (name parts : ℕ) (blank : Blank) : Type 0 where
   pub same_parts : blank.parts ≡ parts
   pub some : 0 < blank.parts
 
--- how many steps, by the mode: in path mode each mark may go over the value for each place of the other
+-- by the mode: in path mode each mark may go over the value for each place of the other
 abbrev pub step_bound : Mode → ℕ → ℕ → ℕ
 step_bound mode p v = if is_path mode then 2 * (p + 1) * (v + 1) * (v + 1) else 2 * (p + 1) * (v + 1)
 
--- how many steps, in each mode: a star between two slashes of the pattern looks at one component of the value
+-- in each mode: a star between two slashes of the pattern looks at one component of the value
 abbrev pub step_limit : ℕ → ℕ → ℕ
 step_limit p v = 2 * (p + 1) * (v + 1)
 
--- how many looks, in each mode
+-- how many looks a match takes at most, in each mode
 abbrev pub look_limit : ℕ → ℕ → ℕ
 look_limit p v = 8 * (p + 1) * (v + 1)
 

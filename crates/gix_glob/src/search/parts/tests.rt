@@ -2,7 +2,7 @@
 use super::Parts;
 use std::alloc::{AllocError, Global};
 
-/// The parts of the text, each with a bar after it.
+// The parts of the text, each with a bar after it.
 fn parts_with_bars(alloc: Global, text: &str) -> Result<Vec<u8>, AllocError> {
     let mut shown = Vec::new(alloc);
     let mut parts = Parts::new(text.as_bytes());

@@ -2,7 +2,7 @@
 use super::strip_base_handle_recompute_basename_pos as strip;
 use crate::pattern::Case;
 
-/// Only what meets the condition can be called: where the path begins with the base, the place is not before its end.
+// Only what meets the condition can be called: where the path begins with the base, the place is not before its end.
 fn left<'a>(
     base: &[u8],
     path: &'a [u8],
