@@ -18,7 +18,7 @@ path_mode = record { 0 = 1 }
 abbrev pub HasFolder : {V : Type 0} → EntryList V → Type 0
 HasFolder list = ForSome list.base IsFolder
 
--- so is that of each of the lists
+-- the base of each of the lists is that of a folder
 abbrev pub BasesAreFolders : {V : Type 0} → List (EntryList V) → Type 0
 BasesAreFolders lists = All HasFolder lists
 

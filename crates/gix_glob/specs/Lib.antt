@@ -6,11 +6,11 @@ pub mod Lists
 pub mod Orders
 pub mod EntryLists
 pub mod Deciding
+pub mod Equations
 pub mod Private
 pub use Rattle.glob_patterns.specs.Folding
 pub use Rattle.glob_patterns.specs.Patterns
 pub use Rattle.glob_patterns.specs.PatternParts
-pub use Rattle.glob_patterns.specs.Readings
 pub use Rattle.glob_patterns.specs.RepositoryPaths
 pub use Rattle.glob_matcher.specs.Bytes
 pub use Rattle.glob_matcher.specs.Sets

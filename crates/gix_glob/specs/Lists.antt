@@ -3,7 +3,6 @@ use Rattle.std.specs.Prelude.{ℕ, List, Option}
 use Rattle.glob_patterns.specs.declared.mode.Mode.{Mode}
 use Rattle.gix_glob.specs.declared.search.pattern.mapping.Mapping.{Mapping}
 use Rattle.glob_patterns.specs.PatternParts.{text_of, mode_of, place_of}
-use Rattle.glob_patterns.specs.Readings.{Reading}
 
 -- a pattern with its value and its number
 pub record Entry (V : Type 0) : Type 0 where
@@ -21,14 +20,4 @@ entry_of seen m = record {
   place = place_of m.pattern;
   value = seen m.value;
   number = m.sequence_number;
-}
-
--- the entry of a line's reading, with a value and a number
-abbrev pub entry_with : {V : Type 0} → V → ℕ → Reading → Entry V
-entry_with value number reading = record {
-  text = reading.text;
-  mode = reading.mode;
-  place = reading.place;
-  value = value;
-  number = number;
 }

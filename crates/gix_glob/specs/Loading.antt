@@ -24,7 +24,7 @@ pub record IsBeginningOf (beginning whole : List ℕ) : Type 0 where
   pub rest : List ℕ
   pub joined : beginning ++ rest ≡ whole
 
--- a read failed: there is no list, for another cause than memory
+-- whether a read failed: there is no list, and memory isn't the cause
 abbrev pub is_unread : {T : Type 0} → Result (Option T) LoadFault → Bool
 is_unread (Ok (Some list)) = false
 is_unread (Ok None) = true

@@ -15,7 +15,7 @@ front_part ([] ∷ []) = []
 front_part ([] ∷ next ∷ more) = codes "/" ∷ []
 front_part ((b ∷ bs) ∷ more) = (b ∷ bs) ∷ []
 
--- pieces past the first are parts, but for those that are empty or `.`
+-- the parts among the pieces past the first: all but those that are empty or `.`
 abbrev pub named_parts : List (List ℕ) → List (List ℕ)
 named_parts ps = filter (λ piece. not (bytes_eq piece [] || bytes_eq piece (codes "."))) ps
 
@@ -32,11 +32,11 @@ parts text = front_part (pieces text) ++ named_parts (later_pieces (pieces text)
 abbrev pub is_file_part : List ℕ → Bool
 is_file_part part = not (bytes_eq part (codes "/"))
 
--- whether some part of the source can
+-- whether some part of the source can name a file
 abbrev pub has_file_part : List ℕ → Bool
 has_file_part source = list_any is_file_part (parts source)
 
--- a part, and the slash after it, which the leading slash has already
+-- a part with a slash after it; the leading slash needs no other
 abbrev pub folder : List ℕ → List ℕ
 folder part = if bytes_eq part (codes "/") then part else part ++ codes "/"
 

@@ -10,7 +10,7 @@ inner w = w.inner
 abbrev pub has_failed : {D : Type 0} → Watched D → Bool
 has_failed w = w.failed
 
--- a write failed: it answered an error, or took no byte of a piece that is not empty
+-- whether a write failed: it answered an error, or took no byte of a piece that is not empty
 abbrev pub is_failed_write : {E : Type 0} → Result ℕ E → List ℕ → Bool
 is_failed_write (Ok n) piece = (n == 0) && not (length piece == 0)
 is_failed_write (Err e) piece = true

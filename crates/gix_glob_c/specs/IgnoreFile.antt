@@ -10,7 +10,7 @@ use Rattle.gix_glob_c.specs.Parsed.{IsRead}
 abbrev pub unread_of : GlobLines → List ℕ
 unread_of lines = if lines.number == 0 then without_mark lines.rest.now else lines.rest.now
 
--- the text was read
+-- there is a text, and the pattern is its reading
 pub record HasRead (text : Option (List ℕ)) (pattern : GlobPattern) : Type 0 where
   pub line : List ℕ
   pub is : text ≡ Some line

@@ -28,7 +28,7 @@ pub record IsRead (line : List ℕ) (pattern : GlobPattern) : Type 0 where
   pub reads : Reads line true pattern.text.now (mode_of pattern) (first_of pattern)
   pub lawful : IsLawful pattern
 
--- a path from a folder on: plain, and without a slash at its end
+-- a path of a repository, without a slash at its end
 pub record IsPathOfFile (path : List ℕ) : Type 0 where
   pub plain : IsPlainPath path
   pub ends : ends_with nat_eq path (codes "/") ≡ false

@@ -1,11 +1,8 @@
 -- Entries of numbered lines: what a parser of lines means, once it is told what a single line gives.
-use Rattle.std.specs.Prelude.{◌≡◌, ◌⊎◌, true, ℕ, ◌+◌, List, [], ◌∷◌, Option}
-use Rattle.std.specs.List.{cons_option}
-use Rattle.std.specs.Option.{option_and_then, option_map}
-use Rattle.gix_glob.specs.Lists.{Entry, entry_with}
+use Rattle.std.specs.Prelude.{◌≡◌, ◌⊎◌, true, ℕ, ◌+◌, List, [], ◌∷◌}
+use Rattle.gix_glob.specs.Lists.{Entry}
 use Rattle.gix_glob.specs.Patterns.{Reads, HasReading}
-use Rattle.gix_glob.specs.Readings.{reading_of}
-use Rattle.glob_lines.specs.Lines.{Lines, lines_of}
+use Rattle.glob_lines.specs.Lines.{Lines}
 
 -- the entry is the reading of the text that the line gives, with the value that it gives, and this number
 pub record IsEntryOf {V : Type 0} (Gives : List ℕ → List ℕ → V → Type 0) (line : List ℕ) (number : ℕ) (entry : Entry V) : Type 0 where
@@ -31,27 +28,3 @@ pub record Entries {V : Type 0} (Gives : List ℕ → List ℕ → V → Type 0)
   pub lines : List (List ℕ)
   pub cut : Lines bytes lines
   pub each : EntriesFrom Gives 1 lines entries
-
--- ---- the same by equation
-
--- what a line gives: the text that a pattern is read from, and the value beside the pattern
-pub record LineContent (V : Type 0) : Type 0 where
-  pub text : List ℕ
-  pub value : V
-
--- the entry of a line that gives this, and has this number
-abbrev pub entry_of_content : {V : Type 0} → ℕ → LineContent V → Option (Entry V)
-entry_of_content number content = option_map (entry_with content.value number) (reading_of true content.text)
-
--- the entry of a line, where `content_of` says what a line gives, if it gives anything
-unfoldable pub entry_of_line : {V : Type 0} → (List ℕ → Option (LineContent V)) → ℕ → List ℕ → Option (Entry V)
-entry_of_line content_of number line = option_and_then (entry_of_content number) (content_of line)
-
--- the entries of lines, the first of which has this number
-abbrev pub entries_from : {V : Type 0} → (List ℕ → Option (LineContent V)) → ℕ → List (List ℕ) → List (Entry V)
-entries_from content_of number [] = []
-entries_from content_of number (line ∷ lines) = cons_option (entry_of_line content_of number line) (entries_from content_of (number + 1) lines)
-
--- the entries of the lines of the bytes
-abbrev pub entries_of : {V : Type 0} → (List ℕ → Option (LineContent V)) → List ℕ → List (Entry V)
-entries_of content_of bytes = entries_from content_of 1 (lines_of bytes)

@@ -1,10 +1,9 @@
 -- What the parser of ignore lines means: the readings of the lines as Git's ignore files have them.
-use Rattle.std.specs.Prelude.{◌≡◌, ◌≢◌, ℕ, ◌<◌, Bool, ◌&&◌, ◌==◌, true, false, nat_eq, if◌then◌else◌, List, [], ◌∷◌, ◌++◌, length, drop, Option, None, Some, MatchOption, codes}
-use Rattle.std.specs.List.{AllByRecursion, concat, list_all, starts_with}
-use Rattle.std.specs.Str.{bytes_eq}
+use Rattle.std.specs.Prelude.{◌≡◌, ◌≢◌, ℕ, ◌<◌, Bool, ◌&&◌, ◌==◌, true, false, nat_eq, if◌then◌else◌, List, [], ◌∷◌, ◌++◌, length, drop, Option, MatchOption, codes}
+use Rattle.std.specs.List.{AllByRecursion, concat, starts_with}
 use Rattle.gix_glob.specs.Bytes.{backslash}
-use Rattle.glob_lines.specs.Lines.{line_feed, lines_of}
-use Rattle.glob_lines.specs.Entries.{Entries, LineContent, entries_of}
+use Rattle.glob_lines.specs.Lines.{Lines, line_feed}
+use Rattle.glob_lines.specs.Entries.{Entries}
 use Rattle.glob_lines.specs.Plain.{PlainEntry}
 
 -- ---- the bytes that hold the lines
@@ -69,32 +68,15 @@ pub record GivesTrimmed (line text : List ℕ) (value : Unit {0}) : Type 0 where
 abbrev pub Ignore : List ℕ → List PlainEntry → Type 0
 Ignore bytes entries = Entries GivesTrimmed (without_returns (without_mark bytes)) entries
 
--- ---- the same by equation: the law `ignore_entries_are_these` says that both agree
-
--- the units but for the spaces at the end
-abbrev pub units_before_spaces : List (List ℕ) → List (List ℕ)
-units_before_spaces [] = []
-units_before_spaces (unit ∷ units) = if list_all (bytes_eq space) (unit ∷ units) then [] else unit ∷ units_before_spaces units
-
--- the line without the spaces at its end
-unfoldable pub text_before_spaces : List ℕ → List ℕ
-text_before_spaces line = concat (units_before_spaces (units_of line))
-
--- what a line gives: nothing where it is a comment
-abbrev pub ignore_content : List ℕ → Option (LineContent (Unit {0}))
-ignore_content line = if is_comment line then None else Some (record { text = text_before_spaces line; value = tt })
-
--- the ignore entries of the bytes
-abbrev pub ignore_of : List ℕ → List PlainEntry
-ignore_of bytes = entries_of ignore_content (without_returns (without_mark bytes))
-
 -- ---- one line after the other
 
--- The bytes, whose byte order mark is taken off, begin with a line that gives this text, or with a comment where there is no
--- text, and the rest is what stands behind it: the bytes but for so many at their front, at least one.
+-- The lines of the bytes, whose byte order mark is taken off, are a first line and then those of the rest. The first line gives
+-- this text, or is a comment where there is no text. The rest is the bytes but for so many at their front, at least one.
 pub record BeginsWithLine (bytes : List ℕ) (text : Option (List ℕ)) (rest : List ℕ) : Type 0 where
   pub line : List ℕ
-  pub lines : lines_of (without_returns bytes) ≡ line ∷ lines_of (without_returns rest)
+  pub others : List (List ℕ)
+  pub of_rest : Lines (without_returns rest) others
+  pub of_bytes : Lines (without_returns bytes) (line ∷ others)
   pub gives : MatchOption text (is_comment line ≡ true) (λ line_text. GivesTrimmed line line_text tt)
   pub taken : ℕ
   pub behind : rest ≡ drop taken bytes

@@ -1,9 +1,8 @@
 -- What the parser of labels means: the readings of what stands before the lines' tabs, with what stands after them as values.
-use Rattle.std.specs.Prelude.{◌≡◌, ◌⊎◌, ◌==◌, ℕ, Bool, List, [], ◌∷◌, ◌++◌, Option, Some}
-use Rattle.std.specs.List.{after_first, before_first}
+use Rattle.std.specs.Prelude.{◌≡◌, ◌⊎◌, ℕ, List, [], ◌∷◌, ◌++◌}
 use Rattle.gix_glob.specs.Lists.{Entry}
 use Rattle.glob_lines.specs.Lines.{HasNo}
-use Rattle.glob_lines.specs.Entries.{Entries, LineContent, entries_of}
+use Rattle.glob_lines.specs.Entries.{Entries}
 use Rattle.glob_lines.specs.Plain.{PlainEntry}
 
 -- a pattern with its label, and its number
@@ -28,17 +27,3 @@ Label bytes entries = Entries GivesLabel bytes entries
 -- the plain entry, with an empty label
 abbrev pub entry_with_empty_label : PlainEntry → LabelEntry
 entry_with_empty_label entry = record { text = entry.text; mode = entry.mode; place = entry.place; value = []; number = entry.number }
-
--- ---- the same by equation: the law `label_entries_are_these` says that both agree
-
--- whether a byte is a tab
-abbrev pub is_tab : ℕ → Bool
-is_tab b = b == tab
-
--- what a line gives: what stands before its first tab, and what stands after it
-abbrev pub label_content : List ℕ → Option (LineContent (List ℕ))
-label_content line = Some (record { text = before_first is_tab line; value = after_first is_tab line })
-
--- the labelled entries of the bytes
-abbrev pub label_of : List ℕ → List LabelEntry
-label_of bytes = entries_of label_content bytes

@@ -9,4 +9,5 @@ pub mod PathLines
 pub mod Plain
 pub mod Transfers
 pub mod Values
+pub mod Equations
 pub mod Private

@@ -1,6 +1,6 @@
 -- The lines of bytes, and texts that have one line for each of them.
-use Rattle.std.specs.Prelude.{◌≡◌, ◌≢◌, ◌⊎◌, ℕ, List, [], ◌∷◌, ◌++◌, ◌==◌, if◌then◌else◌}
-use Rattle.std.specs.List.{AllByRecursion, AllZip, flat_map, onto_first}
+use Rattle.std.specs.Prelude.{◌≡◌, ◌≢◌, ◌⊎◌, ℕ, List, [], ◌∷◌, ◌++◌}
+use Rattle.std.specs.List.{AllByRecursion, AllZip, flat_map}
 
 -- the byte of a line feed
 abbrev pub line_feed : ℕ
@@ -31,11 +31,6 @@ pub record EndsOpen (bytes : List ℕ) (texts : List (List ℕ)) : Type 0 where
 pub record Lines (bytes : List ℕ) (texts : List (List ℕ)) : Type 0 where
   pub each : AllByRecursion HasNoLineFeed texts
   pub joined : (bytes ≡ text_of_lines texts) ⊎ EndsOpen bytes texts
-
--- the lines of the bytes, by equations: the law `lines_are_these` says that they are those of `Lines`, and no others
-abbrev pub lines_of : List ℕ → List (List ℕ)
-lines_of [] = []
-lines_of (b ∷ bytes) = if b == line_feed then [] ∷ lines_of bytes else onto_first b (lines_of bytes)
 
 -- The text has one line for each of these lines, in order: `P line written` says what is written for a line.
 pub record WritesEach (P : List ℕ → List ℕ → Type 0) (lines : List (List ℕ)) (text : List ℕ) : Type 0 where

@@ -1,7 +1,7 @@
 -- What the parser of plain lines means: the readings of the lines, with the numbers of the lines.
-use Rattle.std.specs.Prelude.{◌≡◌, ℕ, List, Option, Some}
+use Rattle.std.specs.Prelude.{◌≡◌, ℕ, List}
 use Rattle.gix_glob.specs.Lists.{Entry}
-use Rattle.glob_lines.specs.Entries.{Entries, LineContent, entries_of}
+use Rattle.glob_lines.specs.Entries.{Entries}
 
 -- a pattern without a value, and its number
 abbrev pub PlainEntry : Type 0
@@ -14,13 +14,3 @@ GivesItself line text _ = text ≡ line
 -- The plain entries of the bytes: for each line, numbered from 1, that has a reading, this reading and the number.
 abbrev pub Plain : List ℕ → List PlainEntry → Type 0
 Plain bytes entries = Entries GivesItself bytes entries
-
--- ---- the same by equation: the law `plain_entries_are_these` says that both agree
-
--- what a line gives: itself
-abbrev pub plain_content : List ℕ → Option (LineContent (Unit {0}))
-plain_content line = Some (record { text = line; value = tt })
-
--- the plain entries of the bytes
-abbrev pub plain_of : List ℕ → List PlainEntry
-plain_of bytes = entries_of plain_content bytes

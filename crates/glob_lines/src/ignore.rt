@@ -15,7 +15,7 @@ use std::alloc::{AllocError, Global};
 pub struct IgnoreLines;
 
 impl search::Pattern for IgnoreLines {
-    ghost use Rattle.glob_lines.specs.Ignore.{ignore_of};
+    ghost use Rattle.glob_lines.specs.Equations.Ignore.{ignore_of};
 
     type Value = ();
 

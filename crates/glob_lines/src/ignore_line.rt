@@ -1,7 +1,7 @@
 //! One line of an ignore file after the other, without a copy.
 ghost use Rattle.std.specs.Prelude.{◌≡◌, ◌<◌, ℕ, [], ◌∷◌, ◌++◌, drop, length, MatchOption};
 ghost use Rattle.std.specs.Option.{option_copied};
-ghost use Rattle.glob_lines.specs.Lines.{lines_of};
+ghost use Rattle.glob_lines.specs.Equations.Lines.{lines_of};
 ghost use Rattle.glob_lines.specs.Ignore.{BeginsWithLine, Trims, is_comment, without_mark, without_returns};
 ghost use Rattle.glob_lines.specs.Private.Trimming.{StandsBefore, is_open, return_of};
 

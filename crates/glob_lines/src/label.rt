@@ -18,7 +18,7 @@ pub struct LabelLines;
 impl search::Pattern for LabelLines {
     ghost use Rattle.std.specs.Prelude.{ℕ, List};
     ghost use Rattle.std.specs.Vec.{vec_items};
-    ghost use Rattle.glob_lines.specs.Label.{label_of};
+    ghost use Rattle.glob_lines.specs.Equations.Label.{label_of};
 
     type Value = Vec<u8>;
 

@@ -1,7 +1,7 @@
 //! The lines of bytes: each ends at a line feed or at the end of the bytes.
 ghost use Rattle.std.specs.Prelude.{◌≡◌, ◌<◌, ◌∷◌, length};
 ghost use Rattle.std.specs.Iterator.{YieldsFirstRef, item_count};
-ghost use Rattle.glob_lines.specs.Lines.{lines_of};
+ghost use Rattle.glob_lines.specs.Equations.Lines.{lines_of};
 
 use memchr::memchr;
 
@@ -12,6 +12,7 @@ pub(crate) struct Lines<'a> {
 }
 
 impl<'a> Lines<'a> {
+    /// The lines of the bytes, none of which is taken yet.
     pub(crate) fn new(bytes: &'a [u8]) -> Lines<'a>
         ensures { lines_of result.rest.now ≡ lines_of bytes.now }
     {

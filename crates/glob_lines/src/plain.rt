@@ -13,7 +13,7 @@ use std::alloc::{AllocError, Global};
 pub struct PlainLines;
 
 impl search::Pattern for PlainLines {
-    ghost use Rattle.glob_lines.specs.Plain.{plain_of};
+    ghost use Rattle.glob_lines.specs.Equations.Plain.{plain_of};
 
     type Value = ();
 

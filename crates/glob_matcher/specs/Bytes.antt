@@ -43,7 +43,7 @@ is_wildcard b = (b == star || b == question_mark) || b == open_bracket
 abbrev pub is_special : ℕ → Bool
 is_special b = is_wildcard b || b == backslash
 
--- a byte that isn't special: bare, it is a token by itself, and begins no other
+-- a byte that isn't special: with no backslash before it, it is a token by itself, and begins no other
 abbrev pub StandsForItself : ℕ → Type 0
 StandsForItself b = is_special b ≡ false
 
@@ -74,11 +74,11 @@ has_slash text = list_any (λ b. b == slash) text
 abbrev pub bits : Mode → ℕ
 bits mode = mode.0
 
--- the mode asks that a wildcard match no slash
+-- whether the mode asks that no wildcard match a slash
 abbrev pub is_path : Mode → Bool
 is_path mode = bit_and (bits mode) 1 == 1
 
--- the mode asks that the case of ASCII letters not count
+-- whether the mode asks that the case of ASCII letters not count
 abbrev pub folds : Mode → Bool
 folds mode = bit_and (bits mode) 2 == 2
 

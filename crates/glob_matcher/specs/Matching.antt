@@ -9,7 +9,7 @@ use Rattle.glob_matcher.specs.Tokens.{Token, Byte, Any, OneOf, Free, Local, Dirs
 abbrev pub OneByte : (ℕ → Type 0) → List ℕ → Type 0
 OneByte P bytes = (b : ℕ) × (bytes ≡ b ∷ []) × P b
 
--- The byte strings of a token.
+-- The written language of a token: the texts that it can stand for.
 abbrev pub Lang : Mode → Token → List ℕ → Type 0
 Lang mode (Byte b) bytes = OneByte (λ c. fold mode c ≡ fold mode b) bytes
 Lang mode Any bytes = OneByte (λ c. IsTrue (is_path mode) → c ≢ slash) bytes

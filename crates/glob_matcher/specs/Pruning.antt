@@ -43,7 +43,7 @@ pub record IsDirsSlash (pattern : List ℕ) (i : ℕ) (mode : Mode) : Type 0 whe
 pub record IsStart (pattern : List ℕ) (i : ℕ) (mode : Mode) : Type 0 where
   pub place : IsBoundary pattern i mode ⊎ IsDirsSlash pattern i mode
 
--- the depth and the star tokens from place i of the pattern on make at most 63
+-- there is room: the depth, and the number of star tokens from place i of the pattern on, make at most 63 together
 pub record HasRoom (pattern : List ℕ) (i : ℕ) (mode : Mode) (depth : ℕ) : Type 0 where
   pub tokens : List Token
   pub read : From mode pattern i tokens
@@ -72,7 +72,7 @@ pub record IsFlat (pattern : List ℕ) (i : ℕ) (mode : Mode) : Type 0 where
   pub read : From mode pattern i tokens
   pub single : TakeOneByte tokens
 
--- The value ends too soon: its bytes from place k on are split by a beginning, not the whole, of the tokens from place i on.
+-- The value ends too soon: its bytes from place k on are cut by a beginning, not the whole, of the tokens from place i on.
 pub record EndsShort (value : List ℕ) (k : ℕ) (pattern : List ℕ) (i : ℕ) (mode : Mode) : Type 0 where
   pub beginning : List Token
   pub next : Token

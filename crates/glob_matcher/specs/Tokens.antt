@@ -58,7 +58,7 @@ pub record LocalAt (mode : Mode) (pattern : List ℕ) (i j : ℕ) : Type 0 where
   pub run : IsRun pattern i j
   pub unbounded : ¬ IsBounded pattern i j
 
--- a run with its slash: in path mode, a bounded run, and the bare slash at its end
+-- a run with its slash: in path mode, a bounded run, and the bare slash after it
 pub record DirsAt (mode : Mode) (pattern : List ℕ) (i j : ℕ) : Type 0 where
   pub path : IsTrue (is_path mode)
   pub run_end : ℕ

@@ -1,6 +1,6 @@
 pub mod Folding
 pub mod Patterns
 pub mod PatternParts
-pub mod Readings
 pub mod RepositoryPaths
+pub mod Equations
 pub mod Private

@@ -23,11 +23,11 @@ is_negative mode = bit_and mode.0 8 == 8
 abbrev pub is_absolute : Mode → Bool
 is_absolute mode = bit_and mode.0 16 == 16
 
--- the bytes that a token of more than one byte may have as its last: the special ones, the slash and the bracket that closes
+-- whether a byte may be the last of a token of more than one byte: a special one, the slash, or the closing bracket
 abbrev pub is_joining : ℕ → Bool
 is_joining b = is_special b || (b == close_bracket || b == slash)
 
--- no set and no escape begins up to place i, or there
+-- no set and no escape begins up to place i, nor there
 pub record IsUnescapedUpTo (text : List ℕ) (i : ℕ) : Type 0 where
   pub no_set : (j : ℕ) → j ≤ i → ¬ HasByte text j open_bracket
   pub no_escape : (j : ℕ) → j ≤ i → ¬ HasByte text j backslash
@@ -55,23 +55,18 @@ sign_of may_alter line =
     else (if may_alter && (starts_with nat_eq line (codes "\\!") || starts_with nat_eq line (codes "\\#")) then codes "\\"
     else [])
 
--- a slash where there is one
+-- a slash, or nothing
 abbrev pub slash_if : Bool → List ℕ
 slash_if there = if there then codes "/" else []
 
--- the bits of a mode, each worth its own number
-abbrev pub sum_of_bits : Bool → Bool → Bool → Bool → Bool → ℕ
-sum_of_bits slashed by_its_end for_directories negative absolute =
-    (if slashed then 0 else 1)
-    + (if by_its_end then 2 else 0)
-    + (if for_directories then 4 else 0)
-    + (if negative then 8 else 0)
-    + (if absolute then 16 else 0)
-
--- the bits of what was read
+-- the bits of a line's parts, each worth its own number
 abbrev pub bits_of : List ℕ → List ℕ → List ℕ → List ℕ → ℕ
 bits_of sign lead text tail =
-    sum_of_bits (has_slash text) (is_star_and_literal text) (bytes_eq tail (codes "/")) (bytes_eq sign (codes "!")) (bytes_eq lead (codes "/"))
+    (if has_slash text then 0 else 1)
+    + (if is_star_and_literal text then 2 else 0)
+    + (if bytes_eq tail (codes "/") then 4 else 0)
+    + (if bytes_eq sign (codes "!") then 8 else 0)
+    + (if bytes_eq lead (codes "/") then 16 else 0)
 
 -- The line is a sign, a slash or none, the text of its pattern, and a slash or none.
 pub record Reads (line : List ℕ) (may_alter : Bool) (text : List ℕ) (mode : Mode) (place : Option ℕ) : Type 0 where
@@ -92,7 +87,7 @@ pub record SameReading (t t' : List ℕ) (m m' : Mode) (p p' : Option ℕ) : Typ
   pub mode : m ≡ m'
   pub place : p ≡ p'
 
--- some reading exists
+-- the line has a reading
 pub record HasReading (line : List ℕ) (may_alter : Bool) : Type 0 where
   pub text : List ℕ
   pub mode : Mode

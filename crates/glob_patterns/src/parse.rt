@@ -1,8 +1,8 @@
 //! Reading a pattern line: the sign and the slashes around its text, and what is known of the text.
-ghost use Rattle.std.specs.Prelude.{◌≡◌, ◌↔◌, ◌++◌, IsTrue, IsNone, IfOk, IsOkAnd, MatchOption, true, if◌then◌else◌, codes, nat_eq};
+ghost use Rattle.std.specs.Prelude.{◌≡◌, ◌↔◌, ◌+◌, ◌++◌, IsTrue, IsNone, IfOk, IsOkAnd, MatchOption, true, if◌then◌else◌, codes, nat_eq};
 ghost use Rattle.std.specs.List.{starts_with, ends_with};
 ghost use Rattle.std.specs.Str.{bytes_eq};
-ghost use Rattle.glob_patterns.specs.Patterns.{Reads, HasReading, is_blank, without_negation, sign_of, slash_if, sum_of_bits, is_star_and_literal};
+ghost use Rattle.glob_patterns.specs.Patterns.{Reads, HasReading, is_blank, without_negation, sign_of, slash_if, is_star_and_literal};
 ghost use Rattle.glob_patterns.specs.PatternParts.{IsReadFrom};
 ghost use Rattle.glob_matcher.specs.Bytes.{has_slash};
 
@@ -88,7 +88,8 @@ fn before_tail(inner: &[u8]) -> (&[u8], bool)
 
 /// What is known of a text and of what stood around it.
 fn mode_of(text: &[u8], negative: bool, absolute: bool, must_be_dir: bool) -> Mode
-    ensures { result.0 ≡ sum_of_bits (has_slash text.now) (is_star_and_literal text.now) must_be_dir negative absolute }
+    ensures { result.0 ≡ (if has_slash text.now then 0 else 1) + (if is_star_and_literal text.now then 2 else 0)
+        + (if must_be_dir then 4 else 0) + (if negative then 8 else 0) + (if absolute then 16 else 0) }
 {
     let mut mode = Mode::empty();
     if !has_slash(text) {

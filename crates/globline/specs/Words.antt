@@ -99,7 +99,7 @@ pub record AnswersWildWords (words : List (List ℕ)) (input_old input_new : Opt
   pub asked : AskWild words mode pattern
   pub done : AnswersWild mode pattern input_old input_new Written
 
--- the words ask for the lines of a file that match
+-- the words ask which lines of a file match, and this was answered, as far as Written says
 pub record AnswersListWords (words : List (List ℕ)) (input_old input_new : Option (List ℕ)) (Written : List ℕ → Type 0) : Type 0 where
   pub case : Case
   pub file : List ℕ
@@ -107,7 +107,7 @@ pub record AnswersListWords (words : List (List ℕ)) (input_old input_new : Opt
   pub asked : AskList words case file root
   pub done : AnswersList case file root input_old input_new Written
 
--- the words ask for what decides
+-- the words ask which lines of ignore files decide, and this was answered, as far as Written says
 pub record AnswersIgnoreWords (words : List (List ℕ)) (input_old input_new : Option (List ℕ)) (Written : List ℕ → Type 0) : Type 0 where
   pub case : Case
   pub root : Option (List ℕ)

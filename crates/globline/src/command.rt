@@ -106,6 +106,7 @@ fn are_files(files: &[String]) -> bool
     !files.is_empty() && each_has_a_file_part(files)
 }
 
+/// Whether each of the files can name one.
 fn each_has_a_file_part(files: &[String]) -> bool
     ensures { result ≡ list_all (λ file. has_file_part (string_bytes file)) files.now }
 {

@@ -29,6 +29,7 @@ pub fn list_order_agrees_with_equality<T: Pattern>()
     comparisons_agree::<List<T>>()
 }
 
+/// What holds for each type: ties are equalities, and equal values hash alike.
 fn comparisons_agree<T: Ord + Hash>()
     ensures ties { (a b : T) → (T.Ord.cmp a b ≡ Equal) ↔ IsTrue (T.PartialEq.eq a b) }
     ensures hash { (a b : T) → IsTrue (T.PartialEq.eq a b) → T.Hash.hash_input a ≡ T.Hash.hash_input b }

@@ -41,7 +41,7 @@ pub(crate) fn base_of(
     }
 }
 
-// The parts of the source that follow those of the root, where those are a front.
+/// The parts of the source that follow those of the root; `None` where those are no front.
 fn parts_below<'s>(source: &'s [u8], root: &[u8]) -> Option<Parts<'s>>
     ensures { MatchOption result
         ((below : List (List ℕ)) → parts source.entry.now ≢ parts root.now ++ below)
@@ -57,6 +57,7 @@ fn parts_below<'s>(source: &'s [u8], root: &[u8]) -> Option<Parts<'s>>
     Some(below)
 }
 
+/// The base by the parts below the root: the folders of all but the last, which is the file; `None` where there are none.
 fn folders_of(alloc: Global, mut parts: Parts<'_>) -> Result<Option<Vec<u8>>, AllocError>
     ensures { IfOk result (λ base. option_map vec_items base ≡ base_below (parts_left parts.entry)) }
 {
@@ -75,6 +76,7 @@ fn folders_of(alloc: Global, mut parts: Parts<'_>) -> Result<Option<Vec<u8>>, Al
     Ok(Some(base))
 }
 
+/// Appends a part with a slash after it; the leading slash needs no other.
 fn push_folder(base: &mut Vec<u8>, part: &[u8]) -> Result<(), AllocError>
     ensures { OnOk result (base.new.items ≡ base.old.items ++ folder part.now) }
 {

@@ -15,6 +15,7 @@ impl<'a> Parts<'a> {
     ghost use Rattle.gix_glob.specs.Paths.{parts, named_parts, pieces};
     ghost use Rattle.gix_glob.specs.Private.PartsLeft.{parts_left};
 
+    /// The parts of a text, none of which is taken yet.
     pub(crate) fn new(text: &'a [u8]) -> Parts<'a>
         ensures { parts_left result ≡ parts text.entry.now }
     {
@@ -24,7 +25,7 @@ impl<'a> Parts<'a> {
         }
     }
 
-    // The piece before the next slash; it and the slash are taken off.
+    /// The piece before the next slash; it and the slash are taken off.
     fn take_piece(&mut self) -> &'a [u8]
         ensures piece { result.now ≡ before_first (λ b. b == slash) self.old.rest.now }
         ensures rest { self.new.rest.now ≡ after_first (λ b. b == slash) self.old.rest.now }
@@ -43,7 +44,7 @@ impl<'a> Parts<'a> {
         }
     }
 
-    // The next piece that is neither empty nor `.`.
+    /// The next piece that is neither empty nor `.`.
     fn next_named(&mut self) -> Option<&'a [u8]>
         ensures found { MatchOption result
             ((named_parts (pieces self.old.rest.now) ≡ []) × (named_parts (pieces self.new.rest.now) ≡ []))
@@ -60,6 +61,7 @@ impl<'a> Parts<'a> {
     }
 }
 
+/// The place of the first slash.
 fn slash_place(text: &[u8]) -> Option<usize>
     ensures { result ≡ position (λ b. b == slash) text.now }
 {

@@ -8,7 +8,7 @@ use super::Watched;
 use super::fault::LoadFault;
 use std::io::Read;
 
-// How many bytes one read may give. The piece lies on the stack, so it is small.
+/// How many bytes one read may give. The piece lies on the stack, so it is small.
 const PIECE: usize = 16 * 1024;
 
 /// Puts all that the reader has left into `buf`, in place of what stood there.

@@ -13,8 +13,8 @@ struct Whole;
 impl Pattern for Whole {
     ghost use Rattle.std.specs.Prelude.{true};
     ghost use Rattle.std.specs.Option.{option_map, option_to_list};
-    ghost use Rattle.gix_glob.specs.Lists.{entry_with};
-    ghost use Rattle.glob_patterns.specs.Readings.{reading_of};
+    ghost use Rattle.gix_glob.specs.Equations.Lists.{entry_with};
+    ghost use Rattle.glob_patterns.specs.Equations.Readings.{reading_of};
 
     type Value = ();
 
@@ -65,7 +65,7 @@ impl Read for FailsLater {
     }
 }
 
-// The list of the bytes, where the source can name a file.
+/// The list of the bytes, where the source can name a file.
 fn list_of(
     alloc: Global,
     bytes: &[u8],
@@ -79,7 +79,7 @@ fn list_of(
     Ok(Some(List::from_bytes(alloc, bytes, source, root, Whole)?))
 }
 
-// The base as text, a bar where there is none.
+/// The base as text, a bar where there is none.
 fn base_of(list: &List<Whole>) -> &[u8] {
     match &list.base {
         Some(base) => base,

@@ -46,6 +46,7 @@ impl<D> Watched<D> {
         self.inner
     }
 
+    /// Remembers whether a call has failed.
     fn note(&mut self, is_failure: bool)
         ensures kept { inner self.new ≡ inner self.old }
         ensures flag { has_failed self.new ≡ (has_failed self.old || is_failure) }

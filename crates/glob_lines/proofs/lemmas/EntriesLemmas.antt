@@ -5,11 +5,13 @@ use Rattle.std.specs.List.{cons_option}
 use Rattle.std.specs.Option.{option_and_then, option_map, option_to_list}
 use Rattle.gix_glob.specs.declared.pattern.Mode.{Mode}
 use Rattle.gix_glob.specs.declared.search.pattern.mapping.Mapping.{Mapping}
-use Rattle.gix_glob.specs.Lists.{Entry, entry_of, entry_with}
+use Rattle.gix_glob.specs.Lists.{Entry, entry_of}
+use Rattle.gix_glob.specs.Equations.Lists.{entry_with}
 use Rattle.gix_glob.specs.Patterns.{Reads}
-use Rattle.gix_glob.specs.Readings.{Reading, reading_of}
-use Rattle.glob_lines.specs.Lines.{lines_of}
-use Rattle.glob_lines.specs.Entries.{Entries, EntriesFrom, HasNoEntry, IsEntryOf, LineContent, entries_from, entries_of, entry_of_content, entry_of_line}
+use Rattle.gix_glob.specs.Equations.Readings.{Reading, reading_of}
+use Rattle.glob_lines.specs.Equations.Lines.{lines_of}
+use Rattle.glob_lines.specs.Entries.{Entries, EntriesFrom, HasNoEntry, IsEntryOf}
+use Rattle.glob_lines.specs.Equations.Entries.{LineContent, entries_from, entries_of, entry_of_content, entry_of_line}
 use Rattle.glob_lines.proofs.lemmas.LinesLemmas.{Lines-lines_of, Lines-only}
 
 -- the law `readings_are_these`, restated: a lemma can't cite a clause

@@ -1,17 +1,19 @@
 -- The lines of an ignore file: endings, comments, and the entries of all lines.
-use Rattle.std.proofs.Common.{◌≡◌, ◌≢◌, ⊎_elim, ℕ, ◌<◌, ◌≤◌, Bool, true, false, cond, ◌&&◌, List, [], ◌∷◌, ◌++◌, length, drop, None, Some, refl, sym, ap, subst, ◌∙◌, append_assoc, append-nil, length-drop, le_refl, arith}
-use Rattle.std.specs.Prelude.{◌==◌, nat_eq}
+use Rattle.std.proofs.Common.{◌≡◌, ◌≢◌, ⊎_elim, ℕ, ◌+◌, ◌<◌, ◌≤◌, Bool, true, false, cond, ◌&&◌, List, [], ◌∷◌, ◌++◌, length, take, drop, get_or, Option, None, Some, refl, sym, ap, subst, ◌∙◌, append_assoc, append-nil, length-drop, le_refl, take_all, take-append-drop, arith}
+use Rattle.std.specs.Prelude.{◌==◌, nat_eq, MatchOption}
 use Rattle.std.specs.List.{starts_with}
 use Rattle.std.proofs.lemmas.Bool.Decides.{Decides-eqb}
 use Rattle.std.proofs.lemmas.Slice.Eq.{ends_is}
 use Rattle.std.proofs.lemmas.Bool.{cases_Bool, false≢true, ne_eqb}
 use Rattle.memchr.specs.Find.{IsFirstByte, is_byte}
-use Rattle.glob_lines.specs.Lines.{HasNo, HasNoLineFeed, line_feed, lines_of}
-use Rattle.glob_lines.specs.Entries.{LineContent}
+use Rattle.glob_lines.specs.Lines.{HasNo, HasNoLineFeed, Lines, line_feed}
+use Rattle.glob_lines.specs.Equations.Lines.{lines_of}
+use Rattle.glob_lines.specs.Equations.Entries.{LineContent}
 use Rattle.glob_lines.specs.Private.Trimming.{ends_in_return, return_of}
-use Rattle.glob_lines.specs.Ignore.{BeginsWithLine, GivesTrimmed, Trims, byte_order_mark, carriage_return, is_comment, text_before_spaces, ignore_content, without_mark, without_returns}
+use Rattle.glob_lines.specs.Ignore.{BeginsWithLine, GivesTrimmed, Trims, byte_order_mark, carriage_return, is_comment, without_mark, without_returns}
+use Rattle.glob_lines.specs.Equations.Ignore.{text_before_spaces, ignore_content}
 use Rattle.glob_lines.proofs.lemmas.ListLemmas.{AllByRecursion-append_parts}
-use Rattle.glob_lines.proofs.lemmas.LinesLemmas.{HasNo-not_found, IsCutAt, last_line, lines_of-line, length-lines_of-le}
+use Rattle.glob_lines.proofs.lemmas.LinesLemmas.{HasNo-take, Lines-lines_of, Lines-only, last_line, lines_of-line, length-lines_of-le, HasNo-not_found, IsCutAt}
 use Rattle.glob_lines.proofs.lemmas.EntriesLemmas.{Tells}
 use Rattle.glob_lines.proofs.lemmas.TrimLemmas.{Trims-only, Trims-text_before_spaces}
 
@@ -121,19 +123,29 @@ pub record IsCutBehind (bytes line rest : List ℕ) : Type 0 where
   pub behind : (taken : ℕ) × (rest ≡ drop taken bytes)
   pub shorter : length rest < length bytes
 
-pub begins_with_comment : (bytes line rest : List ℕ) → IsCutBehind bytes line rest → is_comment line ≡ true → BeginsWithLine bytes None rest
-begins_with_comment bytes line rest cut comment =
-    record { line = line; lines = cut.lines; gives = comment; taken = cut.behind.0; behind = cut.behind.1; shorter = cut.shorter }
-
-pub begins_with_text : (bytes line rest text : List ℕ) → IsCutBehind bytes line rest → is_comment line ≡ false → Trims line text → BeginsWithLine bytes (Some text) rest
-begins_with_text bytes line rest text cut other trims = record {
+begins_with_line : (bytes line rest : List ℕ) (text : Option (List ℕ)) → IsCutBehind bytes line rest → MatchOption text (is_comment line ≡ true) (λ line_text. GivesTrimmed line line_text tt) → BeginsWithLine bytes text rest
+begins_with_line bytes line rest text cut gives = record {
   line = line;
-  lines = cut.lines;
-  gives = record { no_comment = other; trims = trims };
+  others = lines_of (without_returns rest);
+  of_rest = Lines-lines_of (without_returns rest);
+  of_bytes = subst (Lines (without_returns bytes)) cut.lines (Lines-lines_of (without_returns bytes));
+  gives = gives;
   taken = cut.behind.0;
   behind = cut.behind.1;
   shorter = cut.shorter;
 }
+
+pub begins_with_comment : (bytes line rest : List ℕ) → IsCutBehind bytes line rest → is_comment line ≡ true → BeginsWithLine bytes None rest
+begins_with_comment bytes line rest cut comment = begins_with_line bytes line rest None cut comment
+
+pub begins_with_text : (bytes line rest text : List ℕ) → IsCutBehind bytes line rest → is_comment line ≡ false → Trims line text → BeginsWithLine bytes (Some text) rest
+begins_with_text bytes line rest text cut other trims = begins_with_line bytes line rest (Some text) cut (record { no_comment = other; trims = trims })
+
+-- the lines of the bytes are the first one and those of the rest, by equation
+pub BeginsWithLine-lines : (bytes rest : List ℕ) (text : Option (List ℕ)) (first : BeginsWithLine bytes text rest) → lines_of (without_returns bytes) ≡ first.line ∷ lines_of (without_returns rest)
+BeginsWithLine-lines bytes rest text first =
+    sym (Lines-only (without_returns bytes) (first.line ∷ first.others) first.of_bytes)
+    ∙ ap (λ l. first.line ∷ l) (Lines-only (without_returns rest) first.others first.of_rest)
 
 GivesTrimmed-content : (line : List ℕ) (it : LineContent (Unit {0})) → ignore_content line ≡ Some it → GivesTrimmed line it.text it.value
 GivesTrimmed-content line it is =

@@ -6,13 +6,16 @@ use Rattle.std.proofs.lemmas.Bool.{ne_eqb}
 use Rattle.std.proofs.lemmas.Bool.Decides.{eqb_tells}
 use Rattle.std.proofs.lemmas.List.{drop_all}
 use Rattle.memchr.specs.Find.{IsFirstByte, is_byte}
-use Rattle.gix_glob.specs.Lists.{entry_with}
-use Rattle.gix_glob.specs.Readings.{Reading, reading_of}
-use Rattle.glob_lines.specs.Label.{GivesLabel, Label, is_tab, label_of, label_content, tab, entry_with_empty_label}
-use Rattle.glob_lines.specs.Lines.{HasNo, line_feed, lines_of}
-use Rattle.glob_lines.specs.Entries.{LineContent, entries_from, entry_of_content, entry_of_line}
-use Rattle.glob_lines.specs.Plain.{GivesItself, Plain, PlainEntry, plain_content}
-use Rattle.glob_lines.proofs.lemmas.LinesLemmas.{HasNo-not_found, IsCutAt-found}
+use Rattle.gix_glob.specs.Equations.Lists.{entry_with}
+use Rattle.gix_glob.specs.Equations.Readings.{Reading, reading_of}
+use Rattle.glob_lines.specs.Label.{GivesLabel, Label, tab, entry_with_empty_label}
+use Rattle.glob_lines.specs.Equations.Label.{is_tab, label_of, label_content}
+use Rattle.glob_lines.specs.Lines.{HasNo, line_feed}
+use Rattle.glob_lines.specs.Equations.Lines.{lines_of}
+use Rattle.glob_lines.specs.Equations.Entries.{LineContent, entries_from, entry_of_content, entry_of_line}
+use Rattle.glob_lines.specs.Plain.{GivesItself, Plain, PlainEntry}
+use Rattle.glob_lines.specs.Equations.Plain.{plain_content}
+use Rattle.glob_lines.proofs.lemmas.LinesLemmas.{HasNo-take, HasNo-not_found, IsCutAt-found}
 use Rattle.glob_lines.proofs.lemmas.EntriesLemmas.{Entries-entries_of, Entries-only, ReadingsAreThese, Tells}
 use Rattle.glob_lines.proofs.lemmas.PlainLemmas.{Tells-plain_content}
 

@@ -6,7 +6,8 @@ use Rattle.std.proofs.lemmas.Bool.Decides.{eqb_tells}
 use Rattle.std.proofs.lemmas.List.{drop_more, flat_map_more}
 use Rattle.std.proofs.lemmas.List.Elements.{AllZip-push}
 use Rattle.memchr.specs.Find.{IsFirstByte, is_byte}
-use Rattle.glob_lines.specs.Lines.{Lines, EndsOpen, HasNo, HasNoLineFeed, WritesEach, line_feed, lines_of, text_of_lines}
+use Rattle.glob_lines.specs.Lines.{Lines, EndsOpen, HasNo, HasNoLineFeed, WritesEach, line_feed, text_of_lines}
+use Rattle.glob_lines.specs.Equations.Lines.{lines_of}
 use Rattle.glob_lines.proofs.lemmas.ListLemmas.{AllByRecursion-append_parts, push_not-nil}
 
 -- ---- the equations, a line at a time

@@ -8,7 +8,8 @@ use Rattle.gix_glob.specs.Stripping.{NothingLeft, RestOf}
 use Rattle.glob_lines.specs.Mappings.{MappingsText, MatchesText, WritesMatches, WritesNumbers}
 use Rattle.glob_lines.specs.Numbers.{Picks, text_of_numbers}
 use Rattle.glob_lines.specs.PathLines.{IsPlainPath, MarksDirectory}
-use Rattle.glob_lines.specs.Plain.{Plain, PlainEntry, plain_of}
+use Rattle.glob_lines.specs.Plain.{Plain, PlainEntry}
+use Rattle.glob_lines.specs.Equations.Plain.{plain_of}
 use Rattle.glob_lines.specs.Private.Growing.{Adds}
 use Rattle.glob_lines.proofs.lemmas.NumbersLemmas.{Picks-more, Picks-skip, separator_after, text_of_numbers-more}
 

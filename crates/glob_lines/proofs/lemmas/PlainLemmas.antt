@@ -1,7 +1,8 @@
 -- A plain line gives itself.
 use Rattle.std.proofs.Common.{◌≡◌, List, ℕ, Some, sym, ap}
-use Rattle.glob_lines.specs.Entries.{LineContent}
-use Rattle.glob_lines.specs.Plain.{GivesItself, plain_content}
+use Rattle.glob_lines.specs.Equations.Entries.{LineContent}
+use Rattle.glob_lines.specs.Plain.{GivesItself}
+use Rattle.glob_lines.specs.Equations.Plain.{plain_content}
 use Rattle.glob_lines.proofs.lemmas.EntriesLemmas.{Tells}
 
 pub Tells-plain_content : Tells GivesItself plain_content

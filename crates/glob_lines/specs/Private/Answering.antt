@@ -1,4 +1,4 @@
--- What is written of the entries that answer for a path. No public contract cites it.
+-- What is written of the entries that answer for a path.
 use Rattle.std.specs.Prelude.{◌≡◌, ℕ, Bool, List, map, Option}
 use Rattle.gix_glob.specs.declared.pattern.Case.{Case}
 use Rattle.gix_glob.specs.Deciding.{AnswersUnder}

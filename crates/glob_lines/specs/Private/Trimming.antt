@@ -1,4 +1,4 @@
--- Words of the code that takes a carriage return and the spaces off a line's end. No public contract cites them.
+-- Words of the code that takes a carriage return and the spaces off a line's end.
 use Rattle.std.specs.Prelude.{◌≡◌, ◌≢◌, ◌==◌, ℕ, Bool, false, nat_eq, if◌then◌else◌, List, [], ◌∷◌, ◌++◌}
 use Rattle.std.specs.List.{AllByRecursion, ends_with}
 use Rattle.gix_glob.specs.Bytes.{backslash}

@@ -1,6 +1,6 @@
 -- What the functions of the engine with two marks say of its budget to one another: how much is left at a state, of its steps
 -- as of its looks. After the test of the last byte, which is one step, each pair of a token and a place of the value is tested
--- at most once, since a star between two slashes of the pattern looks at one component of the value. Nothing public cites it.
+-- at most once, since a star between two slashes of the pattern looks at one component of the value.
 use Rattle.std.specs.Prelude.{◌≡◌, ℕ, ◌+◌, ◌*◌, ◌<◌, ◌≤◌, List, length, Option, Some, None}
 use Rattle.glob_matcher.specs.declared.wildmatch.mode.Mode.{Mode}
 use Rattle.glob_matcher.specs.declared.wildmatch.engine.Mark.{Mark}

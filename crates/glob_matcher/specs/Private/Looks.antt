@@ -1,5 +1,5 @@
 -- What the readers of the pattern say of their looks to one another: a set is read in one pass, with at most four looks for
--- each byte of its spelling. Nothing public cites it.
+-- each byte of its spelling.
 use Rattle.std.specs.Prelude.{◌≡◌, ℕ, ◌+◌, ◌*◌, ◌<◌, ◌≤◌, Bool, List, Option, None, Some, MatchOption, max, length}
 use Rattle.glob_matcher.specs.declared.wildmatch.items.Item.{Item}
 use Rattle.glob_matcher.specs.declared.wildmatch.sets.Spelled.{Spelled}

@@ -1,5 +1,5 @@
 -- What the engine with two marks may take at the tokens of a pattern, by the place of the value at which it stands. What is
--- counted is either its steps or its looks. Nothing public cites it.
+-- counted is either its steps or its looks.
 use Rattle.std.specs.Prelude.{ℕ, ◌+◌, ◌-◌, ◌*◌, Bool, List, [], ◌∷◌, length, if◌then◌else◌}
 use Rattle.glob_matcher.specs.declared.wildmatch.mode.Mode.{Mode}
 use Rattle.glob_matcher.specs.Steps.{Counts}

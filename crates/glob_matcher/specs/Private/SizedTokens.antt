@@ -1,4 +1,4 @@
--- The reading of a pattern in tokens, each with the number of bytes that spell it. Nothing public cites it.
+-- The reading of a pattern in tokens, each with the number of bytes that spell it.
 use Rattle.std.specs.Prelude.{◌≡◌, ℕ, ◌+◌, ◌-◌, List, [], ◌∷◌, length}
 use Rattle.glob_matcher.specs.declared.wildmatch.mode.Mode.{Mode}
 use Rattle.glob_matcher.specs.Tokens.{Token, TokenAt}

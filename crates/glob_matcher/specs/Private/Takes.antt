@@ -1,4 +1,4 @@
--- What a function of the engine with two marks takes. Nothing public cites it.
+-- What a function of the engine with two marks takes.
 use Rattle.std.specs.Prelude.{◌≡◌, ℕ, ◌+◌, ◌≤◌, Option, None, Some}
 use Rattle.glob_matcher.specs.Steps.{Counts}
 

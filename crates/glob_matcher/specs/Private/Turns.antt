@@ -1,5 +1,5 @@
 -- What a turn of the engine with two marks, and a way back to a mark, are from a state: what they mean, and what they leave of
--- the budget. Nothing public cites it.
+-- the budget.
 use Rattle.std.specs.Prelude.{ℕ, ◌+◌, ◌<◌, ◌≤◌, List, Option, OnSome}
 use Rattle.glob_matcher.specs.declared.wildmatch.mode.Mode.{Mode}
 use Rattle.glob_matcher.specs.declared.wildmatch.state.State.{State}

@@ -1,9 +1,18 @@
 -- Which bits stand in a sum of the named ones.
-use Rattle.std.proofs.Common.{◌≡◌, ℕ, Bool, true, false, not, ◌&&◌, refl, ap, ◌∙◌}
+use Rattle.std.proofs.Common.{◌≡◌, ℕ, ◌+◌, Bool, true, false, not, ◌&&◌, refl, ap, ◌∙◌, if◌then◌else◌}
 use Rattle.std.specs.Prelude.{◌==◌, bit_and}
 use Rattle.std.proofs.lemmas.Bool.{and_parts}
 use Rattle.glob_patterns.specs.declared.mode.Mode.{Mode}
-use Rattle.glob_patterns.specs.Patterns.{sum_of_bits, is_by_its_end, is_for_directories, is_negative, is_absolute}
+use Rattle.glob_patterns.specs.Patterns.{is_by_its_end, is_for_directories, is_negative, is_absolute}
+
+-- the bits that `bits_of` adds up, by five answers
+abbrev pub sum_of_bits : Bool → Bool → Bool → Bool → Bool → ℕ
+sum_of_bits slashed by_its_end for_directories negative absolute =
+    (if slashed then 0 else 1)
+    + (if by_its_end then 2 else 0)
+    + (if for_directories then 4 else 0)
+    + (if negative then 8 else 0)
+    + (if absolute then 16 else 0)
 
 -- two answers are the same
 abbrev same : Bool → Bool → Bool

@@ -7,7 +7,7 @@ use Rattle.std.proofs.lemmas.Bool.Decides.{Decides-eqb}
 use Rattle.std.proofs.lemmas.Slice.Eq.{starts_is, ends_is}
 use Rattle.glob_patterns.specs.declared.mode.Mode.{Mode}
 use Rattle.glob_patterns.specs.Patterns.{HasReading, Reads, bits_of, first_special, is_blank, sign_of}
-use Rattle.glob_patterns.specs.Readings.{Reading, before_tail, lead_of, reading_after_lead, reading_after_sign, reading_of, reading_with, rest_after, tail_of}
+use Rattle.glob_patterns.specs.Equations.Readings.{Reading, before_tail, lead_of, reading_after_lead, reading_after_sign, reading_of, reading_with, rest_after, tail_of}
 
 -- ---- a reading is that of the equation
 

@@ -8,8 +8,8 @@ use Rattle.std.proofs.lemmas.List.{append_cancel_left}
 use Rattle.std.proofs.lemmas.Slice.Eq.{starts_is}
 use Rattle.glob_matcher.specs.Bytes.{has_slash}
 use Rattle.glob_patterns.specs.declared.mode.Mode.{Mode}
-use Rattle.glob_patterns.specs.Patterns.{Reads, sum_of_bits, sign_of, slash_if, shown_line, is_star_and_literal, is_negative, is_absolute, is_for_directories}
-use Rattle.glob_patterns.proofs.lemmas.ModeBits.{is_negative-sum, is_absolute-sum, is_for_directories-sum}
+use Rattle.glob_patterns.specs.Patterns.{Reads, sign_of, slash_if, shown_line, is_star_and_literal, is_negative, is_absolute, is_for_directories}
+use Rattle.glob_patterns.proofs.lemmas.ModeBits.{sum_of_bits, is_negative-sum, is_absolute-sum, is_for_directories-sum}
 
 -- a slash that stands is a slash
 slash_if-again : (there : Bool) → slash_if (bytes_eq (slash_if there) (codes "/")) ≡ slash_if there

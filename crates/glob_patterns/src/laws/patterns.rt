@@ -11,7 +11,7 @@ ghost use Rattle.glob_patterns.specs.Folding.{AreAlike, EndsAlike, HasAlike};
 ghost use Rattle.glob_matcher.specs.Bytes.{HasByte, is_special};
 ghost use Rattle.glob_matcher.specs.Matching.{Splits};
 ghost use Rattle.glob_patterns.specs.PatternParts.{text_of, SamePattern, pattern_cmp};
-ghost use Rattle.glob_patterns.specs.Readings.{reading_of};
+ghost use Rattle.glob_patterns.specs.Equations.Readings.{reading_of};
 ghost use Rattle.glob_patterns.specs.Patterns.{HasReading, IsUnescapedUpTo, Reads, SameReading, display_of, is_absolute, is_joining, is_negative, shown_line};
 
 use crate::pattern::{Case, Pattern};

@@ -12,7 +12,8 @@ use Rattle.gix_glob.specs.declared.search.pattern.list.List as patterns
 use Rattle.gix_glob.specs.EntryLists.{EntryList, entry_list_of}
 use Rattle.gix_glob.specs.Loading.{AddsLoadedList, IsLoaded}
 use Rattle.gix_glob.specs.Paths.{Base, has_file_part}
-use Rattle.glob_lines.specs.Ignore.{Ignore, ignore_of}
+use Rattle.glob_lines.specs.Ignore.{Ignore}
+use Rattle.glob_lines.specs.Equations.Ignore.{ignore_of}
 use Rattle.glob_lines.specs.Plain.{PlainEntry}
 use Rattle.globline.specs.Words.{AreIgnoreLists, IsIgnoreList, are_files}
 

@@ -79,7 +79,7 @@ impl<T: Pattern> List<T> {
     }
 }
 
-// A vector of equal mappings.
+/// Equal mappings, in memory of their own.
 fn clone_mappings<V: Clone + PartialEq>(
     mappings: &Vec<Mapping<V>>,
 ) -> Result<Vec<Mapping<V>>, AllocError>
@@ -93,6 +93,7 @@ fn clone_mappings<V: Clone + PartialEq>(
     Ok(copies)
 }
 
+/// An equal source, in memory of its own.
 fn clone_source(source: &Option<String>) -> Result<Option<String>, AllocError>
     ensures { IfOk result (λ copy. IsTrue (⟦<Option<String> as PartialEq>⟧.eq source.now copy)) }
 {
@@ -102,6 +103,7 @@ fn clone_source(source: &Option<String>) -> Result<Option<String>, AllocError>
     }
 }
 
+/// An equal base, in memory of its own.
 fn clone_base(base: &Option<Vec<u8>>) -> Result<Option<Vec<u8>>, AllocError>
     ensures { IfOk result (λ copy. IsTrue (⟦<Option<Vec<u8>> as PartialEq>⟧.eq base.now copy)) }
 {

@@ -109,7 +109,7 @@ impl<T: Pattern> List<T> {
     }
 }
 
-// Why there is no list of a file that could not be opened.
+/// Why there is no list of a file that could not be opened.
 fn open_failure<L>(error: io::Error) -> Result<Option<L>, LoadFault>
     ensures { IfOk result IsNone }
 {
@@ -121,7 +121,7 @@ fn open_failure<L>(error: io::Error) -> Result<Option<L>, LoadFault>
     }
 }
 
-// Whether the error says that a directory stands where a file was wanted, or something else where a directory was.
+/// Whether the error says that a directory stands where a file was wanted, or something else where a directory was.
 fn is_no_file(error: &io::Error) -> bool {
     matches!(
         error.kind(),

@@ -26,6 +26,7 @@ pub fn strip_base_handle_recompute_basename_pos<'a>(
     Some((rest, stripped_place(base.len(), basename_pos)))
 }
 
+/// What follows the base; `None` where the path does not begin with it.
 fn strip_base<'a>(base: &[u8], path: &'a [u8], case: Case) -> Option<&'a [u8]>
     ensures { MatchOption result
         (NothingLeft case (Some base.now) path.entry.now)
@@ -37,6 +38,7 @@ fn strip_base<'a>(base: &[u8], path: &'a [u8], case: Case) -> Option<&'a [u8]>
     }
 }
 
+/// The same where the case of letters counts.
 fn strip_exact<'a>(base: &[u8], path: &'a [u8]) -> Option<&'a [u8]>
     ensures { MatchOption result
         (NothingLeft Case.Sensitive (Some base.now) path.entry.now)
@@ -45,6 +47,7 @@ fn strip_exact<'a>(base: &[u8], path: &'a [u8]) -> Option<&'a [u8]>
     path.strip_prefix(base)
 }
 
+/// The same where it does not count.
 fn strip_folded<'a>(base: &[u8], path: &'a [u8]) -> Option<&'a [u8]>
     ensures { MatchOption result
         (NothingLeft Case.Fold (Some base.now) path.entry.now)
@@ -61,6 +64,7 @@ fn strip_folded<'a>(base: &[u8], path: &'a [u8]) -> Option<&'a [u8]>
     }
 }
 
+/// The place, counted from the base's end; the rest's own beginning is no place.
 fn stripped_place(base_len: usize, basename_pos: Option<usize>) -> Option<usize>
     requires { ForSome basename_pos (λ at. base_len ≤ at) }
     ensures { result ≡ stripped_place base_len basename_pos }

@@ -2,7 +2,7 @@
 use Rattle.std.proofs.Common.{◌≡◌, ◌++◌, ◌∷◌, [], ap, map, subst, sym, ◌∙◌, append_assoc}
 use Rattle.gix_glob.specs.Deciding.{BasesAreFolders}
 use Rattle.gix_glob.specs.EntryLists.{entry_list_of}
-use Rattle.glob_lines.specs.Lines.{lines_of}
+use Rattle.glob_lines.specs.Equations.Lines.{lines_of}
 use Rattle.glob_lines.proofs.lemmas.LinesLemmas.{IsWrittenUpTo-all, IsWrittenUpTo-more, IsWrittenUpTo-none, Lines-lines_of}
 use Rattle.glob_lines.proofs.decisions.decisions_of.Goals as goal
 

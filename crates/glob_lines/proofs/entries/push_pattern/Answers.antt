@@ -4,8 +4,9 @@ use Rattle.std.proofs.lemmas.List.{map_push}
 use Rattle.std.specs.Option.{option_map, option_to_list}
 use Rattle.gix_glob.specs.PatternParts.{IsReadFrom, text_of, mode_of, place_of}
 use Rattle.gix_glob.specs.Patterns.{HasReading}
-use Rattle.gix_glob.specs.Readings.{Reading, reading_of}
-use Rattle.gix_glob.specs.Lists.{entry_of, entry_with}
+use Rattle.gix_glob.specs.Equations.Readings.{Reading, reading_of}
+use Rattle.gix_glob.specs.Lists.{entry_of}
+use Rattle.gix_glob.specs.Equations.Lists.{entry_with}
 use Rattle.gix_glob.specs.declared.search.pattern.mapping.Mapping.{Mapping}
 use Rattle.glob_lines.proofs.entries.push_pattern.Goals as goal
 

@@ -1,4 +1,5 @@
-use Rattle.glob_lines.specs.Ignore.{GivesTrimmed, ignore_content, without_mark, without_returns}
+use Rattle.glob_lines.specs.Ignore.{GivesTrimmed, without_mark, without_returns}
+use Rattle.glob_lines.specs.Equations.Ignore.{ignore_content}
 use Rattle.glob_lines.proofs.lemmas.IgnoreLemmas.{Tells-ignore_content}
 use Rattle.glob_lines.proofs.lemmas.EntriesLemmas.{entries_are_these}
 use Rattle.glob_lines.proofs.laws.ignore_entries_are_these.Goals as goal

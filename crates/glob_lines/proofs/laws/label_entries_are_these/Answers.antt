@@ -1,4 +1,5 @@
-use Rattle.glob_lines.specs.Label.{GivesLabel, label_content}
+use Rattle.glob_lines.specs.Label.{GivesLabel}
+use Rattle.glob_lines.specs.Equations.Label.{label_content}
 use Rattle.glob_lines.proofs.lemmas.LabelLemmas.{Tells-label_content}
 use Rattle.glob_lines.proofs.lemmas.EntriesLemmas.{entries_are_these}
 use Rattle.glob_lines.proofs.laws.label_entries_are_these.Goals as goal

@@ -1,4 +1,5 @@
-use Rattle.glob_lines.specs.Plain.{GivesItself, plain_content}
+use Rattle.glob_lines.specs.Plain.{GivesItself}
+use Rattle.glob_lines.specs.Equations.Plain.{plain_content}
 use Rattle.glob_lines.proofs.lemmas.EntriesLemmas.{entries_are_these}
 use Rattle.glob_lines.proofs.lemmas.PlainLemmas.{Tells-plain_content}
 use Rattle.glob_lines.proofs.laws.plain_entries_are_these.Goals as goal

@@ -1,6 +1,6 @@
 use Rattle.std.proofs.Common.{ap, sym, ◌∙◌, ◌∷◌, ◌+◌, take}
 use Rattle.std.proofs.lemmas.List.{take_rest}
-use Rattle.glob_lines.specs.Lines.{lines_of}
+use Rattle.glob_lines.specs.Equations.Lines.{lines_of}
 use Rattle.glob_lines.proofs.lemmas.LinesLemmas.{first_line, last_line}
 use Rattle.glob_lines.proofs.lines.split_first_line.Goals as goal
 

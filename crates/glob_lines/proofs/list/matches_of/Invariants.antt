@@ -1,7 +1,7 @@
 use Rattle.std.proofs.Common.{map, option_map}
 use Rattle.std.specs.Vec.{vec_items}
 use Rattle.gix_glob.specs.Lists.{entry_of}
-use Rattle.glob_lines.specs.Lines.{lines_of}
+use Rattle.glob_lines.specs.Equations.Lines.{lines_of}
 use Rattle.glob_lines.specs.Mappings.{WritesMatches}
 use Rattle.glob_lines.proofs.lemmas.LinesLemmas.{IsWrittenUpTo}
 use Rattle.glob_lines.proofs.list.matches_of.Given as goal

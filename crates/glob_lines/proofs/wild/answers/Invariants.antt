@@ -1,4 +1,4 @@
-use Rattle.glob_lines.specs.Lines.{lines_of}
+use Rattle.glob_lines.specs.Equations.Lines.{lines_of}
 use Rattle.glob_lines.specs.Values.{WritesAnswer}
 use Rattle.glob_lines.proofs.lemmas.LinesLemmas.{IsWrittenUpTo}
 use Rattle.glob_lines.proofs.wild.answers.Given as goal

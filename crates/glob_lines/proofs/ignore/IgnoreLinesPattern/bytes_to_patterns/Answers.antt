@@ -1,14 +1,15 @@
 -- Each line has its number; a comment gives nothing, and another line the entry of its text.
-use Rattle.std.proofs.Common.{◌+◌, length, None, Some, ap, arith}
-use Rattle.glob_lines.specs.Ignore.{BeginsWithLine, ignore_of, ignore_content, without_returns}
-use Rattle.glob_lines.specs.Lines.{lines_of}
-use Rattle.glob_lines.proofs.lemmas.IgnoreLemmas.{ignore_content-comment, length-ignore_lines-le, ignore_content-text}
+use Rattle.std.proofs.Common.{◌≡◌, ◌+◌, ◌∷◌, length, None, Some, ap, arith}
+use Rattle.glob_lines.specs.Ignore.{BeginsWithLine, without_returns}
+use Rattle.glob_lines.specs.Equations.Ignore.{ignore_of, ignore_content}
+use Rattle.glob_lines.specs.Equations.Lines.{lines_of}
+use Rattle.glob_lines.proofs.lemmas.IgnoreLemmas.{BeginsWithLine-lines, ignore_content-comment, length-ignore_lines-le, ignore_content-text}
 use Rattle.glob_lines.proofs.lemmas.EntriesLemmas.{meant-more, meant-skip}
 use Rattle.glob_lines.proofs.ignore.IgnoreLinesPattern.bytes_to_patterns.Goals.{in-Some-text+in_ok-push_pattern, in_default-text}
 use Rattle.glob_lines.proofs.ignore.IgnoreLinesPattern.bytes_to_patterns.Goals as goal
 
 pub overflow_add-number : goal.overflow_add-number
-overflow_add-number c = omega (arith, length-ignore_lines-le c.args.bytes.now, ap length c.in-Some.ensures.lines)
+overflow_add-number c = omega (arith, length-ignore_lines-le c.args.bytes.now, ap length (BeginsWithLine-lines _ _ _ c.in-Some.ensures))
 
 pub lines-preserved : goal.lines-preserved
 lines-preserved c =
@@ -21,15 +22,17 @@ lines-preserved c =
       | in-Some-text+in_ok-push_pattern w ↦
           let text = w.in-Some-text.text.now in
           let first : BeginsWithLine c.lines.rest.now (Some text) c.in-Some.line.rest.now = rw w.in-Some-text.is at c.in-Some.ensures in
+          let lines : before ≡ first.line ∷ after = BeginsWithLine-lines _ _ _ first in
           record {
-            counted = omega (arith, ap length first.lines);
+            counted = omega (arith, ap length lines);
             meant = rw w.mappings-is (meant-more (λ _. tt) ignore_content old w.push_pattern.new.mappings.items number before after first.line text tt all
-                w.in_ok-push_pattern.ensures first.lines (ignore_content-text first.line text first.gives) c.lines.invariant.meant);
+                w.in_ok-push_pattern.ensures lines (ignore_content-text first.line text first.gives) c.lines.invariant.meant);
           }
       | in_default-text w ↦
           let first : BeginsWithLine c.lines.rest.now None c.in-Some.line.rest.now = rw w.in_default-text.is at c.in-Some.ensures in
+          let lines : before ≡ first.line ∷ after = BeginsWithLine-lines _ _ _ first in
           record {
-            counted = omega (arith, ap length first.lines);
-            meant = rw w.mappings-is (meant-skip (λ _. tt) ignore_content old number before after first.line all first.lines (ignore_content-comment first.line first.gives) c.lines.invariant.meant);
+            counted = omega (arith, ap length lines);
+            meant = rw w.mappings-is (meant-skip (λ _. tt) ignore_content old number before after first.line all lines (ignore_content-comment first.line first.gives) c.lines.invariant.meant);
           }
     ]

@@ -1,8 +1,9 @@
 use Rattle.std.proofs.Common.{◌≡◌, ◌+◌, ◌++◌, length, map}
 use Rattle.gix_glob.specs.Lists.{entry_of}
-use Rattle.glob_lines.specs.Ignore.{ignore_of, ignore_content, without_mark, without_returns}
-use Rattle.glob_lines.specs.Lines.{lines_of}
-use Rattle.glob_lines.specs.Entries.{entries_from}
+use Rattle.glob_lines.specs.Ignore.{without_mark, without_returns}
+use Rattle.glob_lines.specs.Equations.Ignore.{ignore_of, ignore_content}
+use Rattle.glob_lines.specs.Equations.Lines.{lines_of}
+use Rattle.glob_lines.specs.Equations.Entries.{entries_from}
 use Rattle.glob_lines.proofs.ignore.IgnoreLinesPattern.bytes_to_patterns.Given as goal
 
 -- the lines so far are counted, and with the entries of the others theirs are all entries

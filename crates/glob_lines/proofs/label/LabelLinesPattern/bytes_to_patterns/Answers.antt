@@ -1,8 +1,8 @@
 -- Each line has its number, and its entry where what stands before its tab has a reading.
 use Rattle.std.proofs.Common.{◌+◌, length, ap, arith}
 use Rattle.std.specs.Vec.{vec_items}
-use Rattle.glob_lines.specs.Label.{label_of, label_content}
-use Rattle.glob_lines.specs.Lines.{lines_of}
+use Rattle.glob_lines.specs.Equations.Label.{label_of, label_content}
+use Rattle.glob_lines.specs.Equations.Lines.{lines_of}
 use Rattle.glob_lines.proofs.lemmas.LabelLemmas.{label_content-label}
 use Rattle.glob_lines.proofs.lemmas.LinesLemmas.{length-lines_of-le}
 use Rattle.glob_lines.proofs.lemmas.EntriesLemmas.{meant-more}

@@ -1,9 +1,9 @@
 use Rattle.std.proofs.Common.{◌≡◌, ◌+◌, ◌++◌, length, map}
 use Rattle.std.specs.Vec.{vec_items}
 use Rattle.gix_glob.specs.Lists.{entry_of}
-use Rattle.glob_lines.specs.Label.{label_of, label_content}
-use Rattle.glob_lines.specs.Lines.{lines_of}
-use Rattle.glob_lines.specs.Entries.{entries_from}
+use Rattle.glob_lines.specs.Equations.Label.{label_of, label_content}
+use Rattle.glob_lines.specs.Equations.Lines.{lines_of}
+use Rattle.glob_lines.specs.Equations.Entries.{entries_from}
 use Rattle.glob_lines.proofs.label.LabelLinesPattern.bytes_to_patterns.Given as goal
 
 -- the lines so far are counted, and with the entries of the others theirs are all entries

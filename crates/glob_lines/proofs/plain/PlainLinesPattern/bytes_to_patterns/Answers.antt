@@ -1,6 +1,6 @@
 -- Each line has its number, and its entry where it has a reading.
 use Rattle.std.proofs.Common.{length, ap, refl, arith}
-use Rattle.glob_lines.specs.Plain.{plain_content}
+use Rattle.glob_lines.specs.Equations.Plain.{plain_content}
 use Rattle.glob_lines.proofs.lemmas.LinesLemmas.{length-lines_of-le}
 use Rattle.glob_lines.proofs.lemmas.EntriesLemmas.{meant-more}
 use Rattle.glob_lines.proofs.plain.PlainLinesPattern.bytes_to_patterns.Goals as goal

@@ -1,8 +1,8 @@
 use Rattle.std.proofs.Common.{◌≡◌, ◌+◌, ◌++◌, length, map}
 use Rattle.gix_glob.specs.Lists.{entry_of}
-use Rattle.glob_lines.specs.Lines.{lines_of}
-use Rattle.glob_lines.specs.Entries.{entries_from}
-use Rattle.glob_lines.specs.Plain.{plain_content, plain_of}
+use Rattle.glob_lines.specs.Equations.Lines.{lines_of}
+use Rattle.glob_lines.specs.Equations.Entries.{entries_from}
+use Rattle.glob_lines.specs.Equations.Plain.{plain_content, plain_of}
 use Rattle.glob_lines.proofs.plain.PlainLinesPattern.bytes_to_patterns.Given as goal
 
 -- the lines so far are counted, and with the entries of the others theirs are all entries

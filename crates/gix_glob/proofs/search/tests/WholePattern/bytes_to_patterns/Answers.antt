@@ -2,9 +2,9 @@
 use Rattle.std.proofs.Common.{◌≡◌, true, Option, Some, sym, ap}
 use Rattle.std.specs.Option.{option_map, option_to_list}
 use Rattle.glob_patterns.specs.Patterns.{HasReading}
-use Rattle.glob_patterns.specs.Readings.{Reading, reading_of}
+use Rattle.glob_patterns.specs.Equations.Readings.{Reading, reading_of}
 use Rattle.glob_patterns.specs.PatternParts.{IsReadFrom, text_of, mode_of, place_of}
-use Rattle.gix_glob.specs.Lists.{entry_with}
+use Rattle.gix_glob.specs.Equations.Lists.{entry_with}
 use Rattle.gix_glob.proofs.search.tests.WholePattern.bytes_to_patterns.Goals as goal
 
 pub returns : goal.returns

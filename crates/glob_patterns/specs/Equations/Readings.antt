@@ -1,4 +1,4 @@
--- The reading of a line by equation. The law `readings_are_these` says that it is that of `Reads`, and no other.
+-- The reading of a line by equation.
 use Rattle.std.specs.Prelude.{ℕ, ◌-◌, Bool, nat_eq, if◌then◌else◌, List, length, take, drop, Option, None, Some, codes}
 use Rattle.std.specs.List.{starts_with, ends_with}
 use Rattle.glob_patterns.specs.declared.mode.Mode.{Mode}
