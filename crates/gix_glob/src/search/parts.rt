@@ -91,6 +91,3 @@ impl<'a> Iterator for Parts<'a> {
         self.next_named()
     }
 }
-
-#[cfg(test)]
-mod tests;
