@@ -13,6 +13,3 @@ pub use fault::LoadFault;
 pub use files::add_patterns_file;
 pub use parser::Pattern;
 pub use watched::Watched;
-
-#[cfg(test)]
-mod tests;

@@ -1,6 +1,8 @@
 //! The exports, called as functions. No two arguments of a call are alike, so that none can stand for another.
 use super::{gix_glob_matches, gix_glob_matches_path, gix_glob_wildmatch};
 use std::alloc::{AllocError, Global};
+use std::fmt::Debug;
+use std::process::Abort;
 use std::test::Fail;
 
 const PLAIN: u8 = 0;
@@ -8,6 +10,18 @@ const PLAIN: u8 = 0;
 const PATH: u8 = 1;
 
 const FOLD: u8 = 2;
+
+/// Compares an answer with the one that is wanted, and tells what was asked of which row where they differ. What proves a
+/// formatted text is proved once, here.
+pub(crate) fn same<T: Copy + PartialEq + Debug, R: Copy + Debug>(
+    rt: &impl Abort,
+    answer: T,
+    wanted: T,
+    asked: &str,
+    row: R,
+) {
+    assert_eq!(rt; answer, wanted, "{asked} {row:?}");
+}
 
 /// The piece, so many times, and then the end.
 fn repeated(alloc: Global, piece: &[u8], times: usize, end: &[u8]) -> Result<Vec<u8>, AllocError> {
@@ -36,10 +50,13 @@ fn values(rt: HostRuntime) {
         (b"a\\", b"a", PLAIN, false),
     ];
     for (pattern, value, mode, answer) in rows {
-        assert_eq!(rt;
-            gix_glob_wildmatch(pattern, value, mode),
+        let matched = gix_glob_wildmatch(pattern, value, mode);
+        same(
+            &rt,
+            matched,
             answer,
-            "{pattern:?} on {value:?}, mode {mode}"
+            "pattern, value, mode:",
+            (pattern, value, mode),
         );
     }
 }
@@ -63,11 +80,9 @@ fn paths(rt: HostRuntime) {
         (b"\xff", b"d/\xff", false, false, true),
     ];
     for (line, path, is_dir, fold, answer) in rows {
-        assert_eq!(rt;
-            gix_glob_matches_path(line, path, is_dir, fold),
-            answer,
-            "{line:?} on {path:?}, a directory {is_dir}, folding {fold}"
-        );
+        let matched = gix_glob_matches_path(line, path, is_dir, fold);
+        let row = (line, path, is_dir, fold);
+        same(&rt, matched, answer, "line, path, directory, folding:", row);
     }
 }
 
@@ -88,11 +103,9 @@ fn parts(rt: HostRuntime) {
         (b"a*", 0xffff_ffff, usize::MAX, b"b", 0xff, false),
     ];
     for (text, bits, place, value, mode, answer) in rows {
-        assert_eq!(rt;
-            gix_glob_matches(text, bits, place, value, mode),
-            answer,
-            "{text:?} with {bits} and {place} on {value:?}, mode {mode}"
-        );
+        let matched = gix_glob_matches(text, bits, place, value, mode);
+        let row = (text, bits, place, value, mode);
+        same(&rt, matched, answer, "text, bits, place, value, mode:", row);
     }
 }
 

@@ -5,7 +5,7 @@ use gix_glob::search::pattern::List;
 use gix_glob::search::{Pattern as _, Watched};
 use gix_glob::wildmatch::Mode;
 use gix_glob::{Pattern, parse};
-use glob_lines::{PlainLines, run_list, run_wild};
+use glob_lines::{EngineFault, PlainLines, run_list, run_wild};
 use std::alloc::{AllocError, Global};
 use std::test::Fail;
 
@@ -70,6 +70,22 @@ fn a_long_input_is_listed(rt: HostRuntime) -> Result<(), Fail> {
     Ok(())
 }
 
+/// What `run_list` answers for pattern lines and paths.
+fn listed(alloc: Global, patterns: &[u8], paths: &[u8]) -> Result<Vec<u8>, EngineFault> {
+    let (mut patterns, mut paths) = (Watched::new(patterns), Watched::new(paths));
+    let mut writer = Watched::new(Vec::new(alloc));
+    run_list(
+        alloc,
+        &mut patterns,
+        "f",
+        Some(""),
+        Case::Sensitive,
+        &mut paths,
+        &mut writer,
+    )?;
+    Ok(writer.into_inner())
+}
+
 #[test]
 fn a_long_input_is_answered(rt: HostRuntime) -> Result<(), Fail> {
     let mut text = letters(rt.alloc(), LONG)?;
@@ -80,20 +96,7 @@ fn a_long_input_is_answered(rt: HostRuntime) -> Result<(), Fail> {
     run_wild(rt.alloc(), b"b*", plain, &mut reader, &mut writer)?;
     let output = writer.into_inner();
     assert_eq!(rt; output.as_slice(), b"yes\nno\n".as_slice());
-    let mut patterns = Watched::new(text.as_slice());
-    let mut paths = Watched::new(text.as_slice());
-    let mut writer = Watched::new(Vec::new(rt.alloc()));
-    let case = Case::Sensitive;
-    run_list(
-        rt.alloc(),
-        &mut patterns,
-        "f",
-        Some(""),
-        case,
-        &mut paths,
-        &mut writer,
-    )?;
-    let output = writer.into_inner();
+    let output = listed(rt.alloc(), &text, &text)?;
     assert_eq!(rt; output.as_slice(), b"1\n2\n".as_slice());
     Ok(())
 }
@@ -107,20 +110,7 @@ fn numbers_past_99_are_listed(rt: HostRuntime) -> Result<(), Fail> {
         }
         lines.push(b'\n')?;
     }
-    let mut patterns = Watched::new(lines.as_slice());
-    let mut paths = Watched::new(b"a".as_slice());
-    let mut writer = Watched::new(Vec::new(rt.alloc()));
-    let case = Case::Sensitive;
-    run_list(
-        rt.alloc(),
-        &mut patterns,
-        "f",
-        Some(""),
-        case,
-        &mut paths,
-        &mut writer,
-    )?;
-    let output = writer.into_inner();
+    let output = listed(rt.alloc(), &lines, b"a")?;
     assert_eq!(rt; output.as_slice(), b"9 99 100 101 1000\n".as_slice());
     Ok(())
 }

@@ -1,4 +1,5 @@
 //! Readers that fail at one read, each read in turn: the fault is told, nothing is written, and what was read is kept.
+use crate::compare::{Failing, same, same_run};
 use crate::fakes::{Sink, Source};
 use gix_glob::pattern::Case;
 use gix_glob::search::pattern::List;
@@ -29,29 +30,50 @@ const VALUES: &[u8] = b"ab\nb\n";
 
 const ANSWERS: &[u8] = b"yes\nno\n";
 
+/// The fault that is told where a read fails.
+fn fault_if(fails: bool) -> Option<EngineFault> {
+    fails.then_some(EngineFault::Read)
+}
+
+/// What is written where a read fails: nothing.
+fn text_unless(fails: bool, text: &[u8]) -> &[u8] {
+    if fails { b"" } else { text }
+}
+
+/// A writer that takes all.
+fn sink(alloc: Global) -> Sink {
+    Sink::new(Vec::new(alloc), WHOLE, WHOLE)
+}
+
 #[test]
 fn from_reader_tells_each_failed_read(rt: HostRuntime) -> Result<(), Fail> {
     for kind in KINDS {
         // a read for each byte, and one that finds the end
         for successes in 0..PATTERNS.len() + 2 {
-            let fails = successes <= PATTERNS.len();
+            let (fails, row) = (successes <= PATTERNS.len(), (kind, successes));
             let mut buf = b"old".to_vec(rt.alloc())?;
             let mut reader = Watched::new(Source::new(PATTERNS, 1, successes).failing_with(kind));
             let source = String::from_str(rt.alloc(), "d/ig")?;
             match List::from_reader(rt.alloc(), &mut reader, source, None, &mut buf, PlainLines) {
                 Err(LoadFault::Read(error)) => {
-                    assert!(rt; fails, "{kind:?} after {successes} reads");
-                    assert_eq!(rt; error.kind(), kind, "after {successes} reads");
-                    assert_eq!(rt; buf.as_slice(), &PATTERNS[..successes], "{kind:?}");
+                    same(
+                        &rt,
+                        Some(error.kind()),
+                        fails.then_some(kind),
+                        "the error:",
+                        row,
+                    );
+                    let read = &PATTERNS[..successes.min(PATTERNS.len())];
+                    same(&rt, buf.as_slice(), read, "what is read:", row);
                 }
                 answer => {
                     let list = answer?.ok_or("no list")?;
-                    assert!(rt; !fails, "{kind:?} after {successes} reads");
-                    assert_eq!(rt; list.patterns.len(), 2, "{kind:?}");
-                    assert_eq!(rt; buf.as_slice(), PATTERNS, "{kind:?}");
+                    same(&rt, fails, false, "no fault:", row);
+                    assert_eq!(rt; list.patterns.len(), 2);
+                    assert_eq!(rt; buf.as_slice(), PATTERNS);
                 }
             }
-            assert_eq!(rt; reader.failed(), fails, "{kind:?} after {successes} reads");
+            same(&rt, reader.failed(), fails, "the reader failed:", row);
         }
     }
     Ok(())
@@ -93,9 +115,9 @@ fn run_wild_tells_each_failed_read(rt: HostRuntime) {
     for kind in KINDS {
         // a read for each byte, and one that finds the end
         for successes in 0..VALUES.len() + 2 {
-            let fails = successes <= VALUES.len();
+            let (fails, row) = (successes <= VALUES.len(), (kind, successes));
             let mut reader = Watched::new(Source::new(VALUES, 1, successes).failing_with(kind));
-            let mut writer = Watched::new(Sink::new(Vec::new(rt.alloc()), WHOLE, WHOLE));
+            let mut writer = Watched::new(sink(rt.alloc()));
             let answer = run_wild(
                 rt.alloc(),
                 b"a*",
@@ -103,21 +125,9 @@ fn run_wild_tells_each_failed_read(rt: HostRuntime) {
                 &mut reader,
                 &mut writer,
             );
-            let told = if fails {
-                Err(EngineFault::Read)
-            } else {
-                Ok(())
-            };
-            let written = if fails { 0 } else { ANSWERS.len() };
-            assert_eq!(rt; answer, told, "{kind:?} after {successes} reads");
-            assert_eq!(rt; reader.failed(), fails, "{kind:?} after {successes} reads");
-            assert!(rt; !writer.failed(), "{kind:?} after {successes} reads");
-            let output = writer.into_inner();
-            assert_eq!(rt;
-                output.taken(),
-                &ANSWERS[..written],
-                "{kind:?} after {successes} reads"
-            );
+            same(&rt, reader.failed(), fails, "the reader failed:", row);
+            let text = text_unless(fails, ANSWERS);
+            same_run(&rt, answer, fault_if(fails), writer, text, row);
         }
     }
 }
@@ -128,11 +138,11 @@ fn check_list(
     patterns: Source<'_>,
     paths: Source<'_>,
     failing: (bool, bool),
-    row: (ErrorKind, usize),
+    row: Failing,
 ) {
     let mut patterns = Watched::new(patterns);
     let mut paths = Watched::new(paths);
-    let mut writer = Watched::new(Sink::new(Vec::new(rt.alloc()), WHOLE, WHOLE));
+    let mut writer = Watched::new(sink(rt.alloc()));
     let answer = run_list(
         rt.alloc(),
         &mut patterns,
@@ -142,18 +152,11 @@ fn check_list(
         &mut paths,
         &mut writer,
     );
+    let failed = (patterns.failed(), paths.failed());
+    same(rt, failed, failing, "the readers failed:", row);
     let fails = failing.0 || failing.1;
-    let told = if fails {
-        Err(EngineFault::Read)
-    } else {
-        Ok(())
-    };
-    let written = if fails { 0 } else { NUMBERS.len() };
-    assert_eq!(rt; answer, told, "{row:?}");
-    assert_eq!(rt; (patterns.failed(), paths.failed()), failing, "{row:?}");
-    assert!(rt; !writer.failed(), "{row:?}");
-    let output = writer.into_inner();
-    assert_eq!(rt; output.taken(), &NUMBERS[..written], "{row:?}");
+    let text = text_unless(fails, NUMBERS);
+    same_run(rt, answer, fault_if(fails), writer, text, row);
 }
 
 #[test]
@@ -187,25 +190,13 @@ fn run_ignore_tells_each_failed_read(rt: HostRuntime) -> Result<(), Fail> {
     assert!(rt; bases_are_folders(&lists));
     for kind in KINDS {
         for successes in 0..PATHS.len() + 2 {
-            let fails = successes <= PATHS.len();
+            let (fails, row) = (successes <= PATHS.len(), (kind, successes));
             let mut paths = Watched::new(Source::new(PATHS, 1, successes).failing_with(kind));
-            let mut writer = Watched::new(Sink::new(Vec::new(rt.alloc()), WHOLE, WHOLE));
+            let mut writer = Watched::new(sink(rt.alloc()));
             let answer = run_ignore(rt.alloc(), &lists, Case::Sensitive, &mut paths, &mut writer);
-            let told = if fails {
-                Err(EngineFault::Read)
-            } else {
-                Ok(())
-            };
-            let written = if fails { 0 } else { DECISIONS.len() };
-            assert_eq!(rt; answer, told, "{kind:?} after {successes} reads");
-            assert_eq!(rt; paths.failed(), fails, "{kind:?} after {successes} reads");
-            assert!(rt; !writer.failed(), "{kind:?} after {successes} reads");
-            let output = writer.into_inner();
-            assert_eq!(rt;
-                output.taken(),
-                &DECISIONS[..written],
-                "{kind:?} after {successes} reads"
-            );
+            same(&rt, paths.failed(), fails, "the reader failed:", row);
+            let text = text_unless(fails, DECISIONS);
+            same_run(&rt, answer, fault_if(fails), writer, text, row);
         }
     }
     Ok(())

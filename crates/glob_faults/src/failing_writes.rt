@@ -1,10 +1,12 @@
 //! Writers that fail at one write, each write in turn: the fault is told, and a beginning of the text was written.
+use crate::compare::{Failing, same_run};
 use crate::fakes::Sink;
 use gix_glob::pattern::Case;
 use gix_glob::search::Watched;
 use gix_glob::search::pattern::List;
 use gix_glob::wildmatch::Mode;
 use glob_lines::{EngineFault, IgnoreLines, bases_are_folders, run_ignore, run_list, run_wild};
+use std::alloc::Global;
 use std::io::ErrorKind;
 use std::process::Abort;
 use std::test::Fail;
@@ -20,8 +22,24 @@ const DECISIONS: &[u8] = b"kept 1:1\nnone\n!\n";
 
 const NUMBERS: &[u8] = b"1 2\n2\n!\n";
 
+/// The fault that is told where a write fails.
+fn fault_if(fails: bool) -> Option<EngineFault> {
+    fails.then_some(EngineFault::Write)
+}
+
+/// A writer that takes a byte a call, and fails as the row says.
+fn sink(alloc: Global, (kind, successes): Failing) -> Sink {
+    Sink::new(Vec::new(alloc), 1, successes).failing_with(kind)
+}
+
 /// Runs `run_wild` to this writer, and compares what it answers and leaves.
-fn check_wild(rt: &(impl Abort + AllocGlobal), sink: Sink, fails: bool, written: &[u8]) {
+fn check_wild(
+    rt: &(impl Abort + AllocGlobal),
+    sink: Sink,
+    fails: bool,
+    written: &[u8],
+    row: Failing,
+) {
     let mut reader = Watched::new(b"ab\nb\n".as_slice());
     let mut writer = Watched::new(sink);
     let answer = run_wild(
@@ -31,19 +49,18 @@ fn check_wild(rt: &(impl Abort + AllocGlobal), sink: Sink, fails: bool, written:
         &mut reader,
         &mut writer,
     );
-    let told = if fails {
-        Err(EngineFault::Write)
-    } else {
-        Ok(())
-    };
-    assert_eq!(rt; answer, told, "{written:?}");
-    assert!(rt; !reader.failed(), "{written:?}");
-    assert_eq!(rt; writer.failed(), fails, "{written:?}");
-    assert_eq!(rt; writer.into_inner().taken(), written);
+    assert!(rt; !reader.failed());
+    same_run(rt, answer, fault_if(fails), writer, written, row);
 }
 
 /// Runs `run_list` to this writer, and compares what it answers and leaves.
-fn check_list(rt: &(impl Abort + AllocGlobal), sink: Sink, fails: bool, written: &[u8]) {
+fn check_list(
+    rt: &(impl Abort + AllocGlobal),
+    sink: Sink,
+    fails: bool,
+    written: &[u8],
+    row: Failing,
+) {
     let mut patterns = Watched::new(b"a*\n*\n".as_slice());
     let mut paths = Watched::new(b"ab\nb\n/\n".as_slice());
     let mut writer = Watched::new(sink);
@@ -56,23 +73,17 @@ fn check_list(rt: &(impl Abort + AllocGlobal), sink: Sink, fails: bool, written:
         &mut paths,
         &mut writer,
     );
-    let told = if fails {
-        Err(EngineFault::Write)
-    } else {
-        Ok(())
-    };
-    assert_eq!(rt; answer, told, "{written:?}");
-    assert!(rt; !patterns.failed() && !paths.failed(), "{written:?}");
-    assert_eq!(rt; writer.failed(), fails, "{written:?}");
-    assert_eq!(rt; writer.into_inner().taken(), written);
+    assert!(rt; !patterns.failed() && !paths.failed());
+    same_run(rt, answer, fault_if(fails), writer, written, row);
 }
 
 #[test]
 fn run_wild_tells_each_failed_write(rt: HostRuntime) {
     for kind in KINDS {
         for successes in 0..ANSWERS.len() + 1 {
-            let sink = Sink::new(Vec::new(rt.alloc()), 1, successes).failing_with(kind);
-            check_wild(&rt, sink, successes < ANSWERS.len(), &ANSWERS[..successes]);
+            let (fails, row) = (successes < ANSWERS.len(), (kind, successes));
+            let sink = sink(rt.alloc(), row);
+            check_wild(&rt, sink, fails, &ANSWERS[..successes], row);
         }
     }
 }
@@ -81,16 +92,20 @@ fn run_wild_tells_each_failed_write(rt: HostRuntime) {
 fn run_list_tells_each_failed_write(rt: HostRuntime) {
     for kind in KINDS {
         for successes in 0..NUMBERS.len() + 1 {
-            let sink = Sink::new(Vec::new(rt.alloc()), 1, successes).failing_with(kind);
-            check_list(&rt, sink, successes < NUMBERS.len(), &NUMBERS[..successes]);
+            let (fails, row) = (successes < NUMBERS.len(), (kind, successes));
+            let sink = sink(rt.alloc(), row);
+            check_list(&rt, sink, fails, &NUMBERS[..successes], row);
         }
     }
 }
 
 #[test]
 fn a_writer_that_takes_no_byte_has_failed(rt: HostRuntime) {
-    check_wild(&rt, Sink::new(Vec::new(rt.alloc()), 0, WHOLE), true, b"");
-    check_list(&rt, Sink::new(Vec::new(rt.alloc()), 0, WHOLE), true, b"");
+    let row = (ErrorKind::WriteZero, 0);
+    let sink = Sink::new(Vec::new(rt.alloc()), 0, WHOLE);
+    check_wild(&rt, sink, true, b"", row);
+    let sink = Sink::new(Vec::new(rt.alloc()), 0, WHOLE);
+    check_list(&rt, sink, true, b"", row);
 }
 
 #[test]
@@ -100,21 +115,13 @@ fn run_ignore_tells_each_failed_write(rt: HostRuntime) -> Result<(), Fail> {
     assert!(rt; bases_are_folders(&lists));
     for kind in KINDS {
         for successes in 0..DECISIONS.len() + 1 {
-            let fails = successes < DECISIONS.len();
+            let row = (kind, successes);
             let mut paths = Watched::new(b"ab\nb\n/\n".as_slice());
-            let sink = Sink::new(Vec::new(rt.alloc()), 1, successes).failing_with(kind);
-            let mut writer = Watched::new(sink);
+            let mut writer = Watched::new(sink(rt.alloc(), row));
             let answer = run_ignore(rt.alloc(), &lists, Case::Sensitive, &mut paths, &mut writer);
-            let told = if fails {
-                Err(EngineFault::Write)
-            } else {
-                Ok(())
-            };
-            assert_eq!(rt; answer, told, "{kind:?} after {successes} writes");
-            assert!(rt; !paths.failed(), "{kind:?} after {successes} writes");
-            assert_eq!(rt; writer.failed(), fails, "{kind:?} after {successes} writes");
-            let output = writer.into_inner();
-            assert_eq!(rt; output.taken(), &DECISIONS[..successes], "{kind:?}");
+            assert!(rt; !paths.failed());
+            let fault = fault_if(successes < DECISIONS.len());
+            same_run(&rt, answer, fault, writer, &DECISIONS[..successes], row);
         }
     }
     Ok(())

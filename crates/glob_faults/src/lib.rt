@@ -4,6 +4,8 @@
 #[cfg(test)]
 mod ample_memory;
 #[cfg(test)]
+mod compare;
+#[cfg(test)]
 mod failing_reads;
 #[cfg(test)]
 mod failing_writes;

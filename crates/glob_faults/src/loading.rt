@@ -1,11 +1,15 @@
 //! Loading pattern files: which file is opened, what each error comes to, and lists behind many others.
+use crate::compare::same;
+use crate::fakes::Source;
 use crate::one_file::{OneFile, Opening};
 use gix_glob::search::pattern::List;
 use gix_glob::search::{LoadFault, Watched, add_patterns_file};
 use glob_lines::PlainLines;
 use std::alloc::{AllocError, Global};
+use std::fmt::Debug;
 use std::io::{ErrorKind, Read};
 use std::os::unix::fs::{PermissionsExt, symlink};
+use std::process::Abort;
 use std::rt::Files;
 use std::test::Fail;
 use std::{env, fs, io, process};
@@ -31,6 +35,18 @@ fn told(
             format!(in alloc; "{count} patterns")
         }
     }
+}
+
+/// Compares what a list came to with the words of a row.
+fn same_words<R: Copy + Debug>(
+    rt: &(impl Abort + AllocGlobal),
+    answer: Result<Option<List<PlainLines>>, LoadFault>,
+    text: &str,
+    row: R,
+) -> Result<(), AllocError> {
+    let told = told(rt.alloc(), answer)?;
+    same(rt, told.as_str(), text, "what is told of", row);
+    Ok(())
 }
 
 /// The list of the file of this name, which has no root, and what is left in the buffer.
@@ -65,8 +81,8 @@ fn openings_that_fail(rt: HostRuntime) -> Result<(), Fail> {
     for (kind, text) in rows {
         let files = OneFile::new(&rt, "d/ig", Opening::Fails(kind));
         let (answer, buf) = list_of(&files, rt.alloc(), "d/ig")?;
-        assert_eq!(rt; told(rt.alloc(), answer)?.as_str(), text, "at {kind:?}");
-        assert!(rt; buf.is_empty(), "at {kind:?}");
+        same_words(&rt, answer, text, kind)?;
+        same(&rt, buf.len(), 0, "bytes left at", kind);
     }
     Ok(())
 }
@@ -87,11 +103,12 @@ fn the_error_of_a_read_is_handed_on(rt: HostRuntime) -> Result<(), Fail> {
     let source = String::from_str(rt.alloc(), "d/ig")?;
     let mut reader = Watched::new(Torn);
     let answer = List::from_reader(rt.alloc(), &mut reader, source, None, &mut buf, PlainLines);
-    assert_eq!(rt;
-        told(rt.alloc(), answer)?.as_str(),
-        "reading patterns: told at reading"
-    );
-    Ok(())
+    Ok(same_words(
+        &rt,
+        answer,
+        "reading patterns: told at reading",
+        "a torn reader",
+    )?)
 }
 
 #[test]
@@ -141,8 +158,7 @@ fn a_link_is_followed(rt: HostRuntime) -> Result<(), Fail> {
     let (answer, _) = list_of(&rt, rt.alloc(), link.as_str())?;
     fs::remove_file(&rt, link.as_str())?;
     fs::remove_file(&rt, path.as_str())?;
-    assert_eq!(rt; told(rt.alloc(), answer)?.as_str(), "1 patterns");
-    Ok(())
+    Ok(same_words(&rt, answer, "1 patterns", "a link")?)
 }
 
 #[test]
@@ -159,8 +175,7 @@ fn a_file_without_permission_is_no_missing_one(rt: HostRuntime) -> Result<(), Fa
     } else {
         "reading patterns: Permission denied (os error 13)"
     };
-    assert_eq!(rt; told(rt.alloc(), answer)?.as_str(), text);
-    Ok(())
+    Ok(same_words(&rt, answer, text, "a closed file")?)
 }
 
 #[test]
@@ -180,11 +195,119 @@ fn a_list_is_added_behind_many(rt: HostRuntime) -> Result<(), Fail> {
             &mut buf,
             PlainLines,
         )?;
-        assert!(rt; is_added, "list {count}");
+        same(&rt, is_added, true, "added list", count);
         assert_eq!(rt; lists.len(), count);
         let added = lists.as_slice().last().ok_or("no list")?;
-        assert_eq!(rt; added.patterns.len(), 2, "list {count}");
+        same(&rt, added.patterns.len(), 2, "the patterns of list", count);
     }
     fs::remove_file(&rt, path.as_str())?;
+    Ok(())
+}
+
+#[test]
+fn readers_are_read_whole(rt: HostRuntime) -> Result<(), Fail> {
+    let mut buf = Vec::from_slice(rt.alloc(), b"old")?;
+    let mut reader = Watched::new(b"*.rs".as_slice());
+    let source = String::from_str(rt.alloc(), "src/ig")?;
+    let list = List::from_reader(rt.alloc(), &mut reader, source, None, &mut buf, PlainLines)?;
+    let source = String::from_str(rt.alloc(), "src/ig")?;
+    let wanted = List::from_bytes(rt.alloc(), b"*.rs", source, None, PlainLines)?;
+    assert!(rt; list == Some(wanted));
+    assert_eq!(rt; buf.as_slice(), b"*.rs".as_slice());
+    assert!(rt; !reader.failed());
+    Ok(())
+}
+
+/// Catches a call that answers for each failed read that there is no file.
+#[test]
+fn failed_read_is_none(rt: HostRuntime) -> Result<(), Fail> {
+    let rows = [
+        (ErrorKind::IsADirectory, "none"),
+        (ErrorKind::NotADirectory, "none"),
+        (
+            ErrorKind::Interrupted,
+            "reading patterns: operation interrupted",
+        ),
+        (ErrorKind::Other, "reading patterns: other error"),
+    ];
+    for (kind, text) in rows {
+        let mut buf = Vec::from_slice(rt.alloc(), b"old")?;
+        let mut reader = Watched::new(Source::new(b"*.rs", usize::MAX, 1).failing_with(kind));
+        let source = String::from_str(rt.alloc(), "src/ig")?;
+        let answer = List::from_reader(rt.alloc(), &mut reader, source, None, &mut buf, PlainLines);
+        same_words(&rt, answer, text, kind)?;
+        same(&rt, reader.failed(), true, "the reader failed at", kind);
+        same(
+            &rt,
+            buf.as_slice(),
+            b"*.rs".as_slice(),
+            "what is read at",
+            kind,
+        );
+    }
+    Ok(())
+}
+
+#[test]
+fn files_that_are_not_there(rt: HostRuntime) -> Result<(), Fail> {
+    let long = "a".repeat(rt.alloc(), 300)?;
+    let rows = [
+        ("/no/such/patterns", "none"),
+        (
+            long.as_str(),
+            "reading patterns: File name too long (os error 36)",
+        ),
+    ];
+    for (path, text) in rows {
+        let (answer, buf) = list_of(&rt, rt.alloc(), path)?;
+        same_words(&rt, answer, text, path)?;
+        same(&rt, buf.len(), 0, "bytes left of", path);
+    }
+    Ok(())
+}
+
+#[test]
+fn a_real_file(rt: HostRuntime) -> Result<(), Fail> {
+    let path = path_of(&rt, "real")?;
+    fs::write(&rt, path.as_str(), "!*.rs")?;
+    let (answer, buf) = list_of(&rt, rt.alloc(), path.as_str())?;
+    fs::remove_file(&rt, path.as_str())?;
+    let list = answer?.ok_or("no list")?;
+    let mapping = list.patterns.as_slice().first().ok_or("no mapping")?;
+    assert_eq!(rt; mapping.pattern.text(), b"*.rs".as_slice());
+    assert!(rt; mapping.pattern.is_negative());
+    assert_eq!(rt; buf.as_slice(), b"!*.rs".as_slice());
+    Ok(())
+}
+
+#[test]
+fn files_are_added(rt: HostRuntime) -> Result<(), Fail> {
+    let mut lists: Vec<List<PlainLines>> = Vec::new(rt.alloc());
+    lists.push(List::empty(rt.alloc()))?;
+    let mut buf = Vec::new(rt.alloc());
+    // a directory, a missing file, a path through what is no directory, and an empty file, which has no mappings
+    let rows = [
+        ("/", false),
+        ("/no/such/patterns", false),
+        ("/dev/null/x", false),
+        ("/dev/null", true),
+    ];
+    for (path, wanted) in rows {
+        let source = String::from_str(rt.alloc(), path)?;
+        let is_added = add_patterns_file(
+            &rt,
+            rt.alloc(),
+            &mut lists,
+            source,
+            None,
+            &mut buf,
+            PlainLines,
+        )?;
+        same(&rt, is_added, wanted, "the file is added:", path);
+        let count = if wanted { 2 } else { 1 };
+        same(&rt, lists.len(), count, "lists after", path);
+    }
+    let added = lists.as_slice().last().ok_or("no list")?;
+    assert!(rt; added.patterns.is_empty());
     Ok(())
 }

@@ -1,4 +1,5 @@
 //! What a watched reader or writer hands on: the bytes, the answer, and whether a call failed.
+use crate::compare::same;
 use crate::fakes::{Sink, Source};
 use gix_glob::search::Watched;
 use std::io::{ErrorKind, Read, Write};
@@ -24,12 +25,12 @@ fn a_failed_read_is_told_and_not_tried_again(rt: HostRuntime) -> Result<(), Fail
         let mut buf = [0u8; 3];
         let mut watched = Watched::new(Source::new(b"abc", 1, 1).failing_with(kind));
         assert_eq!(rt; watched.read(&mut buf)?, 1);
-        assert!(rt; !watched.failed(), "{kind:?}");
+        same(&rt, watched.failed(), false, "failed before", kind);
         let refused = watched.read(&mut buf).err().ok_or("no error")?;
         assert_eq!(rt; refused.kind(), kind);
-        assert!(rt; watched.failed(), "{kind:?}");
+        same(&rt, watched.failed(), true, "failed by", kind);
         assert_eq!(rt; watched.read(&mut buf)?, 1);
-        assert!(rt; watched.failed(), "{kind:?}");
+        same(&rt, watched.failed(), true, "failed by", kind);
         assert_eq!(rt; watched.into_inner().rest(), b"c".as_slice());
     }
     Ok(())
@@ -86,10 +87,10 @@ fn a_failed_write_is_told_and_not_tried_again(rt: HostRuntime) -> Result<(), Fai
         let sink = Sink::new(Vec::new(rt.alloc()), 2, 1).failing_with(kind);
         let mut watched = Watched::new(sink);
         assert_eq!(rt; watched.write(b"abc")?, 2);
-        assert!(rt; !watched.failed(), "{kind:?}");
+        same(&rt, watched.failed(), false, "failed before", kind);
         let refused = watched.write(b"c").err().ok_or("no error")?;
         assert_eq!(rt; refused.kind(), kind);
-        assert!(rt; watched.failed(), "{kind:?}");
+        same(&rt, watched.failed(), true, "failed by", kind);
         assert_eq!(rt; watched.into_inner().taken(), b"ab".as_slice());
     }
     Ok(())
@@ -112,8 +113,8 @@ fn a_failed_whole_write_is_told(rt: HostRuntime) -> Result<(), Fail> {
         let sink = Sink::new(Vec::new(rt.alloc()), piece, successes).failing_with(kind);
         let mut watched = Watched::new(sink);
         let refused = watched.write_all(b"abc").err().ok_or("no error")?;
-        assert_eq!(rt; refused.kind(), told, "{piece} bytes a call");
-        assert!(rt; watched.failed(), "{piece} bytes a call");
+        same(&rt, refused.kind(), told, "bytes a call:", piece);
+        same(&rt, watched.failed(), true, "bytes a call:", piece);
         assert_eq!(rt; watched.into_inner().taken(), taken.as_bytes());
     }
     Ok(())
@@ -126,8 +127,8 @@ fn flushes_are_handed_on(rt: HostRuntime) -> Result<(), Fail> {
         let sink = Sink::new(Vec::new(rt.alloc()), 1, successes).failing_with(kind);
         let mut watched = Watched::new(sink);
         let told = watched.flush().err().map(|refused| refused.kind());
-        assert_eq!(rt; told, fails.then_some(kind), "{successes} successes");
-        assert_eq!(rt; watched.failed(), fails, "{successes} successes");
+        same(&rt, told, fails.then_some(kind), "successes:", successes);
+        same(&rt, watched.failed(), fails, "successes:", successes);
         assert_eq!(rt; watched.into_inner().taken(), b"".as_slice());
     }
     Ok(())

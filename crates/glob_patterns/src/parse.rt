@@ -109,6 +109,3 @@ fn mode_of(text: &[u8], negative: bool, absolute: bool, must_be_dir: bool) -> Mo
     }
     mode
 }
-
-#[cfg(test)]
-mod tests;

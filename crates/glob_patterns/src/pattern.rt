@@ -192,6 +192,3 @@ fn are_parts(text: &[u8], mode: Mode, first_wildcard_pos: Option<usize>) -> bool
     }
     !mode.contains(Mode::ENDS_WITH) || byte_tests::is_star_and_literal(text)
 }
-
-#[cfg(test)]
-mod tests;

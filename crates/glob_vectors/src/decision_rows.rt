@@ -1,8 +1,10 @@
 //! Path lines against a stack of ignore files: which line of which file decides.
+use crate::compare::same;
+use crate::deciding::last_match;
 use gix_glob::pattern::Case;
 use gix_glob::search::pattern::List;
 use gix_glob::search::{Pattern, Watched};
-use glob_lines::{EngineFault, IgnoreLines, bases_are_folders, decide, plain_path, run_ignore};
+use glob_lines::{EngineFault, IgnoreLines, bases_are_folders, run_ignore};
 use std::alloc::AllocError;
 use std::process::Abort;
 use std::test::Fail;
@@ -49,10 +51,7 @@ fn decided(
     paths: &[u8],
 ) -> Result<Vec<u8>, EngineFault> {
     let (mut paths, mut writer) = (Watched::new(paths), Watched::new(Vec::new(rt.alloc())));
-    assert!(rt;
-        bases_are_folders(lists),
-        "the bases are not those of folders"
-    );
+    assert!(rt; bases_are_folders(lists));
     run_ignore(rt.alloc(), lists, case, &mut paths, &mut writer)?;
     Ok(writer.into_inner())
 }
@@ -100,7 +99,7 @@ fn the_last_match_is_told(rt: HostRuntime) -> Result<(), Fail> {
     for (files, paths, text) in rows {
         let lists = lists_of(&rt, files)?;
         let output = decided(&rt, &lists, Case::Sensitive, paths)?;
-        assert_eq!(rt; output.as_slice(), text, "{paths:?}");
+        same(&rt, output.as_slice(), text, "decisions about", paths);
     }
     Ok(())
 }
@@ -114,7 +113,7 @@ fn case_counts_unless_it_is_folded(rt: HostRuntime) -> Result<(), Fail> {
     ];
     for (case, text) in rows {
         let output = decided(&rt, &lists, case, b"d/a.o\nD/a.O\n")?;
-        assert_eq!(rt; output.as_slice(), text, "{case:?}");
+        same(&rt, output.as_slice(), text, "decisions in case", case);
     }
     Ok(())
 }
@@ -137,16 +136,16 @@ fn the_greatest_pair_decides(rt: HostRuntime) -> Result<(), Fail> {
         (b"d/c", Some((2, 0))),
         (b"d", Some((0, 1))),
     ];
-    assert!(rt; bases_are_folders(&lists));
     for (path, pair) in rows {
-        assert!(rt; plain_path(path), "{path:?}");
-        assert_eq!(rt;
-            decide(&lists, path, false, Case::Sensitive),
-            pair,
-            "{path:?}"
-        );
+        let answer = last_match(&rt, &lists, path, false, Case::Sensitive);
+        same(&rt, answer, pair, "what decides about", path);
     }
     Ok(())
+}
+
+/// The base of the last file.
+fn last_base<'a>(files: &[IgnoreFile<'a>]) -> Option<&'a [u8]> {
+    files.last()?.base
 }
 
 #[test]
@@ -161,7 +160,13 @@ fn bases_are_those_of_folders(rt: HostRuntime) -> Result<(), Fail> {
     ];
     for (files, answer) in rows {
         let lists = lists_of(&rt, files)?;
-        assert_eq!(rt; bases_are_folders(&lists), answer, "{answer}");
+        same(
+            &rt,
+            bases_are_folders(&lists),
+            answer,
+            "with last base",
+            last_base(files),
+        );
     }
     Ok(())
 }
@@ -171,11 +176,10 @@ fn a_loaded_list_has_the_base_of_its_source(rt: HostRuntime) -> Result<(), Fail>
     let source = String::from_str(rt.alloc(), "d/ignore")?;
     let list = List::from_bytes(rt.alloc(), b"/x\n", source, Some(""), IgnoreLines)?;
     let lists = [list];
-    assert!(rt; bases_are_folders(&lists));
-    assert_eq!(rt;
-        decide(&lists, b"d/x", false, Case::Sensitive),
-        Some((0, 0))
-    );
-    assert_eq!(rt; decide(&lists, b"x", false, Case::Sensitive), None);
+    let rows: [(&[u8], Option<(usize, usize)>); 2] = [(b"d/x", Some((0, 0))), (b"x", None)];
+    for (path, pair) in rows {
+        let answer = last_match(&rt, &lists, path, false, Case::Sensitive);
+        same(&rt, answer, pair, "what decides about", path);
+    }
     Ok(())
 }

@@ -1,17 +1,36 @@
 //! One row, asked of both engines.
+use crate::compare::same;
 use gix_glob::wildmatch::{Mode, recursive, wildmatch};
+use std::fmt::Debug;
 use std::process::Abort;
 
 /// Compares the answers of both engines with a row's.
-pub fn check(rt: &impl Abort, pattern: &str, value: &str, mode: Mode, answer: bool) {
-    assert_eq!(rt;
-        wildmatch(pattern.as_bytes(), value.as_bytes(), mode),
+pub(crate) fn check(rt: &impl Abort, pattern: &str, value: &str, mode: Mode, answer: bool) {
+    let row = (pattern, value, mode);
+    check_bytes(rt, pattern.as_bytes(), value.as_bytes(), mode, answer, row);
+}
+
+/// The same of bytes, told as another row.
+pub(crate) fn check_bytes<R: Copy + Debug>(
+    rt: &impl Abort,
+    pattern: &[u8],
+    value: &[u8],
+    mode: Mode,
+    answer: bool,
+    row: R,
+) {
+    same(
+        rt,
+        wildmatch(pattern, value, mode),
         answer,
-        "{pattern:?} on {value:?}, {mode:?}"
+        "wildmatch:",
+        row,
     );
-    assert_eq!(rt;
-        recursive(pattern.as_bytes(), value.as_bytes(), mode),
+    same(
+        rt,
+        recursive(pattern, value, mode),
         answer,
-        "recursive: {pattern:?} on {value:?}, {mode:?}"
+        "recursive:",
+        row,
     );
 }

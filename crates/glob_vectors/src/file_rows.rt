@@ -1,4 +1,5 @@
 //! Pattern files: the lines of a real file, as entries of a list.
+use crate::compare::same;
 use bitflags::Flags;
 use gix_glob::pattern::Mode;
 use gix_glob::search::pattern::List;
@@ -12,11 +13,8 @@ fn file_always_fails(rt: HostRuntime) -> Result<(), Fail> {
     let mut buf = Vec::from_slice(rt.alloc(), b"old")?;
     let source = String::from_str(rt.alloc(), "/dev/null")?;
     let list = List::from_file(&rt, rt.alloc(), source, None, &mut buf, PlainLines)?;
-    assert!(rt;
-        list.is_some_and(|list| list.patterns.is_empty()),
-        "no line is a pattern"
-    );
-    assert!(rt; buf.is_empty(), "what it had is gone");
+    assert!(rt; list.is_some_and(|list| list.patterns.is_empty()));
+    assert!(rt; buf.is_empty());
     Ok(())
 }
 
@@ -39,18 +37,31 @@ fn file_always_none(rt: HostRuntime) -> Result<(), Fail> {
         (first, 1, b"*.rs".as_slice(), Mode::ENDS_WITH),
         (second, 3, b"src", Mode::MUST_BE_DIR),
     ] {
-        assert_eq!(rt; mapping.sequence_number, number, "line {number}");
-        assert_eq!(rt; mapping.pattern.text(), text, "line {number}");
-        assert!(rt;
-            mapping.pattern.mode() == Mode::NO_SUB_DIR.union(mode),
-            "line {number}"
+        same(
+            &rt,
+            mapping.sequence_number,
+            number,
+            "the number of line",
+            number,
+        );
+        same(
+            &rt,
+            mapping.pattern.text(),
+            text,
+            "the text of line",
+            number,
+        );
+        let wanted = Mode::NO_SUB_DIR.union(mode);
+        same(
+            &rt,
+            mapping.pattern.mode(),
+            wanted,
+            "the mode of line",
+            number,
         );
     }
-    assert!(rt; list.base.is_none(), "there is no root");
-    assert_eq!(rt;
-        buf.as_slice(),
-        b"*.rs\n\nsrc/\n".as_slice(),
-        "the file's text"
-    );
+    // there is no root
+    assert!(rt; list.base.is_none());
+    assert_eq!(rt; buf.as_slice(), b"*.rs\n\nsrc/\n".as_slice());
     Ok(())
 }

@@ -1,4 +1,5 @@
 //! Long pattern lines that try an engine: sets of 100 kilobytes, and many stars. Each path is decided in a moment.
+use crate::compare::same;
 use crate::texts::{Repeated, repeated};
 use gix_glob::pattern::Case;
 use gix_glob::search::pattern::List;
@@ -63,10 +64,10 @@ fn sets_of_100_kilobytes_are_read_in_a_moment(rt: HostRuntime) -> Result<(), Fai
             let row = (begins, within, repeated_path);
             let list = list_output(rt.alloc(), &line, &path)?;
             let wanted: &[u8] = if answer { b"1\n" } else { b"\n" };
-            assert_eq!(rt; list.as_slice(), wanted, "list: {row:?}");
+            same(&rt, list.as_slice(), wanted, "list:", row);
             let ignore = decided(&rt, &line, &path)?;
             let wanted: &[u8] = if answer { b"ignored 1:1\n" } else { b"none\n" };
-            assert_eq!(rt; ignore.as_slice(), wanted, "ignore: {row:?}");
+            same(&rt, ignore.as_slice(), wanted, "ignore:", row);
         }
     }
     Ok(())

@@ -1,8 +1,10 @@
 //! Patterns and values that try an engine: long ones, ones that can be cut in many ways, and sets that don't close.
+use crate::compare::same;
+use crate::engines::check_bytes;
 use crate::modes::{path, plain};
 use crate::texts::{Repeated, repeated};
 use gix_glob::search::Watched;
-use gix_glob::wildmatch::{Mode, recursive, wildmatch};
+use gix_glob::wildmatch::{Mode, wildmatch};
 use glob_lines::run_wild;
 use std::alloc::Global;
 use std::process::Abort;
@@ -31,14 +33,9 @@ fn check(
     answer: bool,
     row: (Repeated, Repeated),
 ) -> Result<(), Fail> {
-    assert_eq!(rt; wildmatch(pattern, value, mode), answer, "{row:?}");
-    assert_eq!(rt;
-        recursive(pattern, value, mode),
-        answer,
-        "recursive: {row:?}"
-    );
+    check_bytes(rt, pattern, value, mode, answer, row);
     let line = line_answer(rt.alloc(), pattern, value, mode)?;
-    assert_eq!(rt; line, answer, "run_wild: {row:?}");
+    same(rt, line, answer, "run_wild:", row);
     Ok(())
 }
 

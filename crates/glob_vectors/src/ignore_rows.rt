@@ -1,4 +1,5 @@
 //! Lines of ignore files, and what is read of them.
+use crate::compare::same;
 use gix_glob::search::Pattern as _;
 use gix_glob::search::pattern::Mapping;
 use gix_glob::wildmatch::Mode;
@@ -66,7 +67,8 @@ const FILES: [Row<'static>; 14] = [
 fn assert_rows(rt: &(impl Abort + AllocGlobal), rows: &[Row]) -> Result<(), AllocError> {
     for (bytes, want) in rows {
         let mappings = IgnoreLines.bytes_to_patterns(rt.alloc(), bytes.as_bytes(), "ig")?;
-        assert_eq!(rt; shown(rt.alloc(), &mappings)?.as_str(), *want, "{bytes:?}");
+        let shown = shown(rt.alloc(), &mappings)?;
+        same(rt, shown.as_str(), *want, "the patterns of", *bytes);
     }
     Ok(())
 }
@@ -107,16 +109,15 @@ const FIRST_LINES: [(&str, Option<&str>, &str); 7] = [
 
 #[test]
 fn first_lines(rt: HostRuntime) {
-    assert!(rt; next_ignore_line(b"").is_none(), "no bytes have no line");
+    // no bytes have no line
+    assert!(rt; next_ignore_line(b"").is_none());
     for (bytes, text, rest) in FIRST_LINES {
         let want = IgnoreLine {
             text: text.map(|text| text.as_bytes()),
             rest: rest.as_bytes(),
         };
-        assert!(rt;
-            next_ignore_line(bytes.as_bytes()) == Some(want),
-            "{bytes:?}"
-        );
+        let line = next_ignore_line(bytes.as_bytes());
+        same(&rt, line, Some(want), "the first line of", bytes);
     }
 }
 
@@ -129,11 +130,8 @@ fn marks_at_the_front(rt: HostRuntime) {
         ("", ""),
     ];
     for (bytes, want) in rows {
-        assert_eq!(rt;
-            without_byte_order_mark(bytes.as_bytes()),
-            want.as_bytes(),
-            "{bytes:?}"
-        );
+        let rest = without_byte_order_mark(bytes.as_bytes());
+        same(&rt, rest, want.as_bytes(), "what follows a mark of", bytes);
     }
     // two bytes of the three are no mark
     assert_eq!(rt; without_byte_order_mark(&[239, 187]), [239, 187].as_slice());

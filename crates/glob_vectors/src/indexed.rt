@@ -1,4 +1,5 @@
 //! An index beside the plain way: all short lists over a small alphabet, and a realistic mixture of patterns.
+use crate::compare::same;
 use gix_glob::pattern::Case;
 use gix_glob::search::Pattern;
 use gix_glob::search::pattern::List;
@@ -37,18 +38,21 @@ fn compare(
     path: &str,
     case: Case,
 ) -> Result<usize, AllocError> {
-    assert!(rt; bases_are_folders(lists), "the bases of folders");
-    assert!(rt; plain_path(path.as_bytes()), "{path:?} is plain");
+    assert!(rt; bases_are_folders(lists));
+    assert!(rt; plain_path(path.as_bytes()), "{path:?} isn't plain");
     let index = ListIndex::new(rt.alloc(), lists, case)?;
     let mut count = 0;
     for is_dir in [false, true] {
         let plain = decide(lists, path.as_bytes(), is_dir, case);
         let indexed = index.decide(path.as_bytes(), is_dir);
-        assert!(rt; indexed == plain, "what decides about {path:?}, {case:?}");
+        same(rt, indexed, plain, "what decides about", (path, case));
         let found = index.matches(rt.alloc(), path.as_bytes(), is_dir)?;
-        assert!(rt;
-            found.last().copied() == plain,
-            "the last that matches {path:?}, {case:?}"
+        same(
+            rt,
+            found.last().copied(),
+            plain,
+            "the last that matches",
+            (path, case),
         );
         count = found.len();
     }
@@ -71,10 +75,13 @@ fn short_lists_over_few_letters(rt: HostRuntime) -> Result<(), Fail> {
                     let alone = compare(&rt, &two[..1], path, case)?;
                     let other = [list_of(&rt, second, None)?];
                     let rest = compare(&rt, &other, path, case)?;
-                    assert_eq!(rt;
+                    let row = (first, second, path);
+                    same(
+                        &rt,
                         both.checked_sub(alone),
                         Some(rest),
-                        "{first:?} and {second:?} on {path:?}"
+                        "the matches of two:",
+                        row,
                     );
                     let _ = compare(&rt, &two, path, case)?;
                 }

@@ -1,10 +1,12 @@
 //! Patterns with a label behind a tab.
+use crate::compare::same;
+use crate::deciding::last_match;
 use bitflags::Flags;
 use gix_glob::Pattern;
 use gix_glob::pattern::Case;
 use gix_glob::search::Pattern as _;
 use gix_glob::search::pattern::{List, Mapping};
-use glob_lines::{LabelLines, PlainLines, bases_are_folders, decide, plain_path};
+use glob_lines::{LabelLines, PlainLines};
 use std::alloc::{AllocError, Global};
 use std::cmp::Ordering;
 use std::test::Fail;
@@ -24,19 +26,24 @@ fn labels_stand_behind_the_first_tab(rt: HostRuntime) -> Result<(), AllocError> 
         (3, "foo", 1, "a\tb"),
     ];
     let mappings = labels(rt.alloc(), LABELS)?;
-    assert_eq!(rt;
-        mappings.len(),
-        rows.len(),
-        "a line without a pattern is skipped"
-    );
+    // a line without a pattern is skipped
+    assert_eq!(rt; mappings.len(), rows.len());
     for (mapping, (number, text, bits, label)) in mappings.iter().zip(rows) {
         assert_eq!(rt; mapping.sequence_number, number);
         assert_eq!(rt; mapping.pattern.text(), text.as_bytes());
-        assert_eq!(rt; mapping.pattern.mode().bits(), bits, "the bits of {text:?}");
-        assert_eq!(rt;
+        same(
+            &rt,
+            mapping.pattern.mode().bits(),
+            bits,
+            "the bits of",
+            text,
+        );
+        same(
+            &rt,
             mapping.value.as_slice(),
             label.as_bytes(),
-            "the label of {text:?}"
+            "the label of",
+            text,
         );
     }
     Ok(())
@@ -66,17 +73,21 @@ fn lines_with_and_without_labels(rt: HostRuntime) -> Result<(), AllocError> {
             ([mapping], Some((pattern, label))) => {
                 let read = &mapping.pattern;
                 let shown = format!(in rt.alloc(); "{read}")?;
-                assert_eq!(rt; shown.as_str(), pattern, "the pattern of {line:?}");
-                assert_eq!(rt;
+                same(&rt, shown.as_str(), pattern, "the pattern of", line);
+                same(
+                    &rt,
                     mapping.value.as_slice(),
                     label.as_bytes(),
-                    "the label of {line:?}"
+                    "the label of",
+                    line,
                 );
             }
-            (read, want) => assert_eq!(rt;
+            (read, want) => same(
+                &rt,
                 !read.is_empty(),
                 want.is_some(),
-                "whether {line:?} is read"
+                "whether it is read:",
+                line,
             ),
         }
     }
@@ -93,14 +104,9 @@ fn the_last_label_that_matches_decides(rt: HostRuntime) -> Result<(), AllocError
     ];
     let source = String::from_str(rt.alloc(), "labels")?;
     let lists = [List::from_bytes(rt.alloc(), LABELS, source, None, LabelLines)?];
-    assert!(rt; bases_are_folders(&lists));
     for (path, pair) in rows {
-        assert!(rt; plain_path(path), "{path:?}");
-        assert_eq!(rt;
-            decide(&lists, path, false, Case::Sensitive),
-            pair,
-            "{path:?}"
-        );
+        let answer = last_match(&rt, &lists, path, false, Case::Sensitive);
+        same(&rt, answer, pair, "what decides about", path);
     }
     Ok(())
 }

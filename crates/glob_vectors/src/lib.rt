@@ -2,6 +2,12 @@
 #![tactic(auto)]
 
 #[cfg(test)]
+mod base_rows;
+#[cfg(test)]
+mod compare;
+#[cfg(test)]
+mod deciding;
+#[cfg(test)]
 mod decision_rows;
 #[cfg(test)]
 mod engines;
@@ -20,11 +26,15 @@ mod indexed;
 #[cfg(test)]
 mod label_rows;
 #[cfg(test)]
+mod line_rows;
+#[cfg(test)]
 mod list_rows;
 #[cfg(test)]
 mod modes;
 #[cfg(test)]
 mod orders;
+#[cfg(test)]
+mod pattern_rows;
 #[cfg(test)]
 mod rows;
 #[cfg(test)]
@@ -37,5 +47,7 @@ mod stars;
 mod texts;
 #[cfg(test)]
 mod tokens;
+#[cfg(test)]
+mod value_rows;
 #[cfg(test)]
 mod wild_rows;

@@ -1,4 +1,5 @@
 //! Path lines against the lines of a pattern file.
+use crate::compare::same;
 use gix_glob::pattern::Case;
 use gix_glob::search::{Watched, has_file_part};
 use glob_lines::{EngineFault, run_list};
@@ -103,7 +104,13 @@ fn the_numbers_of_matching_lines_are_listed(rt: HostRuntime) -> Result<(), Fail>
     ];
     for (question, patterns, paths, text) in rows {
         let output = list_output(&rt, question, patterns, paths)?;
-        assert_eq!(rt; output.as_slice(), text, "{patterns:?} on {paths:?}");
+        same(
+            &rt,
+            output.as_slice(),
+            text,
+            "numbers for",
+            (patterns, paths),
+        );
     }
     Ok(())
 }

@@ -1,10 +1,13 @@
 //! Rows of the orders of mappings and of lists: each row ascends, and its parts are equal to themselves alone.
+use crate::compare::same;
 use gix_glob::pattern::Pattern;
 use gix_glob::search::Pattern as _;
 use gix_glob::search::pattern::{List, Mapping};
 use glob_lines::PlainLines;
 use std::alloc::{AllocError, Global};
 use std::cmp::Ordering;
+use std::fmt::Debug;
+use std::process::Abort;
 use std::test::Fail;
 
 /// A pattern line, a value and a number.
@@ -44,6 +47,26 @@ fn list(alloc: Global, (lines, source, base): Parts) -> Result<List<PlainLines>,
     })
 }
 
+/// Compares two values in all ways, of which the first is the lesser.
+fn ascend<T: Ord, R: Copy + Debug>(rt: &impl Abort, first: &T, second: &T, row: R) {
+    same(rt, first.cmp(second), Ordering::Less, "in order:", row);
+    same(
+        rt,
+        second.cmp(first),
+        Ordering::Greater,
+        "turned round:",
+        row,
+    );
+    same(
+        rt,
+        first.cmp(first),
+        Ordering::Equal,
+        "the first and itself:",
+        row,
+    );
+    same(rt, *first != *second, true, "unequal:", row);
+}
+
 #[test]
 fn mappings_ascend_by_pattern_value_and_number(rt: HostRuntime) -> Result<(), Fail> {
     let rows: [(Entry, Entry); 5] = [
@@ -56,10 +79,7 @@ fn mappings_ascend_by_pattern_value_and_number(rt: HostRuntime) -> Result<(), Fa
     for (low, high) in rows {
         let first = mapping(rt.alloc(), low)?.ok_or("a pattern")?;
         let second = mapping(rt.alloc(), high)?.ok_or("a pattern")?;
-        assert_eq!(rt; first.cmp(&second), Ordering::Less, "{low:?}, {high:?}");
-        assert_eq!(rt; second.cmp(&first), Ordering::Greater, "{high:?}, {low:?}");
-        assert_eq!(rt; first.cmp(&first), Ordering::Equal, "{low:?}");
-        assert!(rt; first != second, "{low:?}, {high:?}");
+        ascend(&rt, &first, &second, (low, high));
     }
     Ok(())
 }
@@ -78,10 +98,7 @@ fn lists_ascend_by_mappings_source_and_base(rt: HostRuntime) -> Result<(), Fail>
     for (low, high) in rows {
         let first = list(rt.alloc(), low)?;
         let second = list(rt.alloc(), high)?;
-        assert_eq!(rt; first.cmp(&second), Ordering::Less, "{low:?}, {high:?}");
-        assert_eq!(rt; second.cmp(&first), Ordering::Greater, "{high:?}, {low:?}");
-        assert_eq!(rt; first.cmp(&first), Ordering::Equal, "{low:?}");
-        assert!(rt; first != second, "{low:?}, {high:?}");
+        ascend(&rt, &first, &second, (low, high));
     }
     Ok(())
 }

@@ -1,7 +1,6 @@
 //! Rows of bracket sets.
-use crate::engines::check;
+use crate::engines::{check, check_bytes};
 use crate::modes::{path, plain};
-use gix_glob::wildmatch::{recursive, wildmatch};
 use std::process::Abort;
 
 /// Pattern, the values that it matches in plain mode, and values that it doesn't.
@@ -86,16 +85,8 @@ fn a_set_holds_no_slash_in_path_mode(rt: HostRuntime) {
 #[test]
 fn sets_of_any_bytes(rt: HostRuntime) {
     for (pattern, value, answer) in BYTE_ROWS {
-        assert_eq!(rt;
-            wildmatch(&pattern, &[value], plain()),
-            answer,
-            "plain: {pattern:?} on {value}"
-        );
-        assert_eq!(rt;
-            recursive(&pattern, &[value], plain()),
-            answer,
-            "recursive, plain: {pattern:?} on {value}"
-        );
+        let pattern = pattern.as_slice();
+        check_bytes(&rt, pattern, &[value], plain(), answer, (pattern, value));
     }
 }
 
@@ -116,8 +107,7 @@ fn openings_of_no_class_are_members(rt: HostRuntime) {
     let pattern = openings();
     for (value, answer) in [(b':', true), (b'[', true), (b'a', true), (b'b', false)] {
         for mode in [plain(), path()] {
-            assert_eq!(rt; wildmatch(&pattern, &[value], mode), answer, "{value}");
-            assert_eq!(rt; recursive(&pattern, &[value], mode), answer, "{value}");
+            check_bytes(&rt, &pattern, &[value], mode, answer, (value, mode));
         }
     }
 }

@@ -1,4 +1,5 @@
-//! What is shown of faults, and by `Debug`.
+//! What is shown of lines, of faults, and by `Debug`.
+use crate::compare::same;
 use bitflags::Flags;
 use gix_glob::Pattern;
 use gix_glob::pattern::{Case, Mode, PatternView};
@@ -6,9 +7,58 @@ use gix_glob::search::pattern::List;
 use gix_glob::search::{LoadFault, Watched};
 use gix_glob::wildmatch::{self, Answer};
 use glob_lines::{EngineFault, IgnoreLines, LabelLines, PlainLines};
+use std::alloc::AllocError;
+use std::fmt::{Debug, Display};
 use std::io;
 use std::process::Abort;
 use std::test::Fail;
+
+/// Compares what is shown of a value with a text.
+fn displayed<T: Display, R: Copy + Debug>(
+    rt: &(impl Abort + AllocGlobal),
+    value: &T,
+    text: &str,
+    row: R,
+) -> Result<(), AllocError> {
+    let shown = format!(in rt.alloc(); "{value}")?;
+    same(rt, shown.as_str(), text, "shown:", row);
+    Ok(())
+}
+
+/// Compares what `Debug` shows of a value with a text.
+fn debugged<T: Debug>(
+    rt: &(impl Abort + AllocGlobal),
+    value: &T,
+    text: &str,
+) -> Result<(), AllocError> {
+    let shown = format!(in rt.alloc(); "{value:?}")?;
+    assert_eq!(rt; shown.as_str(), text);
+    Ok(())
+}
+
+#[test]
+fn lines_are_shown_again(rt: HostRuntime) -> Result<(), Fail> {
+    let rows = [
+        ("!/*.o/", "!/*.o/"),
+        ("//", "//"),
+        ("foo", "foo"),
+        ("\\!foo", "!foo"),
+        ("\\#x", "#x"),
+        ("!a", "!a"),
+        ("a/", "a/"),
+    ];
+    for (line, text) in rows {
+        let pattern = Pattern::from_bytes(rt.alloc(), line.as_bytes())?.ok_or("a pattern")?;
+        displayed(&rt, &pattern, text, line)?;
+    }
+    Ok(())
+}
+
+#[test]
+fn bytes_that_are_no_text_are_shown_by_a_replacement(rt: HostRuntime) -> Result<(), Fail> {
+    let pattern = Pattern::from_bytes(rt.alloc(), &[97, 255])?.ok_or("a pattern")?;
+    Ok(displayed(&rt, &pattern, "a\u{FFFD}", "a byte that is no text")?)
+}
 
 #[test]
 fn texts_of_faults(rt: HostRuntime) -> Result<(), Fail> {
@@ -18,8 +68,8 @@ fn texts_of_faults(rt: HostRuntime) -> Result<(), Fail> {
         (EngineFault::Write, "write failed", "Write"),
     ];
     for (fault, text, debug) in rows {
-        assert_eq!(rt; format!(in rt.alloc(); "{fault}")?.as_str(), text);
-        assert_eq!(rt; format!(in rt.alloc(); "{fault:?}")?.as_str(), debug);
+        displayed(&rt, &fault, text, debug)?;
+        debugged(&rt, &fault, debug)?;
     }
     let rows = [
         (
@@ -34,56 +84,47 @@ fn texts_of_faults(rt: HostRuntime) -> Result<(), Fail> {
         ),
     ];
     for (fault, text, debug) in rows {
-        assert_eq!(rt; format!(in rt.alloc(); "{fault}")?.as_str(), text);
-        assert_eq!(rt; format!(in rt.alloc(); "{fault:?}")?.as_str(), debug);
+        displayed(&rt, &fault, text, debug)?;
+        debugged(&rt, &fault, debug)?;
     }
     Ok(())
 }
 
 #[test]
 fn modes_cases_and_answers(rt: HostRuntime) -> Result<(), Fail> {
-    let values = wildmatch::Mode::from_bits_retain(3);
-    assert_eq!(rt; format!(in rt.alloc(); "{values:?}")?.as_str(), "Mode(3)");
-    let patterns = Mode::from_bits_retain(31);
-    assert_eq!(rt;
-        format!(in rt.alloc(); "{patterns:?}")?.as_str(),
-        "Mode(31)"
-    );
-    let case = Case::Fold;
-    assert_eq!(rt; format!(in rt.alloc(); "{case:?}")?.as_str(), "Fold");
-    let answer = Answer::AbortToStarStar;
-    assert_eq!(rt;
-        format!(in rt.alloc(); "{answer:?}")?.as_str(),
-        "AbortToStarStar"
-    );
+    debugged(&rt, &wildmatch::Mode::from_bits_retain(3), "Mode(3)")?;
+    debugged(&rt, &Mode::from_bits_retain(31), "Mode(31)")?;
+    debugged(&rt, &Case::Fold, "Fold")?;
+    debugged(&rt, &Answer::AbortToStarStar, "AbortToStarStar")?;
     Ok(())
 }
 
 #[test]
 fn patterns_and_lists(rt: HostRuntime) -> Result<(), Fail> {
     let pattern = Pattern::from_bytes(rt.alloc(), b"!a*")?.ok_or("a pattern")?;
-    assert_eq!(rt;
-        format!(in rt.alloc(); "{pattern:?}")?.as_str(),
-        "Pattern { text: [97, 42], mode: Mode(9), first_wildcard_pos: Some(1) }"
-    );
+    debugged(
+        &rt,
+        &pattern,
+        "Pattern { text: [97, 42], mode: Mode(9), first_wildcard_pos: Some(1) }",
+    )?;
     let view = PatternView::from_bytes(b"/a").ok_or("a view")?;
-    assert_eq!(rt;
-        format!(in rt.alloc(); "{view:?}")?.as_str(),
-        "PatternView { text: [97], mode: Mode(17), first_wildcard_pos: None }"
-    );
+    debugged(
+        &rt,
+        &view,
+        "PatternView { text: [97], mode: Mode(17), first_wildcard_pos: None }",
+    )?;
     let source = String::from_str(rt.alloc(), "d/ig")?;
     let list = List::from_bytes(rt.alloc(), b"\na", source, Some(""), PlainLines)?;
-    assert_eq!(rt;
-        format!(in rt.alloc(); "{list:?}")?.as_str(),
+    debugged(
+        &rt,
+        &list,
         "List { patterns: [Mapping { pattern: Pattern { text: [97], mode: Mode(1), first_wildcard_pos: None }, \
-         value: (), sequence_number: 2 }], source: Some(\"d/ig\"), base: Some([100, 47]) }"
-    );
+         value: (), sequence_number: 2 }], source: Some(\"d/ig\"), base: Some([100, 47]) }",
+    )?;
     let watched = Watched::new(b"a".as_slice());
-    assert_eq!(rt;
-        format!(in rt.alloc(); "{watched:?}")?.as_str(),
-        "Watched { inner: [97], failed: false }"
-    );
-    let parsers = format!(in rt.alloc(); "{PlainLines:?} {IgnoreLines:?} {LabelLines:?}")?;
-    assert_eq!(rt; parsers.as_str(), "PlainLines IgnoreLines LabelLines");
+    debugged(&rt, &watched, "Watched { inner: [97], failed: false }")?;
+    debugged(&rt, &PlainLines, "PlainLines")?;
+    debugged(&rt, &IgnoreLines, "IgnoreLines")?;
+    debugged(&rt, &LabelLines, "LabelLines")?;
     Ok(())
 }

@@ -1,4 +1,5 @@
 //! Rows of many star tokens: where the recursive engine may give up, and where an engine that tries all cuttings would not end.
+use crate::compare::same;
 use crate::modes::{path, plain};
 use crate::texts::{Repeated, repeated};
 use gix_glob::pattern::Pattern;
@@ -21,17 +22,12 @@ fn no_past_63_stars(rt: HostRuntime) -> Result<(), Fail> {
     for (pattern, value, mode, answer, by_recursion) in rows {
         let pattern_text = repeated(rt.alloc(), pattern)?;
         let value_text = repeated(rt.alloc(), value)?;
-        assert_eq!(rt;
-            wildmatch(&pattern_text, &value_text, mode),
-            answer,
-            "{pattern:?} on {value:?}"
-        );
+        let row = (pattern, value);
+        let answered = wildmatch(&pattern_text, &value_text, mode);
+        same(&rt, answered, answer, "wildmatch:", row);
         if let Some(answer) = by_recursion {
-            assert_eq!(rt;
-                recursive(&pattern_text, &value_text, mode),
-                answer,
-                "recursive: {pattern:?} on {value:?}"
-            );
+            let answered = recursive(&pattern_text, &value_text, mode);
+            same(&rt, answered, answer, "recursive:", row);
         }
     }
     Ok(())

@@ -93,6 +93,3 @@ impl<'a> Iterator for Parts<'a> {
         self.next_named()
     }
 }
-
-#[cfg(test)]
-mod tests;

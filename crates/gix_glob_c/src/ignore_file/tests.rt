@@ -1,5 +1,6 @@
 //! The lines of an ignore file, taken off one after the other: rows that were worked out by hand.
 use super::*;
+use crate::tests::same;
 
 #[test]
 fn lines_are_taken_one_by_one(rt: HostRuntime) {
@@ -24,12 +25,18 @@ fn lines_are_taken_one_by_one(rt: HostRuntime) {
     let mut has_pattern = false;
     for (number, (left, is_pattern, text, mode)) in rows.into_iter().enumerate() {
         let is_line = gix_glob_parse_ignore_line(&mut lines, &mut out, &mut has_pattern);
-        assert!(rt; is_line, "line {number}");
-        assert_eq!(rt; lines.number, number + 1, "number of line {number}");
-        assert_eq!(rt; lines.rest.len(), left, "what is left behind line {number}");
-        assert_eq!(rt; has_pattern, is_pattern, "line {number} has a pattern");
-        assert!(rt; out.text == text, "text after line {number}");
-        assert_eq!(rt; out.mode, mode, "mode after line {number}");
+        same(&rt, is_line, true, "there is line", number);
+        same(&rt, lines.number, number + 1, "the number of line", number);
+        same(
+            &rt,
+            lines.rest.len(),
+            left,
+            "what is left behind line",
+            number,
+        );
+        same(&rt, has_pattern, is_pattern, "a pattern in line", number);
+        same(&rt, out.text, text, "the text after line", number);
+        same(&rt, out.mode, mode, "the mode after line", number);
     }
     assert!(rt; !gix_glob_parse_ignore_line(&mut lines, &mut out, &mut has_pattern));
     assert_eq!(rt; lines.number, 6);
@@ -62,6 +69,12 @@ fn files_end(rt: HostRuntime) {
         for _ in 0..4 {
             gix_glob_parse_ignore_line(&mut lines, &mut out, &mut has_pattern);
         }
-        assert_eq!(rt; lines.number, last, "{bytes:?} from line {number}");
+        same(
+            &rt,
+            lines.number,
+            last,
+            "the last of bytes after a line:",
+            (bytes, number),
+        );
     }
 }

@@ -1,5 +1,6 @@
 //! The exports over parsed patterns, called as functions: rows that were worked out by hand, and input that no caller should hand over.
 use super::*;
+use crate::tests::same;
 
 /// A pattern before one was read.
 const BLANK: GlobPattern<'static> = GlobPattern {
@@ -27,10 +28,11 @@ fn lines_are_read(rt: HostRuntime) {
     ];
     for (line, text, place, mode) in rows {
         let mut pattern = BLANK;
-        assert!(rt; gix_glob_parse(line, &mut pattern), "{line:?}");
-        assert!(rt; pattern.text == text, "text of {line:?}");
-        assert_eq!(rt; pattern.first_wildcard_pos, place, "place of {line:?}");
-        assert_eq!(rt; pattern.mode, mode, "mode of {line:?}");
+        let is_read = gix_glob_parse(line, &mut pattern);
+        same(&rt, is_read, true, "it is read:", line);
+        same(&rt, pattern.text, text, "the text of", line);
+        same(&rt, pattern.first_wildcard_pos, place, "the place of", line);
+        same(&rt, pattern.mode, mode, "the mode of", line);
     }
 }
 
@@ -38,11 +40,16 @@ fn lines_are_read(rt: HostRuntime) {
 fn blank_lines_leave_the_pattern(rt: HostRuntime) {
     for line in [b"".as_slice(), b" ", b"!", b"\t\r\n"] {
         let mut pattern = parsed(b"!kept");
-        assert!(rt; !gix_glob_parse(line, &mut pattern), "{line:?}");
-        assert!(rt;
-            pattern.text == b"kept".as_slice() && pattern.mode == 9,
-            "{line:?}"
+        let is_read = gix_glob_parse(line, &mut pattern);
+        same(&rt, is_read, false, "it is read:", line);
+        same(
+            &rt,
+            pattern.text,
+            b"kept".as_slice(),
+            "the text after",
+            line,
         );
+        same(&rt, pattern.mode, 9, "the mode after", line);
     }
 }
 
@@ -65,7 +72,7 @@ fn paths_are_matched(rt: HostRuntime) {
     for (line, path, is_dir, fold, answer) in rows {
         let pattern = parsed(line);
         let found = gix_glob_pattern_matches_path(&pattern, path, is_dir, fold);
-        assert_eq!(rt; found, answer, "{line:?} on {path:?}");
+        same(&rt, found, answer, "line and path:", (line, path));
     }
 }
 
@@ -84,7 +91,13 @@ fn the_last_match_is_found(rt: HostRuntime) {
     ];
     for (count, path, is_dir, fold, index) in rows {
         let found = gix_glob_last_match(&patterns[..count], path, is_dir, fold);
-        assert_eq!(rt; found, index, "{path:?} among {count}");
+        same(
+            &rt,
+            found,
+            index,
+            "the last of so many, for a path:",
+            (count, path),
+        );
     }
 }
 
@@ -102,7 +115,8 @@ fn made_up_parts_are_safe(rt: HostRuntime) {
                 };
                 let matched = gix_glob_pattern_matches_path(&pattern, b"a/b", true, true);
                 let last = gix_glob_last_match(&[pattern], b"a/b", true, true);
-                assert_eq!(rt; last == 0, matched, "{text:?} {first_wildcard_pos} {mode}");
+                let row = (text, first_wildcard_pos, mode);
+                same(&rt, last == 0, matched, "text, place, mode:", row);
             }
         }
     }

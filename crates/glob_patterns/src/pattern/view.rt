@@ -163,6 +163,3 @@ impl<'a> PatternView<'a> {
         }
     }
 }
-
-#[cfg(test)]
-mod tests;

@@ -74,6 +74,3 @@ fn stripped_place(base_len: usize, basename_pos: Option<usize>) -> Option<usize>
         at => Some(at),
     }
 }
-
-#[cfg(test)]
-mod tests;
