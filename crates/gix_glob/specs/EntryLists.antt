@@ -3,7 +3,7 @@ use Rattle.std.specs.Prelude.{ℕ, List, map, Option, option_map}
 use Rattle.std.specs.String.{string_bytes}
 use Rattle.std.specs.Vec.{vec_items}
 use Rattle.gix_glob.specs.declared.search.pattern.list.List as patterns
-use Rattle.gix_glob.specs.Lists.{Entry, entry_of}
+use Rattle.gix_glob.specs.Entries.{Entry, entry_of}
 
 -- what a list of patterns holds: its entries, its source and its base
 pub record EntryList (V : Type 0) : Type 0 where

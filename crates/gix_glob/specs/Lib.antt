@@ -2,7 +2,7 @@ pub mod Watched
 pub mod Loading
 pub mod Paths
 pub mod Stripping
-pub mod Lists
+pub mod Entries
 pub mod Orders
 pub mod EntryLists
 pub mod Deciding

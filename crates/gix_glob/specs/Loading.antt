@@ -4,7 +4,7 @@ use Rattle.gix_glob.specs.declared.search.fault.LoadFault.{LoadFault}
 use Rattle.gix_glob.specs.declared.search.fault.LoadFault.TheVariants.{Memory, Read}
 use Rattle.gix_glob.specs.declared.search.pattern.list.List as patterns
 use Rattle.gix_glob.specs.EntryLists.{EntryList, entry_list_of}
-use Rattle.gix_glob.specs.Lists.{Entry}
+use Rattle.gix_glob.specs.Entries.{Entry}
 use Rattle.gix_glob.specs.Paths.{Base}
 
 -- the list is what a parser means by the bytes of a source, with that source and its base under the root

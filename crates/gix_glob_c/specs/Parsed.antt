@@ -2,7 +2,7 @@
 use Rattle.std.specs.Prelude.{◌≡◌, ◌≤◌, ℕ, Bool, true, false, nat_eq, nat_lt, List, length, map, slice_get, Option, None, Some, MatchOption, codes, if◌then◌else◌}
 use Rattle.std.specs.List.{ends_with}
 use Rattle.gix_glob.specs.declared.pattern.Mode.{Mode}
-use Rattle.gix_glob.specs.Lists.{Entry}
+use Rattle.gix_glob.specs.Entries.{Entry}
 use Rattle.gix_glob.specs.EntryLists.{EntryList}
 use Rattle.gix_glob.specs.Patterns.{IsPattern, Reads}
 use Rattle.gix_glob.specs.RepositoryPaths.{Answers, IsBasenameStart}

@@ -2,7 +2,7 @@
 use Rattle.std.specs.Prelude.{◌≡◌, ◌⊎◌, ℕ, ◌+◌, Bool, if◌then◌else◌, List, ◌++◌, slice_get, Option, Some, MatchOption, decimal, codes}
 use Rattle.gix_glob.specs.declared.pattern.Case.{Case}
 use Rattle.gix_glob.specs.Deciding.{Decides}
-use Rattle.gix_glob.specs.Lists.{Entry}
+use Rattle.gix_glob.specs.Entries.{Entry}
 use Rattle.gix_glob.specs.EntryLists.{EntryList}
 use Rattle.gix_glob.specs.Paths.{IsPlainPath}
 use Rattle.gix_glob.specs.Patterns.{is_negative}

@@ -1,6 +1,6 @@
 -- Entries of numbered lines: what a parser of lines means, once it is told what a single line gives.
 use Rattle.std.specs.Prelude.{◌≡◌, ◌⊎◌, true, ℕ, ◌+◌, List, [], ◌∷◌}
-use Rattle.gix_glob.specs.Lists.{Entry}
+use Rattle.gix_glob.specs.Entries.{Entry}
 use Rattle.gix_glob.specs.Patterns.{Reads, HasReading}
 use Rattle.glob_lines.specs.Lines.{Lines}
 

@@ -1,6 +1,6 @@
 -- What the parser of labels means: the readings of what stands before the lines' tabs, with what stands after them as values.
 use Rattle.std.specs.Prelude.{◌≡◌, ◌⊎◌, ℕ, List, [], ◌∷◌, ◌++◌}
-use Rattle.gix_glob.specs.Lists.{Entry}
+use Rattle.gix_glob.specs.Entries.{Entry}
 use Rattle.glob_lines.specs.Lines.{HasNo}
 use Rattle.glob_lines.specs.Entries.{Entries}
 use Rattle.glob_lines.specs.Plain.{PlainEntry}

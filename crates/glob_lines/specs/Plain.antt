@@ -1,6 +1,6 @@
 -- What the parser of plain lines means: the readings of the lines, with the numbers of the lines.
 use Rattle.std.specs.Prelude.{◌≡◌, ℕ, List}
-use Rattle.gix_glob.specs.Lists.{Entry}
+use Rattle.gix_glob.specs.Entries.{Entry}
 use Rattle.glob_lines.specs.Entries.{Entries}
 
 -- a pattern without a value, and its number

@@ -1,8 +1,8 @@
 //! What the parsers of lines share: a text is read as a pattern, and put behind the others with its value and its number.
 ghost use Rattle.std.specs.Prelude.{◌≡◌, ◌++◌, true, map, option_map, OnOk};
 ghost use Rattle.std.specs.Option.{option_to_list};
-ghost use Rattle.gix_glob.specs.Lists.{entry_of};
-ghost use Rattle.gix_glob.specs.Equations.Lists.{entry_with};
+ghost use Rattle.gix_glob.specs.Entries.{entry_of};
+ghost use Rattle.gix_glob.specs.Equations.Entries.{entry_with};
 ghost use Rattle.gix_glob.specs.Equations.Readings.{reading_of};
 
 use gix_glob::search::pattern::Mapping;

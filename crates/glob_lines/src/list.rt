@@ -4,7 +4,7 @@ ghost use Rattle.std.specs.Option.{ForSome, option_copied};
 ghost use Rattle.std.specs.Vec.{vec_items};
 ghost use Rattle.std.specs.Io.KnownBytes.{Appends};
 ghost use Rattle.gix_glob.specs.Bytes.{HasByte, slash};
-ghost use Rattle.gix_glob.specs.Lists.{entry_of};
+ghost use Rattle.gix_glob.specs.Entries.{entry_of};
 ghost use Rattle.gix_glob.specs.Paths.{IsFolder, IsPlainPath, has_file_part};
 ghost use Rattle.gix_glob.specs.RepositoryPaths.{IsBasenameStart};
 ghost use Rattle.gix_glob.specs.Watched.{has_failed, inner};

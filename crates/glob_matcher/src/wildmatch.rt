@@ -3,7 +3,6 @@ ghost use Rattle.std.specs.Prelude.{◌↔◌, IsTrue};
 ghost use Rattle.glob_matcher.specs.Matching.{Splits};
 ghost use Rattle.glob_matcher.specs.Steps.{IsBlankOf};
 
-mod advance;
 mod backtrack;
 mod barrier;
 mod counts;
@@ -21,6 +20,7 @@ mod state;
 #[cfg(test)]
 mod tests;
 mod tokens;
+mod turns;
 mod two_marks;
 
 pub use counts::Counts;

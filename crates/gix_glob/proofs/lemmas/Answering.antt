@@ -7,7 +7,7 @@ use Rattle.glob_patterns.specs.declared.pattern.case.Case.{Case}
 use Rattle.glob_patterns.specs.RepositoryPaths.{Answers, IsAfterLastSlash, IsBasenameStart}
 use Rattle.gix_glob.specs.Deciding.{AnswersAt, AnswersUnder, PairAnswers, path_mode}
 use Rattle.gix_glob.specs.EntryLists.{EntryList}
-use Rattle.gix_glob.specs.Lists.{Entry}
+use Rattle.gix_glob.specs.Entries.{Entry}
 use Rattle.gix_glob.specs.Stripping.{NothingLeft, RestOf}
 use Rattle.gix_glob.proofs.lemmas.Rests.{Rest-front}
 

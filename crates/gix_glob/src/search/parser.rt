@@ -10,7 +10,7 @@ use std::hash::Hash;
 /// list, so two runs of a parser over the same bytes differ at most in that memory is refused.
 pub trait Pattern: Clone + PartialEq + Eq + Debug + Hash + Ord + PartialOrd + Default + Drop {
     ghost use Rattle.std.specs.Prelude.{◌≡◌, ℕ, List, IfOk, map};
-    ghost use Rattle.gix_glob.specs.Lists.{Entry, entry_of};
+    ghost use Rattle.gix_glob.specs.Entries.{Entry, entry_of};
 
     /// What stands beside each pattern.
     type Value: PartialEq + Eq + Debug + Hash + Ord + PartialOrd + Clone + Drop;

@@ -3,7 +3,7 @@ use Rattle.std.proofs.Common.{◌≡◌, inr, ℕ, ◌<◌, Bool, List, [], ◌�
 use Rattle.std.specs.Prelude.{slice_get}
 use Rattle.std.proofs.lemmas.Option.{same_Some, slice_get-get_or, slice_get-map, slice_get_within}
 use Rattle.gix_glob.specs.Deciding.{AnswersUnder, Decides, PairAnswers, path_mode}
-use Rattle.gix_glob.specs.Lists.{Entry}
+use Rattle.gix_glob.specs.Entries.{Entry}
 use Rattle.gix_glob.specs.EntryLists.{EntryList}
 use Rattle.gix_glob.specs.RepositoryPaths.{Answers, IsBasenameStart}
 use Rattle.gix_glob.proofs.lemmas.Elements.{slice_get-map_within}

@@ -4,7 +4,7 @@ use Rattle.std.specs.Prelude.{slice_get}
 use Rattle.std.proofs.lemmas.Bool.{cases_eq}
 use Rattle.std.proofs.lemmas.Option.{same_Some, slice_get_within}
 use Rattle.gix_glob.specs.declared.pattern.Mode as pattern
-use Rattle.gix_glob.specs.Lists.{Entry}
+use Rattle.gix_glob.specs.Entries.{Entry}
 use Rattle.gix_glob.specs.EntryLists.{EntryList}
 use Rattle.glob_index.specs.declared.chains.Link.{Link}
 use Rattle.glob_index.specs.declared.row.Row.{Row}

@@ -3,7 +3,7 @@ use Rattle.std.proofs.Common.{◌≡◌, ◌+◌, inr, ℕ, Bool, List, ◌++◌
 use Rattle.std.specs.Prelude.{OnOk, codes, if◌then◌else◌, is_ok, slice_get}
 use Rattle.gix_glob.specs.declared.pattern.Case.{Case}
 use Rattle.gix_glob.specs.Deciding.{Decides}
-use Rattle.gix_glob.specs.Lists.{Entry}
+use Rattle.gix_glob.specs.Entries.{Entry}
 use Rattle.gix_glob.specs.EntryLists.{EntryList}
 use Rattle.gix_glob.specs.Paths.{IsPlainPath}
 use Rattle.glob_lines.specs.Decisions.{WritesDecisions, verdict}

@@ -5,8 +5,8 @@ use Rattle.std.specs.List.{cons_option}
 use Rattle.std.specs.Option.{option_and_then, option_map, option_to_list}
 use Rattle.gix_glob.specs.declared.pattern.Mode.{Mode}
 use Rattle.gix_glob.specs.declared.search.pattern.mapping.Mapping.{Mapping}
-use Rattle.gix_glob.specs.Lists.{Entry, entry_of}
-use Rattle.gix_glob.specs.Equations.Lists.{entry_with}
+use Rattle.gix_glob.specs.Entries.{Entry, entry_of}
+use Rattle.gix_glob.specs.Equations.Entries.{entry_with}
 use Rattle.gix_glob.specs.Patterns.{Reads}
 use Rattle.gix_glob.specs.Equations.Readings.{Reading, reading_of}
 use Rattle.glob_lines.specs.Equations.Lines.{lines_of}

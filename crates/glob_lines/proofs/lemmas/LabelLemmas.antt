@@ -6,7 +6,7 @@ use Rattle.std.proofs.lemmas.Bool.{ne_eqb}
 use Rattle.std.proofs.lemmas.Bool.Decides.{eqb_tells}
 use Rattle.std.proofs.lemmas.List.{drop_all}
 use Rattle.memchr.specs.Find.{IsFirstByte, is_byte}
-use Rattle.gix_glob.specs.Equations.Lists.{entry_with}
+use Rattle.gix_glob.specs.Equations.Entries.{entry_with}
 use Rattle.gix_glob.specs.Equations.Readings.{Reading, reading_of}
 use Rattle.glob_lines.specs.Label.{GivesLabel, Label, tab, entry_with_empty_label}
 use Rattle.glob_lines.specs.Equations.Label.{is_tab, label_of, label_content}

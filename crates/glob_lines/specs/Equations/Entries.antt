@@ -2,8 +2,8 @@
 use Rattle.std.specs.Prelude.{true, ℕ, ◌+◌, List, [], ◌∷◌, Option}
 use Rattle.std.specs.List.{cons_option}
 use Rattle.std.specs.Option.{option_and_then, option_map}
-use Rattle.gix_glob.specs.Lists.{Entry}
-use Rattle.gix_glob.specs.Equations.Lists.{entry_with}
+use Rattle.gix_glob.specs.Entries.{Entry}
+use Rattle.gix_glob.specs.Equations.Entries.{entry_with}
 use Rattle.gix_glob.specs.Equations.Readings.{reading_of}
 use Rattle.glob_lines.specs.Equations.Lines.{lines_of}
 

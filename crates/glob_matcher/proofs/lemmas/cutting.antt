@@ -2,8 +2,5 @@ pub mod CutLemmas
 pub mod SplitLemmas
 pub mod PlaceLemmas
 pub mod Engines
-pub mod LastByte
 pub mod SlashLemmas
-pub mod StarLemmas
-pub mod Alignments
 pub mod OneMoreStar

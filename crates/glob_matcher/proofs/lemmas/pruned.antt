@@ -1,1 +1,3 @@
 pub mod AttemptLemmas
+pub mod StarLemmas
+pub mod Alignments

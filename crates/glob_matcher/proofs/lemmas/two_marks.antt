@@ -12,3 +12,4 @@ pub mod MovedMarkCosts
 pub mod Scans
 pub mod Turns
 pub mod Texts
+pub mod LastByte

@@ -12,11 +12,11 @@ use Rattle.glob_matcher.specs.declared.wildmatch.state.Turn.TheVariants as turn
 use Rattle.glob_matcher.specs.Steps.{Counts, step_limit, look_limit}
 use Rattle.glob_matcher.specs.Private.Components.{next_component}
 use Rattle.glob_matcher.specs.Private.SizedTokens.{SizedToken, SizedTokensFrom}
-use Rattle.glob_matcher.specs.Private.Prices.{Measure, move, trial, left, cost, hop, component_cost}
+use Rattle.glob_matcher.specs.Private.Prices.{Measure, move, first_test, places_left, cost, next_tests_at, component_cost}
 
 -- A test at place i of the pattern, or at its end, took the count from `before` to `after` at most.
 pub record IsTest (measure : Measure) (mode : Mode) (p : List ℕ) (i before after : ℕ) : Type 0 where
-  pub high : (xs : List SizedToken) → SizedTokensFrom mode p i xs → after ≤ before + trial measure xs
+  pub high : (xs : List SizedToken) → SizedTokensFrom mode p i xs → after ≤ before + first_test measure xs
 
 module _ (measure : Measure) (mode : Mode) (p v : List ℕ) where
   -- What the crossing mark may still cost is at most `rest`.
@@ -24,14 +24,14 @@ module _ (measure : Measure) (mode : Mode) (p v : List ℕ) where
     pub tokens : List SizedToken
     pub read : SizedTokensFrom mode p place tokens
     pub inside : at ≤ length v
-    pub skips : (k : ℕ) → hop mode v tokens k ≡ k + 1
-    pub enough : cost measure mode v tokens (at + 1) + move measure * left v at ≤ rest
+    pub skips : (k : ℕ) → next_tests_at mode v tokens k ≡ k + 1
+    pub enough : cost measure mode v tokens (at + 1) + move measure * places_left v at ≤ rest
 
   pub record DirsRest (place at rest : ℕ) : Type 0 where
     pub tokens : List SizedToken
     pub read : SizedTokensFrom mode p place tokens
     pub inside : at ≤ length v
-    pub enough : cost measure mode v tokens (next_component mode v at) + move measure * left v at ≤ rest
+    pub enough : cost measure mode v tokens (next_component mode v at) + move measure * places_left v at ≤ rest
 
   abbrev pub CrossingRest : Crossing → ℕ → Type 0
   CrossingRest crossing.Unmet rest = Unit {0}
@@ -60,7 +60,7 @@ module _ (measure : Measure) (mode : Mode) (p v : List ℕ) where
     pub rest : ℕ
     pub crossing : CrossingRest state.crossing rest
     pub later : cost measure mode v tokens (next_component mode v state.at) ≤ rest
-    pub here : spent + cost measure mode v tokens state.at + rest ≤ limit + cost measure mode v tokens (hop mode v tokens state.at)
+    pub here : spent + cost measure mode v tokens state.at + rest ≤ limit + cost measure mode v tokens (next_tests_at mode v tokens state.at)
     pub local : LocalRestIfSet tokens state.at rest spent limit state.local
 
   -- So it is, where the pattern is read in tokens.

@@ -36,33 +36,33 @@ unfoldable pub test : Measure → SizedToken → ℕ
 test measure x = amount measure 1 (8 * x.width - for_star x.token 4)
 
 -- all that a token may take at one place: its test and, of a star, a move of its mark
-unfoldable pub each : Measure → SizedToken → ℕ
-each measure x = test measure x + for_star x.token (move measure)
+unfoldable pub token_cost : Measure → SizedToken → ℕ
+token_cost measure x = test measure x + for_star x.token (move measure)
 
 -- the test of the first of the tokens, or of the pattern's end
-unfoldable pub trial : Measure → List SizedToken → ℕ
-trial measure [] = 1
-trial measure (x ∷ xs) = test measure x
+unfoldable pub first_test : Measure → List SizedToken → ℕ
+first_test measure [] = 1
+first_test measure (x ∷ xs) = test measure x
 
 -- where the tests of the token after one begin
-unfoldable pub onward : Mode → List ℕ → Bool → ℕ → ℕ
-onward mode v apart k = if apart then next_component mode v k else k
+unfoldable pub tests_after : Mode → List ℕ → Bool → ℕ → ℕ
+tests_after mode v apart k = if apart then next_component mode v k else k
 
 -- the places from k on, the value's end included
-unfoldable pub left : List ℕ → ℕ → ℕ
-left v k = length v + 1 - k
+unfoldable pub places_left : List ℕ → ℕ → ℕ
+places_left v k = length v + 1 - k
 
 -- what the tokens may take from place k of the value on, over all the later places of the mark before them
 unfoldable pub cost : Measure → Mode → List ℕ → List SizedToken → ℕ → ℕ
-cost measure mode v [] k = left v k
-cost measure mode v (x ∷ xs) k = each measure x * left v k + cost measure mode v xs (onward mode v (separates mode x.token) k)
+cost measure mode v [] k = places_left v k
+cost measure mode v (x ∷ xs) k = token_cost measure x * places_left v k + cost measure mode v xs (tests_after mode v (separates mode x.token) k)
 
 -- the place where the next tests of these tokens may begin
-unfoldable pub hop : Mode → List ℕ → List SizedToken → ℕ → ℕ
-hop mode v [] k = next_component mode v k
-hop mode v (x ∷ xs) k = if separates mode x.token then k + 1 else next_component mode v k
+unfoldable pub next_tests_at : Mode → List ℕ → List SizedToken → ℕ → ℕ
+next_tests_at mode v [] k = next_component mode v k
+next_tests_at mode v (x ∷ xs) k = if separates mode x.token then k + 1 else next_component mode v k
 
 -- what the tokens up to the first that ends a component, or the pattern's end, may take at one place
 unfoldable pub component_cost : Measure → Mode → List SizedToken → ℕ
 component_cost measure mode [] = 1
-component_cost measure mode (x ∷ xs) = each measure x + (if separates mode x.token then 0 else component_cost measure mode xs)
+component_cost measure mode (x ∷ xs) = token_cost measure x + (if separates mode x.token then 0 else component_cost measure mode xs)

@@ -11,16 +11,16 @@ use Rattle.glob_matcher.specs.Private.Reader.{IsToken}
 use Rattle.glob_matcher.specs.Pruning.{HasRoom}
 
 -- the byte that a token of this kind asks for, where it asks for one
-abbrev pub literal_of : TokenKind → Option ℕ
-literal_of (kind.Byte b) = Some b
-literal_of _ = None
+abbrev pub wanted_by : TokenKind → Option ℕ
+wanted_by (kind.Byte b) = Some b
+wanted_by _ = None
 
 -- The token at place i of the pattern asks for this byte, or, where none is given, for none.
 pub record AsksFor (mode : Mode) (pattern : List ℕ) (i : ℕ) (wanted : Option ℕ) : Type 0 where
   pub kind : TokenKind
   pub after : ℕ
   pub read : IsToken mode pattern i kind after
-  pub asks : wanted ≡ literal_of kind
+  pub asks : wanted ≡ wanted_by kind
 
 -- From place k up to place e the value has no byte that is the wanted one after folding. With none wanted, none is passed over.
 pub record Skips (mode : Mode) (value : List ℕ) (wanted : Option ℕ) (k e : ℕ) : Type 0 where
@@ -36,7 +36,7 @@ pub record IsComponentEnd (value : List ℕ) (k e : ℕ) : Type 0 where
   pub ends : e < length value → slice_index value e ≡ slash
 
 -- What a search over all places of the value answers, for the tokens from place i of the pattern on.
-pub record IsCrossing (answer : Answer) (pattern : List ℕ) (i : ℕ) (value : List ℕ) (k : ℕ) (mode : Mode) (depth : ℕ) : Type 0 where
+pub record IsTriedEverywhere (answer : Answer) (pattern : List ℕ) (i : ℕ) (value : List ℕ) (k : ℕ) (mode : Mode) (depth : ℕ) : Type 0 where
   pub found : answer ≡ Match → (e : ℕ) × (k ≤ e) × (e ≤ length value) × SplitsFrom value e pattern i mode
   pub lost : HasRoom pattern i mode (depth + 1) → answer ≢ Match → (e : ℕ) → k ≤ e → e ≤ length value → ¬ SplitsFrom value e pattern i mode
   pub limit : HasRoom pattern i mode (depth + 1) → answer ≢ RecursionLimitReached
@@ -44,7 +44,7 @@ pub record IsCrossing (answer : Answer) (pattern : List ℕ) (i : ℕ) (value : 
   pub not_component_alone : answer ≢ AbortToStarStar
 
 -- What a search within a component of the value answers, for the tokens from place i of the pattern on.
-pub record IsWithin (answer : Answer) (pattern : List ℕ) (i : ℕ) (value : List ℕ) (k : ℕ) (mode : Mode) (depth : ℕ) : Type 0 where
+pub record IsTriedInComponent (answer : Answer) (pattern : List ℕ) (i : ℕ) (value : List ℕ) (k : ℕ) (mode : Mode) (depth : ℕ) : Type 0 where
   pub found : answer ≡ Match → (e : ℕ) × (k ≤ e) × (e ≤ length value) × NoSlash value k e × SplitsFrom value e pattern i mode
   pub lost : HasRoom pattern i mode (depth + 1) → answer ≢ Match
       → (e : ℕ) → k ≤ e → e ≤ length value → NoSlash value k e → ¬ SplitsFrom value e pattern i mode
@@ -53,7 +53,7 @@ pub record IsWithin (answer : Answer) (pattern : List ℕ) (i : ℕ) (value : Li
   pub limit : HasRoom pattern i mode (depth + 1) → answer ≢ RecursionLimitReached
 
 -- What a search for the directory of a double star with its slash answers, the token lying from place i up to place j.
-pub record IsDescent (answer : Answer) (pattern : List ℕ) (i j : ℕ) (value : List ℕ) (k : ℕ) (mode : Mode) (depth : ℕ) : Type 0 where
+pub record IsTriedInDirectories (answer : Answer) (pattern : List ℕ) (i j : ℕ) (value : List ℕ) (k : ℕ) (mode : Mode) (depth : ℕ) : Type 0 where
   pub found : answer ≡ Match → SplitsFrom value k pattern i mode
   pub lost : HasRoom pattern j mode (depth + 1) → answer ≢ Match
       → (e : ℕ) → k ≤ e → e ≤ length value → (e ≢ k → slice_index value (e - 1) ≡ slash) → ¬ SplitsFrom value e pattern i mode

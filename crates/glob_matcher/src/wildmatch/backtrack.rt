@@ -8,13 +8,13 @@ ghost use Rattle.glob_matcher.specs.Private.Budget.{AllowsLeft, AllowsMiss};
 ghost use Rattle.glob_matcher.specs.Private.Turns.{IsBacktrack, IsBacktrackLocal};
 
 use super::barrier::{Barrier, NoBarrier, Slash};
-use super::engine::{Engine, Mark, Match};
+use super::engine::{Engine, Mark, Texts};
 use super::needle::{ExactByte, FoldedByte, Follow, NoByte};
 use super::scan::Scan;
 use super::state::{Crossing, State};
 use std::sync::ledger::Ledger;
 
-impl<'c, 'a, S: Ledger, L: Ledger, M: Match> Engine<'c, 'a, S, L, M> {
+impl<'c, 'a, S: Ledger, L: Ledger, M: Texts> Engine<'c, 'a, S, L, M> {
     /// Moves a mark to the next place after a slash.
     #[inline(always)]
     fn next_directory(&mut self, mark: Mark) -> Option<Mark>

@@ -3,7 +3,7 @@ ghost use Rattle.std.specs.Prelude.{◌≡◌, ◌+◌, ◌<◌, IfSome, IfNone,
 ghost use Rattle.glob_matcher.specs.Bytes.{slash};
 ghost use Rattle.glob_matcher.specs.Private.Takes.{Takes};
 
-use super::engine::{Engine, Mark, Match};
+use super::engine::{Engine, Mark, Texts};
 use std::sync::ledger::Ledger;
 
 /// What a scan can't pass. Each kind is a type, so that each has a loop of its own.
@@ -13,7 +13,7 @@ pub trait Barrier: Copy {
     ghost stops: { ℕ → Type 0 };
 
     /// Moves a mark inside the value by one byte; `None` where that byte can't be passed.
-    fn pass<'c, 'a, S: Ledger, L: Ledger, M: Match>(
+    fn pass<'c, 'a, S: Ledger, L: Ledger, M: Texts>(
         self,
         engine: &mut Engine<'c, 'a, S, L, M>,
         mark: Mark,
@@ -36,7 +36,7 @@ impl Barrier for NoBarrier {
     ghost stops = { λ b. ⊥ };
 
     #[inline(always)]
-    fn pass<'c, 'a, S: Ledger, L: Ledger, M: Match>(
+    fn pass<'c, 'a, S: Ledger, L: Ledger, M: Texts>(
         self,
         engine: &mut Engine<'c, 'a, S, L, M>,
         mark: Mark,
@@ -49,7 +49,7 @@ impl Barrier for Slash {
     ghost stops = { λ b. b ≡ slash };
 
     #[inline(always)]
-    fn pass<'c, 'a, S: Ledger, L: Ledger, M: Match>(
+    fn pass<'c, 'a, S: Ledger, L: Ledger, M: Texts>(
         self,
         engine: &mut Engine<'c, 'a, S, L, M>,
         mark: Mark,

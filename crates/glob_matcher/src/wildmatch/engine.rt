@@ -24,7 +24,7 @@ use std::marker::{Brand, Model, PhantomData};
 use std::sync::ledger::Ledger;
 
 /// One match, which contracts alone name: its texts, its mode, and the reference to its counts.
-pub trait Match {
+pub trait Texts {
     ghost use Rattle.std.specs.Prelude.{ℕ, ◌<◌, ◌^◌, List, length};
     ghost use Rattle.glob_matcher.specs.declared.wildmatch.mode.Mode.{Mode};
 
@@ -41,7 +41,7 @@ pub trait Match {
     ghost short_value: { length value < 2 ^ 64 };
 }
 
-impl Match for Brand {
+impl Texts for Brand {
     ghost use Rattle.std.specs.Prelude.{[]};
     ghost use Rattle.std.proofs.Common.{arith};
 
@@ -60,7 +60,7 @@ impl Match for Brand {
 
 /// A match and its counts. Contracts see the counts alone, and the match by its type.
 #[derive(Drop)]
-pub struct Engine<'c, 'a, S: Ledger, L: Ledger, M: Match> {
+pub struct Engine<'c, 'a, S: Ledger, L: Ledger, M: Texts> {
     pattern: &'a [u8],
     value: &'a [u8],
     mode: Mode,
@@ -68,7 +68,7 @@ pub struct Engine<'c, 'a, S: Ledger, L: Ledger, M: Match> {
     of: PhantomData<M>,
 }
 
-impl<'c, 'a, S: Ledger, L: Ledger, M: Match> Model for Engine<'c, 'a, S, L, M> {
+impl<'c, 'a, S: Ledger, L: Ledger, M: Texts> Model for Engine<'c, 'a, S, L, M> {
     ghost use Rattle.std.specs.Prelude.{◌≡◌};
     ghost use Rattle.glob_matcher.specs.Steps.{Counts};
 
@@ -105,7 +105,7 @@ impl Mark {
     }
 }
 
-impl<'c, 'a, S: Ledger, L: Ledger, M: Match> Engine<'c, 'a, S, L, M> {
+impl<'c, 'a, S: Ledger, L: Ledger, M: Texts> Engine<'c, 'a, S, L, M> {
     /// The engine of a match, over the counts of what it takes.
     #[inline(always)]
     fn new(
@@ -385,7 +385,7 @@ impl<'c, 'a, S: Ledger, L: Ledger, M: Match> Engine<'c, 'a, S, L, M> {
 
 /// Whether the pattern matches the value, where their ends alone show it, and the counts of what it took.
 #[inline(always)]
-fn decide_by_ends<'c, 'a, S: Ledger, L: Ledger, M: Match>(
+fn decide_by_ends<'c, 'a, S: Ledger, L: Ledger, M: Texts>(
     pattern: &'a [u8],
     value: &'a [u8],
     mode: Mode,
@@ -409,7 +409,7 @@ fn decide_by_ends<'c, 'a, S: Ledger, L: Ledger, M: Match>(
 /// Whether the search says that the pattern matches the value, and the counts of what it took. It is not inlined, so that a
 /// match that the ends decide doesn't pay for the registers of the search.
 #[inline(never)]
-fn search_whole<'c, 'a, S: Ledger, L: Ledger, M: Match>(
+fn search_whole<'c, 'a, S: Ledger, L: Ledger, M: Texts>(
     pattern: &'a [u8],
     value: &'a [u8],
     mode: Mode,
@@ -432,7 +432,7 @@ fn search_whole<'c, 'a, S: Ledger, L: Ledger, M: Match>(
 
 /// Whether the pattern matches the value, and the counts of what it took.
 #[inline(always)]
-pub fn decide<'c, 'a, S: Ledger, L: Ledger, M: Match>(
+pub fn decide<'c, 'a, S: Ledger, L: Ledger, M: Texts>(
     pattern: &'a [u8],
     value: &'a [u8],
     mode: Mode,
@@ -458,7 +458,7 @@ pub fn decide<'c, 'a, S: Ledger, L: Ledger, M: Match>(
 
 /// The token at a place of the pattern, and the place after it, by an engine that reads no value; and the counts.
 #[inline(always)]
-pub fn read_token<'c, 'a, S: Ledger, L: Ledger, M: Match>(
+pub fn read_token<'c, 'a, S: Ledger, L: Ledger, M: Texts>(
     pattern: &'a [u8],
     place: usize,
     mode: Mode,
@@ -481,7 +481,7 @@ pub fn read_token<'c, 'a, S: Ledger, L: Ledger, M: Match>(
 /// it holds a byte, `None` where no set begins; and the counts. It is not inlined, and takes the parts of an engine, not one by
 /// reference, so that a search keeps its own in registers.
 #[inline(never)]
-pub fn read_set<'c, 'a, S: Ledger, L: Ledger, M: Match>(
+pub fn read_set<'c, 'a, S: Ledger, L: Ledger, M: Texts>(
     pattern: &'a [u8],
     place: usize,
     byte: u8,
@@ -505,7 +505,7 @@ pub fn read_set<'c, 'a, S: Ledger, L: Ledger, M: Match>(
 
 /// A text has no more bytes than a place can count.
 #[inline(always)]
-pub fn is_short(text: &[u8])
+pub fn text_is_short(text: &[u8])
     ensures { text.now ≡ take (2 ^ 64 - 1) text.now }
 {
     let _ = text.len();

@@ -5,7 +5,7 @@ ghost use Rattle.glob_matcher.specs.Bytes.{StandsForItself};
 ghost use Rattle.glob_matcher.specs.Private.Scans.{Follows};
 ghost use Rattle.glob_matcher.specs.Private.Takes.{Takes};
 
-use super::engine::{Engine, Match};
+use super::engine::{Engine, Texts};
 use std::sync::ledger::Ledger;
 
 /// What follows a star: a byte that is a token by itself, or the pattern's end.
@@ -78,7 +78,7 @@ pub fn stands_for_itself(byte: u8) -> bool
     !(matches!(byte, b'*' | b'?' | b'[') || byte == b'\\')
 }
 
-impl<'c, 'a, S: Ledger, L: Ledger, M: Match> Engine<'c, 'a, S, L, M> {
+impl<'c, 'a, S: Ledger, L: Ledger, M: Texts> Engine<'c, 'a, S, L, M> {
     /// What follows at a place of the pattern; `None` where it is a token of another kind.
     #[inline(always)]
     pub fn follow_at(&mut self, place: usize) -> Option<Follow>

@@ -4,7 +4,7 @@ ghost use Rattle.glob_matcher.specs.Bytes.{HasByte, star};
 ghost use Rattle.glob_matcher.specs.Tokens.{DirsAt};
 ghost use Rattle.glob_matcher.specs.Matching.{Splits};
 ghost use Rattle.glob_matcher.specs.Pruning.{Holds, IsStart, IsBoundary, IsAttempt};
-ghost use Rattle.glob_matcher.specs.Private.StarSearch.{literal_of, AsksFor, Skips, IsComponentEnd, IsCrossing, IsWithin, IsDescent};
+ghost use Rattle.glob_matcher.specs.Private.StarSearch.{wanted_by, AsksFor, Skips, IsComponentEnd, IsTriedEverywhere, IsTriedInComponent, IsTriedInDirectories};
 
 #[cfg(test)]
 mod tests;
@@ -65,8 +65,8 @@ pub fn is_start(pattern: &[u8], place: usize, mode: Mode) -> bool
 
 impl TokenKind {
     /// The byte that a token of this kind asks for, where it asks for one.
-    fn literal(self) -> Option<u8>
-        ensures { result ≡ literal_of self }
+    fn wanted_byte(self) -> Option<u8>
+        ensures { result ≡ wanted_by self }
     {
         match self {
             TokenKind::Byte(byte) => Some(byte),
@@ -100,13 +100,13 @@ struct Level<'a> {
 
 impl<'a> Level<'a> {
     /// The byte that the token at a place of the pattern asks for, where it asks for one.
-    fn first_literal(&self, place: usize) -> Option<u8>
+    fn first_wanted(&self, place: usize) -> Option<u8>
         requires start { IsStart self.now.pattern.now place self.now.mode }
         requires more { place ≢ length self.now.pattern.now }
         ensures { AsksFor self.now.mode self.now.pattern.now place result }
     {
         let (kind, _) = token_at(self.pattern, place, self.mode);
-        kind.literal()
+        kind.wanted_byte()
     }
 
     /// The first place of the value, from one place on and before another, where the wanted byte stands; where none is wanted,
@@ -162,9 +162,9 @@ impl<'a> Level<'a> {
         'tokens: while place < self.pattern.len() {
             let (kind, next) = token_at(self.pattern, place, self.mode);
             match kind {
-                TokenKind::Free => return self.cross(next, at),
-                TokenKind::Local => return self.stay(next, at),
-                TokenKind::Dirs => return self.descend(next, at),
+                TokenKind::Free => return self.try_everywhere(next, at),
+                TokenKind::Local => return self.try_component(next, at),
+                TokenKind::Dirs => return self.try_directories(next, at),
                 TokenKind::Nothing => return Answer::AbortAll,
                 TokenKind::Byte(_) | TokenKind::Any | TokenKind::Set => {
                     if at == self.value.len() {
@@ -183,17 +183,17 @@ impl<'a> Level<'a> {
 
     /// Tries the rest of the pattern at each place of the value from one on.
     #[cycle(attempt)]
-    fn cross(&self, place: usize, mut at: usize) -> Answer
+    fn try_everywhere(&self, place: usize, mut at: usize) -> Answer
         requires start { IsStart self.now.pattern.now place self.now.mode }
         requires no_star { ¬ HasByte self.now.pattern.now place star }
         requires inside { at ≤ length self.now.value.now }
         requires shallow { self.now.depth < 64 }
-        ensures { IsCrossing result self.now.pattern.now place self.now.value.now at self.now.mode self.now.depth }
+        ensures { IsTriedEverywhere result self.now.pattern.now place self.now.value.now at self.now.mode self.now.depth }
     {
         if place == self.pattern.len() {
             return Answer::Match;
         }
-        let wanted = self.first_literal(place);
+        let wanted = self.first_wanted(place);
         let below = Level {
             depth: self.depth + 1,
             ..*self
@@ -209,12 +209,12 @@ impl<'a> Level<'a> {
 
     /// Tries the rest of the pattern at each place of the value's component from one on.
     #[cycle(attempt)]
-    fn stay(&self, place: usize, mut at: usize) -> Answer
+    fn try_component(&self, place: usize, mut at: usize) -> Answer
         requires start { IsStart self.now.pattern.now place self.now.mode }
         requires no_star { ¬ HasByte self.now.pattern.now place star }
         requires inside { at ≤ length self.now.value.now }
         requires shallow { self.now.depth < 64 }
-        ensures { IsWithin result self.now.pattern.now place self.now.value.now at self.now.mode self.now.depth }
+        ensures { IsTriedInComponent result self.now.pattern.now place self.now.value.now at self.now.mode self.now.depth }
     {
         let end = self.component_end(at);
         if place == self.pattern.len() {
@@ -223,7 +223,7 @@ impl<'a> Level<'a> {
             }
             return Answer::Match;
         }
-        let wanted = self.first_literal(place);
+        let wanted = self.first_wanted(place);
         let until = self.value.len().min(end + 1);
         let below = Level {
             depth: self.depth + 1,
@@ -240,12 +240,12 @@ impl<'a> Level<'a> {
 
     /// Tries the rest of the pattern here, and after each slash of the value from here on.
     #[cycle(attempt)]
-    fn descend(&self, place: usize, at: usize) -> Answer
+    fn try_directories(&self, place: usize, at: usize) -> Answer
         requires token { (i : ℕ) × IsBoundary self.now.pattern.now i self.now.mode × DirsAt self.now.mode self.now.pattern.now i place }
         requires inside { at ≤ length self.now.value.now }
         requires shallow { self.now.depth < 64 }
         ensures { (i : ℕ) → DirsAt self.now.mode self.now.pattern.now i place
-            → IsDescent result self.now.pattern.now i place self.now.value.now at self.now.mode self.now.depth }
+            → IsTriedInDirectories result self.now.pattern.now i place self.now.value.now at self.now.mode self.now.depth }
     {
         let below = Level {
             depth: self.depth + 1,
@@ -253,7 +253,7 @@ impl<'a> Level<'a> {
         };
         match below.attempt(place, at) {
             Answer::Match => Answer::Match,
-            _ => self.cross(place - 1, at),
+            _ => self.try_everywhere(place - 1, at),
         }
     }
 }

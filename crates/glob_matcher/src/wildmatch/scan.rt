@@ -3,7 +3,7 @@ ghost use Rattle.std.specs.Prelude.{◌+◌, ◌<◌, ◌≤◌, length};
 ghost use Rattle.glob_matcher.specs.Private.Scans.{IsScan, MovesBy};
 
 use super::barrier::Barrier;
-use super::engine::{Engine, Mark, Match};
+use super::engine::{Engine, Mark, Texts};
 use super::needle::Needle;
 use std::sync::ledger::Ledger;
 
@@ -21,7 +21,7 @@ pub enum Scan {
     Undecided(Mark),
 }
 
-impl<'c, 'a, S: Ledger, L: Ledger, M: Match> Engine<'c, 'a, S, L, M> {
+impl<'c, 'a, S: Ledger, L: Ledger, M: Texts> Engine<'c, 'a, S, L, M> {
     /// Tries the place of a mark inside the value.
     #[inline(always)]
     fn try_place<N: Needle, B: Barrier>(&mut self, mark: Mark, needle: N, barrier: B) -> Scan

@@ -9,7 +9,7 @@ ghost use Rattle.glob_matcher.specs.Private.Takes.{Takes, TakesExactly, looks_at
 ghost use Rattle.glob_matcher.specs.Private.Looks.{LookedOver, IsItemRead, IsKnown, IsPaidFor, read_end, search_front};
 ghost use Rattle.glob_matcher.specs.Private.Reader.{IsEntry, IsSetRead, after_item, at_first, first_item};
 
-use super::engine::{Engine, Match};
+use super::engine::{Engine, Texts};
 use super::items::Item;
 use super::mode::Mode;
 use std::sync::ledger::Ledger;
@@ -90,7 +90,7 @@ fn set_holds(mode: Mode, is_negated: bool, byte: u8, is_held: bool) -> bool
     !(mode.is_path() && byte == b'/') && is_held != is_negated
 }
 
-impl<'c, 'a, S: Ledger, L: Ledger, M: Match> Engine<'c, 'a, S, L, M> {
+impl<'c, 'a, S: Ledger, L: Ledger, M: Texts> Engine<'c, 'a, S, L, M> {
     /// The byte that the backslash at this place escapes.
     pub fn escaped_at(&mut self, place: usize) -> Option<u8>
         requires { HasByte M.pattern place backslash }

@@ -6,7 +6,7 @@ ghost use Rattle.glob_matcher.specs.Private.Reader.{IsSetRead, IsToken, kind_of,
 ghost use Rattle.glob_matcher.specs.Steps.{IsBlankOf};
 
 use super::counts::Counts;
-use super::engine::{is_short, read_set, read_token};
+use super::engine::{read_set, read_token, text_is_short};
 use super::mode::Mode;
 use super::tokens::TokenKind;
 use std::marker::Brand;
@@ -34,7 +34,7 @@ fn token_with_counts<S: Ledger, L: Ledger>(
     requires inside { place < length pattern.now }
     ensures { IsToken mode pattern.now place result.0 result.1 }
 {
-    is_short(pattern);
+    text_is_short(pattern);
     read_token::<S, L, Brand>(pattern, place, mode, &mut Counts::new(steps, looks)).0
 }
 
@@ -61,7 +61,7 @@ fn set_with_counts<S: Ledger, L: Ledger>(
     requires bracket { HasByte pattern.now place open_bracket }
     ensures { IsSetRead mode pattern.now place byte result }
 {
-    is_short(pattern);
+    text_is_short(pattern);
     read_set::<S, L, Brand>(pattern, place, byte, mode, &mut Counts::new(steps, looks)).0
 }
 

@@ -7,7 +7,7 @@ ghost use Rattle.glob_matcher.specs.Private.Takes.{Takes};
 ghost use Rattle.glob_matcher.specs.Private.Looks.{LookedOver};
 ghost use Rattle.glob_matcher.specs.Private.Reader.{IsToken, IsTokenRead, IsRunRead, is_star, kind_of, Fits};
 
-use super::engine::{Engine, Match};
+use super::engine::{Engine, Texts};
 use super::mode::Mode;
 use std::sync::ledger::Ledger;
 
@@ -63,7 +63,7 @@ impl TokenKind {
     }
 }
 
-impl<'c, 'a, S: Ledger, L: Ledger, M: Match> Engine<'c, 'a, S, L, M> {
+impl<'c, 'a, S: Ledger, L: Ledger, M: Texts> Engine<'c, 'a, S, L, M> {
     /// Whether a place is inside the pattern and has this byte.
     fn has_byte(&mut self, place: usize, byte: u8) -> bool
         ensures answer { IsTrue result ↔ HasByte M.pattern place byte }

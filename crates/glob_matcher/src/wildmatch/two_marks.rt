@@ -4,7 +4,7 @@
 //! after it. Where a token does not fit, the local mark moves by one byte, or, where that would pass a slash, the crossing
 //! mark moves to its next place. A crossing token that is newly met forgets both marks, and a slash the local one.
 //!
-//! Its turns are in `advance`, the ways back to a mark in `backtrack`, and the scans from one in `scan`. All of them read the
+//! Its turns are in `turns`, the ways back to a mark in `backtrack`, and the scans from one in `scan`. All of them read the
 //! two texts through `engine`.
 ghost use Rattle.std.specs.Prelude.{◌≢◌, ◌↔◌, ◌+◌, ◌≤◌, true, IsTrue, IfSome, length};
 ghost use Rattle.glob_matcher.specs.Bytes.{close_bracket, question_mark, slash, star};
@@ -14,7 +14,7 @@ ghost use Rattle.glob_matcher.specs.Steps.{look_limit, step_limit};
 ghost use Rattle.glob_matcher.specs.Private.Budget.{IsWithinLimits};
 
 use super::counts::Counts;
-use super::engine::{Engine, Match, decide, is_short};
+use super::engine::{Engine, Texts, decide, text_is_short};
 use super::mode::Mode;
 use super::state::{Crossing, State, Turn};
 use std::marker::Brand;
@@ -28,7 +28,7 @@ fn is_alone(byte: u8) -> bool
     !matches!(byte, b'*' | b'?' | b']' | b'/')
 }
 
-impl<'c, 'a, S: Ledger, L: Ledger, M: Match> Engine<'c, 'a, S, L, M> {
+impl<'c, 'a, S: Ledger, L: Ledger, M: Texts> Engine<'c, 'a, S, L, M> {
     /// Whether the pattern is one star that crosses slashes: it matches each value.
     #[inline(always)]
     fn is_lone_star(&mut self) -> bool
@@ -110,7 +110,7 @@ pub fn marked<S: Ledger, L: Ledger>(
     ensures limit { counts.new.steps ≤ counts.old.steps + step_limit (length pattern.now) (length value.now) }
     ensures looks { counts.new.looks ≤ counts.old.looks + look_limit (length pattern.now) (length value.now) }
 {
-    is_short(pattern);
-    is_short(value);
+    text_is_short(pattern);
+    text_is_short(value);
     decide::<S, L, Brand>(pattern, value, mode, counts).0
 }

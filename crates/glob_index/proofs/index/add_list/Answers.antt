@@ -1,7 +1,7 @@
 -- The mapping's row comes after those of the mappings before it.
 use Rattle.std.proofs.Common.{◌+◌, ◌<◌, ◌≤◌, length, get_or, map, ap, sym, subst, arith}
 use Rattle.std.proofs.lemmas.List.{get_or_default, length-map}
-use Rattle.gix_glob.specs.Lists.{entry_of}
+use Rattle.gix_glob.specs.Entries.{entry_of}
 use Rattle.gix_glob.specs.EntryLists.{entry_list_of}
 use Rattle.gix_glob.specs.PatternParts.{mode_of, text_of}
 use Rattle.glob_index.specs.declared.chains.Link.{Link}

@@ -2,7 +2,7 @@
 use Rattle.std.proofs.Common.{◌≡◌, ◌+◌, ◌-◌, ◌<◌, true, length, option_map, ap, arith}
 use Rattle.std.specs.Vec.{vec_items}
 use Rattle.gix_glob.specs.Deciding.{AnswersAt, AnswersUnder}
-use Rattle.gix_glob.specs.Lists.{entry_of}
+use Rattle.gix_glob.specs.Entries.{entry_of}
 use Rattle.gix_glob.specs.EntryLists.{entry_list_of}
 use Rattle.gix_glob.proofs.lemmas.Answering.{AnswersAt-only, AnswersAt-yes, AnswersUnder-only, AnswersUnder-yes}
 use Rattle.gix_glob.proofs.lemmas.Elements.{slice_get-map_at}

@@ -1,7 +1,7 @@
 -- What decides is a mapping of one of the lists.
 use Rattle.std.proofs.Common.{◌≡◌, ◌<◌, get_or, length, rules, subst, sym}
 use Rattle.std.proofs.lemmas.Result.{on_ok_weaker}
-use Rattle.gix_glob.specs.Lists.{entry_of}
+use Rattle.gix_glob.specs.Entries.{entry_of}
 use Rattle.gix_glob.specs.EntryLists.{entry_list_of}
 use Rattle.gix_glob.proofs.lemmas.Answering.{PairAnswers-only}
 use Rattle.gix_glob.proofs.lemmas.Elements.{slice_get-map_at, slice_get-map_within}

@@ -5,8 +5,8 @@ use Rattle.std.specs.Option.{option_map, option_to_list}
 use Rattle.gix_glob.specs.PatternParts.{IsReadFrom, text_of, mode_of, place_of}
 use Rattle.gix_glob.specs.Patterns.{HasReading}
 use Rattle.gix_glob.specs.Equations.Readings.{Reading, reading_of}
-use Rattle.gix_glob.specs.Lists.{entry_of}
-use Rattle.gix_glob.specs.Equations.Lists.{entry_with}
+use Rattle.gix_glob.specs.Entries.{entry_of}
+use Rattle.gix_glob.specs.Equations.Entries.{entry_with}
 use Rattle.gix_glob.specs.declared.search.pattern.mapping.Mapping.{Mapping}
 use Rattle.glob_lines.proofs.entries.push_pattern.Goals as goal
 

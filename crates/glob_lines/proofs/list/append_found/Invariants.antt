@@ -1,7 +1,7 @@
 use Rattle.std.proofs.Common.{map, option_map}
 use Rattle.std.specs.Vec.{vec_items}
 use Rattle.gix_glob.specs.Deciding.{AnswersUnder}
-use Rattle.gix_glob.specs.Lists.{entry_of}
+use Rattle.gix_glob.specs.Entries.{entry_of}
 use Rattle.glob_lines.proofs.lemmas.FoundLemmas.{IsListedThrough}
 use Rattle.glob_lines.proofs.list.append_found.Given as goal
 

@@ -1,6 +1,6 @@
 use Rattle.std.proofs.Common.{map, option_map}
 use Rattle.std.specs.Vec.{vec_items}
-use Rattle.gix_glob.specs.Lists.{entry_of}
+use Rattle.gix_glob.specs.Entries.{entry_of}
 use Rattle.glob_lines.specs.Equations.Lines.{lines_of}
 use Rattle.glob_lines.specs.Mappings.{WritesMatches}
 use Rattle.glob_lines.proofs.lemmas.LinesLemmas.{IsWrittenUpTo}

@@ -14,8 +14,8 @@ use Rattle.glob_matcher.specs.Pruning.{Holds, HasRoom, Excludes, TakeOneByte, Is
 use Rattle.glob_matcher.proofs.lemmas.reading.TokenLemmas.{TokenAt-unique, TokenAt-inside, run_lead}
 use Rattle.glob_matcher.proofs.lemmas.cutting.CutLemmas.{IsOne, one_out, end_in, end_out, nothing_out}
 use Rattle.glob_matcher.proofs.lemmas.cutting.SplitLemmas.{star_count_alike}
-use Rattle.glob_matcher.proofs.lemmas.cutting.StarLemmas.{AtStar}
-use Rattle.glob_matcher.proofs.lemmas.cutting.Alignments.{Aligned, Moved, short_out, single_one, one_no_star}
+use Rattle.glob_matcher.proofs.lemmas.pruned.StarLemmas.{AtStar}
+use Rattle.glob_matcher.proofs.lemmas.pruned.Alignments.{Aligned, Moved, short_out, single_one, one_no_star}
 
 -- a crossing token begins with a star
 crossing_star : (mode : Mode) (p : List ℕ) (i : ℕ) → BeginsCrossing p i mode → HasByte p i star

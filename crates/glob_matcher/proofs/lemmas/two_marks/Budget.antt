@@ -12,9 +12,9 @@ use Rattle.glob_matcher.specs.Private.Reader.{IsToken, is_star}
 use Rattle.glob_matcher.specs.Steps.{Counts, step_limit, look_limit}
 use Rattle.glob_matcher.specs.Private.Components.{next_component}
 use Rattle.glob_matcher.specs.Private.SizedTokens.{SizedToken, sized}
-use Rattle.glob_matcher.specs.Private.Prices.{Measure, Steps, Looks, amount, amount_of, test, trial, cost, hop}
+use Rattle.glob_matcher.specs.Private.Prices.{Measure, Steps, Looks, amount, amount_of, test, first_test, cost, next_tests_at}
 use Rattle.glob_matcher.specs.Private.Budget.{LocalRestIfSet, Owes, AllowsAt, AllowsLeft, IsTest, AllowsMiss, IsWithinLimits}
-use Rattle.glob_matcher.proofs.lemmas.two_marks.Prices.{amount-sum, cost-hop, cost-limit, sized-head, sized-settle, test-single, trial-cons, trial-left, trial-some}
+use Rattle.glob_matcher.proofs.lemmas.two_marks.Prices.{amount-sum, cost-next_tests_at, cost-limit, sized-head, sized-settle, test-single, first_test-cons, first_test-places_left, first_test-some}
 use Rattle.glob_matcher.proofs.lemmas.two_marks.States.{state_of}
 
 -- the engine at its start, after the look at the last byte
@@ -27,7 +27,7 @@ allows_start measure mode p v before = record {
       let looks = look_limit (length p) (length v) in
       let sum = amount-sum measure (steps - 1) (looks - 2) 1 2 {e = steps} {f = looks} (omega arith) (omega arith) in
       let most = cost-limit measure mode v p xs read in
-      let hopped : cost measure mode v xs (next_component mode v 0) ≤ cost measure mode v xs (hop mode v xs 0) = cost-hop measure mode v xs 0 in
+      let skipped : cost measure mode v xs (next_component mode v 0) ≤ cost measure mode v xs (next_tests_at mode v xs 0) = cost-next_tests_at measure mode v xs 0 in
       record {
         tokens = xs;
         read = read;
@@ -63,14 +63,14 @@ local_rest_less measure mode p v xs k rest (Some m) less spent limit low w = rec
 -- a test of the pattern's end, or of one token
 module _ {measure : Measure} {mode : Mode} {p : List ℕ} where
   pub test_of_one : {i before after : ℕ} → after ≤ before + 1 → IsTest measure mode p i before after
-  test_of_one {i} low = record { high = λ xs read. omega (arith, trial-some measure mode p i xs read) }
+  test_of_one {i} low = record { high = λ xs read. omega (arith, first_test-some measure mode p i xs read) }
 
   pub test_of_token : {i j : ℕ} {kind : TokenKind} (x : IsToken mode p i kind j) → is_star kind ≡ false
       → {before after : ℕ} → after ≤ before + amount measure 1 (8 * (j - i)) → IsTest measure mode p i before after
   test_of_token {i} {j} x one low = record {
     high = λ xs read.
         let head = sized-head i x.token j xs read x.here in
-        let same : trial measure xs ≡ test measure (sized i x.token j) = ap (trial measure) head.1 ∙ trial-cons measure (sized i x.token j) head.0 in
+        let same : first_test measure xs ≡ test measure (sized i x.token j) = ap (first_test measure) head.1 ∙ first_test-cons measure (sized i x.token j) head.0 in
         omega (arith, test-single measure x one);
   }
 
@@ -99,8 +99,8 @@ module _ {measure : Measure} {mode : Mode} {p v : List ℕ} where
 
   -- what was counted is within the budget, and so is one test
   pub owes_test : {state : State} {spent limit : ℕ} → state.at ≤ length v → (o : Owes measure mode p v state spent limit)
-      → spent + trial measure o.tokens + o.rest ≤ limit
-  owes_test {state} inside o = omega (arith, trial-left measure mode v o.tokens state.at inside, o.here)
+      → spent + first_test measure o.tokens + o.rest ≤ limit
+  owes_test {state} inside o = omega (arith, first_test-places_left measure mode v o.tokens state.at inside, o.here)
 
   pub allows_test : {state : State} {spent after limit : ℕ} → state.at ≤ length v → IsTest measure mode p state.place spent after
       → AllowsAt measure mode p v state spent limit → after ≤ limit

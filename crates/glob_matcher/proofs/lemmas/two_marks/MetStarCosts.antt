@@ -9,10 +9,10 @@ use Rattle.glob_matcher.specs.Private.Reader.{kind_of, is_star}
 use Rattle.glob_matcher.specs.Private.Components.{separates, next_component}
 use Rattle.glob_matcher.specs.Private.States.{FreeKnown}
 use Rattle.glob_matcher.specs.Private.SizedTokens.{SizedToken, sized, SizedTokensFrom}
-use Rattle.glob_matcher.specs.Private.Prices.{Measure, amount, move, test, each, left, cost, hop}
+use Rattle.glob_matcher.specs.Private.Prices.{Measure, amount, move, test, token_cost, places_left, cost, next_tests_at}
 use Rattle.glob_matcher.specs.Private.Budget.{Owes, AllowsAt}
 use Rattle.glob_matcher.proofs.lemmas.two_marks.Components.{next-above, next-high}
-use Rattle.glob_matcher.proofs.lemmas.two_marks.Prices.{moves_between, separates-or_not, cost-joined, cost-hop, cost-mono, each-star, hop-apart, hop-joined, sized-head, sized-settle, test-star, left-times_less, left-times_mono}
+use Rattle.glob_matcher.proofs.lemmas.two_marks.Prices.{moves_between, separates-or_not, cost-joined, cost-next_tests_at, cost-mono, token_cost-star, next_tests_at-apart, next_tests_at-joined, sized-head, sized-settle, test-star, places_left-times_less, places_left-times_mono}
 use Rattle.glob_matcher.proofs.lemmas.two_marks.States.{state_of}
 use Rattle.glob_matcher.proofs.lemmas.two_marks.Budget.{allows_less}
 
@@ -20,19 +20,19 @@ use Rattle.glob_matcher.proofs.lemmas.two_marks.Budget.{allows_less}
 record OwesAfterStar (measure : Measure) (mode : Mode) (p v : List ℕ) (j k spent limit rest : ℕ) : Type 0 where
   tokens : List SizedToken
   read : SizedTokensFrom mode p j tokens
-  here : spent + move measure * left v k + cost measure mode v tokens k + rest
-      ≤ limit + move measure * left v (next_component mode v k) + cost measure mode v tokens (next_component mode v k)
-  later : move measure * left v (next_component mode v k) + cost measure mode v tokens (next_component mode v k) ≤ rest
+  here : spent + move measure * places_left v k + cost measure mode v tokens k + rest
+      ≤ limit + move measure * places_left v (next_component mode v k) + cost measure mode v tokens (next_component mode v k)
+  later : move measure * places_left v (next_component mode v k) + cost measure mode v tokens (next_component mode v k) ≤ rest
 
 -- where a run of stars crosses slashes, each look at what follows begins one place on
-hop-after_free : {mode : Mode} {p v : List ℕ} {i : ℕ} (measure : Measure) (xs : List SizedToken) → SizedTokensFrom mode p i xs → i ≢ length p
-    → FreeKnown mode p v i → (k : ℕ) → hop mode v xs k ≡ k + 1
-hop-after_free measure [] read more known k = absurd (more read)
-hop-after_free {mode} {v = v} {i} measure (x ∷ xs) read more known k = elim (separates-or_not mode x.token) [
-  | inl apart ↦ hop-apart measure mode v x xs k apart
+next_tests_at-after_free : {mode : Mode} {p v : List ℕ} {i : ℕ} (measure : Measure) (xs : List SizedToken) → SizedTokensFrom mode p i xs → i ≢ length p
+    → FreeKnown mode p v i → (k : ℕ) → next_tests_at mode v xs k ≡ k + 1
+next_tests_at-after_free measure [] read more known k = absurd (more read)
+next_tests_at-after_free {mode} {v = v} {i} measure (x ∷ xs) read more known k = elim (separates-or_not mode x.token) [
+  | inl apart ↦ next_tests_at-apart measure mode v x xs k apart
   | inr joined ↦
       let low : next_component mode v k ≤ k + 1 = known.far k (k + 1) (omega arith) x.token (i + x.width) read.0 joined in
-      omega (arith, hop-joined measure mode v x xs k joined, next-above mode v k)
+      omega (arith, next_tests_at-joined measure mode v x xs k joined, next-above mode v k)
 ]
 
 module _ {measure : Measure} {mode : Mode} {p v : List ℕ} where
@@ -45,19 +45,19 @@ module _ {measure : Measure} {mode : Mode} {p v : List ℕ} where
       let xs = head.0 in
       let x = sized state.place t j in
       let next = next_component mode v k in
-      let first : spent + cost measure mode v (x ∷ xs) k + o.rest ≤ limit + cost measure mode v (x ∷ xs) (hop mode v (x ∷ xs) k) =
-      subst (λ (ys : List SizedToken). spent + cost measure mode v ys k + o.rest ≤ limit + cost measure mode v ys (hop mode v ys k)) head.1 o.here in
+      let first : spent + cost measure mode v (x ∷ xs) k + o.rest ≤ limit + cost measure mode v (x ∷ xs) (next_tests_at mode v (x ∷ xs) k) =
+      subst (λ (ys : List SizedToken). spent + cost measure mode v ys k + o.rest ≤ limit + cost measure mode v ys (next_tests_at mode v ys k)) head.1 o.here in
       let later : cost measure mode v (x ∷ xs) next ≤ o.rest =
       subst (λ (ys : List SizedToken). cost measure mode v ys next ≤ o.rest) head.1 o.later in
-      let at : cost measure mode v (x ∷ xs) (hop mode v (x ∷ xs) k) ≡ cost measure mode v (x ∷ xs) next =
-      ap (cost measure mode v (x ∷ xs)) (hop-joined measure mode v x xs k joined) in
-      let both : (e : ℕ) → each measure x * left v e ≡ test measure x * left v e + move measure * left v e =
-      λ e. ap (λ (m : ℕ). m * left v e) (each-star measure x star) ∙ omega arith in
+      let at : cost measure mode v (x ∷ xs) (next_tests_at mode v (x ∷ xs) k) ≡ cost measure mode v (x ∷ xs) next =
+      ap (cost measure mode v (x ∷ xs)) (next_tests_at-joined measure mode v x xs k joined) in
+      let both : (e : ℕ) → token_cost measure x * places_left v e ≡ test measure x * places_left v e + move measure * places_left v e =
+      λ e. ap (λ (m : ℕ). m * places_left v e) (token_cost-star measure x star) ∙ omega arith in
       record {
         tokens = xs;
         read = head.2;
         here =
-            omega (arith, both k, both next, left-times_less (test measure x) v k next inside (next-above mode v k), cost-joined measure mode v x xs k joined, cost-joined measure mode v x xs next joined);
+            omega (arith, both k, both next, places_left-times_less (test measure x) v k next inside (next-above mode v k), cost-joined measure mode v x xs k joined, cost-joined measure mode v x xs next joined);
         later = omega (arith, both next, cost-joined measure mode v x xs next joined);
       }
 
@@ -89,19 +89,19 @@ module _ {measure : Measure} {mode : Mode} {p v : List ℕ} where
         → Owes measure mode p v (state_of j state.at (crossing.Free m) None) (spent + test measure (sized state.place Free j)) limit
     owes o =
         let star = star_met Free j here refl refl inside o in
-        let skips = hop-after_free measure star.tokens star.read more known in
-        let hopped : cost measure mode v star.tokens (hop mode v star.tokens state.at) ≡ cost measure mode v star.tokens (state.at + 1) =
+        let skips = next_tests_at-after_free measure star.tokens star.read more known in
+        let skipped : cost measure mode v star.tokens (next_tests_at mode v star.tokens state.at) ≡ cost measure mode v star.tokens (state.at + 1) =
         ap (cost measure mode v star.tokens) (skips state.at) in
         let past : state.at < next_component mode v state.at = next-above mode v state.at in
         let next : cost measure mode v star.tokens (next_component mode v state.at) ≤ cost measure mode v star.tokens (state.at + 1) =
         cost-mono measure mode v star.tokens (state.at + 1) (next_component mode v state.at) (omega arith) in
         let costs : cost measure mode v star.tokens (m.at + 1) ≡ cost measure mode v star.tokens (state.at + 1) =
         ap (λ (y : ℕ). cost measure mode v star.tokens (y + 1)) same_at in
-        let lefts : move measure * left v m.at ≡ move measure * left v state.at = ap (λ (y : ℕ). move measure * left v y) same_at in
+        let lefts : move measure * places_left v m.at ≡ move measure * places_left v state.at = ap (λ (y : ℕ). move measure * places_left v y) same_at in
         record {
           tokens = star.tokens;
           read = star.read;
-          rest = cost measure mode v star.tokens (state.at + 1) + move measure * left v state.at;
+          rest = cost measure mode v star.tokens (state.at + 1) + move measure * places_left v state.at;
           crossing = record {
             tokens = star.tokens;
             read = subst (λ (y : ℕ). SizedTokensFrom mode p y star.tokens) (sym same_place) star.read;
@@ -125,15 +125,15 @@ module _ {measure : Measure} {mode : Mode} {p v : List ℕ} where
     owes o =
         let star = star_met Dirs j here refl refl inside o in
         let next = next_component mode v state.at in
-        let hopped : cost measure mode v star.tokens next ≤ cost measure mode v star.tokens (hop mode v star.tokens state.at) =
-        cost-hop measure mode v star.tokens state.at in
+        let skipped : cost measure mode v star.tokens next ≤ cost measure mode v star.tokens (next_tests_at mode v star.tokens state.at) =
+        cost-next_tests_at measure mode v star.tokens state.at in
         let costs : cost measure mode v star.tokens (next_component mode v m.at) ≡ cost measure mode v star.tokens next =
         ap (λ (y : ℕ). cost measure mode v star.tokens (next_component mode v y)) same_at in
-        let lefts : move measure * left v m.at ≡ move measure * left v state.at = ap (λ (y : ℕ). move measure * left v y) same_at in
+        let lefts : move measure * places_left v m.at ≡ move measure * places_left v state.at = ap (λ (y : ℕ). move measure * places_left v y) same_at in
         record {
           tokens = star.tokens;
           read = star.read;
-          rest = cost measure mode v star.tokens next + move measure * left v state.at;
+          rest = cost measure mode v star.tokens next + move measure * places_left v state.at;
           crossing = record {
             tokens = star.tokens;
             read = subst (λ (y : ℕ). SizedTokensFrom mode p y star.tokens) (sym same_place) star.read;
@@ -159,9 +159,9 @@ module _ {measure : Measure} {mode : Mode} {p v : List ℕ} where
         let next = next_component mode v k in
         let past : k < next = next-above mode v k in
         let moves = moves_between measure v k next (omega arith) (next-high mode v k inside) in
-        let fewer : move measure * left v next ≤ move measure * left v k = left-times_mono (move measure) v k next (omega arith) in
-        let hopped : cost measure mode v star.tokens next ≤ cost measure mode v star.tokens (hop mode v star.tokens k) =
-        cost-hop measure mode v star.tokens k in
+        let fewer : move measure * places_left v next ≤ move measure * places_left v k = places_left-times_mono (move measure) v k next (omega arith) in
+        let skipped : cost measure mode v star.tokens next ≤ cost measure mode v star.tokens (next_tests_at mode v star.tokens k) =
+        cost-next_tests_at measure mode v star.tokens k in
         let ats : cost measure mode v star.tokens m.at ≡ cost measure mode v star.tokens k = ap (cost measure mode v star.tokens) same_at in
         let laters : cost measure mode v star.tokens (next_component mode v m.at) ≡ cost measure mode v star.tokens next =
         ap (λ (y : ℕ). cost measure mode v star.tokens (next_component mode v y)) same_at in

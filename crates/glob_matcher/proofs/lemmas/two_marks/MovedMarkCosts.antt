@@ -10,10 +10,10 @@ use Rattle.glob_matcher.specs.Bytes.{slash}
 use Rattle.glob_matcher.specs.Private.Components.{ends, next_component}
 use Rattle.glob_matcher.specs.Private.States.{IsNextDirectory}
 use Rattle.glob_matcher.specs.Private.SizedTokens.{SizedTokensFrom}
-use Rattle.glob_matcher.specs.Private.Prices.{Measure, move, left, cost, hop, component_cost}
+use Rattle.glob_matcher.specs.Private.Prices.{Measure, move, places_left, cost, next_tests_at, component_cost}
 use Rattle.glob_matcher.specs.Private.Budget.{FreeRest, DirsRest, LocalRest, LocalRestIfSet, Owes, AllowsAt, OwesLeft, AllowsLeft, AllowsMiss}
 use Rattle.glob_matcher.proofs.lemmas.two_marks.Components.{ends-at_slash, next-end, next-outside, next-inner, next-above, next-before_end}
-use Rattle.glob_matcher.proofs.lemmas.two_marks.Prices.{moves_between, cost-hop, cost-mono, left-is, sized-settle, component_cost-left, component_cost-step, left-times_less, trial-component_cost}
+use Rattle.glob_matcher.proofs.lemmas.two_marks.Prices.{moves_between, cost-next_tests_at, cost-mono, places_left-is, sized-settle, component_cost-places_left, component_cost-step, places_left-times_less, first_test-component_cost}
 use Rattle.glob_matcher.proofs.lemmas.two_marks.States.{state_of}
 use Rattle.glob_matcher.proofs.lemmas.two_marks.Budget.{owes_test}
 
@@ -46,11 +46,11 @@ module _ {measure : Measure} {mode : Mode} {p v : List ℕ} where
         let moved : move measure * next_component mode v m.at ≡ move measure * m.at + move measure =
         ap (λ (y : ℕ). move measure * y) (stuck_next mode v m.at stuck) ∙ omega arith in
         let row : cost measure mode v w.tokens (next_component mode v m.at) + component_cost measure mode w.tokens ≤ cost measure mode v w.tokens m.at =
-        component_cost-left measure mode v w.tokens m.at w.inside in
+        component_cost-places_left measure mode v w.tokens m.at w.inside in
         record {
           rest = o.rest;
           crossing = o.crossing;
-          enough = omega (arith, row, w.back, trial-component_cost measure mode v o.tokens, a.tested.high o.tokens o.read);
+          enough = omega (arith, row, w.back, first_test-component_cost measure mode v o.tokens, a.tested.high o.tokens o.read);
         }
 
   -- The token does not fit here, and the local mark moves by one byte.
@@ -67,7 +67,7 @@ module _ {measure : Measure} {mode : Mode} {p v : List ℕ} where
             let row : cost measure mode v w.tokens m.at ≡ cost measure mode v w.tokens (m.at + 1) + component_cost measure mode w.tokens =
             component_cost-step measure mode v w.tokens m.at inside within in
             let tested : spent ≤ a.before + component_cost measure mode o.tokens =
-            omega (arith, trial-component_cost measure mode v o.tokens, a.tested.high o.tokens o.read) in
+            omega (arith, first_test-component_cost measure mode v o.tokens, a.tested.high o.tokens o.read) in
             let back = w.back in
             let next : next_component mode v x.at ≡ next_component mode v m.at =
             ap (next_component mode v) same_at ∙ next-inner mode v m.at inside within in
@@ -78,8 +78,8 @@ module _ {measure : Measure} {mode : Mode} {p v : List ℕ} where
             let ats : cost measure mode v w.tokens x.at ≡ cost measure mode v w.tokens (m.at + 1) = ap (cost measure mode v w.tokens) same_at in
             let laters : cost measure mode v w.tokens (next_component mode v x.at) ≡ cost measure mode v w.tokens (next_component mode v m.at) =
             ap (cost measure mode v w.tokens) next in
-            let hopped : cost measure mode v w.tokens (next_component mode v x.at) ≤ cost measure mode v w.tokens (hop mode v w.tokens x.at) =
-            cost-hop measure mode v w.tokens x.at in
+            let skipped : cost measure mode v w.tokens (next_component mode v x.at) ≤ cost measure mode v w.tokens (next_tests_at mode v w.tokens x.at) =
+            cost-next_tests_at measure mode v w.tokens x.at in
             let read : SizedTokensFrom mode p x.place w.tokens = subst (λ (y : ℕ). SizedTokensFrom mode p y w.tokens) (sym same_place) w.read in
             record {
               tokens = w.tokens;
@@ -106,19 +106,19 @@ module _ {measure : Measure} {mode : Mode} {p v : List ℕ} where
     owes : OwesLeft measure mode p v (crossing.Free m) spent limit → Owes measure mode p v (state_of x.place x.at (crossing.Free x) None) (spent + move measure) limit
     owes o =
         let w : FreeRest measure mode p v m.place m.at o.rest = o.crossing in
-        let hopped : cost measure mode v w.tokens (hop mode v w.tokens x.at) ≡ cost measure mode v w.tokens (x.at + 1) =
+        let skipped : cost measure mode v w.tokens (next_tests_at mode v w.tokens x.at) ≡ cost measure mode v w.tokens (x.at + 1) =
         ap (cost measure mode v w.tokens) (w.skips x.at) in
         let ats : cost measure mode v w.tokens x.at ≡ cost measure mode v w.tokens (m.at + 1) = ap (cost measure mode v w.tokens) same_at in
         let past : x.at < next_component mode v x.at = next-above mode v x.at in
         let next : cost measure mode v w.tokens (next_component mode v x.at) ≤ cost measure mode v w.tokens (x.at + 1) =
         cost-mono measure mode v w.tokens (x.at + 1) (next_component mode v x.at) (omega arith) in
-        let fewer : move measure * left v x.at + move measure ≤ move measure * left v m.at =
-        left-times_less (move measure) v m.at x.at (omega arith) (omega arith) in
+        let fewer : move measure * places_left v x.at + move measure ≤ move measure * places_left v m.at =
+        places_left-times_less (move measure) v m.at x.at (omega arith) (omega arith) in
         let read : SizedTokensFrom mode p x.place w.tokens = subst (λ (y : ℕ). SizedTokensFrom mode p y w.tokens) (sym same_place) w.read in
         record {
           tokens = w.tokens;
           read = read;
-          rest = cost measure mode v w.tokens (x.at + 1) + move measure * left v x.at;
+          rest = cost measure mode v w.tokens (x.at + 1) + move measure * places_left v x.at;
           crossing = record { tokens = w.tokens; read = read; inside = omega arith; skips = w.skips; enough = omega arith };
           later = omega arith;
           here = omega (arith, w.enough, o.enough);
@@ -131,7 +131,7 @@ module _ {measure : Measure} {mode : Mode} {p v : List ℕ} where
     owes : OwesLeft measure mode p v (crossing.Free m) spent limit → spent + move measure ≤ limit
     owes o =
         let w : FreeRest measure mode p v m.place m.at o.rest = o.crossing in
-        omega (arith, left-times_less (move measure) v m.at (m.at + 1) w.inside (omega arith), w.enough, o.enough)
+        omega (arith, places_left-times_less (move measure) v m.at (m.at + 1) w.inside (omega arith), w.enough, o.enough)
 
   -- The mark of a double star moves to the next place after a slash, or cannot.
   pub allows_dirs_moved : {m x : Mark} {spent limit : ℕ} → IsNextDirectory v m x
@@ -148,8 +148,8 @@ module _ {measure : Measure} {mode : Mode} {p v : List ℕ} where
         let reached : next_component mode v m.at ≤ x.at - 1 + 1 = next-before_end mode v m.at (x.at - 1) (omega arith) (omega arith) end in
         let ats : cost measure mode v w.tokens x.at ≤ cost measure mode v w.tokens (next_component mode v m.at) =
         cost-mono measure mode v w.tokens (next_component mode v m.at) x.at (omega arith) in
-        let hopped : cost measure mode v w.tokens (next_component mode v x.at) ≤ cost measure mode v w.tokens (hop mode v w.tokens x.at) =
-        cost-hop measure mode v w.tokens x.at in
+        let skipped : cost measure mode v w.tokens (next_component mode v x.at) ≤ cost measure mode v w.tokens (next_tests_at mode v w.tokens x.at) =
+        cost-next_tests_at measure mode v w.tokens x.at in
         let far : x.at ≡ m.at + (x.at - m.at) = omega arith in
         let apart : move measure * x.at ≡ move measure * m.at + move measure * (x.at - m.at) = ap (λ (y : ℕ). move measure * y) far ∙ omega arith in
         let moves = moves_between measure v m.at x.at (omega arith) (omega arith) in
@@ -157,7 +157,7 @@ module _ {measure : Measure} {mode : Mode} {p v : List ℕ} where
         record {
           tokens = w.tokens;
           read = read;
-          rest = cost measure mode v w.tokens (next_component mode v x.at) + move measure * left v x.at;
+          rest = cost measure mode v w.tokens (next_component mode v x.at) + move measure * places_left v x.at;
           crossing = record { tokens = w.tokens; read = read; inside = inside; enough = omega arith };
           later = omega arith;
           here = omega (arith, moves, w.enough, o.enough);
@@ -170,5 +170,5 @@ module _ {measure : Measure} {mode : Mode} {p v : List ℕ} where
     owes : OwesLeft measure mode p v (crossing.Dirs m) spent limit → after ≤ limit
     owes o =
         let w : DirsRest measure mode p v m.place m.at o.rest = o.crossing in
-        let rest : move measure * left v m.at ≡ move measure * (length v + 1 - m.at) = ap (λ (y : ℕ). move measure * y) (left-is v m.at) in
+        let rest : move measure * places_left v m.at ≡ move measure * (length v + 1 - m.at) = ap (λ (y : ℕ). move measure * y) (places_left-is v m.at) in
         omega (arith, taken w.inside, w.enough, o.enough)

@@ -10,7 +10,7 @@ use Rattle.glob_matcher.specs.Private.Takes.{Takes, TakesExactly}
 use Rattle.glob_matcher.specs.Private.Reader.{IsToken, kind_of, is_star}
 use Rattle.glob_matcher.specs.Private.Components.{ends, separates, next_component}
 use Rattle.glob_matcher.specs.Private.SizedTokens.{SizedToken, sized, SizedTokensFrom}
-use Rattle.glob_matcher.specs.Private.Prices.{Measure, Steps, Looks, amount, amount_of, for_star, move, test, each, trial, onward, left, cost, hop, component_cost}
+use Rattle.glob_matcher.specs.Private.Prices.{Measure, Steps, Looks, amount, amount_of, for_star, move, test, token_cost, first_test, tests_after, places_left, cost, next_tests_at, component_cost}
 use Rattle.glob_matcher.proofs.lemmas.reading.TokenLemmas.{TokenAt-unique, TokenAt-inside}
 use Rattle.glob_matcher.proofs.lemmas.reading.Existence.{settle, TokenAt-past}
 use Rattle.glob_matcher.proofs.lemmas.two_marks.Components.{next-inner, next-above, next-mono}
@@ -96,27 +96,27 @@ for_star-all : (t : Token) (n : ℕ) → is_star (kind_of t) ≡ true → for_st
 unfolding for_star
 for_star-all t n star = ap (λ (b : Bool). if b then n else 0) star
 
-pub each-star : (measure : Measure) (x : SizedToken) → is_star (kind_of x.token) ≡ true → each measure x ≡ test measure x + move measure
-unfolding each
-each-star measure x star = omega (arith, for_star-all x.token (move measure) star)
+pub token_cost-star : (measure : Measure) (x : SizedToken) → is_star (kind_of x.token) ≡ true → token_cost measure x ≡ test measure x + move measure
+unfolding token_cost
+token_cost-star measure x star = omega (arith, for_star-all x.token (move measure) star)
 
-pub test-each : (measure : Measure) (x : SizedToken) → test measure x ≤ each measure x
-unfolding each
-test-each measure x = omega arith
+pub test-token_cost : (measure : Measure) (x : SizedToken) → test measure x ≤ token_cost measure x
+unfolding token_cost
+test-token_cost measure x = omega arith
 
 test-some : (measure : Measure) (x : SizedToken) → 0 < x.width → 1 ≤ test measure x
 unfolding test amount
 test-some Steps x some = omega arith
 test-some Looks x some = omega (arith, for_star-low x.token 4)
 
-each-high : (measure : Measure) (x : SizedToken) → 0 < x.width → each measure x ≤ amount measure 2 8 * x.width
-unfolding each test move amount
-each-high Steps x some = omega (arith, for_star-low x.token 1)
-each-high Looks x some = omega (arith, for_star-low x.token 4)
+token_cost-high : (measure : Measure) (x : SizedToken) → 0 < x.width → token_cost measure x ≤ amount measure 2 8 * x.width
+unfolding token_cost test move amount
+token_cost-high Steps x some = omega (arith, for_star-low x.token 1)
+token_cost-high Looks x some = omega (arith, for_star-low x.token 4)
 
-pub trial-cons : (measure : Measure) (x : SizedToken) (xs : List SizedToken) → trial measure (x ∷ xs) ≡ test measure x
-unfolding trial
-trial-cons measure x xs = refl
+pub first_test-cons : (measure : Measure) (x : SizedToken) (xs : List SizedToken) → first_test measure (x ∷ xs) ≡ test measure x
+unfolding first_test
+first_test-cons measure x xs = refl
 
 -- the test of a token that is no star, and of one that is
 pub test-single : (measure : Measure) {mode : Mode} {p : List ℕ} {i : ℕ} {kind : TokenKind} {j : ℕ} (x : IsToken mode p i kind j) → is_star kind ≡ false
@@ -134,10 +134,10 @@ test-star measure i t j star = ap (amount measure 1) (omega (arith, for_star-all
 width-some : (mode : Mode) (p : List ℕ) (i : ℕ) (x : SizedToken) → TokenAt mode p i x.token (i + x.width) → 0 < x.width
 width-some mode p i x here = omega (arith, TokenAt-past mode p i x.token (i + x.width) here)
 
-pub trial-some : (measure : Measure) (mode : Mode) (p : List ℕ) (i : ℕ) (xs : List SizedToken) → SizedTokensFrom mode p i xs → 1 ≤ trial measure xs
-unfolding trial
-trial-some measure mode p i [] read = omega arith
-trial-some measure mode p i (x ∷ xs) read = test-some measure x (width-some mode p i x read.0)
+pub first_test-some : (measure : Measure) (mode : Mode) (p : List ℕ) (i : ℕ) (xs : List SizedToken) → SizedTokensFrom mode p i xs → 1 ≤ first_test measure xs
+unfolding first_test
+first_test-some measure mode p i [] read = omega arith
+first_test-some measure mode p i (x ∷ xs) read = test-some measure x (width-some mode p i x read.0)
 
 -- the tokens after the first
 pub sized-head : {mode : Mode} {p : List ℕ} (i : ℕ) (t : Token) (j : ℕ) (ys : List SizedToken) → SizedTokensFrom mode p i ys → TokenAt mode p i t j
@@ -168,35 +168,35 @@ sized-settle mode p a b follows =
 
 -- what the tokens may take, by the place of the value
 
-pub left-is : (v : List ℕ) (k : ℕ) → left v k ≡ length v + 1 - k
-unfolding left
-left-is v k = refl
+pub places_left-is : (v : List ℕ) (k : ℕ) → places_left v k ≡ length v + 1 - k
+unfolding places_left
+places_left-is v k = refl
 
 -- so much for each place that is left
-left-times_next : (m : ℕ) (v : List ℕ) (k : ℕ) → k ≤ length v → m * left v k ≡ m * left v (k + 1) + m
-left-times_next m v k inside =
-    let one : left v k ≡ left v (k + 1) + 1 = omega (arith, left-is v k, left-is v (k + 1)) in
+places_left-times_next : (m : ℕ) (v : List ℕ) (k : ℕ) → k ≤ length v → m * places_left v k ≡ m * places_left v (k + 1) + m
+places_left-times_next m v k inside =
+    let one : places_left v k ≡ places_left v (k + 1) + 1 = omega (arith, places_left-is v k, places_left-is v (k + 1)) in
     ap (λ (n : ℕ). m * n) one ∙ omega arith
 
-pub left-times_mono : (m : ℕ) (v : List ℕ) (k e : ℕ) → k ≤ e → m * left v e ≤ m * left v k
-left-times_mono m v k e low = mul-le-mul_left m (omega (arith, left-is v k, left-is v e))
+pub places_left-times_mono : (m : ℕ) (v : List ℕ) (k e : ℕ) → k ≤ e → m * places_left v e ≤ m * places_left v k
+places_left-times_mono m v k e low = mul-le-mul_left m (omega (arith, places_left-is v k, places_left-is v e))
 
 -- a later place leaves one less at least
-pub left-times_less : (m : ℕ) (v : List ℕ) (k e : ℕ) → k ≤ length v → k < e → m * left v e + m ≤ m * left v k
-left-times_less m v k e inside past = omega (arith, left-times_next m v k inside, left-times_mono m v (k + 1) e (omega arith))
+pub places_left-times_less : (m : ℕ) (v : List ℕ) (k e : ℕ) → k ≤ length v → k < e → m * places_left v e + m ≤ m * places_left v k
+places_left-times_less m v k e inside past = omega (arith, places_left-times_next m v k inside, places_left-times_mono m v (k + 1) e (omega arith))
 
 -- the moves over the places from one to another
 pub moves_between : (measure : Measure) (v : List ℕ) (k e : ℕ) → k ≤ length v + 1 → e ≤ length v + 1
-    → move measure * left v k + move measure * k ≡ move measure * left v e + move measure * e
+    → move measure * places_left v k + move measure * k ≡ move measure * places_left v e + move measure * e
 moves_between measure v k e low high =
-    let sum : left v k + k ≡ left v e + e = omega (arith, left-is v k, left-is v e) in
-    let times : move measure * (left v k + k) ≡ move measure * (left v e + e) = ap (λ (y : ℕ). move measure * y) sum in
+    let sum : places_left v k + k ≡ places_left v e + e = omega (arith, places_left-is v k, places_left-is v e) in
+    let times : move measure * (places_left v k + k) ≡ move measure * (places_left v e + e) = ap (λ (y : ℕ). move measure * y) sum in
     omega arith
 
-onward-mono : (mode : Mode) (v : List ℕ) (apart : Bool) (k e : ℕ) → k ≤ e → onward mode v apart k ≤ onward mode v apart e
-unfolding onward
-onward-mono mode v true k e low = next-mono mode v k e low
-onward-mono mode v false k e low = low
+tests_after-mono : (mode : Mode) (v : List ℕ) (apart : Bool) (k e : ℕ) → k ≤ e → tests_after mode v apart k ≤ tests_after mode v apart e
+unfolding tests_after
+tests_after-mono mode v true k e low = next-mono mode v k e low
+tests_after-mono mode v false k e low = low
 
 pub separates-or_not : (mode : Mode) (t : Token) → (separates mode t ≡ true) ⊎ (separates mode t ≡ false)
 separates-or_not mode t = cases_Bool (separates mode t)
@@ -208,113 +208,113 @@ limit-high Looks p v n all = omega arith
 
 module _ (measure : Measure) (mode : Mode) (v : List ℕ) where
   cost-cons : (x : SizedToken) (xs : List SizedToken) (k : ℕ)
-      → cost measure mode v (x ∷ xs) k ≡ each measure x * left v k + cost measure mode v xs (onward mode v (separates mode x.token) k)
+      → cost measure mode v (x ∷ xs) k ≡ token_cost measure x * places_left v k + cost measure mode v xs (tests_after mode v (separates mode x.token) k)
   unfolding cost
   cost-cons x xs k = refl
 
-  cost-nil : (k : ℕ) → cost measure mode v [] k ≡ left v k
+  cost-nil : (k : ℕ) → cost measure mode v [] k ≡ places_left v k
   unfolding cost
   cost-nil k = refl
 
   -- a token of either kind
   pub cost-apart : (x : SizedToken) (xs : List SizedToken) (k : ℕ) → separates mode x.token ≡ true
-      → cost measure mode v (x ∷ xs) k ≡ each measure x * left v k + cost measure mode v xs (next_component mode v k)
-  unfolding onward
+      → cost measure mode v (x ∷ xs) k ≡ token_cost measure x * places_left v k + cost measure mode v xs (next_component mode v k)
+  unfolding tests_after
   cost-apart x xs k apart =
-      cost-cons x xs k ∙ ap (λ (b : Bool). each measure x * left v k + cost measure mode v xs (onward mode v b k)) apart
+      cost-cons x xs k ∙ ap (λ (b : Bool). token_cost measure x * places_left v k + cost measure mode v xs (tests_after mode v b k)) apart
 
   pub cost-joined : (x : SizedToken) (xs : List SizedToken) (k : ℕ) → separates mode x.token ≡ false
-      → cost measure mode v (x ∷ xs) k ≡ each measure x * left v k + cost measure mode v xs k
-  unfolding onward
+      → cost measure mode v (x ∷ xs) k ≡ token_cost measure x * places_left v k + cost measure mode v xs k
+  unfolding tests_after
   cost-joined x xs k joined =
-      cost-cons x xs k ∙ ap (λ (b : Bool). each measure x * left v k + cost measure mode v xs (onward mode v b k)) joined
+      cost-cons x xs k ∙ ap (λ (b : Bool). token_cost measure x * places_left v k + cost measure mode v xs (tests_after mode v b k)) joined
 
   -- from a later place the tokens cost no more
   pub cost-mono : (xs : List SizedToken) (k e : ℕ) → k ≤ e → cost measure mode v xs e ≤ cost measure mode v xs k
-  cost-mono [] k e low = omega (arith, cost-nil k, cost-nil e, left-is v k, left-is v e)
+  cost-mono [] k e low = omega (arith, cost-nil k, cost-nil e, places_left-is v k, places_left-is v e)
   cost-mono (x ∷ xs) k e low =
-      let here : each measure x * left v e ≤ each measure x * left v k = left-times_mono (each measure x) v k e low in
-      let rest : cost measure mode v xs (onward mode v (separates mode x.token) e) ≤ cost measure mode v xs (onward mode v (separates mode x.token) k) =
-      cost-mono xs (onward mode v (separates mode x.token) k) (onward mode v (separates mode x.token) e)
-      (onward-mono mode v (separates mode x.token) k e low) in
+      let here : token_cost measure x * places_left v e ≤ token_cost measure x * places_left v k = places_left-times_mono (token_cost measure x) v k e low in
+      let rest : cost measure mode v xs (tests_after mode v (separates mode x.token) e) ≤ cost measure mode v xs (tests_after mode v (separates mode x.token) k) =
+      cost-mono xs (tests_after mode v (separates mode x.token) k) (tests_after mode v (separates mode x.token) e)
+      (tests_after-mono mode v (separates mode x.token) k e low) in
       omega (arith, cost-cons x xs k, cost-cons x xs e)
 
-  pub hop-apart : (x : SizedToken) (xs : List SizedToken) (k : ℕ) → separates mode x.token ≡ true → hop mode v (x ∷ xs) k ≡ k + 1
-  unfolding hop
-  hop-apart x xs k apart = ap (λ (b : Bool). if b then k + 1 else next_component mode v k) apart
+  pub next_tests_at-apart : (x : SizedToken) (xs : List SizedToken) (k : ℕ) → separates mode x.token ≡ true → next_tests_at mode v (x ∷ xs) k ≡ k + 1
+  unfolding next_tests_at
+  next_tests_at-apart x xs k apart = ap (λ (b : Bool). if b then k + 1 else next_component mode v k) apart
 
-  pub hop-joined : (x : SizedToken) (xs : List SizedToken) (k : ℕ) → separates mode x.token ≡ false
-      → hop mode v (x ∷ xs) k ≡ next_component mode v k
-  unfolding hop
-  hop-joined x xs k joined = ap (λ (b : Bool). if b then k + 1 else next_component mode v k) joined
+  pub next_tests_at-joined : (x : SizedToken) (xs : List SizedToken) (k : ℕ) → separates mode x.token ≡ false
+      → next_tests_at mode v (x ∷ xs) k ≡ next_component mode v k
+  unfolding next_tests_at
+  next_tests_at-joined x xs k joined = ap (λ (b : Bool). if b then k + 1 else next_component mode v k) joined
 
-  hop-nil : (k : ℕ) → hop mode v [] k ≡ next_component mode v k
-  unfolding hop
-  hop-nil k = refl
+  next_tests_at-nil : (k : ℕ) → next_tests_at mode v [] k ≡ next_component mode v k
+  unfolding next_tests_at
+  next_tests_at-nil k = refl
 
-  hop-low : (xs : List SizedToken) (k : ℕ) → hop mode v xs k ≤ next_component mode v k
-  hop-low [] k = omega (arith, hop-nil k)
-  hop-low (x ∷ xs) k = elim (separates-or_not mode x.token) [
-    | inl apart ↦ omega (arith, hop-apart x xs k apart, next-above mode v k)
-    | inr joined ↦ omega (arith, hop-joined x xs k joined)
+  next_tests_at-low : (xs : List SizedToken) (k : ℕ) → next_tests_at mode v xs k ≤ next_component mode v k
+  next_tests_at-low [] k = omega (arith, next_tests_at-nil k)
+  next_tests_at-low (x ∷ xs) k = elim (separates-or_not mode x.token) [
+    | inl apart ↦ omega (arith, next_tests_at-apart x xs k apart, next-above mode v k)
+    | inr joined ↦ omega (arith, next_tests_at-joined x xs k joined)
   ]
 
   -- what is left past the hop is no more than what is left in the next component
-  pub cost-hop : (xs : List SizedToken) (k : ℕ) → cost measure mode v xs (next_component mode v k) ≤ cost measure mode v xs (hop mode v xs k)
-  cost-hop xs k = cost-mono xs (hop mode v xs k) (next_component mode v k) (hop-low xs k)
+  pub cost-next_tests_at : (xs : List SizedToken) (k : ℕ) → cost measure mode v xs (next_component mode v k) ≤ cost measure mode v xs (next_tests_at mode v xs k)
+  cost-next_tests_at xs k = cost-mono xs (next_tests_at mode v xs k) (next_component mode v k) (next_tests_at-low xs k)
 
   component_cost-nil : component_cost measure mode [] ≡ 1
   unfolding component_cost
   component_cost-nil = refl
 
-  component_cost-apart : (x : SizedToken) (xs : List SizedToken) → separates mode x.token ≡ true → component_cost measure mode (x ∷ xs) ≡ each measure x
+  component_cost-apart : (x : SizedToken) (xs : List SizedToken) → separates mode x.token ≡ true → component_cost measure mode (x ∷ xs) ≡ token_cost measure x
   unfolding component_cost
-  component_cost-apart x xs apart = ap (λ (b : Bool). each measure x + (if b then 0 else component_cost measure mode xs)) apart ∙ omega arith
+  component_cost-apart x xs apart = ap (λ (b : Bool). token_cost measure x + (if b then 0 else component_cost measure mode xs)) apart ∙ omega arith
 
   pub component_cost-joined : (x : SizedToken) (xs : List SizedToken) → separates mode x.token ≡ false
-      → component_cost measure mode (x ∷ xs) ≡ each measure x + component_cost measure mode xs
+      → component_cost measure mode (x ∷ xs) ≡ token_cost measure x + component_cost measure mode xs
   unfolding component_cost
-  component_cost-joined x xs joined = ap (λ (b : Bool). each measure x + (if b then 0 else component_cost measure mode xs)) joined
+  component_cost-joined x xs joined = ap (λ (b : Bool). token_cost measure x + (if b then 0 else component_cost measure mode xs)) joined
 
   -- the test of the first token is within the cost of its component
-  pub trial-component_cost : (xs : List SizedToken) → trial measure xs ≤ component_cost measure mode xs
-  unfolding trial
-  trial-component_cost [] = omega (arith, component_cost-nil)
-  trial-component_cost (x ∷ xs) = elim (separates-or_not mode x.token) [
-    | inl apart ↦ omega (arith, component_cost-apart x xs apart, test-each measure x)
-    | inr joined ↦ omega (arith, component_cost-joined x xs joined, test-each measure x)
+  pub first_test-component_cost : (xs : List SizedToken) → first_test measure xs ≤ component_cost measure mode xs
+  unfolding first_test
+  first_test-component_cost [] = omega (arith, component_cost-nil)
+  first_test-component_cost (x ∷ xs) = elim (separates-or_not mode x.token) [
+    | inl apart ↦ omega (arith, component_cost-apart x xs apart, test-token_cost measure x)
+    | inr joined ↦ omega (arith, component_cost-joined x xs joined, test-token_cost measure x)
   ]
 
   -- a test at a place inside is paid there
-  pub trial-left : (xs : List SizedToken) (k : ℕ) → k ≤ length v → cost measure mode v xs (hop mode v xs k) + trial measure xs ≤ cost measure mode v xs k
-  unfolding trial
-  trial-left [] k inside =
+  pub first_test-places_left : (xs : List SizedToken) (k : ℕ) → k ≤ length v → cost measure mode v xs (next_tests_at mode v xs k) + first_test measure xs ≤ cost measure mode v xs k
+  unfolding first_test
+  first_test-places_left [] k inside =
       let past : k < next_component mode v k = next-above mode v k in
-      let at : cost measure mode v [] (hop mode v [] k) ≡ cost measure mode v [] (next_component mode v k) = ap (cost measure mode v []) (hop-nil k) in
-      omega (arith, cost-nil k, cost-nil (next_component mode v k), left-is v k, left-is v (next_component mode v k))
-  trial-left (x ∷ xs) k inside = elim (separates-or_not mode x.token) [
+      let at : cost measure mode v [] (next_tests_at mode v [] k) ≡ cost measure mode v [] (next_component mode v k) = ap (cost measure mode v []) (next_tests_at-nil k) in
+      omega (arith, cost-nil k, cost-nil (next_component mode v k), places_left-is v k, places_left-is v (next_component mode v k))
+  first_test-places_left (x ∷ xs) k inside = elim (separates-or_not mode x.token) [
     | inl apart ↦
-        let at : cost measure mode v (x ∷ xs) (hop mode v (x ∷ xs) k) ≡ cost measure mode v (x ∷ xs) (k + 1) =
-        ap (cost measure mode v (x ∷ xs)) (hop-apart x xs k apart) in
+        let at : cost measure mode v (x ∷ xs) (next_tests_at mode v (x ∷ xs) k) ≡ cost measure mode v (x ∷ xs) (k + 1) =
+        ap (cost measure mode v (x ∷ xs)) (next_tests_at-apart x xs k apart) in
         let rest : cost measure mode v xs (next_component mode v (k + 1)) ≤ cost measure mode v xs (next_component mode v k) =
         cost-mono xs (next_component mode v k) (next_component mode v (k + 1)) (next-mono mode v k (k + 1) (omega arith)) in
-        omega (arith, left-times_next (each measure x) v k inside, test-each measure x, cost-apart x xs k apart, cost-apart x xs (k + 1) apart)
+        omega (arith, places_left-times_next (token_cost measure x) v k inside, test-token_cost measure x, cost-apart x xs k apart, cost-apart x xs (k + 1) apart)
     | inr joined ↦
-        let at : cost measure mode v (x ∷ xs) (hop mode v (x ∷ xs) k) ≡ cost measure mode v (x ∷ xs) (next_component mode v k) =
-        ap (cost measure mode v (x ∷ xs)) (hop-joined x xs k joined) in
+        let at : cost measure mode v (x ∷ xs) (next_tests_at mode v (x ∷ xs) k) ≡ cost measure mode v (x ∷ xs) (next_component mode v k) =
+        ap (cost measure mode v (x ∷ xs)) (next_tests_at-joined x xs k joined) in
         let past : k < next_component mode v k = next-above mode v k in
         let rest : cost measure mode v xs (next_component mode v k) ≤ cost measure mode v xs k =
         cost-mono xs k (next_component mode v k) (omega arith) in
-        omega (arith, left-times_less (each measure x) v k (next_component mode v k) inside past, test-each measure x, cost-joined x xs k joined, cost-joined x xs (next_component mode v k) joined)
+        omega (arith, places_left-times_less (token_cost measure x) v k (next_component mode v k) inside past, test-token_cost measure x, cost-joined x xs k joined, cost-joined x xs (next_component mode v k) joined)
   ]
 
   -- one place on within a component of the value, the tokens cost one look at their first component less
   pub component_cost-step : (xs : List SizedToken) (k : ℕ) → k < length v → ends mode (get_or v k 0) ≡ false
       → cost measure mode v xs k ≡ cost measure mode v xs (k + 1) + component_cost measure mode xs
   component_cost-step [] k inside within =
-      omega (arith, cost-nil k, cost-nil (k + 1), left-is v k, left-is v (k + 1), component_cost-nil)
+      omega (arith, cost-nil k, cost-nil (k + 1), places_left-is v k, places_left-is v (k + 1), component_cost-nil)
   component_cost-step (x ∷ xs) k inside within =
-      let here : each measure x * left v k ≡ each measure x * left v (k + 1) + each measure x = left-times_next (each measure x) v k (omega arith) in
+      let here : token_cost measure x * places_left v k ≡ token_cost measure x * places_left v (k + 1) + token_cost measure x = places_left-times_next (token_cost measure x) v k (omega arith) in
       elim (separates-or_not mode x.token) [
         | inl apart ↦
             let same : cost measure mode v xs (next_component mode v (k + 1)) ≡ cost measure mode v xs (next_component mode v k) =
@@ -326,15 +326,15 @@ module _ (measure : Measure) (mode : Mode) (v : List ℕ) where
       ]
 
   -- from the next component of the value on, they cost that much less at least
-  pub component_cost-left : (xs : List SizedToken) (k : ℕ) → k ≤ length v
+  pub component_cost-places_left : (xs : List SizedToken) (k : ℕ) → k ≤ length v
       → cost measure mode v xs (next_component mode v k) + component_cost measure mode xs ≤ cost measure mode v xs k
-  component_cost-left [] k inside =
+  component_cost-places_left [] k inside =
       let past : k < next_component mode v k = next-above mode v k in
-      omega (arith, cost-nil k, cost-nil (next_component mode v k), left-is v k, left-is v (next_component mode v k), component_cost-nil)
-  component_cost-left (x ∷ xs) k inside =
+      omega (arith, cost-nil k, cost-nil (next_component mode v k), places_left-is v k, places_left-is v (next_component mode v k), component_cost-nil)
+  component_cost-places_left (x ∷ xs) k inside =
       let past : k < next_component mode v k = next-above mode v k in
-      let here : each measure x * left v (next_component mode v k) + each measure x ≤ each measure x * left v k =
-      left-times_less (each measure x) v k (next_component mode v k) inside past in
+      let here : token_cost measure x * places_left v (next_component mode v k) + token_cost measure x ≤ token_cost measure x * places_left v k =
+      places_left-times_less (token_cost measure x) v k (next_component mode v k) inside past in
       elim (separates-or_not mode x.token) [
         | inl apart ↦
             let later : next_component mode v k ≤ next_component mode v (next_component mode v k) =
@@ -343,7 +343,7 @@ module _ (measure : Measure) (mode : Mode) (v : List ℕ) where
             cost-mono xs (next_component mode v k) (next_component mode v (next_component mode v k)) later in
             omega (arith, cost-apart x xs k apart, cost-apart x xs (next_component mode v k) apart, component_cost-apart x xs apart)
         | inr joined ↦
-            let rest : cost measure mode v xs (next_component mode v k) + component_cost measure mode xs ≤ cost measure mode v xs k = component_cost-left xs k inside in
+            let rest : cost measure mode v xs (next_component mode v k) + component_cost measure mode xs ≤ cost measure mode v xs k = component_cost-places_left xs k inside in
             omega (arith, cost-joined x xs k joined, cost-joined x xs (next_component mode v k) joined, component_cost-joined x xs joined)
       ]
 
@@ -353,13 +353,13 @@ module _ (measure : Measure) (mode : Mode) (v : List ℕ) where
   cost-all p i [] k read =
       let same : amount measure 2 8 * i * (length v + 1) ≡ amount measure 2 8 * length p * (length v + 1) =
       ap (λ (n : ℕ). amount measure 2 8 * n * (length v + 1)) read in
-      omega (arith, cost-nil k, left-is v k)
+      omega (arith, cost-nil k, places_left-is v k)
   cost-all p i (x ∷ xs) k read =
-      let high : each measure x ≤ amount measure 2 8 * x.width = each-high measure x (width-some mode p i x read.0) in
-      let here : each measure x * left v k ≤ amount measure 2 8 * x.width * (length v + 1) = mul-le-mul high (omega (arith, left-is v k)) in
-      let rest : cost measure mode v xs (onward mode v (separates mode x.token) k) + amount measure 2 8 * (i + x.width) * (length v + 1)
+      let high : token_cost measure x ≤ amount measure 2 8 * x.width = token_cost-high measure x (width-some mode p i x read.0) in
+      let here : token_cost measure x * places_left v k ≤ amount measure 2 8 * x.width * (length v + 1) = mul-le-mul high (omega (arith, places_left-is v k)) in
+      let rest : cost measure mode v xs (tests_after mode v (separates mode x.token) k) + amount measure 2 8 * (i + x.width) * (length v + 1)
       ≤ (amount measure 2 8 * length p + 1) * (length v + 1) =
-      cost-all p (i + x.width) xs (onward mode v (separates mode x.token) k) read.1 in
+      cost-all p (i + x.width) xs (tests_after mode v (separates mode x.token) k) read.1 in
       omega (arith, cost-cons x xs k)
 
   -- how much a match may take in all

@@ -8,10 +8,10 @@ use Rattle.glob_matcher.specs.Tokens.{Token, TokenAt}
 use Rattle.glob_matcher.specs.Private.Reader.{IsToken, Fits, is_star}
 use Rattle.glob_matcher.specs.Private.Components.{ends, separates, next_component}
 use Rattle.glob_matcher.specs.Private.SizedTokens.{SizedToken, sized}
-use Rattle.glob_matcher.specs.Private.Prices.{Measure, amount, test, each, cost, hop}
+use Rattle.glob_matcher.specs.Private.Prices.{Measure, amount, test, token_cost, cost, next_tests_at}
 use Rattle.glob_matcher.specs.Private.Budget.{LocalRestIfSet, Owes, AllowsAt}
 use Rattle.glob_matcher.proofs.lemmas.two_marks.Components.{IsInner, separates-fits, ends-or_not, next-end, next-inner, next-above}
-use Rattle.glob_matcher.proofs.lemmas.two_marks.Prices.{cost-apart, cost-joined, cost-hop, cost-mono, hop-apart, hop-joined, sized-head, component_cost-joined, test-each, test-single, left-times_less}
+use Rattle.glob_matcher.proofs.lemmas.two_marks.Prices.{cost-apart, cost-joined, cost-next_tests_at, cost-mono, next_tests_at-apart, next_tests_at-joined, sized-head, component_cost-joined, test-token_cost, test-single, places_left-times_less}
 use Rattle.glob_matcher.proofs.lemmas.two_marks.Budget.{allows_less}
 
 module _ (measure : Measure) (mode : Mode) (v : List ℕ) where
@@ -25,27 +25,27 @@ module _ (measure : Measure) (mode : Mode) (v : List ℕ) where
       let same : cost measure mode v xs (next_component mode v (k + 1)) ≡ cost measure mode v xs (next_component mode v k) =
       ap (cost measure mode v xs) (next-inner mode v k inside within) in
       let rest : cost measure mode v xs (k + 1) ≤ cost measure mode v xs k = cost-mono measure mode v xs k (k + 1) (omega arith) in
-      omega (arith, left-times_less (each measure x) v k (next_component mode v k) (omega arith) past, test-each measure x, cost-joined measure mode v x xs k joined, cost-joined measure mode v x xs (next_component mode v k) joined)
+      omega (arith, places_left-times_less (token_cost measure x) v k (next_component mode v k) (omega arith) past, test-token_cost measure x, cost-joined measure mode v x xs k joined, cost-joined measure mode v x xs (next_component mode v k) joined)
 
   cost_on : (x : SizedToken) (xs : List SizedToken) (k spent limit rest : ℕ) → k < length v
       → separates mode x.token ≡ ends mode (get_or v k 0)
-      → spent + cost measure mode v (x ∷ xs) k + rest ≤ limit + cost measure mode v (x ∷ xs) (hop mode v (x ∷ xs) k)
-      → spent + test measure x + cost measure mode v xs (k + 1) + rest ≤ limit + cost measure mode v xs (hop mode v xs (k + 1))
+      → spent + cost measure mode v (x ∷ xs) k + rest ≤ limit + cost measure mode v (x ∷ xs) (next_tests_at mode v (x ∷ xs) k)
+      → spent + test measure x + cost measure mode v xs (k + 1) + rest ≤ limit + cost measure mode v xs (next_tests_at mode v xs (k + 1))
   cost_on x xs k spent limit rest inside alike here =
-      let hopped : cost measure mode v xs (next_component mode v (k + 1)) ≤ cost measure mode v xs (hop mode v xs (k + 1)) =
-      cost-hop measure mode v xs (k + 1) in
+      let skipped : cost measure mode v xs (next_component mode v (k + 1)) ≤ cost measure mode v xs (next_tests_at mode v xs (k + 1)) =
+      cost-next_tests_at measure mode v xs (k + 1) in
       elim (ends-or_not mode (get_or v k 0)) [
         | inl end ↦
             let apart : separates mode x.token ≡ true = alike ∙ end in
             let same : cost measure mode v xs (next_component mode v k) ≡ cost measure mode v xs (k + 1) =
             ap (cost measure mode v xs) (next-end mode v k inside end) in
-            let at : cost measure mode v (x ∷ xs) (hop mode v (x ∷ xs) k) ≡ cost measure mode v (x ∷ xs) (k + 1) =
-            ap (cost measure mode v (x ∷ xs)) (hop-apart measure mode v x xs k apart) in
-            omega (arith, left-times_less (each measure x) v k (k + 1) (omega arith) (omega arith), test-each measure x, cost-apart measure mode v x xs k apart, cost-apart measure mode v x xs (k + 1) apart)
+            let at : cost measure mode v (x ∷ xs) (next_tests_at mode v (x ∷ xs) k) ≡ cost measure mode v (x ∷ xs) (k + 1) =
+            ap (cost measure mode v (x ∷ xs)) (next_tests_at-apart measure mode v x xs k apart) in
+            omega (arith, places_left-times_less (token_cost measure x) v k (k + 1) (omega arith) (omega arith), test-token_cost measure x, cost-apart measure mode v x xs k apart, cost-apart measure mode v x xs (k + 1) apart)
         | inr within ↦
             let joined : separates mode x.token ≡ false = alike ∙ within in
-            let at : cost measure mode v (x ∷ xs) (hop mode v (x ∷ xs) k) ≡ cost measure mode v (x ∷ xs) (next_component mode v k) =
-            ap (cost measure mode v (x ∷ xs)) (hop-joined measure mode v x xs k joined) in
+            let at : cost measure mode v (x ∷ xs) (next_tests_at mode v (x ∷ xs) k) ≡ cost measure mode v (x ∷ xs) (next_component mode v k) =
+            ap (cost measure mode v (x ∷ xs)) (next_tests_at-joined measure mode v x xs k joined) in
             omega (arith, cost_on_inner x xs k spent limit rest inside joined within (omega arith))
       ]
 
@@ -76,7 +76,7 @@ local_rest_on measure mode p v x xs k rest spent limit (Some m) inside alike inn
       inside = w.inside;
       later = w.later;
       here = cost_on_inner measure mode v x xs k spent limit rest inside joined inner w.here;
-      back = omega (arith, w.back, component_cost-joined measure mode v x xs joined, test-each measure x);
+      back = omega (arith, w.back, component_cost-joined measure mode v x xs joined, test-token_cost measure x);
     }
 
 module _ {measure : Measure} {mode : Mode} {p v : List ℕ} where
@@ -98,7 +98,7 @@ module _ {measure : Measure} {mode : Mode} {p v : List ℕ} where
             (subst (λ (ys : List SizedToken). cost measure mode v ys (next_component mode v k) ≤ o.rest) head.1 o.later);
         here =
             cost_on measure mode v x head.0 k spent limit o.rest inside alike
-            (subst (λ (ys : List SizedToken). spent + cost measure mode v ys k + o.rest ≤ limit + cost measure mode v ys (hop mode v ys k)) head.1 o.here);
+            (subst (λ (ys : List SizedToken). spent + cost measure mode v ys k + o.rest ≤ limit + cost measure mode v ys (next_tests_at mode v ys k)) head.1 o.here);
         local =
             local_rest_on measure mode p v x head.0 k o.rest spent limit state.local inside alike inner
             (subst (λ (ys : List SizedToken). LocalRestIfSet measure mode p v ys k o.rest spent limit state.local) head.1 o.local);

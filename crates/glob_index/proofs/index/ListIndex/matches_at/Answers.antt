@@ -3,7 +3,7 @@ use Rattle.std.proofs.Common.{◌↔◌, ◌<◌, false, IsTrue, length, map, op
 use Rattle.std.specs.Vec.{vec_items}
 use Rattle.std.proofs.lemmas.Bool.{false≢true}
 use Rattle.gix_glob.specs.Deciding.{BasesAreFolders, HasFolder, PairAnswers}
-use Rattle.gix_glob.specs.Lists.{entry_of}
+use Rattle.gix_glob.specs.Entries.{entry_of}
 use Rattle.gix_glob.specs.EntryLists.{entry_list_of}
 use Rattle.gix_glob.specs.Stripping.{NothingLeft}
 use Rattle.gix_glob.proofs.lemmas.Answering.{AnswersAt-only, AnswersAt-yes, AnswersUnder-only, AnswersUnder-yes, PairAnswers-nothing_left, PairAnswers-only, PairAnswers-yes}

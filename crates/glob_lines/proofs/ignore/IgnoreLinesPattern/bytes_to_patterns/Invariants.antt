@@ -1,5 +1,5 @@
 use Rattle.std.proofs.Common.{◌≡◌, ◌+◌, ◌++◌, length, map}
-use Rattle.gix_glob.specs.Lists.{entry_of}
+use Rattle.gix_glob.specs.Entries.{entry_of}
 use Rattle.glob_lines.specs.Ignore.{without_mark, without_returns}
 use Rattle.glob_lines.specs.Equations.Ignore.{ignore_of, ignore_content}
 use Rattle.glob_lines.specs.Equations.Lines.{lines_of}

@@ -1,5 +1,5 @@
 use Rattle.std.proofs.Common.{◌≡◌, ◌+◌, ◌++◌, length, map}
-use Rattle.gix_glob.specs.Lists.{entry_of}
+use Rattle.gix_glob.specs.Entries.{entry_of}
 use Rattle.glob_lines.specs.Equations.Lines.{lines_of}
 use Rattle.glob_lines.specs.Equations.Entries.{entries_from}
 use Rattle.glob_lines.specs.Equations.Plain.{plain_content, plain_of}

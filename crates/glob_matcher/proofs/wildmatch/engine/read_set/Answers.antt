@@ -7,4 +7,4 @@ pub returns-clause-read : goal.returns-clause-read
 returns-clause-read g c =
     let answer = c.set_at-answer in
     subst (λ (x : Mode). IsSetRead x c.args.pattern.now c.args.place c.args.byte answer.result) (sym c.requires.mode)
-    (subst (λ (p : List ℕ). IsSetRead g.M.Match.mode p c.args.place c.args.byte answer.result) (sym c.requires.pattern) answer.ensures.read)
+    (subst (λ (p : List ℕ). IsSetRead g.M.Texts.mode p c.args.place c.args.byte answer.result) (sym c.requires.pattern) answer.ensures.read)

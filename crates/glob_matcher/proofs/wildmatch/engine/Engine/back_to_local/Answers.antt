@@ -69,7 +69,7 @@ returns-in-Found g c =
     let so = c.in-Found.ensures in
     let passed = 2 * (c.in-Found.found.at - c.in-Some-pass_within_or_end.moved.at) in
     let pass = TakesExactly-at_most c.pass_within_or_end.ensures.count in
-    let past : IsLocalPast g.M.Match.pattern c.in-Found.found.place (Some c.in-Found.found) c.local_past.result = record { at_slash = c.local_past.ensures.at_slash; at_other = c.local_past.ensures.at_other } in
+    let past : IsLocalPast g.M.Texts.pattern c.in-Found.found.place (Some c.in-Found.found) c.local_past.result = record { at_slash = c.local_past.ensures.at_slash; at_other = c.local_past.ensures.at_other } in
     let all = Takes-both (Takes-both pass so.takes) c.local_past.ensures.count in
     let reached = local_scanned c.requires c.in-Some.is moved.2 moved.3 moved.0 moved.1 so in
     let place = ap (λ (x : ℕ). x + 1) c.place-in-Found.ensures in

@@ -5,7 +5,7 @@ use Rattle.glob_matcher.proofs.wildmatch.engine.Engine.dash_at.Goals as goal
 
 pub returns-in-Some : goal.returns-in-Some
 returns-in-Some g c =
-    subst (λ (low : Option ℕ). IsItemRead 1 c.args.self.now c.range_at.new.self g.M.Match.pattern low c.args.place c.args.close c.range_at.result)
+    subst (λ (low : Option ℕ). IsItemRead 1 c.args.self.now c.range_at.new.self g.M.Texts.pattern low c.args.place c.args.close c.range_at.result)
     (sym c.in-Some.ensures.low.0) (spare_taken c.range_from.ensures.count c.range_at.ensures)
 
 pub returns-in-None : goal.returns-in-None

@@ -1,14 +1,14 @@
 use Rattle.std.proofs.Common.{◌≡◌, ◌∙◌, ◌-◌, ℕ, true, false, length, get_or, ap, sym, subst, arith, refl}
 use Rattle.glob_matcher.specs.Tokens.{Byte}
 use Rattle.glob_matcher.specs.Private.Reader.{Fits}
-use Rattle.glob_matcher.proofs.lemmas.cutting.LastByte.{IsAlone, EndsInLast, last, ends_in_last}
+use Rattle.glob_matcher.proofs.lemmas.two_marks.LastByte.{IsAlone, EndsInLast, last, ends_in_last}
 use Rattle.glob_matcher.proofs.wildmatch.engine.Engine.ends_decide.Goals as goal
 
 pub returns-then-is_alone-clause-meaning : goal.returns-then-is_alone-clause-meaning
 returns-then-is_alone-clause-meaning g c = (
   λ no. let wrong : false ≡ true = no in cc,
   λ all.
-      let m = g.M.Match in
+      let m = g.M.Texts in
       let same : c.pattern_byte-last.result ≡ last m.pattern =
       c.pattern_byte-last.ensures.here ∙ ap (λ (n : ℕ). get_or m.pattern (n - 1) 0) c.pattern_len-len.ensures in
       let alone : IsAlone (last m.pattern) = subst IsAlone same (c.if-is_alone.ensures.0 refl) in

@@ -4,10 +4,10 @@ use Rattle.glob_matcher.proofs.wildmatch.engine.Engine.entry_at.Goals as goal
 
 pub returns-in_default-clause-entry : goal.returns-in_default-clause-entry
 returns-in_default-clause-entry g c =
-    no_items_outside g.M.Match.pattern c.args.cursor.is_first c.args.cursor.low c.args.cursor.place c.in_default.ensures.byte
+    no_items_outside g.M.Texts.pattern c.args.cursor.is_first c.args.cursor.low c.args.cursor.place c.in_default.ensures.byte
 
 pub returns-in-None-clause-entry : goal.returns-in-None-clause-entry
 returns-in-None-clause-entry g c =
-    no_items_here g.M.Match.pattern c.args.cursor.is_first c.args.cursor.low c.args.cursor.place
+    no_items_here g.M.Texts.pattern c.args.cursor.is_first c.args.cursor.low c.args.cursor.place
     (λ later here. let wrong : false ≡ true = c.if-closes.ensures.1 (later, sym c.in-Some.ensures.byte.is ∙ here.is) in cc)
     c.in-None.ensures.answer

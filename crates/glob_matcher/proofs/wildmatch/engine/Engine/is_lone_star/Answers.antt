@@ -1,12 +1,12 @@
 use Rattle.std.proofs.Common.{◌≡◌, ◌∙◌, false, length, sym, arith}
 use Rattle.std.proofs.lemmas.Bool.{not-true}
 use Rattle.glob_matcher.specs.Bytes.{HasByte, is_path, star}
-use Rattle.glob_matcher.proofs.lemmas.cutting.LastByte.{lone_star}
+use Rattle.glob_matcher.proofs.lemmas.two_marks.LastByte.{lone_star}
 use Rattle.glob_matcher.proofs.wildmatch.engine.Engine.is_lone_star.Goals as goal
 
 pub returns-clause-meaning : goal.returns-clause-meaning
 returns-clause-meaning g c = λ yes.
-    let m = g.M.Match in
+    let m = g.M.Texts in
     let plain : is_path m.mode ≡ false = sym c.is_path.ensures ∙ not-true c.is_path.result yes in
     let one : length m.pattern ≡ 1 = omega (arith, c.pattern_len.ensures, c.if-pattern_len-ne1.false) in
     let here : HasByte m.pattern 0 star = record {

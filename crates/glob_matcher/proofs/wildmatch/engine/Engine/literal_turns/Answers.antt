@@ -15,7 +15,7 @@ use Rattle.glob_matcher.proofs.wildmatch.engine.Engine.literal_turns.Goals.{then
 
 pub returns-then-not-fits_byte : goal.returns-then-not-fits_byte
 returns-then-not-fits_byte g c =
-    let m = g.M.Match in
+    let m = g.M.Texts in
     let same : c.pattern_byte-byte.result ≡ get_or m.pattern c.bytes.place 0 = c.pattern_byte-byte.ensures.here in
     let inside : c.bytes.place < length m.pattern = omega (arith, c.bytes-test.true, c.pattern_len.ensures) in
     let own = subst StandsForItself same (c.if-not-stands_for_itself.ensures.0 refl) in
@@ -46,7 +46,7 @@ returns-then-not-fits_byte g c =
 
 pub bytes-preserved : goal.bytes-preserved
 bytes-preserved g c =
-    let m = g.M.Match in
+    let m = g.M.Texts in
     let same : c.pattern_byte-byte.result ≡ get_or m.pattern c.bytes.place 0 = c.pattern_byte-byte.ensures.here in
     let inside : c.bytes.place < length m.pattern = omega (arith, c.bytes-test.true, c.pattern_len.ensures) in
     let own = subst StandsForItself same (c.if-not-stands_for_itself.ensures.0 refl) in
@@ -93,7 +93,7 @@ returns-after-bytes g c =
 
 pub returns-then-byte-eq47 : goal.returns-then-byte-eq47
 returns-then-byte-eq47 g c =
-    let m = g.M.Match in
+    let m = g.M.Texts in
     let moved : c.args.state.place < c.bytes.place = elim (cases_lt c.args.state.place c.bytes.place) [
       | inl below ↦ below
       | inr high ↦

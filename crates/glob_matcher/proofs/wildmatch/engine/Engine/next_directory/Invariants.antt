@@ -8,10 +8,10 @@ abbrev pub invariant-bytes : goal.invariant-bytes
 invariant-bytes g l = record {
   place : l.reached.place ≡ l.fn.mark.place;
   low : l.fn.mark.at ≤ l.reached.at;
-  inside : l.fn.mark.at ≤ length g.M.Match.value → l.reached.at ≤ length g.M.Match.value;
-  bare : NoSlash g.M.Match.value l.fn.mark.at l.reached.at;
+  inside : l.fn.mark.at ≤ length g.M.Texts.value → l.reached.at ≤ length g.M.Texts.value;
+  bare : NoSlash g.M.Texts.value l.fn.mark.at l.reached.at;
   count : Takes l.fn.self l.self (l.reached.at - l.fn.mark.at) (l.reached.at - l.fn.mark.at);
 }
 
 abbrev pub decreases-bytes : goal.decreases-bytes
-decreases-bytes g l = length g.M.Match.value + 1 - l.reached.at
+decreases-bytes g l = length g.M.Texts.value + 1 - l.reached.at

@@ -5,12 +5,12 @@ use Rattle.glob_matcher.proofs.wildmatch.engine.Engine.run_end.Given as goal
 
 abbrev pub invariant-stars : goal.invariant-stars
 invariant-stars g l = record {
-  stars : (m : ℕ) → l.place ≤ m → m < l.end → HasByte g.M.Match.pattern m star;
+  stars : (m : ℕ) → l.place ≤ m → m < l.end → HasByte g.M.Texts.pattern m star;
   past : l.place < l.end;
-  inside : l.end ≤ length g.M.Match.pattern;
+  inside : l.end ≤ length g.M.Texts.pattern;
   steps : l.self.steps ≡ l.fn.self.steps;
   looks : l.self.looks + l.place + 1 ≤ l.fn.self.looks + l.end;
 }
 
 abbrev pub decreases-stars : goal.decreases-stars
-decreases-stars g l = length g.M.Match.pattern - l.end
+decreases-stars g l = length g.M.Texts.pattern - l.end

@@ -6,9 +6,9 @@ use Rattle.glob_matcher.proofs.wildmatch.engine.Engine.scan.Given as goal
 
 abbrev pub invariant-bytes : goal.invariant-bytes
 invariant-bytes g l = record {
-  passed : HasPassed g.M.Match.value (g.N.Needle.suits l.needle) g.B.Barrier.stops l.fn.mark l.reached;
+  passed : HasPassed g.M.Texts.value (g.N.Needle.suits l.needle) g.B.Barrier.stops l.fn.mark l.reached;
   count : Takes l.fn.self l.self (2 * (l.reached.at - l.fn.mark.at)) (2 * (l.reached.at - l.fn.mark.at));
 }
 
 abbrev pub decreases-bytes : goal.decreases-bytes
-decreases-bytes g l = length g.M.Match.value - l.reached.at
+decreases-bytes g l = length g.M.Texts.value - l.reached.at

@@ -6,7 +6,7 @@ use Rattle.glob_matcher.proofs.wildmatch.engine.Engine.search.Goals as goal
 
 pub turns-init : goal.turns-init
 turns-init g c =
-    let m = g.M.Match in
+    let m = g.M.Texts in
     record {
       stands = stands_start m.mode m.pattern m.value;
       allows = λ measure. allows_start measure m.mode m.pattern m.value c.args.self.now;
@@ -28,18 +28,18 @@ turns-smaller g c =
 
 pub returns-in-Match-clause-limits : goal.returns-in-Match-clause-limits
 returns-in-Match-clause-limits g c =
-    let m = g.M.Match in
+    let m = g.M.Texts in
     within_limits m.pattern m.value c.args.self.now c.take_turn.new.self
     (λ measure. c.in-Match.ensures.allows measure _ _ (omega arith) (c.turns.invariant.allows measure))
 
 pub returns-in-NoMatch-clause-limits : goal.returns-in-NoMatch-clause-limits
 returns-in-NoMatch-clause-limits g c =
-    let m = g.M.Match in
+    let m = g.M.Texts in
     within_limits m.pattern m.value c.args.self.now c.take_turn.new.self
     (λ measure. c.in-NoMatch.ensures.allows measure _ _ (omega arith) (c.turns.invariant.allows measure))
 
 pub returns-in-None-clause-limits : goal.returns-in-None-clause-limits
 returns-in-None-clause-limits g c =
-    let m = g.M.Match in
+    let m = g.M.Texts in
     within_limits m.pattern m.value c.args.self.now c.backtrack.new.self
     (λ measure. c.in-None.ensures.allows measure _ (c.in-Miss.ensures.allows measure _ _ (omega arith) (c.turns.invariant.allows measure)))

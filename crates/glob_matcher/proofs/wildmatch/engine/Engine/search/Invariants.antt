@@ -8,10 +8,10 @@ use Rattle.glob_matcher.proofs.wildmatch.engine.Engine.search.Given as goal
 
 abbrev pub invariant-turns : goal.invariant-turns
 invariant-turns g l = record {
-  stands : StandsAt g.M.Match.mode g.M.Match.pattern g.M.Match.value l.state;
-  allows : (measure : Measure) → AllowsAt measure g.M.Match.mode g.M.Match.pattern g.M.Match.value l.state (amount_of measure l.self)
-      (amount_of measure l.fn.self + amount measure (step_limit (length g.M.Match.pattern) (length g.M.Match.value) - 1) (look_limit (length g.M.Match.pattern) (length g.M.Match.value) - 2));
+  stands : StandsAt g.M.Texts.mode g.M.Texts.pattern g.M.Texts.value l.state;
+  allows : (measure : Measure) → AllowsAt measure g.M.Texts.mode g.M.Texts.pattern g.M.Texts.value l.state (amount_of measure l.self)
+      (amount_of measure l.fn.self + amount measure (step_limit (length g.M.Texts.pattern) (length g.M.Texts.value) - 1) (look_limit (length g.M.Texts.pattern) (length g.M.Texts.value) - 2));
 }
 
 abbrev pub decreases-turns : goal.decreases-turns
-decreases-turns g l = l.fn.self.steps + step_limit (length g.M.Match.pattern) (length g.M.Match.value) - l.self.steps
+decreases-turns g l = l.fn.self.steps + step_limit (length g.M.Texts.pattern) (length g.M.Texts.value) - l.self.steps

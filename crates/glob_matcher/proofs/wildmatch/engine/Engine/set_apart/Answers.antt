@@ -5,7 +5,7 @@ use Rattle.glob_matcher.proofs.wildmatch.engine.Engine.set_apart.Goals as goal
 
 pub returns-clause-read : goal.returns-clause-read
 returns-clause-read g c =
-    let m = g.M.Match in
+    let m = g.M.Texts in
     let self = c.self.invariant in
     subst (λ (x : Mode). IsSetRead x m.pattern c.args.place c.args.byte c.read_set.result.0) self.2
     (subst (λ (p : List ℕ). IsSetRead c.self.inside.mode p c.args.place c.args.byte c.read_set.result.0) self.0 c.read_set.ensures.read)

@@ -3,10 +3,10 @@ use Rattle.glob_matcher.proofs.wildmatch.engine.Engine.set_apart.Given as goal
 
 abbrev pub ghosts-read_set : goal.ghosts-read_set
 ghosts-read_set g a = record {
-  pattern = g.M.Match.pattern;
-  value = g.M.Match.pattern;
-  mode = g.M.Match.mode;
+  pattern = g.M.Texts.pattern;
+  value = g.M.Texts.pattern;
+  mode = g.M.Texts.mode;
   counts = a.counts.ghost_name;
-  short_pattern = g.M.Match.short_pattern;
-  short_value = g.M.Match.short_pattern;
+  short_pattern = g.M.Texts.short_pattern;
+  short_value = g.M.Texts.short_pattern;
 }

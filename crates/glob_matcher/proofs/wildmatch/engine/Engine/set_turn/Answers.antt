@@ -12,7 +12,7 @@ use Rattle.glob_matcher.proofs.wildmatch.engine.Engine.set_turn.Goals as goal
 
 pub returns-in_default : goal.returns-in_default
 returns-in_default g c =
-    let m = g.M.Match in
+    let m = g.M.Texts in
     let inside = c.requires.bracket.inside in
     let x : IsToken m.mode m.pattern c.args.state.place kind.Nothing (length m.pattern) = record {
       token = Nothing;
@@ -32,7 +32,7 @@ returns-in_default g c =
 
 pub returns-then-not-fits : goal.returns-then-not-fits
 returns-then-not-fits g c =
-    let m = g.M.Match in
+    let m = g.M.Texts in
     let found = c.in-Some.ensures.found in
     let paid = c.in-Some.ensures.count in
     let x : IsToken m.mode m.pattern c.args.state.place kind.Set c.in-Some.after =
@@ -56,7 +56,7 @@ returns-then-not-fits g c =
 
 pub returns : goal.returns
 returns g c =
-    let m = g.M.Match in
+    let m = g.M.Texts in
     let found = c.in-Some.ensures.found in
     let paid = c.in-Some.ensures.count in
     let x : IsToken m.mode m.pattern c.args.state.place kind.Set c.in-Some.after =

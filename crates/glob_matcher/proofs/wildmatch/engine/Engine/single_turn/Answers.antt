@@ -9,7 +9,7 @@ use Rattle.glob_matcher.proofs.wildmatch.engine.Engine.single_turn.Goals as goal
 
 pub returns-then-not-fits : goal.returns-then-not-fits
 returns-then-not-fits g c =
-    let m = g.M.Match in
+    let m = g.M.Texts in
     let x = c.requires.token in
     record {
       meaning = record {
@@ -44,7 +44,7 @@ returns-then-is_slash g c =
 
 pub returns : goal.returns
 returns g c =
-    let m = g.M.Match in
+    let m = g.M.Texts in
     let x = c.requires.token in
     let fits = (c.if-not-fits.ensures.answer x.token x.same_kind).0 refl in
     record {

@@ -11,7 +11,7 @@ use Rattle.glob_matcher.proofs.wildmatch.engine.Engine.slash_turn.Goals as goal
 
 pub returns-then-not-fits_byte : goal.returns-then-not-fits_byte
 returns-then-not-fits_byte g c =
-    let m = g.M.Match in
+    let m = g.M.Texts in
     record {
       meaning = record {
         stands = c.requires.stands;
@@ -35,7 +35,7 @@ returns-then-not-fits_byte g c =
 
 pub returns : goal.returns
 returns g c =
-    let m = g.M.Match in
+    let m = g.M.Texts in
     let token = literal_token m.mode m.pattern c.args.state.place c.requires.place (slash_is_itself _ c.requires.is) in
     let fits =
     subst (λ (b : ℕ). (c.args.state.at < length m.value) × Fits m.mode (Byte b) (get_or m.value c.args.state.at 0)) (sym c.requires.is)

@@ -18,7 +18,7 @@ returns-then-takes_the_rest g c =
 
 pub returns-in-Free : goal.returns-in-Free
 returns-in-Free g c =
-    let m = g.M.Match in
+    let m = g.M.Texts in
     let x = c.requires.token in
     let token = is_free x c.in-Free.is in
     let mark = c.set_mark-mark.ensures in

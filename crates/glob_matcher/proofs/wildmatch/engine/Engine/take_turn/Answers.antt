@@ -8,7 +8,7 @@ use Rattle.glob_matcher.proofs.wildmatch.engine.Engine.take_turn.Goals as goal
 
 pub returns-then-ends_at : goal.returns-then-ends_at
 returns-then-ends_at g c =
-    let m = g.M.Match in
+    let m = g.M.Texts in
     let past : length m.pattern ≤ c.args.state.place = omega (arith, c.if-state-pattern_len.true, c.pattern_len.ensures) in
     let low : c.args.state.place ≤ length m.pattern = c.requires.low in
     record {
@@ -22,7 +22,7 @@ returns-then-ends_at g c =
 
 pub returns-then-state-pattern_len : goal.returns-then-state-pattern_len
 returns-then-state-pattern_len g c =
-    let m = g.M.Match in
+    let m = g.M.Texts in
     let past : length m.pattern ≤ c.args.state.place = omega (arith, c.if-state-pattern_len.true, c.pattern_len.ensures) in
     let low : c.args.state.place ≤ length m.pattern = c.requires.low in
     record {

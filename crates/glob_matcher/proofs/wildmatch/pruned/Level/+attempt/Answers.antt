@@ -5,9 +5,9 @@ use Rattle.glob_matcher.specs.Pruning.{IsStart}
 use Rattle.glob_matcher.specs.Tokens.{Free, Local, Dirs, TokenAt}
 use Rattle.glob_matcher.proofs.lemmas.reading.Starts.{start_next, start_inside, boundary_next}
 use Rattle.glob_matcher.proofs.lemmas.reading.TokenKinds.{is_free, is_local, is_dirs, is_nothing, is_one, dirs_boundary}
-use Rattle.glob_matcher.proofs.lemmas.cutting.Alignments.{aligned_next}
+use Rattle.glob_matcher.proofs.lemmas.pruned.Alignments.{aligned_next}
 use Rattle.glob_matcher.proofs.lemmas.pruned.AttemptLemmas.{end_here, value_ends, nothing_here, misses, star_here}
-use Rattle.glob_matcher.proofs.lemmas.cutting.StarLemmas.{first_token, tried_next, cross_none, cross_answer, stay_more, stay_none, stay_answer, free_star, local_star, dirs_star, descent_here, descent_later}
+use Rattle.glob_matcher.proofs.lemmas.pruned.StarLemmas.{first_token, tried_next, cross_none, cross_answer, stay_more, stay_none, stay_answer, free_star, local_star, dirs_star, descent_here, descent_later}
 use Rattle.glob_matcher.proofs.wildmatch.pruned.Level.+attempt.Goals as goal
 
 -- what sends the search on is no match
@@ -19,19 +19,19 @@ pub attempt-returns-in-Free : goal.attempt-returns-in-Free
 attempt-returns-in-Free t c =
     let here = is_free c.token_at-kind.ensures c.in-Free.is in
     star_here c.tokens.invariant (λ deep. omega arith)
-    (free_star here c.tokens.invariant.value_high c.cross.ensures)
+    (free_star here c.tokens.invariant.value_high c.try_everywhere.ensures)
 
 pub attempt-returns-in-Local : goal.attempt-returns-in-Local
 attempt-returns-in-Local t c =
     let here = is_local c.token_at-kind.ensures c.in-Local.is in
     star_here c.tokens.invariant (λ deep. omega arith)
-    (local_star here c.tokens.invariant.value_high c.stay.ensures)
+    (local_star here c.tokens.invariant.value_high c.try_component.ensures)
 
 pub attempt-returns-in-Dirs : goal.attempt-returns-in-Dirs
 attempt-returns-in-Dirs t c =
     let here = is_dirs c.token_at-kind.ensures c.in-Dirs.is in
     star_here c.tokens.invariant (λ deep. omega arith)
-    (dirs_star here c.tokens.invariant.value_high (c.descend.ensures c.tokens.place here))
+    (dirs_star here c.tokens.invariant.value_high (c.try_directories.ensures c.tokens.place here))
 
 pub attempt-returns-in-Nothing : goal.attempt-returns-in-Nothing
 attempt-returns-in-Nothing t c =
@@ -70,70 +70,70 @@ attempt-returns t c =
     let inside : c.tokens.place ≤ length p = start_inside c.tokens.invariant.start in
     end_here c.tokens.invariant (λ deep. omega arith) (omega arith) c.end_answer.ensures.ends c.end_answer.ensures.more
 
-pub cross-returns-in_default-attempt : goal.cross-returns-in_default-attempt
-cross-returns-in_default-attempt t c =
-    let first = first_token c.requires.no_star c.first_literal-wanted.ensures in
+pub try_everywhere-returns-in_default-attempt : goal.try_everywhere-returns-in_default-attempt
+try_everywhere-returns-in_default-attempt t c =
+    let first = first_token c.requires.no_star c.first_wanted-wanted.ensures in
     cross_answer c.attempt.result c.requires.no_star c.value.invariant first c.in-Some.ensures.found c.in-Some.ensures.inside c.attempt.ensures
     c.in_default-attempt.not-NoMatch c.in_default-attempt.not-AbortToStarStar
 
-pub cross-value-preserved : goal.cross-value-preserved
-cross-value-preserved t c =
-    let first = first_token c.requires.no_star c.first_literal-wanted.ensures in
+pub try_everywhere-value-preserved : goal.try_everywhere-value-preserved
+try_everywhere-value-preserved t c =
+    let first = first_token c.requires.no_star c.first_wanted-wanted.ensures in
     tried_next c.value.invariant first c.in-Some.ensures.found c.in-Some.ensures.inside c.attempt.ensures
     (not_match c.attempt.result c.in-NoMatch.is)
 
-pub cross-returns : goal.cross-returns
-cross-returns t c =
-    let first = first_token c.requires.no_star c.first_literal-wanted.ensures in
+pub try_everywhere-returns : goal.try_everywhere-returns
+try_everywhere-returns t c =
+    let first = first_token c.requires.no_star c.first_wanted-wanted.ensures in
     cross_none c.value.invariant first c.in_default.ensures.none
 
-pub descend-returns-in-Match : goal.descend-returns-in-Match
-descend-returns-in-Match t c = λ i here. descent_here here c.requires.inside (c.attempt.ensures.split c.in-Match.is)
+pub try_directories-returns-in-Match : goal.try_directories-returns-in-Match
+try_directories-returns-in-Match t c = λ i here. descent_here here c.requires.inside (c.attempt.ensures.split c.in-Match.is)
 
-pub descend-returns-in_default : goal.descend-returns-in_default
-descend-returns-in_default t c = λ i here.
+pub try_directories-returns-in_default : goal.try_directories-returns-in_default
+try_directories-returns-in_default t c = λ i here.
     let after : c.args.place ≡ here.run_end + 1 = here.after in
-    descent_later here (omega arith) c.requires.inside c.attempt.ensures c.in_default.not-Match c.cross.ensures
+    descent_later here (omega arith) c.requires.inside c.attempt.ensures c.in_default.not-Match c.try_everywhere.ensures
 
-pub stay-returns-then-end-self : goal.stay-returns-then-end-self
-stay-returns-then-end-self t c =
+pub try_component-returns-then-end-self : goal.try_component-returns-then-end-self
+try_component-returns-then-end-self t c =
     stay_more c.if-place-self.true c.requires.inside c.component_end-end.ensures (λ e. let before = c.if-end-self.true in omega arith)
 
-pub stay-component-preserved : goal.stay-component-preserved
-stay-component-preserved t c =
-    let first = first_token c.requires.no_star c.first_literal-wanted.ensures in
+pub try_component-component-preserved : goal.try_component-component-preserved
+try_component-component-preserved t c =
+    let first = first_token c.requires.no_star c.first_wanted-wanted.ensures in
     tried_next c.component.invariant first c.in-Some.ensures.found c.in-Some.ensures.inside c.attempt.ensures
     (λ e. let same = c.in-NoMatch.is in cc)
 
-pub stay-returns-in_default-attempt : goal.stay-returns-in_default-attempt
-stay-returns-in_default-attempt t c =
-    let first = first_token c.requires.no_star c.first_literal-wanted.ensures in
+pub try_component-returns-in_default-attempt : goal.try_component-returns-in_default-attempt
+try_component-returns-in_default-attempt t c =
+    let first = first_token c.requires.no_star c.first_wanted-wanted.ensures in
     stay_answer c.attempt.result c.requires.no_star c.component_end-end.ensures c.min-until.ensures c.component.invariant first
     c.in-Some.ensures.found c.in-Some.ensures.inside c.attempt.ensures c.in_default-attempt.not-NoMatch
 
-pub stay-returns : goal.stay-returns
-stay-returns t c =
-    let first = first_token c.requires.no_star c.first_literal-wanted.ensures in
+pub try_component-returns : goal.try_component-returns
+try_component-returns t c =
+    let first = first_token c.requires.no_star c.first_wanted-wanted.ensures in
     stay_none c.component_end-end.ensures c.min-until.ensures c.component.invariant first c.in_default.ensures.none
 
-pub attempt-cross-requires : goal.attempt-cross-requires
-attempt-cross-requires t c =
+pub attempt-try_everywhere-requires : goal.attempt-try_everywhere-requires
+attempt-try_everywhere-requires t c =
     let p = c.args.self.now.pattern.now in
     let s = c.token_at-kind in
     let here : TokenAt c.args.self.now.mode p c.tokens.place Free s.result.1 = is_free s.ensures c.in-Free.is in
     let start : IsStart p s.result.1 c.args.self.now.mode = record { place = inl (start_next Free s.result.1 c.tokens.invariant.start here) } in
     (search rules, (start, (here.run.whole, (c.tokens.invariant.value_high, omega arith))))
 
-pub attempt-stay-requires : goal.attempt-stay-requires
-attempt-stay-requires t c =
+pub attempt-try_component-requires : goal.attempt-try_component-requires
+attempt-try_component-requires t c =
     let p = c.args.self.now.pattern.now in
     let s = c.token_at-kind in
     let here : TokenAt c.args.self.now.mode p c.tokens.place Local s.result.1 = is_local s.ensures c.in-Local.is in
     let start : IsStart p s.result.1 c.args.self.now.mode = record { place = inl (start_next Local s.result.1 c.tokens.invariant.start here) } in
     (search rules, (start, (here.run.whole, (c.tokens.invariant.value_high, omega arith))))
 
-pub attempt-descend-requires : goal.attempt-descend-requires
-attempt-descend-requires t c =
+pub attempt-try_directories-requires : goal.attempt-try_directories-requires
+attempt-try_directories-requires t c =
     let p = c.args.self.now.pattern.now in
     let s = c.token_at-kind in
     let here : TokenAt c.args.self.now.mode p c.tokens.place Dirs s.result.1 = is_dirs s.ensures c.in-Dirs.is in (
@@ -144,8 +144,8 @@ attempt-descend-requires t c =
       ),
     )
 
-pub descend-attempt-requires : goal.descend-attempt-requires
-descend-attempt-requires t c =
+pub try_directories-attempt-requires : goal.try_directories-attempt-requires
+try_directories-attempt-requires t c =
     let x = c.requires.token in (
       search rules,
       (

@@ -1,6 +1,6 @@
 use Rattle.std.proofs.Common.{◌≤◌, length, arith}
 use Rattle.glob_matcher.proofs.lemmas.reading.Starts.{start_inside}
-use Rattle.glob_matcher.proofs.wildmatch.pruned.Level.first_literal.Goals as goal
+use Rattle.glob_matcher.proofs.wildmatch.pruned.Level.first_wanted.Goals as goal
 
 pub token_at-kind-requires : goal.token_at-kind-requires
 token_at-kind-requires c =

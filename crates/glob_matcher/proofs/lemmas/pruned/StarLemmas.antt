@@ -10,7 +10,7 @@ use Rattle.glob_matcher.specs.Tokens.{Token, Byte, Any, OneOf, Free, Local, Dirs
 use Rattle.glob_matcher.specs.Matching.{SplitsFrom}
 use Rattle.glob_matcher.specs.Private.Reader.{AfterSlash, kind_of}
 use Rattle.glob_matcher.specs.Pruning.{HasRoom, BeginsCrossing, IsAttempt, star_count}
-use Rattle.glob_matcher.specs.Private.StarSearch.{literal_of, AsksFor, Skips, IsComponentEnd, IsCrossing, IsWithin, IsDescent}
+use Rattle.glob_matcher.specs.Private.StarSearch.{wanted_by, AsksFor, Skips, IsComponentEnd, IsTriedEverywhere, IsTriedInComponent, IsTriedInDirectories}
 use Rattle.glob_matcher.proofs.lemmas.reading.TokenLemmas.{TokenAt-unique, TokenAt-inside, run_lead}
 use Rattle.glob_matcher.proofs.lemmas.cutting.CutLemmas.{IsOne, one_in, one_out, free_in, free_out, local_in, local_out, dirs_in_empty, dirs_in, dirs_out, end_out, nothing_out}
 use Rattle.glob_matcher.proofs.lemmas.cutting.SplitLemmas.{IsStarToken, slash_token, no_slash_join}
@@ -49,7 +49,7 @@ pub record FirstToken (mode : Mode) (p : List ℕ) (i : ℕ) (wanted : Option �
   pub asks : (b : ℕ) → wanted ≡ Some b → token ≡ Byte b
 
 first_token_by : (mode : Mode) (p : List ℕ) (i : ℕ) (wanted : Option ℕ) (t : Token) (j : ℕ) → ¬ HasByte p i star → TokenAt mode p i t j
-    → wanted ≡ literal_of (kind_of t) → FirstToken mode p i wanted
+    → wanted ≡ wanted_by (kind_of t) → FirstToken mode p i wanted
 first_token_by mode p i wanted (Byte b) j bare here is =
     record { token = Byte b; after = j; here = here; one_or_nothing = inl tt; asks = λ c so. let same : Some b ≡ Some c = sym is ∙ so in cc }
 first_token_by mode p i wanted Any j bare here is =
@@ -65,7 +65,7 @@ first_token_by mode p i wanted Nothing j bare here is =
 pub first_token : {mode : Mode} {p : List ℕ} {i : ℕ} {wanted : Option ℕ} → ¬ HasByte p i star → AsksFor mode p i wanted
     → FirstToken mode p i wanted
 first_token {mode} {p} {i} {wanted} bare x =
-    first_token_by mode p i wanted x.read.token x.after bare x.read.here (x.asks ∙ ap literal_of x.read.same_kind)
+    first_token_by mode p i wanted x.read.token x.after bare x.read.here (x.asks ∙ ap wanted_by x.read.same_kind)
 
 module _ {mode : Mode} {p v : List ℕ} {i : ℕ} {wanted : Option ℕ} where
   -- no split begins at a place that a search passes over
@@ -136,7 +136,7 @@ module _ {mode : Mode} {p v : List ℕ} {i depth k e until found : ℕ} {wanted 
 module _ {mode : Mode} {p v : List ℕ} {i k e depth : ℕ} {wanted : Option ℕ} where
   -- no further place
   pub cross_none : Tried mode p v i (depth + 1) k e (length v) → FirstToken mode p i wanted → Skips mode v wanted e (length v)
-      → IsCrossing AbortAll p i v k mode depth
+      → IsTriedEverywhere AbortAll p i v k mode depth
   cross_none x first skips = record {
     found = λ so. cc;
     lost = λ room ne m low high. by room m low high (cases_lt m (length v));
@@ -153,7 +153,7 @@ module _ {mode : Mode} {p v : List ℕ} {i k e depth : ℕ} {wanted : Option ℕ
   pub cross_answer : {found : ℕ} (answer : Answer) → ¬ HasByte p i star
       → Tried mode p v i (depth + 1) k e (length v) → FirstToken mode p i wanted → Skips mode v wanted e found → found < length v
       → IsAttempt answer p i v found mode (depth + 1) → answer ≢ NoMatch → answer ≢ AbortToStarStar
-      → IsCrossing answer p i v k mode depth
+      → IsTriedEverywhere answer p i v k mode depth
   cross_answer {found} Match bare x first skips inside attempt n1 n2 =
       let low : k ≤ e = x.low in
       let past : e ≤ found = skips.low in record {
@@ -188,7 +188,7 @@ within_end {v} {k} {end} m x low high none past =
     let first : k ≤ end = x.low in none.at end first past (x.ends (omega arith))
 
 pub stay_more : {mode : Mode} {p v : List ℕ} {i k end depth : ℕ} → i ≡ length p → k ≤ length v → IsComponentEnd v k end
-    → end ≢ length v → IsWithin AbortToStarStar p i v k mode depth
+    → end ≢ length v → IsTriedInComponent AbortToStarStar p i v k mode depth
 stay_more {mode} {p} {v} {i} {k} {end} at_end inside x more = record {
   found = λ so. cc;
   lost = λ room ne m low high none s.
@@ -204,7 +204,7 @@ module _ {mode : Mode} {p v : List ℕ} {i k e end until depth : ℕ} {wanted : 
   pub stay_none : IsComponentEnd v k end
       → until ≡ min (length v) (end + 1)
       → Tried mode p v i (depth + 1) k e until → FirstToken mode p i wanted → Skips mode v wanted e until
-      → IsWithin AbortToStarStar p i v k mode depth
+      → IsTriedInComponent AbortToStarStar p i v k mode depth
   stay_none x reach tried first skips = record {
     found = λ so. cc;
     lost = λ room ne m low high none. by room m low high none (cases_lt m until);
@@ -225,7 +225,7 @@ module _ {mode : Mode} {p v : List ℕ} {i k e end until depth : ℕ} {wanted : 
 
   pub stay_answer : {found : ℕ} (answer : Answer) → ¬ HasByte p i star → IsComponentEnd v k end → until ≡ min (length v) (end + 1)
       → Tried mode p v i (depth + 1) k e until → FirstToken mode p i wanted → Skips mode v wanted e found → found < until
-      → IsAttempt answer p i v found mode (depth + 1) → answer ≢ NoMatch → IsWithin answer p i v k mode depth
+      → IsAttempt answer p i v found mode (depth + 1) → answer ≢ NoMatch → IsTriedInComponent answer p i v k mode depth
   stay_answer {found} Match bare x reach tried first skips inside attempt n1 =
       let low : k ≤ e = tried.low in
       let past : e ≤ found = skips.low in
@@ -296,7 +296,7 @@ local_not_crossing {mode} {p} {i} {j} here b = by b.token where
 
 module _ {mode : Mode} {p v : List ℕ} {i j k depth : ℕ} {answer : Answer} where
   pub free_star : TokenAt mode p i Free j → k ≤ length v
-      → IsCrossing answer p j v k mode depth → AtStar answer p i v k mode depth
+      → IsTriedEverywhere answer p j v k mode depth → AtStar answer p i v k mode depth
   free_star here inside x =
       let is_star : IsStarToken p i Free j = record { stop = j; run = here.run; after = inl refl; counts = λ ts. refl } in record {
         token = Free;
@@ -318,7 +318,7 @@ module _ {mode : Mode} {p v : List ℕ} {i j k depth : ℕ} {answer : Answer} wh
       }
 
   pub local_star : TokenAt mode p i Local j → k ≤ length v
-      → IsWithin answer p j v k mode depth → AtStar answer p i v k mode depth
+      → IsTriedInComponent answer p j v k mode depth → AtStar answer p i v k mode depth
   local_star here inside x =
       let is_star : IsStarToken p i Local j = record { stop = j; run = here.run; after = inl refl; counts = λ ts. refl } in record {
         token = Local;
@@ -344,7 +344,7 @@ module _ {mode : Mode} {p v : List ℕ} {i j k depth : ℕ} {answer : Answer} wh
       }
 
   pub dirs_star : TokenAt mode p i Dirs j → k ≤ length v
-      → IsDescent answer p i j v k mode depth → AtStar answer p i v k mode depth
+      → IsTriedInDirectories answer p i j v k mode depth → AtStar answer p i v k mode depth
   dirs_star here inside x =
       let is_star : IsStarToken p i Dirs j =
       record { stop = here.run_end; run = here.run; after = inr (here.slash, here.after); counts = λ ts. refl } in record {
@@ -370,7 +370,7 @@ module _ {mode : Mode} {p v : List ℕ} {i j k depth : ℕ} {answer : Answer} wh
 
 module _ {mode : Mode} {p v : List ℕ} {i j k depth : ℕ} where
   pub descent_here : DirsAt mode p i j → k ≤ length v
-      → SplitsFrom v k p j mode → IsDescent Match p i j v k mode depth
+      → SplitsFrom v k p j mode → IsTriedInDirectories Match p i j v k mode depth
   descent_here here inside s = record {
     found = λ so. dirs_in_empty mode p v i j k here inside s;
     lost = λ room ne. absurd (ne refl);
@@ -380,8 +380,8 @@ module _ {mode : Mode} {p v : List ℕ} {i j k depth : ℕ} where
   }
 
   pub descent_later : {s : ℕ} {first answer : Answer} → DirsAt mode p i j → j ≡ s + 1
-      → k ≤ length v → IsAttempt first p j v k mode (depth + 1) → first ≢ Match → IsCrossing answer p s v k mode depth
-      → IsDescent answer p i j v k mode depth
+      → k ≤ length v → IsAttempt first p j v k mode (depth + 1) → first ≢ Match → IsTriedEverywhere answer p s v k mode depth
+      → IsTriedInDirectories answer p i j v k mode depth
   descent_later {s} {first} {answer} here next inside empty none x = record {
     found = λ so. let there = x.found so in found there.0 there.1 there.2 there.3;
     lost = λ room ne m low high behind whole.

@@ -6,13 +6,13 @@ ghost use Rattle.glob_matcher.specs.Private.Reader.{IsToken, is_star};
 ghost use Rattle.glob_matcher.specs.Private.States.{StandsAt};
 ghost use Rattle.glob_matcher.specs.Private.Turns.{IsTurn};
 
-use super::engine::{Engine, Match};
+use super::engine::{Engine, Texts};
 use super::needle::stands_for_itself;
 use super::state::{Crossing, State, Turn};
 use super::tokens::TokenKind;
 use std::sync::ledger::Ledger;
 
-impl<'c, 'a, S: Ledger, L: Ledger, M: Match> Engine<'c, 'a, S, L, M> {
+impl<'c, 'a, S: Ledger, L: Ledger, M: Texts> Engine<'c, 'a, S, L, M> {
     /// A turn at a question mark or an escaped byte.
     #[inline(always)]
     fn single_turn(&mut self, state: State, kind: TokenKind, after: usize) -> Turn

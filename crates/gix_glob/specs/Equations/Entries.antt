@@ -1,7 +1,7 @@
 -- The entry of a reading.
 use Rattle.std.specs.Prelude.{ℕ}
 use Rattle.glob_patterns.specs.Equations.Readings.{Reading}
-use Rattle.gix_glob.specs.Lists.{Entry}
+use Rattle.gix_glob.specs.Entries.{Entry}
 
 -- the entry of a line's reading, with a value and a number
 abbrev pub entry_with : {V : Type 0} → V → ℕ → Reading → Entry V
