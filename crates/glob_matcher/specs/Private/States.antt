@@ -139,11 +139,16 @@ module _ (mode : Mode) (p v : List ℕ) where
   ResumesLocal c None = IsLeft c
   ResumesLocal c (Some next) = StandsAt next
 
+  -- the byte at place i of the pattern is a token by itself, and takes the byte at place k of the value
+  pub record IsLiteralMet (i k : ℕ) : Type 0 where
+    pub place : i < length p
+    pub literal : StandsForItself (slice_index p i)
+    pub at : k < length v
+    pub fits : Fits mode (Byte (slice_index p i)) (slice_index v k)
+
   -- what was met at the place that a scan has come to
   abbrev pub IsMet : Scan → Type 0
-  IsMet (scan.Found m) =
-      (m.place < length p) × StandsForItself (slice_index p m.place) × (m.at < length v)
-      × Fits mode (Byte (slice_index p m.place)) (slice_index v m.at)
+  IsMet (scan.Found m) = IsLiteralMet m.place m.at
   IsMet (scan.Blocked m) = (m.at < length v) × (slice_index v m.at ≡ slash) × ¬ SplitsFrom v m.at p m.place mode
   IsMet (scan.Undecided m) = Unit {0}
 

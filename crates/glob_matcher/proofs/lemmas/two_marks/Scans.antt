@@ -17,7 +17,7 @@ use Rattle.glob_matcher.specs.Tokens.{Byte}
 use Rattle.glob_matcher.specs.Matching.{SplitsFrom}
 use Rattle.glob_matcher.specs.Private.Reader.{Fits}
 use Rattle.glob_matcher.specs.Private.Scans.{Follows, IsScan, HasPassed, reached_by}
-use Rattle.glob_matcher.specs.Private.States.{IsMet, IsMiss, IsScanFor, StandsAt}
+use Rattle.glob_matcher.specs.Private.States.{IsLiteralMet, IsMiss, IsScanFor, StandsAt}
 use Rattle.glob_matcher.specs.Steps.{Counts}
 use Rattle.glob_matcher.specs.Private.Takes.{Takes}
 use Rattle.glob_matcher.specs.Private.Prices.{Measure, amount, move}
@@ -87,7 +87,7 @@ scan_for_mark mode p {v} f {from} {s = scan.Found m} is looked found =
       low = so.0.low;
       inside = so.0.inside;
       missed = λ k low below. misses_what_follows mode p v from.place k f is (omega (arith, so.0.inside)) (so.0.unsuited k low below);
-      met = (fits.0, fits.1, so.1, fits.2);
+      met = record { place = fits.0; literal = fits.1; at = so.1; fits = fits.2 };
       takes = Takes-on looked found.takes (omega arith) (omega arith);
     }
 scan_for_mark mode p {v} f {from} {s = scan.Blocked m} is looked found =
@@ -131,54 +131,54 @@ holds_later Q a b low here on =
     let same : a + (b - a) ≡ b = omega arith in
     subst Q same (holds_after Q a (b - a) here (λ k from below. on k from (omega arith)))
 
+-- what holds of a mark and goes on by one place holds of it at each place after it
+holds_moved : (Q : Mark → Type 0) {m : Mark} (x : Mark) → Q m → x.place ≡ m.place → m.at ≤ x.at
+    → ((k : ℕ) → m.at ≤ k → k < x.at → Q (mark_of m.place k) → Q (mark_of m.place (k + 1))) → Q x
+holds_moved Q {m} x here same low on =
+    subst Q (mark_eq x m.place x.at same refl) (holds_later (λ k. Q (mark_of m.place k)) m.at x.at low here on)
+
 module _ {mode : Mode} {p v : List ℕ} where
   -- The crossing mark of a run of stars moves on over places from which the rest of the pattern splits nothing.
   pub stands_free_skipped : {m : Mark} (x : Mark) → StandsAt mode p v (state_of m.place m.at (crossing.Free m) None)
       → x.place ≡ m.place → m.at ≤ x.at → x.at ≤ length v → ((k : ℕ) → m.at ≤ k → k < x.at → ¬ SplitsFrom v k p m.place mode)
       → StandsAt mode p v (state_of x.place x.at (crossing.Free x) None)
   stands_free_skipped {m} x st same low inside missed =
-      subst (λ (y : Mark). StandsAt mode p v (state_of y.place y.at (crossing.Free y) None)) (mark_eq x m.place x.at same refl)
-      (holds_later (λ k. StandsAt mode p v (state_of m.place k (crossing.Free (mark_of m.place k)) None)) m.at x.at low st
+      holds_moved (λ y. StandsAt mode p v (state_of y.place y.at (crossing.Free y) None)) x st same low
       (λ k from below at.
-      stands_free_moved (mark_of m.place (k + 1)) (left_without (miss_of at (missed k from below)) refl) (omega arith) refl refl))
+      stands_free_moved (mark_of m.place (k + 1)) (left_without (miss_of at (missed k from below)) refl) (omega arith) refl refl)
 
   -- The local mark moves on within its component, over places from which the rest of the pattern splits nothing.
   pub stands_local_skipped : {c : Crossing} {m : Mark} (x : Mark) → StandsAt mode p v (state_of m.place m.at c (Some m))
       → x.place ≡ m.place → m.at ≤ x.at → x.at ≤ length v → NoSlash v m.at x.at
       → ((k : ℕ) → m.at ≤ k → k < x.at → ¬ SplitsFrom v k p m.place mode) → StandsAt mode p v (state_of x.place x.at c (Some x))
   stands_local_skipped {c} {m} x st same low inside bare missed =
-      subst (λ (y : Mark). StandsAt mode p v (state_of y.place y.at c (Some y))) (mark_eq x m.place x.at same refl)
-      (holds_later (λ k. StandsAt mode p v (state_of m.place k c (Some (mark_of m.place k)))) m.at x.at low st
+      holds_moved (λ y. StandsAt mode p v (state_of y.place y.at c (Some y))) x st same low
       (λ k from below at.
       stands_local_moved (mark_of m.place (k + 1)) (miss_of at (missed k from below)) refl (omega arith)
-      (bare.at k from below) refl refl))
+      (bare.at k from below) refl refl)
 
 module _ {measure : Measure} {mode : Mode} {p v : List ℕ} where
   pub allows_free_skipped : {m : Mark} (x : Mark) {spent limit : ℕ}
       → AllowsAt measure mode p v (state_of m.place m.at (crossing.Free m) None) spent limit → x.place ≡ m.place → m.at ≤ x.at
       → x.at ≤ length v → AllowsAt measure mode p v (state_of x.place x.at (crossing.Free x) None) (spent + 2 * (x.at - m.at)) limit
   allows_free_skipped {m} x {spent} {limit} a same low inside =
-      subst (λ (y : Mark). AllowsAt measure mode p v (state_of y.place y.at (crossing.Free y) None) (spent + 2 * (x.at - m.at)) limit)
-      (mark_eq x m.place x.at same refl)
-      (holds_later (λ k. AllowsAt measure mode p v (state_of m.place k (crossing.Free (mark_of m.place k)) None) (spent + 2 * (k - m.at)) limit)
-      m.at x.at low (allows_less (omega arith) a)
+      holds_moved (λ y. AllowsAt measure mode p v (state_of y.place y.at (crossing.Free y) None) (spent + 2 * (y.at - m.at)) limit)
+      x (allows_less (omega arith) a) same low
       (λ k from below a.
       allows_less (omega (arith, move-some measure))
-      (allows_free_moved (mark_of m.place (k + 1)) (omega arith) refl refl (left_missed (omega arith) (allows_missed a)))))
+      (allows_free_moved (mark_of m.place (k + 1)) (omega arith) refl refl (left_missed (omega arith) (allows_missed a))))
 
   pub allows_local_skipped : {c : Crossing} {m : Mark} (x : Mark) {spent limit : ℕ} → IsTrue (is_path mode)
       → AllowsAt measure mode p v (state_of m.place m.at c (Some m)) spent limit → x.place ≡ m.place → m.at ≤ x.at
       → x.at ≤ length v → NoSlash v m.at x.at
       → AllowsAt measure mode p v (state_of x.place x.at c (Some x)) (spent + 2 * (x.at - m.at)) limit
   allows_local_skipped {c} {m} x {spent} {limit} path a same low inside bare =
-      subst (λ (y : Mark). AllowsAt measure mode p v (state_of y.place y.at c (Some y)) (spent + 2 * (x.at - m.at)) limit)
-      (mark_eq x m.place x.at same refl)
-      (holds_later (λ k. AllowsAt measure mode p v (state_of m.place k c (Some (mark_of m.place k))) (spent + 2 * (k - m.at)) limit)
-      m.at x.at low (allows_less (omega arith) a)
+      holds_moved (λ y. AllowsAt measure mode p v (state_of y.place y.at c (Some y)) (spent + 2 * (y.at - m.at)) limit)
+      x (allows_less (omega arith) a) same low
       (λ k from below a.
       allows_less (omega (arith, move-some measure))
       (allows_local_moved (mark_of m.place (k + 1)) (allows_missed a) refl (omega arith)
-      (ends-inner mode (get_or v k 0) path (bare.at k from below)) refl refl)))
+      (ends-inner mode (get_or v k 0) path (bare.at k from below)) refl refl))
 
 -- a byte is known by its token
 pub byte_of : {b d : ℕ} → Byte b ≡ Byte d → b ≡ d
@@ -188,34 +188,28 @@ byte_price : (measure : Measure) (i spent : ℕ) → spent + amount measure 1 8 
 byte_price measure i spent =
     let more : amount measure 1 8 ≤ amount measure 1 (8 * (i + 1 - i)) = amount-mono measure (omega arith) (omega arith) in omega arith
 
--- what the local mark is past the byte after it
-pub record IsLocalPast (p : List ℕ) (m : Mark) (l : Option Mark) : Type 0 where
-  pub at_slash : get_or p m.place 0 ≡ slash → l ≡ None
-  pub at_other : get_or p m.place 0 ≢ slash → l ≡ Some m
+-- what the local mark is past the byte at place i of the pattern: a slash forgets it
+pub record IsLocalPast (p : List ℕ) (i : ℕ) (l next : Option Mark) : Type 0 where
+  pub at_slash : get_or p i 0 ≡ slash → next ≡ None
+  pub at_other : get_or p i 0 ≢ slash → next ≡ l
+
+-- where no local mark is set, there is none past a byte
+pub unset_past : {p : List ℕ} {i : ℕ} → IsLocalPast p i None None
+unset_past = record { at_slash = λ is. refl; at_other = λ other. refl }
 
 module _ {mode : Mode} {p v : List ℕ} where
-  -- The byte after a run of stars that crosses slashes is found.
-  pub free_found : {m : Mark} → StandsAt mode p v (state_of m.place m.at (crossing.Free m) None) → IsMet mode p v (scan.Found m)
-      → StandsAt mode p v (state_of (m.place + 1) (m.at + 1) (crossing.Free m) None)
-  free_found {m} st met =
-      let token = literal_token mode p m.place met.0 met.1 in
-      elim (cases_eq (get_or p m.place 0) slash) [
-        | inl is ↦ stands_past_slash st token refl met.2 met.3 (ap Byte is)
-        | inr other ↦ stands_on st token refl met.2 met.3 (λ is. other (byte_of is))
-      ]
-
-  -- The byte after a run of stars within a component is found.
-  pub local_found : {c : Crossing} {m : Mark} {l : Option Mark} → StandsAt mode p v (state_of m.place m.at c (Some m))
-      → IsMet mode p v (scan.Found m) → IsLocalPast p m l → StandsAt mode p v (state_of (m.place + 1) (m.at + 1) c l)
-  local_found {c} {m} st met mark =
-      let token = literal_token mode p m.place met.0 met.1 in
-      elim (cases_eq (get_or p m.place 0) slash) [
+  -- The byte after a run of stars is found where its mark is.
+  pub stands_found : {i k : ℕ} {c : Crossing} {l next : Option Mark} → StandsAt mode p v (state_of i k c l)
+      → IsLiteralMet mode p v i k → IsLocalPast p i l next → StandsAt mode p v (state_of (i + 1) (k + 1) c next)
+  stands_found {i} {k} {c} st met past =
+      let token = literal_token mode p i met.place met.literal in
+      elim (cases_eq (get_or p i 0) slash) [
         | inl is ↦
-            subst (λ (x : Option Mark). StandsAt mode p v (state_of (m.place + 1) (m.at + 1) c x)) (sym (mark.at_slash is))
-            (stands_past_slash st token refl met.2 met.3 (ap Byte is))
+            subst (λ (x : Option Mark). StandsAt mode p v (state_of (i + 1) (k + 1) c x)) (sym (past.at_slash is))
+            (stands_past_slash st token refl met.at met.fits (ap Byte is))
         | inr other ↦
-            subst (λ (x : Option Mark). StandsAt mode p v (state_of (m.place + 1) (m.at + 1) c x)) (sym (mark.at_other other))
-            (stands_on st token refl met.2 met.3 (λ is. other (byte_of is)))
+            subst (λ (x : Option Mark). StandsAt mode p v (state_of (i + 1) (k + 1) c x)) (sym (past.at_other other))
+            (stands_on st token refl met.at met.fits (λ is. other (byte_of is)))
       ]
 
   -- A scan from the local mark, once it has moved: the engine stands where the scan has come to.
@@ -227,27 +221,19 @@ module _ {mode : Mode} {p v : List ℕ} where
       stands_local_skipped (reached_by s) (stands_local_moved x miss is inside other same at) so.same so.low so.inside bare so.missed
 
 module _ {measure : Measure} {mode : Mode} {p v : List ℕ} where
-  pub free_found_counts : {m : Mark} {spent limit : ℕ}
-      → AllowsAt measure mode p v (state_of m.place m.at (crossing.Free m) None) spent limit → IsMet mode p v (scan.Found m)
-      → AllowsAt measure mode p v (state_of (m.place + 1) (m.at + 1) (crossing.Free m) None) (spent + amount measure 1 8) limit
-  free_found_counts {m} {spent} a met =
-      let token = literal_token mode p m.place met.0 met.1 in
-      allows_past_slash token refl (byte_price measure m.place spent) met.2 met.3 a
-
-  pub local_found_counts : {c : Crossing} {m : Mark} {l : Option Mark} {spent limit : ℕ}
-      → StandsAt mode p v (state_of m.place m.at c (Some m)) → AllowsAt measure mode p v (state_of m.place m.at c (Some m)) spent limit
-      → IsMet mode p v (scan.Found m) → IsLocalPast p m l
-      → AllowsAt measure mode p v (state_of (m.place + 1) (m.at + 1) c l) (spent + amount measure 1 8) limit
-  local_found_counts {c} {m} {spent = spent} {limit} st a met mark =
-      let token = literal_token mode p m.place met.0 met.1 in
-      elim (cases_eq (get_or p m.place 0) slash) [
+  pub allows_found : {i k : ℕ} {c : Crossing} {l next : Option Mark} {spent limit : ℕ} → StandsAt mode p v (state_of i k c l)
+      → AllowsAt measure mode p v (state_of i k c l) spent limit → IsLiteralMet mode p v i k → IsLocalPast p i l next
+      → AllowsAt measure mode p v (state_of (i + 1) (k + 1) c next) (spent + amount measure 1 8) limit
+  allows_found {i} {k} {c} {spent = spent} {limit} st a met past =
+      let token = literal_token mode p i met.place met.literal in
+      elim (cases_eq (get_or p i 0) slash) [
         | inl is ↦
-            subst (λ (x : Option Mark). AllowsAt measure mode p v (state_of (m.place + 1) (m.at + 1) c x) (spent + amount measure 1 8) limit) (sym (mark.at_slash is))
-            (allows_past_slash token refl (byte_price measure m.place spent) met.2 met.3 a)
+            subst (λ (x : Option Mark). AllowsAt measure mode p v (state_of (i + 1) (k + 1) c x) (spent + amount measure 1 8) limit) (sym (past.at_slash is))
+            (allows_past_slash token refl (byte_price measure i spent) met.at met.fits a)
         | inr other ↦
-            subst (λ (x : Option Mark). AllowsAt measure mode p v (state_of (m.place + 1) (m.at + 1) c x) (spent + amount measure 1 8) limit) (sym (mark.at_other other))
-            (allows_on token refl (byte_price measure m.place spent) met.2 met.3
-            (inner_of token.token st met.3 (λ is. other (byte_of is))) a)
+            subst (λ (x : Option Mark). AllowsAt measure mode p v (state_of (i + 1) (k + 1) c x) (spent + amount measure 1 8) limit) (sym (past.at_other other))
+            (allows_on token refl (byte_price measure i spent) met.at met.fits
+            (inner_of token.token st met.fits (λ is. other (byte_of is))) a)
       ]
 
   pub local_scanned_counts : {state : State} {m x : Mark} {s : Scan} {before after : Counts} {spent limit : ℕ} → IsMiss mode p v state

@@ -5,7 +5,7 @@ use Rattle.glob_matcher.proofs.lemmas.two_marks.StuckMarks.{free_stuck}
 use Rattle.glob_matcher.proofs.lemmas.two_marks.Prices.{Takes-both, TakesExactly-at_most, amount-same, move-price, scan-price}
 use Rattle.glob_matcher.proofs.lemmas.two_marks.Budget.{Allows-places, allows_less}
 use Rattle.glob_matcher.proofs.lemmas.two_marks.MovedMarkCosts.{allows_free_moved, free_stuck_counts}
-use Rattle.glob_matcher.proofs.lemmas.two_marks.Scans.{stands_free_skipped, allows_free_skipped, free_found, free_found_counts}
+use Rattle.glob_matcher.proofs.lemmas.two_marks.Scans.{allows_found, allows_free_skipped, stands_found, stands_free_skipped, unset_past}
 use Rattle.glob_matcher.proofs.wildmatch.engine.Engine.back_to_free.Goals as goal
 
 pub returns-in_default : goal.returns-in_default
@@ -42,15 +42,15 @@ returns-in-Found g c =
     let x = c.in-Some.moved in
     let to = c.in-Found.found in
     let passed = 2 * (to.at - x.at) in
+    let reached = stands_free_skipped to (stands_free_moved x c.requires moved.2 moved.0 moved.1) so.same so.low so.inside so.missed in
     record {
       meaning =
-          Stands-places
-          (free_found (stands_free_skipped to (stands_free_moved x c.requires moved.2 moved.0 moved.1) so.same so.low so.inside so.missed) so.met)
+          Stands-places (stands_found reached so.met unset_past)
           (ap (λ (n : ℕ). n + 1) c.place-in-Found.ensures) (ap (λ (n : ℕ). n + 1) c.at-in-Found.ensures);
       allows = λ measure n a.
           Allows-places
           (allows_less (scan-price measure passed 1 8 (Takes-both (TakesExactly-at_most c.pass.ensures.count) so.takes) (omega arith) (omega arith))
-          (free_found_counts (allows_free_skipped to (allows_free_moved x moved.2 moved.0 moved.1 a) so.same so.low so.inside) so.met))
+          (allows_found reached (allows_free_skipped to (allows_free_moved x moved.2 moved.0 moved.1 a) so.same so.low so.inside) so.met unset_past))
           (ap (λ (n : ℕ). n + 1) c.place-in-Found.ensures) (ap (λ (n : ℕ). n + 1) c.at-in-Found.ensures);
       progress = omega (arith, so.takes.steps, c.pass.ensures.count.steps);
     }

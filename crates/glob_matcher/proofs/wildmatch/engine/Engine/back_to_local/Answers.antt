@@ -1,10 +1,10 @@
-use Rattle.std.proofs.Common.{◌+◌, ◌-◌, ◌*◌, ℕ, inr, ap, refl, arith}
+use Rattle.std.proofs.Common.{◌+◌, ◌-◌, ◌*◌, ℕ, Some, inr, ap, refl, arith}
 use Rattle.glob_matcher.proofs.lemmas.two_marks.States.{Stands-places, miss_of}
 use Rattle.glob_matcher.proofs.lemmas.two_marks.StuckMarks.{left_stuck, left_without}
 use Rattle.glob_matcher.proofs.lemmas.two_marks.Prices.{Takes-both, TakesExactly-at_most, amount-same, move-over, move-price, scan-price}
 use Rattle.glob_matcher.proofs.lemmas.two_marks.Budget.{Allows-places, allows_less, allows_missed, left_less}
 use Rattle.glob_matcher.proofs.lemmas.two_marks.MovedMarkCosts.{left_missed, left_stuck_counts}
-use Rattle.glob_matcher.proofs.lemmas.two_marks.Scans.{IsLocalPast, local_found, local_found_counts, local_scanned, local_scanned_counts, none_of}
+use Rattle.glob_matcher.proofs.lemmas.two_marks.Scans.{IsLocalPast, allows_found, local_scanned, local_scanned_counts, none_of, stands_found}
 use Rattle.glob_matcher.proofs.wildmatch.engine.Engine.back_to_local.Goals as goal
 
 pub returns-in_default : goal.returns-in_default
@@ -72,17 +72,17 @@ returns-in-Found g c =
     let bare = c.in-Found.ensures.bare in
     let passed = 2 * (c.in-Found.found.at - c.in-Some-pass_within_or_end.moved.at) in
     let pass = TakesExactly-at_most c.pass_within_or_end.ensures.count in
-    let local : IsLocalPast g.M.Match.pattern c.in-Found.found c.local_past.result = record { at_slash = c.local_past.ensures.at_slash; at_other = c.local_past.ensures.at_other } in
+    let past : IsLocalPast g.M.Match.pattern c.in-Found.found.place (Some c.in-Found.found) c.local_past.result = record { at_slash = c.local_past.ensures.at_slash; at_other = c.local_past.ensures.at_other } in
     let all = Takes-both (Takes-both pass so.takes) c.local_past.ensures.count in
     let reached = local_scanned c.requires c.in-Some.is moved.2 moved.3 moved.0 moved.1 so bare in
     let place = ap (λ (x : ℕ). x + 1) c.place-in-Found.ensures in
     let at = ap (λ (x : ℕ). x + 1) c.at-in-Found.ensures in
     record {
-      meaning = Stands-places (local_found reached so.met local) place at;
+      meaning = Stands-places (stands_found reached so.met past) place at;
       allows = λ measure n a.
           Allows-places
           (allows_less (scan-price measure passed 1 8 all (omega arith) (omega arith))
-          (local_found_counts reached (local_scanned_counts c.requires c.in-Some.is moved.2 moved.3 moved.0 moved.1 so bare a) so.met local))
+          (allows_found reached (local_scanned_counts c.requires c.in-Some.is moved.2 moved.3 moved.0 moved.1 so bare a) so.met past))
           place at;
       progress = omega (arith, so.takes.steps, pass.steps, c.local_past.ensures.count.steps);
       low = omega (arith, so.takes.steps, pass.steps, c.local_past.ensures.count.steps);
