@@ -38,7 +38,7 @@ pub struct ExactByte(pub u8);
 #[derive(Copy, Clone)]
 pub struct FoldedByte(pub u8);
 
-/// No byte, which leads to the pattern's end.
+/// No byte: the pattern's end follows the star.
 #[derive(Copy, Clone)]
 pub struct NoByte;
 

@@ -1,7 +1,8 @@
 //! The turns of the engine with two marks: the token at a place of the pattern is tested at a place of the value, and after a
 //! literal byte the ones that follow it, up to a slash.
-ghost use Rattle.std.specs.Prelude.{◌≡◌, ◌≢◌, ◌↔◌, ◌-◌, ◌*◌, ◌<◌, true, false, IsTrue, length, slice_index};
+ghost use Rattle.std.specs.Prelude.{◌≡◌, ◌≢◌, ◌-◌, ◌*◌, ◌<◌, ◌≤◌, false, length, slice_index};
 ghost use Rattle.glob_matcher.specs.Bytes.{HasByte, StandsForItself, open_bracket, slash};
+ghost use Rattle.glob_matcher.specs.Tokens.{FreeAt, LocalAt, DirsAt};
 ghost use Rattle.glob_matcher.specs.Private.Reader.{IsToken, is_star};
 ghost use Rattle.glob_matcher.specs.Private.States.{StandsAt};
 ghost use Rattle.glob_matcher.specs.Private.Turns.{IsTurn};
@@ -60,47 +61,58 @@ impl<'c, 'a, S: Ledger, L: Ledger, M: Texts> Engine<'c, 'a, S, L, M> {
         })
     }
 
-    /// Whether a token up to this place takes the rest of the value: a run of stars that crosses slashes, at the pattern's end.
+    /// A turn at a run of stars that crosses slashes: both marks are forgotten, and one is set. At the pattern's end it takes
+    /// the rest of the value.
     #[inline(always)]
-    fn takes_the_rest(&self, kind: TokenKind, after: usize) -> bool
-        ensures { IsTrue result ↔ ((kind ≡ TokenKind.Free) × (after ≡ length M.pattern)) }
-    {
-        matches!(kind, TokenKind::Free) && after == self.pattern_len()
-    }
-
-    /// A turn at a star token: its mark is set. One that crosses slashes forgets the marks before it, and a run within a
-    /// component the local one alone.
-    #[inline(always)]
-    fn star_turn(&mut self, state: State, kind: TokenKind, after: usize) -> Turn
+    fn free_turn(&mut self, state: State, after: usize) -> Turn
         requires stands { StandsAt M.mode M.pattern M.value state }
-        requires token { IsToken M.mode M.pattern state.place kind after }
-        requires star { is_star kind ≡ true }
+        requires token { FreeAt M.mode M.pattern state.place after }
+        requires inside { after ≤ length M.pattern }
         ensures { IsTurn M.mode M.pattern M.value state (8 * (after - state.place) - 4) result self.old self.new }
     {
-        if self.takes_the_rest(kind, after) {
+        if after == self.pattern_len() {
             return Turn::Match;
         }
         let mark = self.set_mark(after, state.at);
-        let next = State {
+        Turn::On(State {
             place: after,
+            at: state.at,
+            crossing: Crossing::Free(mark),
+            local: None,
+        })
+    }
+
+    /// A turn at a double star with its slash: both marks are forgotten, and one is set.
+    #[inline(always)]
+    fn dirs_turn(&mut self, state: State, after: usize) -> Turn
+        requires stands { StandsAt M.mode M.pattern M.value state }
+        requires token { DirsAt M.mode M.pattern state.place after }
+        requires inside { after ≤ length M.pattern }
+        ensures { IsTurn M.mode M.pattern M.value state (8 * (after - state.place) - 4) result self.old self.new }
+    {
+        let mark = self.set_mark(after, state.at);
+        Turn::On(State {
+            place: after,
+            at: state.at,
+            crossing: Crossing::Dirs(mark),
+            local: None,
+        })
+    }
+
+    /// A turn at a run of stars within a component: its mark is set, and the crossing one stays.
+    #[inline(always)]
+    fn local_turn(&mut self, state: State, after: usize) -> Turn
+        requires stands { StandsAt M.mode M.pattern M.value state }
+        requires token { LocalAt M.mode M.pattern state.place after }
+        requires inside { after ≤ length M.pattern }
+        ensures { IsTurn M.mode M.pattern M.value state (8 * (after - state.place) - 4) result self.old self.new }
+    {
+        let mark = self.set_mark(after, state.at);
+        Turn::On(State {
+            place: after,
+            local: Some(mark),
             ..state
-        };
-        match kind {
-            TokenKind::Free => Turn::On(State {
-                crossing: Crossing::Free(mark),
-                local: None,
-                ..next
-            }),
-            TokenKind::Dirs => Turn::On(State {
-                crossing: Crossing::Dirs(mark),
-                local: None,
-                ..next
-            }),
-            _ => Turn::On(State {
-                local: Some(mark),
-                ..next
-            }),
-        }
+        })
     }
 
     /// A turn at a star, a question mark or an escape.
@@ -113,9 +125,9 @@ impl<'c, 'a, S: Ledger, L: Ledger, M: Texts> Engine<'c, 'a, S, L, M> {
     {
         let (kind, after) = self.token_at(state.place);
         match kind {
-            TokenKind::Free | TokenKind::Dirs | TokenKind::Local => {
-                self.star_turn(state, kind, after)
-            }
+            TokenKind::Free => self.free_turn(state, after),
+            TokenKind::Dirs => self.dirs_turn(state, after),
+            TokenKind::Local => self.local_turn(state, after),
             TokenKind::Nothing => Turn::NoMatch,
             TokenKind::Byte(_) | TokenKind::Any | TokenKind::Set => {
                 self.single_turn(state, kind, after)

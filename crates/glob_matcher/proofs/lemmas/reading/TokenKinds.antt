@@ -1,12 +1,12 @@
 -- What the kind of a token tells of it.
-use Rattle.std.proofs.Common.{◌≡◌, ◌≢◌, ◌↔◌, ◌⊎◌, Bool, true, false, IsTrue, get_or, inl, inr, ℕ, List, refl, sym, ◌∙◌, ap, subst, arith}
+use Rattle.std.proofs.Common.{◌≡◌, ◌≢◌, ◌↔◌, ◌⊎◌, Bool, IsTrue, get_or, inl, inr, ℕ, List, refl, sym, ◌∙◌, subst, arith}
 use Rattle.glob_matcher.specs.declared.wildmatch.mode.Mode.{Mode}
 use Rattle.glob_matcher.specs.declared.wildmatch.tokens.TokenKind.{TokenKind}
 use Rattle.glob_matcher.specs.declared.wildmatch.tokens.TokenKind.TheVariants as kind
 use Rattle.glob_matcher.specs.Bytes.{open_bracket, star, slash}
 use Rattle.glob_matcher.specs.Sets.{Set, SetAt, set_holds}
 use Rattle.glob_matcher.specs.Tokens.{Token, Byte, Any, OneOf, Free, Local, Dirs, Nothing, TokenAt, DirsAt}
-use Rattle.glob_matcher.specs.Private.Reader.{Fits, IsToken, is_star, kind_of}
+use Rattle.glob_matcher.specs.Private.Reader.{Fits, IsToken, kind_of}
 use Rattle.glob_matcher.specs.Pruning.{IsStart, IsBoundary, IsDirsSlash}
 use Rattle.glob_matcher.proofs.lemmas.reading.SetLemmas.{SetAt-unique, two_bytes}
 use Rattle.glob_matcher.proofs.lemmas.reading.TokenLemmas.{run_lead}
@@ -34,21 +34,6 @@ of_own_kind Nothing = refl
 
 pub token_is : (t : Token) {s : TokenKind} → kind_of t ≡ s → IsOf s t
 token_is t e = subst (λ (s : TokenKind). IsOf s t) e (of_own_kind t)
-
--- the kinds of star tokens
-pub star_of : {s : TokenKind} → (s ≡ kind.Free) ⊎ ((s ≡ kind.Dirs) ⊎ (s ≡ kind.Local)) → is_star s ≡ true
-star_of (inl e) = ap is_star e
-star_of (inr (inl e)) = ap is_star e
-star_of (inr (inr e)) = ap is_star e
-
-pub local_of_star : (s : TokenKind) → is_star s ≡ true → s ≢ kind.Free → s ≢ kind.Dirs → s ≡ kind.Local
-local_of_star (kind.Byte b) star free dirs = let wrong : false ≡ true = star in cc
-local_of_star kind.Any star free dirs = let wrong : false ≡ true = star in cc
-local_of_star kind.Set star free dirs = let wrong : false ≡ true = star in cc
-local_of_star kind.Free star free dirs = absurd (free refl)
-local_of_star kind.Local star free dirs = refl
-local_of_star kind.Dirs star free dirs = absurd (dirs refl)
-local_of_star kind.Nothing star free dirs = let wrong : false ≡ true = star in cc
 
 module _ {mode : Mode} {p : List ℕ} {i : ℕ} {s : TokenKind} {j : ℕ} (x : IsToken mode p i s j) where
   pub is_free : s ≡ kind.Free → TokenAt mode p i Free j

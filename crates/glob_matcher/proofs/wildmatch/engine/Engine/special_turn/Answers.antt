@@ -1,19 +1,35 @@
 use Rattle.std.proofs.Common.{ap, arith}
 use Rattle.glob_matcher.specs.Private.Reader.{is_star}
-use Rattle.glob_matcher.proofs.lemmas.reading.TokenKinds.{is_nothing, no_set, star_of}
+use Rattle.glob_matcher.proofs.lemmas.reading.TokenKinds.{is_free, is_local, is_dirs, is_nothing, no_set}
 use Rattle.glob_matcher.proofs.lemmas.two_marks.States.{nothing_met}
 use Rattle.glob_matcher.proofs.lemmas.two_marks.Prices.{Takes-within}
 use Rattle.glob_matcher.proofs.lemmas.two_marks.Turns.{star_looks, token_looks, turn_on}
 use Rattle.glob_matcher.proofs.lemmas.two_marks.Budget.{allows_test, test_of_token}
 use Rattle.glob_matcher.proofs.wildmatch.engine.Engine.special_turn.Goals as goal
 
-pub star_turn-requires-clause-star : goal.star_turn-requires-clause-star
-star_turn-requires-clause-star g c = star_of c.in-Free.is
+pub free_turn-requires-clause-token : goal.free_turn-requires-clause-token
+free_turn-requires-clause-token g c = is_free c.token_at-kind.ensures.token c.in-Free.is
+
+pub dirs_turn-requires-clause-token : goal.dirs_turn-requires-clause-token
+dirs_turn-requires-clause-token g c = is_dirs c.token_at-kind.ensures.token c.in-Dirs.is
+
+pub local_turn-requires-clause-token : goal.local_turn-requires-clause-token
+local_turn-requires-clause-token g c = is_local c.token_at-kind.ensures.token c.in-Local.is
 
 pub returns-in-Free : goal.returns-in-Free
 returns-in-Free g c =
     let x = c.token_at-kind.ensures in
-    turn_on (star_looks x.token.past (star_of c.in-Free.is) x.count) (omega (arith, c.token_at-kind.ensures.token.past)) c.star_turn.ensures
+    turn_on (star_looks x.token.past (ap is_star c.in-Free.is) x.count) (omega (arith, c.token_at-kind.ensures.token.past)) c.free_turn.ensures
+
+pub returns-in-Dirs : goal.returns-in-Dirs
+returns-in-Dirs g c =
+    let x = c.token_at-kind.ensures in
+    turn_on (star_looks x.token.past (ap is_star c.in-Dirs.is) x.count) (omega (arith, c.token_at-kind.ensures.token.past)) c.dirs_turn.ensures
+
+pub returns-in-Local : goal.returns-in-Local
+returns-in-Local g c =
+    let x = c.token_at-kind.ensures in
+    turn_on (star_looks x.token.past (ap is_star c.in-Local.is) x.count) (omega (arith, c.token_at-kind.ensures.token.past)) c.local_turn.ensures
 
 pub returns-in-Byte : goal.returns-in-Byte
 returns-in-Byte g c =

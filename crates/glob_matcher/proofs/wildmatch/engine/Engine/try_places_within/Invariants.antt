@@ -1,0 +1,14 @@
+-- No byte so far is what is looked for or a slash, two steps were taken for each, and the rest of the stride is inside the value.
+use Rattle.std.proofs.Common.{◌≡◌, ◌+◌, ◌-◌, ◌*◌}
+use Rattle.glob_matcher.specs.Bytes.{NoSlash}
+use Rattle.glob_matcher.specs.Private.Scans.{HasPassed}
+use Rattle.glob_matcher.specs.Private.Takes.{Takes}
+use Rattle.glob_matcher.proofs.wildmatch.engine.Engine.try_places_within.Given as goal
+
+abbrev pub invariant-stride : goal.invariant-stride
+invariant-stride g l = record {
+  passed : HasPassed g.M.Texts.value (g.N.Needle.suits l.needle) l.fn.mark l.reached;
+  bare : NoSlash g.M.Texts.value l.fn.mark.at l.reached.at;
+  on : l.reached.at ≡ l.fn.mark.at + l.counter;
+  count : Takes l.fn.self l.self (2 * (l.reached.at - l.fn.mark.at)) (2 * (l.reached.at - l.fn.mark.at));
+}
