@@ -5,7 +5,7 @@ use Rattle.glob_matcher.specs.declared.wildmatch.tokens.TokenKind.{TokenKind}
 use Rattle.glob_matcher.specs.declared.wildmatch.tokens.TokenKind.TheVariants as kind
 use Rattle.glob_matcher.specs.Bytes.{NoSlash, fold, is_path, slash}
 use Rattle.glob_matcher.specs.Sets.{Set, SetAt, set_holds}
-use Rattle.glob_matcher.specs.Tokens.{Token, Byte, Any, OneOf, Free, Local, Dirs}
+use Rattle.glob_matcher.specs.Tokens.{Token, Byte, Any, OneOf}
 
 -- place e lies past k and comes directly after a slash
 pub record AfterSlash (value : List ℕ) (k e : ℕ) : Type 0 where
