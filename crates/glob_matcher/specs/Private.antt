@@ -2,6 +2,7 @@
 pub mod Takes
 pub mod Looks
 pub mod Reader
+pub mod Fitting
 pub mod StarSearch
 pub mod Scans
 pub mod States

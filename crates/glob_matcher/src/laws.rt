@@ -3,9 +3,10 @@
 mod readings;
 mod stars;
 
-pub use readings::each_pattern_has_a_reading;
+pub use readings::{
+    a_pattern_has_one_reading, each_pattern_has_a_reading, star_tokens_are_as_many_in_each_mode,
+};
 pub use stars::{
     a_crossing_run_splits_from_before, a_double_star_splits_from_before,
-    a_local_run_splits_from_before, a_pattern_has_one_reading,
-    one_more_star_changes_nothing_in_plain_mode, star_tokens_are_as_many_in_each_mode,
+    a_local_run_splits_from_before, one_more_star_changes_nothing_in_plain_mode,
 };

@@ -1,5 +1,5 @@
 -- What the reader of a pattern answers: the items of a set and the tokens, each with the place after it.
-use Rattle.std.specs.Prelude.{◌≡◌, ◌≢◌, ◌↔◌, ◌⊎◌, ℕ, ◌+◌, ◌-◌, ◌*◌, ◌<◌, ◌≤◌, ⊤, Bool, true, false, not, IsTrue, List, [], length, slice_index, Option, None, MatchOption, if◌then◌else◌}
+use Rattle.std.specs.Prelude.{◌≡◌, ℕ, ◌+◌, ◌*◌, ◌<◌, ◌≤◌, Bool, true, false, not, IsTrue, List, [], length, Option, None, MatchOption, if◌then◌else◌}
 use Rattle.glob_matcher.specs.declared.wildmatch.items.Item.{Item}
 use Rattle.glob_matcher.specs.declared.wildmatch.sets.Cursor.{Cursor}
 use Rattle.glob_matcher.specs.declared.wildmatch.sets.Spelled.{Spelled}
@@ -8,7 +8,7 @@ use Rattle.glob_matcher.specs.declared.wildmatch.sets.Entry.TheVariants as entry
 use Rattle.glob_matcher.specs.declared.wildmatch.mode.Mode.{Mode}
 use Rattle.glob_matcher.specs.declared.wildmatch.tokens.TokenKind.{TokenKind}
 use Rattle.glob_matcher.specs.declared.wildmatch.tokens.TokenKind.TheVariants as kind
-use Rattle.glob_matcher.specs.Bytes.{HasByte, NoSlash, close_bracket, fold, is_path, slash}
+use Rattle.glob_matcher.specs.Bytes.{HasByte, close_bracket}
 use Rattle.glob_matcher.specs.Sets.{ItemsAt, Set, SetAt, member_of, set_holds}
 use Rattle.glob_matcher.specs.Steps.{Counts}
 use Rattle.glob_matcher.specs.Private.Looks.{IsSpelled}
@@ -81,31 +81,3 @@ pub record IsTokenRead (before after : Counts) (i : ℕ) (kind : TokenKind) (j :
   pub steps : after.steps ≡ before.steps
   pub run : is_star kind ≡ true → after.looks + 5 * i + 3 ≤ before.looks + 5 * j
   pub other : is_star kind ≡ false → after.looks + 6 * i ≤ before.looks + 6 * j
-
--- place e lies past k and comes directly after a slash
-pub record AfterSlash (value : List ℕ) (k e : ℕ) : Type 0 where
-  pub past : k < e
-  pub inside : e ≤ length value
-  pub slash : slice_index value (e - 1) ≡ slash
-
--- a token of one byte takes this byte
-abbrev pub Fits : Mode → Token → ℕ → Type 0
-Fits mode (Byte b) c = fold mode c ≡ fold mode b
-Fits mode Any c = IsTrue (is_path mode) → c ≢ slash
-Fits mode (OneOf set) c = IsTrue (set_holds mode set c)
-Fits mode _ c = ⊥
-
--- a star token of this kind takes the value's bytes from place k up to place e
-abbrev pub Spans : TokenKind → List ℕ → ℕ → ℕ → Type 0
-Spans kind.Free value k e = ⊤
-Spans kind.Local value k e = NoSlash value k e
-Spans kind.Dirs value k e = (e ≡ k) ⊎ AfterSlash value k e
-Spans _ value k e = ⊥
-
--- The set from place i up to place j is tested at place k of the value: whether the value has a byte there that it holds.
-pub record IsSetTested (mode : Mode) (p v : List ℕ) (i k j : ℕ) (holds : Bool) : Type 0 where
-  pub set : Set
-  pub here : SetAt p i set j
-  pub past : i < j
-  pub inside : j ≤ length p
-  pub answer : IsTrue holds ↔ ((k < length v) × Fits mode (OneOf set) (slice_index v k))

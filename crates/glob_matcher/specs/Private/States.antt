@@ -13,7 +13,7 @@ use Rattle.glob_matcher.specs.declared.wildmatch.scan.Scan.{Scan}
 use Rattle.glob_matcher.specs.declared.wildmatch.scan.Scan.TheVariants as scan
 use Rattle.glob_matcher.specs.Tokens.{Token, Byte, TokenAt, IsAfterSlash}
 use Rattle.glob_matcher.specs.Matching.{Splits, SplitsFrom}
-use Rattle.glob_matcher.specs.Private.Reader.{Fits, AfterSlash}
+use Rattle.glob_matcher.specs.Private.Fitting.{Fits, AfterSlash}
 use Rattle.glob_matcher.specs.Private.Scans.{reached_by, scan_steps}
 use Rattle.glob_matcher.specs.Private.Components.{separates, next_component}
 use Rattle.glob_matcher.specs.Private.Takes.{Takes}

@@ -1,6 +1,8 @@
-//! That a pattern has a reading: what the definitions of tokens say is never nothing.
-ghost use Rattle.std.specs.Prelude.{◌≤◌, List, length};
-ghost use Rattle.glob_matcher.specs.Tokens.{Token, From};
+//! Laws of readings: a pattern has one in each mode, and one alone.
+ghost use Rattle.std.specs.Prelude.{◌≡◌, ℕ, ◌≤◌, List, length};
+ghost use Rattle.glob_matcher.specs.declared.wildmatch.mode.Mode.{Mode};
+ghost use Rattle.glob_matcher.specs.Tokens.{Token, From, Tokens};
+ghost use Rattle.glob_matcher.specs.Pruning.{star_count};
 
 use crate::wildmatch::Mode;
 use crate::wildmatch::slices::token_at;
@@ -17,3 +19,13 @@ pub fn each_pattern_has_a_reading(pattern: &[u8], from: usize, mode: Mode)
         place = next;
     }
 }
+
+/// The tokens from a place of a pattern on, and so those of the whole pattern, are one list.
+pub fn a_pattern_has_one_reading()
+    ensures { (mode : Mode) (pattern : List ℕ) (i : ℕ) (ts us : List Token) → From mode pattern i ts → From mode pattern i us → ts ≡ us }
+{}
+
+/// A pattern has as many star tokens in one mode as in another.
+pub fn star_tokens_are_as_many_in_each_mode()
+    ensures { (mode other : Mode) (pattern : List ℕ) (ts us : List Token) → Tokens mode pattern ts → Tokens other pattern us → star_count ts ≡ star_count us }
+{}

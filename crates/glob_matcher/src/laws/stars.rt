@@ -1,4 +1,4 @@
-//! Laws of readings and of star tokens.
+//! Laws of star tokens.
 ghost use Rattle.std.specs.Prelude.{◌≡◌, ◌↔◌, ℕ, ◌-◌, ◌<◌, ◌≤◌, false, List, length, slice_index};
 ghost use Rattle.std.specs.List.{insert};
 ghost use Rattle.glob_matcher.specs.declared.wildmatch.mode.Mode.{Mode};
@@ -22,18 +22,6 @@ pub fn a_double_star_splits_from_before()
 /// What begins with a run within a component, and matches from a place, matches from every place before in that component.
 pub fn a_local_run_splits_from_before()
     ensures { (mode : Mode) (pattern value : List ℕ) (i j k e : ℕ) → TokenAt mode pattern i Local j → k ≤ e → e ≤ length value → NoSlash value k e → SplitsFrom value e pattern i mode → SplitsFrom value k pattern i mode }
-{}
-
-// ---- readings
-
-/// The tokens from a place of a pattern on, and so those of the whole pattern, are one list.
-pub fn a_pattern_has_one_reading()
-    ensures { (mode : Mode) (pattern : List ℕ) (i : ℕ) (ts us : List Token) → From mode pattern i ts → From mode pattern i us → ts ≡ us }
-{}
-
-/// A pattern has as many star tokens in one mode as in another.
-pub fn star_tokens_are_as_many_in_each_mode()
-    ensures { (mode other : Mode) (pattern : List ℕ) (ts us : List Token) → Tokens mode pattern ts → Tokens other pattern us → star_count ts ≡ star_count us }
 {}
 
 // ---- one more star

@@ -1,7 +1,7 @@
 //! The plain program: it tries every cutting of the value, as the definition of a match reads. It is slow.
 ghost use Rattle.std.specs.Prelude.{◌↔◌, ◌≤◌, IsTrue, length};
 ghost use Rattle.glob_matcher.specs.Matching.{SplitsFrom};
-ghost use Rattle.glob_matcher.specs.Private.Reader.{Spans};
+ghost use Rattle.glob_matcher.specs.Private.Fitting.{Spans};
 ghost use Rattle.glob_matcher.specs.Bytes.{NoSlash};
 
 use super::mode::Mode;

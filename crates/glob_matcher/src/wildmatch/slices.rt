@@ -2,7 +2,8 @@
 ghost use Rattle.std.specs.Prelude.{◌≡◌, ◌↔◌, ℕ, ◌<◌, IsTrue, length};
 ghost use Rattle.glob_matcher.specs.Bytes.{HasByte, open_bracket};
 ghost use Rattle.glob_matcher.specs.Tokens.{Token, TokenAt};
-ghost use Rattle.glob_matcher.specs.Private.Reader.{IsSetRead, IsToken, kind_of, Fits};
+ghost use Rattle.glob_matcher.specs.Private.Reader.{IsSetRead, IsToken, kind_of};
+ghost use Rattle.glob_matcher.specs.Private.Fitting.{Fits};
 ghost use Rattle.glob_matcher.specs.Steps.{IsBlankOf};
 
 use super::counts::Counts;

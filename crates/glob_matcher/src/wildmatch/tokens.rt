@@ -5,7 +5,8 @@ ghost use Rattle.glob_matcher.specs.Tokens.{Token, IsRun, IsBounded, IsAfterSlas
 ghost use Rattle.glob_matcher.specs.Bytes.{HasByte, slash, star};
 ghost use Rattle.glob_matcher.specs.Private.Takes.{Takes};
 ghost use Rattle.glob_matcher.specs.Private.Looks.{LookedOver};
-ghost use Rattle.glob_matcher.specs.Private.Reader.{IsToken, IsTokenRead, IsRunRead, is_star, kind_of, Fits};
+ghost use Rattle.glob_matcher.specs.Private.Reader.{IsToken, IsTokenRead, IsRunRead, is_star, kind_of};
+ghost use Rattle.glob_matcher.specs.Private.Fitting.{Fits};
 
 use super::engine::{Engine, Texts};
 use super::mode::Mode;

@@ -7,7 +7,7 @@ use Rattle.glob_matcher.specs.declared.wildmatch.mode.Mode.{Mode}
 use Rattle.glob_matcher.specs.Bytes.{EndsInSlash, NoSlash, slash}
 use Rattle.glob_matcher.specs.Tokens.{Token, Byte, Any, OneOf, Free, Local, Dirs, Nothing, TokenAt, From}
 use Rattle.glob_matcher.specs.Matching.{OneByte, Lang, IsCut, SplitsFrom}
-use Rattle.glob_matcher.specs.Private.Reader.{Fits, AfterSlash}
+use Rattle.glob_matcher.specs.Private.Fitting.{Fits, AfterSlash}
 use Rattle.glob_matcher.proofs.lemmas.reading.TokenLemmas.{TokenAt-unique, TokenAt-inside}
 
 module _ (v : List ℕ) where

@@ -9,7 +9,7 @@ use Rattle.glob_matcher.specs.declared.wildmatch.pruned.Answer.TheVariants.{Matc
 use Rattle.glob_matcher.specs.Bytes.{HasByte, star}
 use Rattle.glob_matcher.specs.Tokens.{Token, Free, Dirs, Nothing, TokenAt, From}
 use Rattle.glob_matcher.specs.Matching.{Splits, SplitsFrom}
-use Rattle.glob_matcher.specs.Private.Reader.{Fits}
+use Rattle.glob_matcher.specs.Private.Fitting.{Fits}
 use Rattle.glob_matcher.specs.Pruning.{Holds, HasRoom, Excludes, TakeOneByte, IsFlat, EndsShort, BeginsCrossing, IsAttempt, star_count}
 use Rattle.glob_matcher.proofs.lemmas.reading.TokenLemmas.{TokenAt-unique, TokenAt-inside, run_lead}
 use Rattle.glob_matcher.proofs.lemmas.cutting.CutLemmas.{IsOne, one_out, end_in, end_out, nothing_out}

@@ -8,7 +8,8 @@ use Rattle.glob_matcher.specs.declared.wildmatch.pruned.Answer.TheVariants.{Matc
 use Rattle.glob_matcher.specs.Bytes.{HasByte, NoSlash, fold, is_path, slash, star}
 use Rattle.glob_matcher.specs.Tokens.{Token, Byte, Any, OneOf, Free, Local, Dirs, Nothing, TokenAt, DirsAt, From}
 use Rattle.glob_matcher.specs.Matching.{SplitsFrom}
-use Rattle.glob_matcher.specs.Private.Reader.{AfterSlash, kind_of}
+use Rattle.glob_matcher.specs.Private.Reader.{kind_of}
+use Rattle.glob_matcher.specs.Private.Fitting.{AfterSlash}
 use Rattle.glob_matcher.specs.Pruning.{HasRoom, BeginsCrossing, IsAttempt, star_count}
 use Rattle.glob_matcher.specs.Private.StarSearch.{wanted_by, AsksFor, Skips, IsComponentEnd, IsTriedEverywhere, IsTriedInComponent, IsTriedInDirectories}
 use Rattle.glob_matcher.proofs.lemmas.reading.TokenLemmas.{TokenAt-unique, TokenAt-inside, run_lead}

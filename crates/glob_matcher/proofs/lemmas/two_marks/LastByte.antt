@@ -6,7 +6,7 @@ use Rattle.glob_matcher.specs.declared.wildmatch.mode.Mode.{Mode}
 use Rattle.glob_matcher.specs.Bytes.{HasByte, close_bracket, is_path, question_mark, slash, star}
 use Rattle.glob_matcher.specs.Tokens.{Token, Byte, Any, OneOf, Free, Local, Dirs, Nothing, TokenAt, From, IsRun}
 use Rattle.glob_matcher.specs.Matching.{Splits, SplitsFrom}
-use Rattle.glob_matcher.specs.Private.Reader.{Fits}
+use Rattle.glob_matcher.specs.Private.Fitting.{Fits}
 use Rattle.glob_matcher.proofs.lemmas.cutting.CutLemmas.{token_out, one_out, end_in, end_out, free_in, nothing_out}
 use Rattle.glob_matcher.proofs.lemmas.reading.Existence.{items_close, From-short, TokenAt-past}
 

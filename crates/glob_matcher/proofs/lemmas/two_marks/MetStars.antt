@@ -9,7 +9,7 @@ use Rattle.glob_matcher.specs.declared.wildmatch.state.State.{State}
 use Rattle.glob_matcher.specs.Bytes.{NoSlash, is_path, slash, star}
 use Rattle.glob_matcher.specs.Tokens.{Token, Byte, Free, Local, Dirs, TokenAt, IsRun, IsAfterSlash, IsBeforeSlash}
 use Rattle.glob_matcher.specs.Matching.{Splits, SplitsFrom}
-use Rattle.glob_matcher.specs.Private.Reader.{AfterSlash}
+use Rattle.glob_matcher.specs.Private.Fitting.{AfterSlash}
 use Rattle.glob_matcher.specs.Private.Components.{separates, next_component}
 use Rattle.glob_matcher.specs.Private.States.{LaterFree, LaterDirs, LaterLocal, LaterLocalIfSet, LaterCrossing, SuccessFar, SuccessNear, FreeKnown, LocalKnownIfSet, StandsAt}
 use Rattle.glob_matcher.proofs.lemmas.reading.SetLemmas.{two_bytes}

@@ -9,7 +9,8 @@ use Rattle.glob_matcher.specs.declared.wildmatch.state.State.{State}
 use Rattle.glob_matcher.specs.Bytes.{NoSlash, is_path, slash}
 use Rattle.glob_matcher.specs.Tokens.{Token, Byte, IsAfterSlash}
 use Rattle.glob_matcher.specs.Matching.{SplitsFrom}
-use Rattle.glob_matcher.specs.Private.Reader.{IsToken, Fits, is_star}
+use Rattle.glob_matcher.specs.Private.Reader.{IsToken, is_star}
+use Rattle.glob_matcher.specs.Private.Fitting.{Fits}
 use Rattle.glob_matcher.specs.Private.Components.{ends, separates, next_component}
 use Rattle.glob_matcher.specs.Private.States.{SuccessAhead, SuccessNear, LocalKnownIfSet, StandsAt}
 use Rattle.glob_matcher.proofs.lemmas.cutting.CutLemmas.{fits_one}

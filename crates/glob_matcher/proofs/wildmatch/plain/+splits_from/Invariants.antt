@@ -1,7 +1,7 @@
 -- What is left of the pattern grows less, and no end so far serves.
 use Rattle.std.proofs.Common.{◌-◌, ◌<◌, ◌≤◌, ℕ, length}
 use Rattle.glob_matcher.specs.Matching.{SplitsFrom}
-use Rattle.glob_matcher.specs.Private.Reader.{Spans}
+use Rattle.glob_matcher.specs.Private.Fitting.{Spans}
 use Rattle.glob_matcher.proofs.wildmatch.plain.+splits_from.Given as goal
 
 abbrev pub invariant-ends : goal.invariant-ends

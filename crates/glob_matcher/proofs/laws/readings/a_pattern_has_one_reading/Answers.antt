@@ -1,5 +1,5 @@
 use Rattle.glob_matcher.proofs.lemmas.reading.TokenLemmas.{From-unique}
-use Rattle.glob_matcher.proofs.laws.stars.a_pattern_has_one_reading.Goals as goal
+use Rattle.glob_matcher.proofs.laws.readings.a_pattern_has_one_reading.Goals as goal
 
 pub returns : goal.returns
 returns c = λ mode p i ts us x y. From-unique mode p i ts us x y
