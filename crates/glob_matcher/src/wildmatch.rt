@@ -5,6 +5,7 @@ ghost use Rattle.glob_matcher.specs.Steps.{IsBlankOf};
 
 mod advance;
 mod backtrack;
+mod barrier;
 mod counts;
 mod engine;
 mod items;
