@@ -4,6 +4,7 @@ ghost use Rattle.glob_matcher.specs.Matching.{Splits};
 ghost use Rattle.glob_matcher.specs.Steps.{IsBlankOf};
 
 mod backtrack;
+mod barrier;
 mod counts;
 mod engine;
 mod items;

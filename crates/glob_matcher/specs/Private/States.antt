@@ -146,20 +146,21 @@ module _ (mode : Mode) (p v : List ℕ) where
     pub at : k < length v
     pub fits : Fits mode (Byte (slice_index p i)) (slice_index v k)
 
-  -- what was met at the place that a scan has come to
-  abbrev pub IsMet : Scan → Type 0
-  IsMet (scan.Found m) = IsLiteralMet m.place m.at
-  IsMet (scan.Blocked m) = (m.at < length v) × (slice_index v m.at ≡ slash) × ¬ SplitsFrom v m.at p m.place mode
-  IsMet (scan.Undecided m) = Unit {0}
+  -- what was met at the place that a scan has come to, which can't pass a byte of which B holds
+  abbrev pub IsMet : (ℕ → Type 0) → Scan → Type 0
+  IsMet B (scan.Found m) = IsLiteralMet m.place m.at
+  IsMet B (scan.Blocked m) = (m.at < length v) × B (slice_index v m.at) × ¬ SplitsFrom v m.at p m.place mode
+  IsMet B (scan.Undecided m) = Unit {0}
 
   -- A scan from a mark: at no place before the one it has come to does the rest of the pattern split the rest of the value. Beside
   -- its steps it looks at the byte after the star.
-  pub record IsScanFor (from : Mark) (s : Scan) (before after : Counts) : Type 0 where
+  pub record IsScanFor (B : ℕ → Type 0) (from : Mark) (s : Scan) (before after : Counts) : Type 0 where
     pub same : (reached_by s).place ≡ from.place
     pub low : from.at ≤ (reached_by s).at
     pub inside : (reached_by s).at ≤ length v
     pub missed : (k : ℕ) → from.at ≤ k → k < (reached_by s).at → ¬ SplitsFrom v k p from.place mode
-    pub met : IsMet s
+    pub free : (k : ℕ) → from.at ≤ k → k < (reached_by s).at → ¬ B (slice_index v k)
+    pub met : IsMet B s
     pub takes : Takes before after (scan_steps from s) (scan_steps from s + 1)
 
 -- a mark is moved to the next place after a slash

@@ -1,13 +1,13 @@
 //! The ways back to a mark, where a token does not fit: to the local mark if it can move, else to the crossing one.
 ghost use Rattle.std.specs.Prelude.{◌≡◌, ◌≢◌, ◌+◌, ◌-◌, ◌<◌, ◌≤◌, IfSome, IfNone, None, Some, length, slice_index};
 ghost use Rattle.glob_matcher.specs.Bytes.{NoSlash, slash};
-ghost use Rattle.glob_matcher.specs.Private.Scans.{IsUnblocked, reached_by};
 ghost use Rattle.glob_matcher.specs.Private.States.{IsLeft, IsMiss, IsNextDirectory, IsScanFor};
 ghost use Rattle.glob_matcher.specs.Private.Takes.{Takes};
 ghost use Rattle.glob_matcher.specs.Private.Prices.{amount_of};
 ghost use Rattle.glob_matcher.specs.Private.Budget.{AllowsLeft, AllowsMiss};
 ghost use Rattle.glob_matcher.specs.Private.Turns.{IsBacktrack, IsBacktrackLocal};
 
+use super::barrier::{Barrier, NoBarrier, Slash};
 use super::engine::{Engine, Mark, Texts};
 use super::needle::{ExactByte, FoldedByte, Follow, NoByte};
 use super::scan::Scan;
@@ -33,34 +33,17 @@ impl<'c, 'a, S: Ledger, L: Ledger, M: Texts> Engine<'c, 'a, S, L, M> {
         None
     }
 
-    /// Scans from the mark of a run of stars that crosses slashes.
+    /// Scans from the mark of a run of stars.
     #[inline(always)]
-    fn scan_from(&mut self, mark: Mark) -> Scan
+    fn scan_from<B: Barrier>(&mut self, mark: Mark, barrier: B) -> Scan
         requires place { mark.place ≤ length M.pattern }
         requires at { mark.at ≤ length M.value }
-        ensures meaning { IsScanFor M.mode M.pattern M.value mark result self.old self.new }
-        ensures free { IsUnblocked result }
+        ensures { IsScanFor M.mode M.pattern M.value B.stops mark result self.old self.new }
     {
         match self.follow_at(mark.place()) {
-            Some(Follow::Byte(byte)) => self.scan(mark, ExactByte(byte)),
-            Some(Follow::Folded(byte)) => self.scan(mark, FoldedByte(byte)),
-            Some(Follow::End) => Scan::Undecided(mark),
-            None => Scan::Undecided(mark),
-        }
-    }
-
-    /// Scans from the local mark, within its component.
-    #[inline(always)]
-    fn scan_from_within(&mut self, mark: Mark) -> Scan
-        requires place { mark.place ≤ length M.pattern }
-        requires at { mark.at ≤ length M.value }
-        ensures meaning { IsScanFor M.mode M.pattern M.value mark result self.old self.new }
-        ensures bare { NoSlash M.value mark.at (reached_by result).at }
-    {
-        match self.follow_at(mark.place()) {
-            Some(Follow::Byte(byte)) => self.scan_within(mark, ExactByte(byte)),
-            Some(Follow::Folded(byte)) => self.scan_within(mark, FoldedByte(byte)),
-            Some(Follow::End) => self.scan_within(mark, NoByte),
+            Some(Follow::Byte(byte)) => self.scan(mark, ExactByte(byte), barrier),
+            Some(Follow::Folded(byte)) => self.scan(mark, FoldedByte(byte), barrier),
+            Some(Follow::End) => self.scan(mark, NoByte, barrier),
             None => Scan::Undecided(mark),
         }
     }
@@ -74,7 +57,7 @@ impl<'c, 'a, S: Ledger, L: Ledger, M: Texts> Engine<'c, 'a, S, L, M> {
         let Some((moved, _)) = self.pass(mark) else {
             return None;
         };
-        match self.scan_from(moved) {
+        match self.scan_from(moved, NoBarrier) {
             Scan::Blocked(_) => None,
             Scan::Undecided(reached) => Some(State {
                 place: reached.place(),
@@ -139,7 +122,7 @@ impl<'c, 'a, S: Ledger, L: Ledger, M: Texts> Engine<'c, 'a, S, L, M> {
         let Some(moved) = self.pass_within_or_end(mark) else {
             return None;
         };
-        match self.scan_from_within(moved) {
+        match self.scan_from(moved, Slash) {
             Scan::Blocked(_) => None,
             Scan::Undecided(reached) => Some(State {
                 place: reached.place(),

@@ -75,9 +75,9 @@ misses_what_follows mode p v i k (follow.Folded b) is inside other =
 misses_what_follows mode p v i k follow.End is inside other = end_missed mode p v i k is (λ past. omega arith)
 
 -- A scan for what follows is a scan for the rest of the pattern, after the look at what follows.
-scan_for_mark : (mode : Mode) (p : List ℕ) {v : List ℕ} (f : Follow) {from : Mark} {s : Scan} {before between after : Counts}
-    → Follows mode p from.place f → Takes before between 0 1 → IsScan v (Suits f) from s between after
-    → IsScanFor mode p v from s before after
+scan_for_mark : (mode : Mode) (p : List ℕ) {v : List ℕ} (f : Follow) {B : ℕ → Type 0} {from : Mark} {s : Scan} {before between after : Counts}
+    → Follows mode p from.place f → Takes before between 0 1 → IsScan v (Suits f) B from s between after
+    → IsScanFor mode p v B from s before after
 scan_for_mark mode p {v} f {from} {s = scan.Found m} is looked found =
     let so = found.meaning in
     let here : Follows mode p m.place f = subst (λ (i : ℕ). Follows mode p i f) (sym so.0.same) is in
@@ -87,6 +87,7 @@ scan_for_mark mode p {v} f {from} {s = scan.Found m} is looked found =
       low = so.0.low;
       inside = so.0.inside;
       missed = λ k low below. misses_what_follows mode p v from.place k f is (omega (arith, so.0.inside)) (so.0.unsuited k low below);
+      free = so.0.free;
       met = record { place = fits.0; literal = fits.1; at = so.1; fits = fits.2 };
       takes = Takes-on looked found.takes (omega arith) (omega arith);
     }
@@ -98,6 +99,7 @@ scan_for_mark mode p {v} f {from} {s = scan.Blocked m} is looked found =
       low = so.0.low;
       inside = so.0.inside;
       missed = λ k low below. misses_what_follows mode p v from.place k f is (omega (arith, so.0.inside)) (so.0.unsuited k low below);
+      free = so.0.free;
       met = (so.1, so.3, misses_what_follows mode p v m.place m.at f here so.1 so.2);
       takes = Takes-on looked found.takes (omega arith) (omega arith);
     }
@@ -108,13 +110,14 @@ scan_for_mark mode p {v} f {from} {s = scan.Undecided m} is looked found =
       low = so.low;
       inside = so.inside;
       missed = λ k low below. misses_what_follows mode p v from.place k f is (omega (arith, so.inside)) (so.unsuited k low below);
+      free = so.free;
       met = tt;
       takes = Takes-on looked found.takes (omega arith) (omega arith);
     }
 
-pub scan_for : {mode : Mode} {p v : List ℕ} {f g : Follow} {i : ℕ} {from : Mark} {s : Scan} {before between after : Counts} → f ≡ g
-    → Takes before between 0 1 → IsScan v (Suits g) from s between after → i ≡ from.place → Follows mode p i f
-    → IsScanFor mode p v from s before after
+pub scan_for : {mode : Mode} {p v : List ℕ} {f g : Follow} {B : ℕ → Type 0} {i : ℕ} {from : Mark} {s : Scan} {before between after : Counts} → f ≡ g
+    → Takes before between 0 1 → IsScan v (Suits g) B from s between after → i ≡ from.place → Follows mode p i f
+    → IsScanFor mode p v B from s before after
 scan_for {mode} {p} {f = f} {g} {from = from} same looked found same_place follows =
     scan_for_mark mode p g (subst (λ (x : Follow). Follows mode p from.place x) same
     (subst (λ (i : ℕ). Follows mode p i f) same_place follows)) looked found
@@ -197,6 +200,11 @@ pub record IsLocalPast (p : List ℕ) (i : ℕ) (l next : Option Mark) : Type 0 
 pub unset_past : {p : List ℕ} {i : ℕ} → IsLocalPast p i None None
 unset_past = record { at_slash = λ is. refl; at_other = λ other. refl }
 
+-- a scan that slashes block has passed none
+no_slash_passed : {mode : Mode} {p v : List ℕ} {from : Mark} {s : Scan} {before after : Counts}
+    → IsScanFor mode p v (λ b. b ≡ slash) from s before after → NoSlash v from.at (reached_by s).at
+no_slash_passed so = record { at = so.free }
+
 module _ {mode : Mode} {p v : List ℕ} where
   -- The byte after a run of stars is found where its mark is.
   pub stands_found : {i k : ℕ} {c : Crossing} {l next : Option Mark} → StandsAt mode p v (state_of i k c l)
@@ -214,11 +222,11 @@ module _ {mode : Mode} {p v : List ℕ} where
 
   -- A scan from the local mark, once it has moved: the engine stands where the scan has come to.
   pub local_scanned : {state : State} {m x : Mark} {s : Scan} {before after : Counts} → IsMiss mode p v state → state.local ≡ Some m
-      → m.at < length v → get_or v m.at 0 ≢ slash → x.place ≡ m.place → x.at ≡ m.at + 1 → IsScanFor mode p v x s before after
-      → NoSlash v x.at (reached_by s).at
+      → m.at < length v → get_or v m.at 0 ≢ slash → x.place ≡ m.place → x.at ≡ m.at + 1
+      → IsScanFor mode p v (λ b. b ≡ slash) x s before after
       → StandsAt mode p v (state_of (reached_by s).place (reached_by s).at state.crossing (Some (reached_by s)))
-  local_scanned {x = x} {s} miss is inside other same at so bare =
-      stands_local_skipped (reached_by s) (stands_local_moved x miss is inside other same at) so.same so.low so.inside bare so.missed
+  local_scanned {x = x} {s} miss is inside other same at so =
+      stands_local_skipped (reached_by s) (stands_local_moved x miss is inside other same at) so.same so.low so.inside (no_slash_passed so) so.missed
 
 module _ {measure : Measure} {mode : Mode} {p v : List ℕ} where
   pub allows_found : {i k : ℕ} {c : Crossing} {l next : Option Mark} {spent limit : ℕ} → StandsAt mode p v (state_of i k c l)
@@ -238,16 +246,16 @@ module _ {measure : Measure} {mode : Mode} {p v : List ℕ} where
 
   pub local_scanned_counts : {state : State} {m x : Mark} {s : Scan} {before after : Counts} {spent limit : ℕ} → IsMiss mode p v state
       → state.local ≡ Some m → m.at < length v → get_or v m.at 0 ≢ slash → x.place ≡ m.place → x.at ≡ m.at + 1
-      → IsScanFor mode p v x s before after → NoSlash v x.at (reached_by s).at → AllowsMiss measure mode p v state spent limit
+      → IsScanFor mode p v (λ b. b ≡ slash) x s before after → AllowsMiss measure mode p v state spent limit
       → AllowsAt measure mode p v (state_of (reached_by s).place (reached_by s).at state.crossing (Some (reached_by s)))
       (spent + move measure + 2 * ((reached_by s).at - x.at)) limit
-  local_scanned_counts {state} {m} {x} {s} miss is inside other same at so bare a =
+  local_scanned_counts {state} {m} {x} {s} miss is inside other same at so a =
       let st : StandsAt mode p v (state_of x.place x.at state.crossing (Some x)) = stands_local_moved x miss is inside other same at in
       let within = ends-inner mode (get_or v m.at 0) st.local.path other in
-      allows_local_skipped (reached_by s) st.local.path (allows_local_moved x a is inside within same at) so.same so.low so.inside bare
+      allows_local_skipped (reached_by s) st.local.path (allows_local_moved x a is inside within same at) so.same so.low so.inside (no_slash_passed so)
 
 -- scans, one after the other
-pub passed_on : {v : List ℕ} {P : ℕ → Type 0} {a b c : Mark} → HasPassed v P a b → HasPassed v P b c → HasPassed v P a c
+pub passed_on : {v : List ℕ} {P B : ℕ → Type 0} {a b c : Mark} → HasPassed v P B a b → HasPassed v P B b c → HasPassed v P B a c
 passed_on {b} x y = record {
   same = y.same ∙ x.same;
   low = omega (arith, x.low, y.low);
@@ -256,11 +264,15 @@ passed_on {b} x y = record {
     | inl before ↦ x.unsuited k low before
     | inr later ↦ y.unsuited k later below
   ];
+  free = λ k low below. elim (cases_lt k b.at) [
+    | inl before ↦ x.free k low before
+    | inr later ↦ y.free k later below
+  ];
 }
 
 -- a scan that goes on from where another has come to
-pub scan_on : {v : List ℕ} {P : ℕ → Type 0} {a b : Mark} {s : Scan} {before between after : Counts} → HasPassed v P a b
-    → Takes before between (2 * (b.at - a.at)) (2 * (b.at - a.at)) → IsScan v P b s between after → IsScan v P a s before after
+pub scan_on : {v : List ℕ} {P B : ℕ → Type 0} {a b : Mark} {s : Scan} {before between after : Counts} → HasPassed v P B a b
+    → Takes before between (2 * (b.at - a.at)) (2 * (b.at - a.at)) → IsScan v P B b s between after → IsScan v P B a s before after
 scan_on {s = scan.Found m} x taken y = record {
   meaning = (passed_on x y.meaning.0, y.meaning.1, y.meaning.2);
   takes = Takes-on taken y.takes (omega (arith, x.low, y.meaning.0.low)) (omega (arith, x.low, y.meaning.0.low));

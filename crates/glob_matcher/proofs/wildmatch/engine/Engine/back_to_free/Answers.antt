@@ -16,10 +16,13 @@ returns-in_default g c =
       progress = tt;
     }
 
+pub returns-in-Blocked : goal.returns-in-Blocked
+returns-in-Blocked g c = absurd c.in-Blocked.ensures.met.1
+
 pub returns-in-Undecided : goal.returns-in-Undecided
 returns-in-Undecided g c =
     let moved = c.in-Some.ensures.moved in
-    let so = c.in-Undecided.ensures.meaning in
+    let so = c.in-Undecided.ensures in
     let x = c.in-Some.moved in
     let to = c.in-Undecided.reached in
     let passed = 2 * (to.at - x.at) in
@@ -38,7 +41,7 @@ returns-in-Undecided g c =
 pub returns-in-Found : goal.returns-in-Found
 returns-in-Found g c =
     let moved = c.in-Some.ensures.moved in
-    let so = c.in-Found.ensures.meaning in
+    let so = c.in-Found.ensures in
     let x = c.in-Some.moved in
     let to = c.in-Found.found in
     let passed = 2 * (to.at - x.at) in

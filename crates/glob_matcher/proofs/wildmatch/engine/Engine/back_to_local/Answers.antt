@@ -31,16 +31,15 @@ returns-in_default-pass_within_or_end g c =
 pub returns-in-Blocked : goal.returns-in-Blocked
 returns-in-Blocked g c =
     let moved = c.in-Some-pass_within_or_end.ensures.moved in
-    let so = c.in-Blocked.ensures.meaning in
-    let bare = c.in-Blocked.ensures.bare in
+    let so = c.in-Blocked.ensures in
     let passed = 2 * (c.in-Blocked.field-0.at - c.in-Some-pass_within_or_end.moved.at) in
     let pass = TakesExactly-at_most c.pass_within_or_end.ensures.count in
-    let reached = local_scanned c.requires c.in-Some.is moved.2 moved.3 moved.0 moved.1 so bare in
+    let reached = local_scanned c.requires c.in-Some.is moved.2 moved.3 moved.0 moved.1 so in
     record {
       meaning = left_stuck (miss_of reached so.met.2) refl (inr so.met.1);
       allows = λ measure n a.
           left_less (omega (arith, move-over measure, scan-price measure passed 2 5 (Takes-both pass so.takes) (omega arith) (omega arith)))
-          (left_stuck_counts (allows_missed (local_scanned_counts c.requires c.in-Some.is moved.2 moved.3 moved.0 moved.1 so bare a)) refl
+          (left_stuck_counts (allows_missed (local_scanned_counts c.requires c.in-Some.is moved.2 moved.3 moved.0 moved.1 so a)) refl
           (inr so.met.1));
       progress = tt;
       low = omega (arith, so.takes.steps, pass.steps);
@@ -49,17 +48,16 @@ returns-in-Blocked g c =
 pub returns-in-Undecided : goal.returns-in-Undecided
 returns-in-Undecided g c =
     let moved = c.in-Some-pass_within_or_end.ensures.moved in
-    let so = c.in-Undecided.ensures.meaning in
-    let bare = c.in-Undecided.ensures.bare in
+    let so = c.in-Undecided.ensures in
     let passed = 2 * (c.in-Undecided.reached.at - c.in-Some-pass_within_or_end.moved.at) in
     let pass = TakesExactly-at_most c.pass_within_or_end.ensures.count in
     record {
       meaning =
-          Stands-places (local_scanned c.requires c.in-Some.is moved.2 moved.3 moved.0 moved.1 so bare) c.place.ensures c.at.ensures;
+          Stands-places (local_scanned c.requires c.in-Some.is moved.2 moved.3 moved.0 moved.1 so) c.place.ensures c.at.ensures;
       allows = λ measure n a.
           Allows-places
           (allows_less (omega (arith, amount-same measure 0, scan-price measure passed 0 0 (Takes-both pass so.takes) (omega arith) (omega arith)))
-          (local_scanned_counts c.requires c.in-Some.is moved.2 moved.3 moved.0 moved.1 so bare a))
+          (local_scanned_counts c.requires c.in-Some.is moved.2 moved.3 moved.0 moved.1 so a))
           c.place.ensures c.at.ensures;
       progress = omega (arith, so.takes.steps, pass.steps);
       low = omega (arith, so.takes.steps, pass.steps);
@@ -68,13 +66,12 @@ returns-in-Undecided g c =
 pub returns-in-Found : goal.returns-in-Found
 returns-in-Found g c =
     let moved = c.in-Some-pass_within_or_end.ensures.moved in
-    let so = c.in-Found.ensures.meaning in
-    let bare = c.in-Found.ensures.bare in
+    let so = c.in-Found.ensures in
     let passed = 2 * (c.in-Found.found.at - c.in-Some-pass_within_or_end.moved.at) in
     let pass = TakesExactly-at_most c.pass_within_or_end.ensures.count in
     let past : IsLocalPast g.M.Texts.pattern c.in-Found.found.place (Some c.in-Found.found) c.local_past.result = record { at_slash = c.local_past.ensures.at_slash; at_other = c.local_past.ensures.at_other } in
     let all = Takes-both (Takes-both pass so.takes) c.local_past.ensures.count in
-    let reached = local_scanned c.requires c.in-Some.is moved.2 moved.3 moved.0 moved.1 so bare in
+    let reached = local_scanned c.requires c.in-Some.is moved.2 moved.3 moved.0 moved.1 so in
     let place = ap (λ (x : ℕ). x + 1) c.place-in-Found.ensures in
     let at = ap (λ (x : ℕ). x + 1) c.at-in-Found.ensures in
     record {
@@ -82,7 +79,7 @@ returns-in-Found g c =
       allows = λ measure n a.
           Allows-places
           (allows_less (scan-price measure passed 1 8 all (omega arith) (omega arith))
-          (allows_found reached (local_scanned_counts c.requires c.in-Some.is moved.2 moved.3 moved.0 moved.1 so bare a) so.met past))
+          (allows_found reached (local_scanned_counts c.requires c.in-Some.is moved.2 moved.3 moved.0 moved.1 so a) so.met past))
           place at;
       progress = omega (arith, so.takes.steps, pass.steps, c.local_past.ensures.count.steps);
       low = omega (arith, so.takes.steps, pass.steps, c.local_past.ensures.count.steps);

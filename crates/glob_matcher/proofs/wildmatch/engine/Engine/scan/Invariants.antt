@@ -1,4 +1,4 @@
--- No byte so far is what is looked for, and two steps were taken for each.
+-- No byte so far is what is looked for or can't be passed, and two steps were taken for each.
 use Rattle.std.proofs.Common.{◌-◌, ◌*◌, length}
 use Rattle.glob_matcher.specs.Private.Scans.{HasPassed}
 use Rattle.glob_matcher.specs.Private.Takes.{Takes}
@@ -6,7 +6,7 @@ use Rattle.glob_matcher.proofs.wildmatch.engine.Engine.scan.Given as goal
 
 abbrev pub invariant-bytes : goal.invariant-bytes
 invariant-bytes g l = record {
-  passed : HasPassed g.M.Texts.value (g.N.Needle.suits l.needle) l.fn.mark l.reached;
+  passed : HasPassed g.M.Texts.value (g.N.Needle.suits l.needle) g.B.Barrier.stops l.fn.mark l.reached;
   count : Takes l.fn.self l.self (2 * (l.reached.at - l.fn.mark.at)) (2 * (l.reached.at - l.fn.mark.at));
 }
 
