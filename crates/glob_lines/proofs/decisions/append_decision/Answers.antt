@@ -7,29 +7,31 @@ use Rattle.gix_glob.proofs.lemmas.Answering.{PairAnswers-only}
 use Rattle.gix_glob.proofs.lemmas.Elements.{slice_get-map_at, slice_get-map_within}
 use Rattle.glob_lines.proofs.lemmas.DecisionsLemmas.{grown_on_ok, writes_none, writes_verdict}
 use Rattle.glob_lines.proofs.lemmas.PathsLemmas.{IsPlainPath-marked}
+use Rattle.glob_lines.proofs.decisions.append_decision.Given.{Over}
 use Rattle.glob_lines.proofs.decisions.append_decision.Goals as goal
+use Rattle.glob_lines.proofs.decisions.append_decision.Goals.{In-Some}
 
 pub decision-requires-clause-plain : goal.decision-requires-clause-plain
 decision-requires-clause-plain g c =
     IsPlainPath-marked c.args.line.now c.path_of-is_dir.result.0.now c.path_of-is_dir.result.1 (c.plain_path.ensures.0 c.if-not-plain_path.false) c.path_of-is_dir.ensures
 
-pub bounds-lists-i : goal.bounds-lists-i
-bounds-lists-i g c =
+-- the list that decides is one of the lists
+list_within : (g : Over) (c : In-Some g) → c.in-Some.i < length c.lists-lists.result.now
+list_within g c =
     subst (λ lists. c.in-Some.i < length lists) (sym c.lists-lists.ensures)
     (slice_get-map_within (entry_list_of g.T.Pattern.seen) c.args.index.now.lists c.in-Some.i _ c.in-Some.ensures.answers.there)
 
+pub bounds-lists-i : goal.bounds-lists-i
+bounds-lists-i g c = list_within g (goal.at.bounds-lists-i g c).In-Some
+
 pub offset_bounds-lists-i : goal.offset_bounds-lists-i
 offset_bounds-lists-i g c =
-    let within : c.in-Some.i < length c.lists-lists.result.now =
-    subst (λ lists. c.in-Some.i < length lists) (sym c.lists-lists.ensures)
-    (slice_get-map_within (entry_list_of g.T.Pattern.seen) c.args.index.now.lists c.in-Some.i _ c.in-Some.ensures.answers.there) in
+    let within = list_within g (goal.at.offset_bounds-lists-i g c).In-Some in
     search rules
 
 pub overflow_add-i : goal.overflow_add-i
 overflow_add-i g c =
-    let within : c.in-Some.i < length c.lists-lists.result.now =
-    subst (λ lists. c.in-Some.i < length lists) (sym c.lists-lists.ensures)
-    (slice_get-map_within (entry_list_of g.T.Pattern.seen) c.args.index.now.lists c.in-Some.i _ c.in-Some.ensures.answers.there) in
+    let within = list_within g (goal.at.overflow_add-i g c).In-Some in
     search rules
 
 pub index-requires : goal.index-requires
