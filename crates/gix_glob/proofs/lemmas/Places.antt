@@ -8,6 +8,7 @@ use Rattle.std.proofs.lemmas.Bool.Decides.{eqb_tells}
 use Rattle.glob_patterns.specs.declared.pattern.case.Case.{Case}
 use Rattle.glob_patterns.specs.declared.pattern.case.Case.TheVariants.{Sensitive, Fold}
 use Rattle.glob_matcher.specs.Bytes.{EndsInSlash, HasByte, slash}
+use Rattle.glob_matcher.proofs.lemmas.cutting.SlashLemmas.{slash_of_lowercase}
 use Rattle.glob_patterns.specs.RepositoryPaths.{IsAfterLastSlash, IsBasenameStart}
 use Rattle.gix_glob.specs.Stripping.{folding_by, Rest, stripped_place}
 use Rattle.gix_glob.specs.Paths.{IsFolder}
@@ -52,10 +53,6 @@ pub start_in_rest : (case : Case) (base path rest : List ℕ) (position : Option
 start_in_rest case base path rest position r start =
     subst (λ n. IsBasenameStart rest (stripped_place n position)) (Rest-front case base path rest r)
     (start_behind_front r.front rest position (subst (λ p. IsBasenameStart p position) r.joined start))
-
--- a byte whose lowercase form is a slash is one
-pub slash_of_lowercase : (b : ℕ) → to_ascii_lowercase b ≡ slash → b ≡ slash
-slash_of_lowercase b e = grind arith
 
 folding_by-slash : (case : Case) (text : List ℕ) (i : ℕ) → HasByte (folding_by case text) i slash → HasByte text i slash
 folding_by-slash Sensitive text i has = has

@@ -1,7 +1,5 @@
 -- Slashes under folding, and which tokens of one byte take one.
-use Rattle.std.proofs.Common.{◌≡◌, ◌⊎◌, inl, inr, ℕ, ◌+◌, ◌-◌, ◌<◌, ◌≤◌, Bool, true, false, IsTrue, if◌then◌else◌, List, refl, sym, ◌∙◌, ap, subst, arith, rules, tests}
-use Rattle.std.proofs.lemmas.Bool.{cases_lt}
-use Rattle.std.proofs.lemmas.Str.Ascii.{lowercase_is}
+use Rattle.std.proofs.Common.{◌≡◌, inl, inr, ℕ, ◌+◌, ◌-◌, Bool, true, false, IsTrue, if◌then◌else◌, List, refl, sym, ◌∙◌, ap, subst, arith, rules, tests}
 use Rattle.std.specs.Char.{to_ascii_lowercase}
 use Rattle.glob_matcher.specs.declared.wildmatch.mode.Mode.{Mode}
 use Rattle.glob_matcher.specs.Bytes.{HasByte, fold, folds, is_path, slash, question_mark, close_bracket}
@@ -12,12 +10,9 @@ use Rattle.glob_matcher.proofs.lemmas.reading.SetLemmas.{HasByte-unique, two_byt
 use Rattle.glob_matcher.proofs.lemmas.cutting.CutLemmas.{IsOne}
 use Rattle.glob_matcher.proofs.lemmas.reading.Existence.{items_close}
 
-lowercase_slash : (c : ℕ) → to_ascii_lowercase c ≡ slash → c ≡ slash
-lowercase_slash c is = by (cases_lt c 65) (cases_lt 90 c) where
-  by : (c < 65) ⊎ (65 ≤ c) → (90 < c) ⊎ (c ≤ 90) → c ≡ slash
-  by (inl below) _ = let same : to_ascii_lowercase c ≡ c = (lowercase_is c).1 below in sym same ∙ is
-  by (inr from) (inl above) = let same : to_ascii_lowercase c ≡ c = (lowercase_is c).2 above in sym same ∙ is
-  by (inr from) (inr to) = let letter : to_ascii_lowercase c ≡ c + 32 = (lowercase_is c).0 (from, to) in omega arith
+-- a byte whose lowercase form is a slash is one
+pub slash_of_lowercase : (b : ℕ) → to_ascii_lowercase b ≡ slash → b ≡ slash
+slash_of_lowercase b is = grind arith
 
 -- a slash folds to itself, and nothing else does
 pub slash_is_folded : (mode : Mode) → fold mode slash ≡ slash
@@ -29,7 +24,7 @@ slash_is_folded mode = by (folds mode) where
 pub fold_slash : (mode : Mode) (c : ℕ) → fold mode c ≡ fold mode slash → c ≡ slash
 fold_slash mode c is = by (folds mode) (is ∙ slash_is_folded mode) where
   by : (b : Bool) → (if b then to_ascii_lowercase c else c) ≡ slash → c ≡ slash
-  by true e = lowercase_slash c e
+  by true e = slash_of_lowercase c e
   by false e = e
 
 -- in path mode no set holds a slash
