@@ -8,7 +8,7 @@ use Rattle.std.proofs.lemmas.Bool.Decides.{eqb_tells}
 use Rattle.glob_patterns.specs.declared.pattern.case.Case.{Case}
 use Rattle.glob_patterns.specs.declared.pattern.case.Case.TheVariants.{Sensitive, Fold}
 use Rattle.glob_matcher.specs.Bytes.{EndsInSlash, HasByte, slash}
-use Rattle.glob_matcher.proofs.lemmas.cutting.SlashLemmas.{slash_of_lowercase}
+pub use Rattle.glob_matcher.proofs.lemmas.cutting.SlashLemmas.{slash_of_lowercase}
 use Rattle.glob_patterns.specs.RepositoryPaths.{IsAfterLastSlash, IsBasenameStart}
 use Rattle.gix_glob.specs.Stripping.{folding_by, Rest, stripped_place}
 use Rattle.gix_glob.specs.Paths.{IsFolder}

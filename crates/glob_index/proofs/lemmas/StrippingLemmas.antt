@@ -10,8 +10,7 @@ use Rattle.gix_glob.specs.Bytes.{EndsInSlash, HasByte, slash}
 use Rattle.gix_glob.specs.Paths.{IsFolder, IsPlainPath}
 use Rattle.gix_glob.specs.RepositoryPaths.{IsAfterLastSlash, IsBasenameStart}
 use Rattle.gix_glob.specs.Stripping.{IsPlaced, NothingLeft, Rest, RestOf, folding_by, place_after, stripped_place}
-use Rattle.gix_glob.proofs.lemmas.Places.{later_byte}
-use Rattle.glob_matcher.proofs.lemmas.cutting.SlashLemmas.{slash_of_lowercase}
+use Rattle.gix_glob.proofs.lemmas.Places.{later_byte, slash_of_lowercase}
 
 -- ---- where the last part begins
 
