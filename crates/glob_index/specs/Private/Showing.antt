@@ -1,4 +1,4 @@
--- What a path shows, and whether a row passes it. No public contract cites it.
+-- What a path shows, and whether a row passes it.
 use Rattle.std.specs.Prelude.{◌≡◌, ℕ, ◌<◌, ◌≤◌, List, length, slice_index, drop, Option, None, Some, if◌then◌else◌}
 use Rattle.std.specs.Char.{to_ascii_lowercase}
 use Rattle.std.specs.Int.{bit_at}

@@ -1,4 +1,4 @@
--- A walk down the chains of two classes. No public contract cites it.
+-- A walk down the chains of two classes.
 use Rattle.std.specs.Prelude.{◌≡◌, ℕ, ◌+◌, ◌<◌, ◌≤◌, List, Some, length, slice_get}
 use Rattle.glob_index.specs.declared.chains.Class.TheVariants.{Always, EndsIn}
 use Rattle.glob_index.specs.declared.probe.Probe.{Probe}
