@@ -1,5 +1,5 @@
 -- The lines of an ignore file: endings, comments, and the entries of all lines.
-use Rattle.std.proofs.Common.{◌≡◌, ◌≢◌, ⊎_elim, ℕ, ◌+◌, ◌<◌, ◌≤◌, Bool, true, false, cond, ◌&&◌, List, [], ◌∷◌, ◌++◌, length, take, drop, get_or, Option, None, Some, refl, sym, ap, subst, ◌∙◌, append_assoc, append-nil, length-drop, le_refl, take_all, take-append-drop, arith}
+use Rattle.std.proofs.Common.{◌≡◌, ◌≢◌, ⊎_elim, ℕ, ◌<◌, ◌≤◌, Bool, true, false, cond, ◌&&◌, List, [], ◌∷◌, ◌++◌, length, drop, Option, None, Some, refl, sym, ap, subst, ◌∙◌, append_assoc, append-nil, length-drop, le_refl, arith}
 use Rattle.std.specs.Prelude.{◌==◌, nat_eq, MatchOption}
 use Rattle.std.specs.List.{starts_with}
 use Rattle.std.proofs.lemmas.Bool.Decides.{Decides-eqb}
@@ -13,7 +13,7 @@ use Rattle.glob_lines.specs.Private.Trimming.{ends_in_return, return_of}
 use Rattle.glob_lines.specs.Ignore.{BeginsWithLine, GivesTrimmed, Trims, byte_order_mark, carriage_return, is_comment, without_mark, without_returns}
 use Rattle.glob_lines.specs.Equations.Ignore.{text_before_spaces, ignore_content}
 use Rattle.glob_lines.proofs.lemmas.ListLemmas.{AllByRecursion-append_parts}
-use Rattle.glob_lines.proofs.lemmas.LinesLemmas.{HasNo-take, Lines-lines_of, Lines-only, last_line, lines_of-line, length-lines_of-le, HasNo-not_found, IsCutAt}
+use Rattle.glob_lines.proofs.lemmas.LinesLemmas.{Lines-lines_of, Lines-only, last_line, lines_of-line, length-lines_of-le, HasNo-not_found, IsCutAt}
 use Rattle.glob_lines.proofs.lemmas.EntriesLemmas.{Tells}
 use Rattle.glob_lines.proofs.lemmas.TrimLemmas.{Trims-only, Trims-text_before_spaces}
 

@@ -15,7 +15,7 @@ use Rattle.glob_lines.specs.Equations.Lines.{lines_of}
 use Rattle.glob_lines.specs.Equations.Entries.{LineContent, entries_from, entry_of_content, entry_of_line}
 use Rattle.glob_lines.specs.Plain.{GivesItself, Plain, PlainEntry}
 use Rattle.glob_lines.specs.Equations.Plain.{plain_content}
-use Rattle.glob_lines.proofs.lemmas.LinesLemmas.{HasNo-take, HasNo-not_found, IsCutAt-found}
+use Rattle.glob_lines.proofs.lemmas.LinesLemmas.{HasNo-not_found, IsCutAt-found}
 use Rattle.glob_lines.proofs.lemmas.EntriesLemmas.{Entries-entries_of, Entries-only, ReadingsAreThese, Tells}
 use Rattle.glob_lines.proofs.lemmas.PlainLemmas.{Tells-plain_content}
 
