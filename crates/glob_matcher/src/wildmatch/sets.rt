@@ -83,8 +83,9 @@ impl Cursor {
     }
 }
 
-/// Whether a set holds a byte: where it is negated, if none of its items does, but in path mode never a slash.
-fn set_holds(mode: Mode, is_negated: bool, byte: u8, is_held: bool) -> bool
+/// Whether a set holds a byte, where it is known whether one of its items does: a negated one holds it if none does, but none
+/// holds a slash in path mode.
+fn decides_set(is_held: bool, is_negated: bool, byte: u8, mode: Mode) -> bool
     ensures { result ≡ (not (is_path mode && byte == slash) && (if is_negated then not is_held else is_held)) }
 {
     !(mode.is_path() && byte == b'/') && is_held != is_negated
@@ -361,11 +362,11 @@ impl<'c, 'a, S: Ledger, L: Ledger, M: Texts> Engine<'c, 'a, S, L, M> {
         'items: loop {
             match self.entry_at(cursor) {
                 Entry::Item(spelled) => {
-                    is_held = spelled.item.holds_too(is_held, byte, mode);
+                    is_held = is_held || spelled.item.holds(byte, mode);
                     cursor = spelled.onward();
                 }
                 Entry::Close => {
-                    let holds = set_holds(mode, is_negated, byte, is_held);
+                    let holds = decides_set(is_held, is_negated, byte, mode);
                     return Some((cursor.place + 1, holds));
                 }
                 Entry::Broken => return None,
