@@ -3,6 +3,7 @@ use Rattle.std.specs.Prelude.{◌≡◌, ℕ, ◌+◌, ◌*◌, ◌<◌, ◌≤�
 use Rattle.glob_matcher.specs.declared.wildmatch.items.Item.{Item}
 use Rattle.glob_matcher.specs.declared.wildmatch.items.Item.TheVariants as item
 use Rattle.glob_matcher.specs.declared.wildmatch.sets.Cursor.{Cursor}
+use Rattle.glob_matcher.specs.declared.wildmatch.sets.SetRead.{SetRead}
 use Rattle.glob_matcher.specs.declared.wildmatch.sets.Spelled.{Spelled}
 use Rattle.glob_matcher.specs.declared.wildmatch.sets.Entry.{Entry}
 use Rattle.glob_matcher.specs.declared.wildmatch.sets.Entry.TheVariants as entry
@@ -31,9 +32,9 @@ pub record IsSetThatHolds (mode : Mode) (text : List ℕ) (i b j : ℕ) (holds :
   pub answer : holds ≡ set_holds mode set b
 
 -- What is read at place i: where the set ends that begins there, and whether it holds byte b; or that none begins.
-abbrev pub IsSetRead : Mode → List ℕ → ℕ → ℕ → Option (ℕ × Bool) → Type 0
+abbrev pub IsSetRead : Mode → List ℕ → ℕ → ℕ → Option SetRead → Type 0
 IsSetRead mode text i b found =
-    MatchOption found ((set : Set) (j : ℕ) → ¬ SetAt text i set j) (λ set. IsSetThatHolds mode text i b set.0 set.1)
+    MatchOption found ((set : Set) (j : ℕ) → ¬ SetAt text i set j) (λ set. IsSetThatHolds mode text i b set.end set.holds)
 
 -- where the items of the set begin whose bracket stands at place i
 abbrev pub first_item : Bool → ℕ → ℕ

@@ -20,6 +20,7 @@ use super::counts::Counts;
 use super::items::Class;
 use super::mode::Mode;
 use super::needle::Needle;
+use super::sets::SetRead;
 use super::tokens::TokenKind;
 use std::marker::{Brand, Model, PhantomData};
 use std::sync::ledger::Ledger;
@@ -257,10 +258,9 @@ impl<'c, 'a, S: Ledger, L: Ledger, M: Texts> Engine<'c, 'a, S, L, M> {
     }
 
     /// Reads the set whose bracket stands at a place of the pattern by an engine of its own, so that this one may stay in
-    /// registers, and the reader of sets has one copy: the place after it, and whether it holds a byte. `None` where no set
-    /// begins.
+    /// registers, and the reader of sets has one copy; `None` where no set begins.
     #[inline(always)]
-    pub fn set_apart(&mut self, place: usize, byte: u8) -> Option<(usize, bool)>
+    pub fn set_apart(&mut self, place: usize, byte: u8) -> Option<SetRead>
         requires { HasByte M.pattern place open_bracket }
         ensures read { IsSetRead M.mode M.pattern place byte result }
         ensures count { LookedOver 4 self.old self.new place (read_end M.pattern result) }
@@ -268,23 +268,26 @@ impl<'c, 'a, S: Ledger, L: Ledger, M: Texts> Engine<'c, 'a, S, L, M> {
         read_set::<S, L, Brand>(self.pattern, place, byte, self.mode, &mut *self.counts).0
     }
 
-    /// Tests the set whose bracket stands at a place of the pattern: the place after it, and whether it fits the byte of the
-    /// value. Where the value ends, any byte will do. `None` where no set begins, which is no step: the value is looked at
+    /// Tests the set whose bracket stands at a place of the pattern: whether it holds the byte of the value. Where the value
+    /// ends, it is read for any byte, and holds none. `None` where no set begins, which is no step: the value is looked at
     /// first, and the step is counted once a set is known to begin.
     #[inline(always)]
-    pub fn fits_set(&mut self, place: usize, at: usize) -> Option<(usize, bool)>
+    pub fn fits_set(&mut self, place: usize, at: usize) -> Option<SetRead>
         requires { HasByte M.pattern place open_bracket }
-        ensures found { IfSome result (λ found. IsSetTested M.mode M.pattern M.value place at found.0 found.1) }
+        ensures found { IfSome result (λ set. IsSetTested M.mode M.pattern M.value place at set.end set.holds) }
         ensures none { IfNone result ((set : Set) (end : ℕ) → ¬ SetAt M.pattern place set end) }
-        ensures count { IfSome result (λ found. IsSetPaid 1 self.old self.new place found.0) }
+        ensures count { IfSome result (λ set. IsSetPaid 1 self.old self.new place set.end) }
         ensures broken { IfNone result (IsSetPaid 0 self.old self.new place (length M.pattern)) }
     {
         let byte = self.value_at(at);
-        let Some((end, holds)) = self.set_apart(place, byte.unwrap_or(0)) else {
+        let Some(SetRead { end, holds }) = self.set_apart(place, byte.unwrap_or(0)) else {
             return None;
         };
         self.counts.step();
-        Some((end, byte.is_some() && holds))
+        Some(SetRead {
+            end,
+            holds: byte.is_some() && holds,
+        })
     }
 
     /// Sets a mark.
@@ -478,8 +481,8 @@ pub fn read_token<'c, 'a, S: Ledger, L: Ledger, M: Texts>(
     (answer, counts)
 }
 
-/// The set whose bracket stands at a place of the pattern, by an engine that reads no value: the place after it, and whether
-/// it holds a byte, `None` where no set begins; and the counts. It is not inlined, and takes the parts of an engine, not one by
+/// The set whose bracket stands at a place of the pattern, read for a byte by an engine that reads no value, `None` where no
+/// set begins; and the counts. It is not inlined, and takes the parts of an engine, not one by
 /// reference, so that a search keeps its own in registers.
 #[inline(never)]
 pub fn read_set<'c, 'a, S: Ledger, L: Ledger, M: Texts>(
@@ -488,7 +491,7 @@ pub fn read_set<'c, 'a, S: Ledger, L: Ledger, M: Texts>(
     byte: u8,
     mode: Mode,
     counts: &'c mut Counts<S, L>,
-) -> (Option<(usize, bool)>, &'c mut Counts<S, L>)
+) -> (Option<SetRead>, &'c mut Counts<S, L>)
     requires pattern { pattern.now ≡ M.pattern }
     requires value { pattern.now ≡ M.value }
     requires mode { mode ≡ M.mode }

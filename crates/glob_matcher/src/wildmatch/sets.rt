@@ -49,6 +49,15 @@ enum Entry {
     Broken,
 }
 
+/// What is read of a set, for one byte.
+#[derive(Clone, Copy)]
+pub struct SetRead {
+    /// The place after the set.
+    pub end: usize,
+    /// Whether the set holds the byte.
+    pub holds: bool,
+}
+
 /// Where the reader of a set stands.
 #[derive(Clone, Copy)]
 struct Cursor {
@@ -341,10 +350,9 @@ impl<'c, 'a, S: Ledger, L: Ledger, M: Texts> Engine<'c, 'a, S, L, M> {
         (false, Cursor::at_first(place + 1))
     }
 
-    /// The set whose bracket stands at this place: the place after it, and whether it holds a byte. `None` where no set
-    /// begins.
+    /// The set whose bracket stands at this place, read for this byte; `None` where no set begins.
     #[inline(always)]
-    pub fn set_at(&mut self, place: usize, byte: u8) -> Option<(usize, bool)>
+    pub fn set_at(&mut self, place: usize, byte: u8) -> Option<SetRead>
         requires { HasByte M.pattern place open_bracket }
         ensures read { IsSetRead M.mode M.pattern place byte result }
         ensures count { LookedOver 4 self.old self.new place (read_end M.pattern result) }
@@ -361,7 +369,10 @@ impl<'c, 'a, S: Ledger, L: Ledger, M: Texts> Engine<'c, 'a, S, L, M> {
                 }
                 Entry::Close => {
                     let holds = decides_set(is_held, is_negated, byte, mode);
-                    return Some((cursor.place + 1, holds));
+                    return Some(SetRead {
+                        end: cursor.place + 1,
+                        holds,
+                    });
                 }
                 Entry::Broken => return None,
             }

@@ -162,7 +162,7 @@ impl<'c, 'a, S: Ledger, L: Ledger, M: Texts> Engine<'c, 'a, S, L, M> {
             },
             b'?' => (TokenKind::Any, place + 1),
             b'[' => match self.set_apart(place, 0) {
-                Some((end, _)) => (TokenKind::Set, end),
+                Some(set) => (TokenKind::Set, set.end),
                 None => (TokenKind::Nothing, self.pattern_len()),
             },
             b'*' => self.run_at(place),

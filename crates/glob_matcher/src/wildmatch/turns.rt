@@ -48,14 +48,14 @@ impl<'c, 'a, S: Ledger, L: Ledger, M: Texts> Engine<'c, 'a, S, L, M> {
         requires bracket { HasByte M.pattern state.place open_bracket }
         ensures { IsTurn M.mode M.pattern M.value state 1 result self.old self.new }
     {
-        let Some((after, fits)) = self.fits_set(state.place, state.at) else {
+        let Some(set) = self.fits_set(state.place, state.at) else {
             return Turn::NoMatch;
         };
-        if !fits {
+        if !set.holds {
             return Turn::Miss(state);
         }
         Turn::On(State {
-            place: after,
+            place: set.end,
             at: state.at + 1,
             ..state
         })
