@@ -21,7 +21,7 @@ use super::items::Class;
 use super::mode::Mode;
 use super::needle::Needle;
 use super::sets::SetRead;
-use super::tokens::TokenKind;
+use super::tokens::{TokenKind, TokenRead};
 use std::marker::{Brand, Model, PhantomData};
 use std::sync::ledger::Ledger;
 
@@ -467,13 +467,13 @@ pub fn read_token<'c, 'a, S: Ledger, L: Ledger, M: Texts>(
     place: usize,
     mode: Mode,
     counts: &'c mut Counts<S, L>,
-) -> ((TokenKind, usize), &'c mut Counts<S, L>)
+) -> (TokenRead, &'c mut Counts<S, L>)
     requires pattern { pattern.now ≡ M.pattern }
     requires value { pattern.now ≡ M.value }
     requires mode { mode ≡ M.mode }
     requires counts { counts.ghost_name ≡ M.counts }
     requires inside { place < length pattern.now }
-    ensures { IsToken mode pattern.now place result.0.0 result.0.1 }
+    ensures { IsToken mode pattern.now place result.0.kind result.0.end }
 {
     let mut engine = Engine::<'c, 'a, S, L, M>::new(pattern, pattern, mode, counts);
     let answer = engine.token_at(place);

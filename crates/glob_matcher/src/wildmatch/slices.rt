@@ -10,14 +10,14 @@ use super::counts::Counts;
 use super::engine::{read_set, read_token, text_is_short};
 use super::mode::Mode;
 use super::sets::SetRead;
-use super::tokens::TokenKind;
+use super::tokens::{TokenKind, TokenRead};
 use std::marker::Brand;
 use std::sync::ledger::{Blank, Ledger};
 
 /// The token at this place, and the place after it.
-pub fn token_at(pattern: &[u8], place: usize, mode: Mode) -> (TokenKind, usize)
+pub fn token_at(pattern: &[u8], place: usize, mode: Mode) -> TokenRead
     requires { place < length pattern.now }
-    ensures { IsToken mode pattern.now place result.0 result.1 }
+    ensures { IsToken mode pattern.now place result.kind result.end }
 {
     token_with_counts::<Brand, Brand>(pattern, place, mode, Blank::new(1), Blank::new(1))
 }
@@ -30,11 +30,11 @@ fn token_with_counts<S: Ledger, L: Ledger>(
     mode: Mode,
     steps: Blank,
     looks: Blank,
-) -> (TokenKind, usize)
+) -> TokenRead
     requires steps { IsBlankOf S.name S.parts steps }
     requires looks { IsBlankOf L.name L.parts looks }
     requires inside { place < length pattern.now }
-    ensures { IsToken mode pattern.now place result.0 result.1 }
+    ensures { IsToken mode pattern.now place result.kind result.end }
 {
     text_is_short(pattern);
     read_token::<S, L, Brand>(pattern, place, mode, &mut Counts::new(steps, looks)).0
