@@ -4,7 +4,7 @@
 //! The bytes of both texts are read by the methods of this module alone: each counts a look where it may read a byte and, for
 //! one of the value, a step. So no other module can read a byte without a count, or count in another place. `has_left` reads
 //! no byte, and counts nothing.
-ghost use Rattle.std.specs.Prelude.{◌≡◌, ◌≢◌, ◌↔◌, ◌⊎◌, ℕ, ◌+◌, ◌-◌, ◌^◌, ◌<◌, ◌≤◌, IsTrue, IfSome, IfNone, MatchOption, length, slice_index, slice_range, take};
+ghost use Rattle.std.specs.Prelude.{◌≡◌, ◌≢◌, ◌↔◌, ◌⊎◌, ℕ, ◌+◌, ◌-◌, ◌^◌, ◌<◌, ◌≤◌, IsTrue, IfSome, IfNone, MatchOption, [], length, slice_index, slice_range, take};
 ghost use Rattle.glob_matcher.specs.declared.wildmatch.items.Class.{Class};
 ghost use Rattle.glob_matcher.specs.Bytes.{HasByte, folds, is_path, open_bracket, slash};
 ghost use Rattle.glob_matcher.specs.Sets.{Set, SetAt, name_of};
@@ -469,13 +469,13 @@ pub fn read_token<'c, 'a, S: Ledger, L: Ledger, M: Texts>(
     counts: &'c mut Counts<S, L>,
 ) -> (TokenRead, &'c mut Counts<S, L>)
     requires pattern { pattern.now ≡ M.pattern }
-    requires value { pattern.now ≡ M.value }
+    requires value { M.value ≡ [] }
     requires mode { mode ≡ M.mode }
     requires counts { counts.ghost_name ≡ M.counts }
     requires inside { place < length pattern.now }
     ensures { IsToken mode pattern.now place result.0.kind result.0.end }
 {
-    let mut engine = Engine::<'c, 'a, S, L, M>::new(pattern, pattern, mode, counts);
+    let mut engine = Engine::<'c, 'a, S, L, M>::new(pattern, &[], mode, counts);
     let answer = engine.token_at(place);
     let Engine { counts, .. } = engine;
     (answer, counts)
@@ -493,7 +493,7 @@ pub fn read_set<'c, 'a, S: Ledger, L: Ledger, M: Texts>(
     counts: &'c mut Counts<S, L>,
 ) -> (Option<SetRead>, &'c mut Counts<S, L>)
     requires pattern { pattern.now ≡ M.pattern }
-    requires value { pattern.now ≡ M.value }
+    requires value { M.value ≡ [] }
     requires mode { mode ≡ M.mode }
     requires counts { counts.ghost_name ≡ M.counts }
     requires bracket { HasByte pattern.now place open_bracket }
@@ -501,7 +501,7 @@ pub fn read_set<'c, 'a, S: Ledger, L: Ledger, M: Texts>(
     ensures same { result.1.ghost_name ≡ counts.entry.ghost_name }
     ensures count { LookedOver 4 counts.old result.1.now place (read_end pattern.now result.0) }
 {
-    let mut engine = Engine::<'c, 'a, S, L, M>::new(pattern, pattern, mode, counts);
+    let mut engine = Engine::<'c, 'a, S, L, M>::new(pattern, &[], mode, counts);
     let answer = engine.set_at(place, byte);
     let Engine { counts, .. } = engine;
     (answer, counts)
