@@ -1,7 +1,8 @@
 -- What the readers of the pattern say of their looks to one another: a set is read in one pass, with at most four looks for
 -- each byte of its spelling.
-use Rattle.std.specs.Prelude.{◌≡◌, ℕ, ◌+◌, ◌*◌, ◌<◌, ◌≤◌, Bool, List, Option, None, Some, MatchOption, max, length}
+use Rattle.std.specs.Prelude.{◌≡◌, ℕ, ◌+◌, ◌*◌, ◌<◌, ◌≤◌, List, Option, None, Some, MatchOption, max, length}
 use Rattle.glob_matcher.specs.declared.wildmatch.items.Item.{Item}
+use Rattle.glob_matcher.specs.declared.wildmatch.sets.SetRead.{SetRead}
 use Rattle.glob_matcher.specs.declared.wildmatch.sets.Spelled.{Spelled}
 use Rattle.glob_matcher.specs.declared.wildmatch.sets.Entry.{Entry}
 use Rattle.glob_matcher.specs.declared.wildmatch.sets.Entry.TheVariants as entry
@@ -55,9 +56,9 @@ pub record IsItemRead (spare : ℕ) (before after : Counts) (text : List ℕ) (l
   pub paid : MatchOption item (IsPaidToEnd spare before after text i) (IsPaid spare before after i known)
 
 -- how far a set is read: up to its end, or where none begins, up to the text's
-abbrev pub read_end : List ℕ → Option (ℕ × Bool) → ℕ
+abbrev pub read_end : List ℕ → Option SetRead → ℕ
 read_end text None = length text
-read_end text (Some found) = found.0
+read_end text (Some set) = set.end
 
 -- the looks at what stands at place i
 abbrev pub IsPaidFor : Counts → Counts → List ℕ → ℕ → Option ℕ → Entry → Type 0

@@ -1,7 +1,9 @@
 -- What the reader of a pattern answers: the items of a set and the tokens, each with the place after it.
 use Rattle.std.specs.Prelude.{◌≡◌, ℕ, ◌+◌, ◌*◌, ◌<◌, ◌≤◌, Bool, true, false, not, IsTrue, List, [], length, Option, None, MatchOption, if◌then◌else◌}
 use Rattle.glob_matcher.specs.declared.wildmatch.items.Item.{Item}
+use Rattle.glob_matcher.specs.declared.wildmatch.items.Item.TheVariants as item
 use Rattle.glob_matcher.specs.declared.wildmatch.sets.Cursor.{Cursor}
+use Rattle.glob_matcher.specs.declared.wildmatch.sets.SetRead.{SetRead}
 use Rattle.glob_matcher.specs.declared.wildmatch.sets.Spelled.{Spelled}
 use Rattle.glob_matcher.specs.declared.wildmatch.sets.Entry.{Entry}
 use Rattle.glob_matcher.specs.declared.wildmatch.sets.Entry.TheVariants as entry
@@ -30,9 +32,9 @@ pub record IsSetThatHolds (mode : Mode) (text : List ℕ) (i b j : ℕ) (holds :
   pub answer : holds ≡ set_holds mode set b
 
 -- What is read at place i: where the set ends that begins there, and whether it holds byte b; or that none begins.
-abbrev pub IsSetRead : Mode → List ℕ → ℕ → ℕ → Option (ℕ × Bool) → Type 0
+abbrev pub IsSetRead : Mode → List ℕ → ℕ → ℕ → Option SetRead → Type 0
 IsSetRead mode text i b found =
-    MatchOption found ((set : Set) (j : ℕ) → ¬ SetAt text i set j) (λ set. IsSetThatHolds mode text i b set.0 set.1)
+    MatchOption found ((set : Set) (j : ℕ) → ¬ SetAt text i set j) (λ set. IsSetThatHolds mode text i b set.end set.holds)
 
 -- where the items of the set begin whose bracket stands at place i
 abbrev pub first_item : Bool → ℕ → ℕ
@@ -44,6 +46,10 @@ at_first i = record { place = i; is_first = true; low = None; close = None }
 
 abbrev pub after_item : Spelled → Cursor
 after_item s = record { place = s.next; is_first = false; low = member_of s.item; close = s.close }
+
+-- the member of so many bytes that is spelled where the reader of a set stands
+abbrev pub member_at : Cursor → ℕ → ℕ → Spelled
+member_at cursor byte width = record { item = item.Member byte; next = cursor.place + width; close = cursor.close }
 
 -- what the code keeps of a token: of a set its place alone
 abbrev pub kind_of : Token → TokenKind

@@ -15,8 +15,8 @@ pub fn each_pattern_has_a_reading(pattern: &[u8], from: usize, mode: Mode)
 {
     let mut place = from;
     'tokens: while place < pattern.len() {
-        let (_, next) = token_at(pattern, place, mode);
-        place = next;
+        let token = token_at(pattern, place, mode);
+        place = token.end;
     }
 }
 

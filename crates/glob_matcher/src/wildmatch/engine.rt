@@ -4,7 +4,7 @@
 //! The bytes of both texts are read by the methods of this module alone: each counts a look where it may read a byte and, for
 //! one of the value, a step. So no other module can read a byte without a count, or count in another place. `has_left` reads
 //! no byte, and counts nothing.
-ghost use Rattle.std.specs.Prelude.{◌≡◌, ◌≢◌, ◌↔◌, ◌⊎◌, ℕ, ◌+◌, ◌-◌, ◌^◌, ◌<◌, ◌≤◌, IsTrue, IfSome, IfNone, MatchOption, length, slice_index, slice_range, take};
+ghost use Rattle.std.specs.Prelude.{◌≡◌, ◌≢◌, ◌↔◌, ◌⊎◌, ℕ, ◌+◌, ◌-◌, ◌^◌, ◌<◌, ◌≤◌, IsTrue, IfSome, IfNone, MatchOption, [], length, slice_index, slice_range, take};
 ghost use Rattle.glob_matcher.specs.declared.wildmatch.items.Class.{Class};
 ghost use Rattle.glob_matcher.specs.Bytes.{HasByte, folds, is_path, open_bracket, slash};
 ghost use Rattle.glob_matcher.specs.Sets.{Set, SetAt, name_of};
@@ -20,7 +20,8 @@ use super::counts::Counts;
 use super::items::Class;
 use super::mode::Mode;
 use super::needle::Needle;
-use super::tokens::TokenKind;
+use super::sets::SetRead;
+use super::tokens::{TokenKind, TokenRead};
 use std::marker::{Brand, Model, PhantomData};
 use std::sync::ledger::Ledger;
 
@@ -257,10 +258,9 @@ impl<'c, 'a, S: Ledger, L: Ledger, M: Texts> Engine<'c, 'a, S, L, M> {
     }
 
     /// Reads the set whose bracket stands at a place of the pattern by an engine of its own, so that this one may stay in
-    /// registers, and the reader of sets has one copy: the place after it, and whether it holds a byte. `None` where no set
-    /// begins.
+    /// registers, and the reader of sets has one copy; `None` where no set begins.
     #[inline(always)]
-    pub fn set_apart(&mut self, place: usize, byte: u8) -> Option<(usize, bool)>
+    pub fn set_apart(&mut self, place: usize, byte: u8) -> Option<SetRead>
         requires { HasByte M.pattern place open_bracket }
         ensures read { IsSetRead M.mode M.pattern place byte result }
         ensures count { LookedOver 4 self.old self.new place (read_end M.pattern result) }
@@ -268,23 +268,26 @@ impl<'c, 'a, S: Ledger, L: Ledger, M: Texts> Engine<'c, 'a, S, L, M> {
         read_set::<S, L, Brand>(self.pattern, place, byte, self.mode, &mut *self.counts).0
     }
 
-    /// Tests the set whose bracket stands at a place of the pattern: the place after it, and whether it fits the byte of the
-    /// value. Where the value ends, any byte will do. `None` where no set begins, which is no step: the value is looked at
+    /// Tests the set whose bracket stands at a place of the pattern: whether it holds the byte of the value. Where the value
+    /// ends, it is read for any byte, and holds none. `None` where no set begins, which is no step: the value is looked at
     /// first, and the step is counted once a set is known to begin.
     #[inline(always)]
-    pub fn fits_set(&mut self, place: usize, at: usize) -> Option<(usize, bool)>
+    pub fn fits_set(&mut self, place: usize, at: usize) -> Option<SetRead>
         requires { HasByte M.pattern place open_bracket }
-        ensures found { IfSome result (λ found. IsSetTested M.mode M.pattern M.value place at found.0 found.1) }
+        ensures found { IfSome result (λ set. IsSetTested M.mode M.pattern M.value place at set.end set.holds) }
         ensures none { IfNone result ((set : Set) (end : ℕ) → ¬ SetAt M.pattern place set end) }
-        ensures count { IfSome result (λ found. IsSetPaid 1 self.old self.new place found.0) }
+        ensures count { IfSome result (λ set. IsSetPaid 1 self.old self.new place set.end) }
         ensures broken { IfNone result (IsSetPaid 0 self.old self.new place (length M.pattern)) }
     {
         let byte = self.value_at(at);
-        let Some((end, holds)) = self.set_apart(place, byte.unwrap_or(0)) else {
+        let Some(SetRead { end, holds }) = self.set_apart(place, byte.unwrap_or(0)) else {
             return None;
         };
         self.counts.step();
-        Some((end, byte.is_some() && holds))
+        Some(SetRead {
+            end,
+            holds: byte.is_some() && holds,
+        })
     }
 
     /// Sets a mark.
@@ -464,22 +467,22 @@ pub fn read_token<'c, 'a, S: Ledger, L: Ledger, M: Texts>(
     place: usize,
     mode: Mode,
     counts: &'c mut Counts<S, L>,
-) -> ((TokenKind, usize), &'c mut Counts<S, L>)
+) -> (TokenRead, &'c mut Counts<S, L>)
     requires pattern { pattern.now ≡ M.pattern }
-    requires value { pattern.now ≡ M.value }
+    requires value { M.value ≡ [] }
     requires mode { mode ≡ M.mode }
     requires counts { counts.ghost_name ≡ M.counts }
     requires inside { place < length pattern.now }
-    ensures { IsToken mode pattern.now place result.0.0 result.0.1 }
+    ensures { IsToken mode pattern.now place result.0.kind result.0.end }
 {
-    let mut engine = Engine::<'c, 'a, S, L, M>::new(pattern, pattern, mode, counts);
+    let mut engine = Engine::<'c, 'a, S, L, M>::new(pattern, &[], mode, counts);
     let answer = engine.token_at(place);
     let Engine { counts, .. } = engine;
     (answer, counts)
 }
 
-/// The set whose bracket stands at a place of the pattern, by an engine that reads no value: the place after it, and whether
-/// it holds a byte, `None` where no set begins; and the counts. It is not inlined, and takes the parts of an engine, not one by
+/// The set whose bracket stands at a place of the pattern, read for a byte by an engine that reads no value, `None` where no
+/// set begins; and the counts. It is not inlined, and takes the parts of an engine, not one by
 /// reference, so that a search keeps its own in registers.
 #[inline(never)]
 pub fn read_set<'c, 'a, S: Ledger, L: Ledger, M: Texts>(
@@ -488,9 +491,9 @@ pub fn read_set<'c, 'a, S: Ledger, L: Ledger, M: Texts>(
     byte: u8,
     mode: Mode,
     counts: &'c mut Counts<S, L>,
-) -> (Option<(usize, bool)>, &'c mut Counts<S, L>)
+) -> (Option<SetRead>, &'c mut Counts<S, L>)
     requires pattern { pattern.now ≡ M.pattern }
-    requires value { pattern.now ≡ M.value }
+    requires value { M.value ≡ [] }
     requires mode { mode ≡ M.mode }
     requires counts { counts.ghost_name ≡ M.counts }
     requires bracket { HasByte pattern.now place open_bracket }
@@ -498,7 +501,7 @@ pub fn read_set<'c, 'a, S: Ledger, L: Ledger, M: Texts>(
     ensures same { result.1.ghost_name ≡ counts.entry.ghost_name }
     ensures count { LookedOver 4 counts.old result.1.now place (read_end pattern.now result.0) }
 {
-    let mut engine = Engine::<'c, 'a, S, L, M>::new(pattern, pattern, mode, counts);
+    let mut engine = Engine::<'c, 'a, S, L, M>::new(pattern, &[], mode, counts);
     let answer = engine.set_at(place, byte);
     let Engine { counts, .. } = engine;
     (answer, counts)

@@ -1,5 +1,5 @@
 //! What a bracket set holds: its items, each of them a byte, a range or a class. How a set is read is in `sets`.
-ghost use Rattle.std.specs.Prelude.{◌≡◌, ◌||◌, MatchOption};
+ghost use Rattle.std.specs.Prelude.{◌≡◌, MatchOption};
 ghost use Rattle.glob_matcher.specs.declared.wildmatch.items.Class.{Class};
 ghost use Rattle.glob_matcher.specs.Sets.{class_holds, is_between, item_holds, member_of, name_of, range_holds};
 
@@ -101,7 +101,7 @@ fn range_holds(low: u8, high: u8, byte: u8, mode: Mode) -> bool
 
 impl Item {
     /// Whether the item holds a byte.
-    fn holds(self, byte: u8, mode: Mode) -> bool
+    pub fn holds(self, byte: u8, mode: Mode) -> bool
         ensures { result ≡ item_holds mode byte self }
     {
         match self {
@@ -110,13 +110,6 @@ impl Item {
             Item::Range(low, high) => range_holds(low, high, byte, mode),
             Item::Class(class) => class.holds(mode.fold(byte), mode),
         }
-    }
-
-    /// Whether the item holds a byte, or one before it does.
-    pub fn holds_too(self, is_held: bool, byte: u8, mode: Mode) -> bool
-        ensures { result ≡ (is_held || item_holds mode byte self) }
-    {
-        is_held || self.holds(byte, mode)
     }
 
     /// The member that a range after this item begins from.

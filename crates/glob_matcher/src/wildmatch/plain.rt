@@ -44,10 +44,12 @@ pub fn splits_from(pattern: &[u8], place: usize, value: &[u8], at: usize, mode: 
     if place == pattern.len() {
         return at == value.len();
     }
-    let (kind, next) = token_at(pattern, place, mode);
-    if kind.is_star() {
+    let token = token_at(pattern, place, mode);
+    if token.kind.is_star() {
         'ends: for end in at..value.len() + 1 {
-            if spans(kind, value, at, end) && splits_from(pattern, next, value, end, mode) {
+            if spans(token.kind, value, at, end)
+                && splits_from(pattern, token.end, value, end, mode)
+            {
                 return true;
             }
         }
@@ -56,8 +58,8 @@ pub fn splits_from(pattern: &[u8], place: usize, value: &[u8], at: usize, mode: 
     if at == value.len() {
         return false;
     }
-    if !kind.fits_at(pattern, place, value[at], mode) {
+    if !token.kind.fits_at(pattern, place, value[at], mode) {
         return false;
     }
-    splits_from(pattern, next, value, at + 1, mode)
+    splits_from(pattern, token.end, value, at + 1, mode)
 }

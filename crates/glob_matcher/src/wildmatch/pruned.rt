@@ -54,11 +54,11 @@ pub fn is_start(pattern: &[u8], place: usize, mode: Mode) -> bool
 {
     let mut start = 0;
     'tokens: while start < pattern.len() && start < place {
-        let (kind, next) = token_at(pattern, start, mode);
-        if ends_at_slash(kind, next, place) {
+        let token = token_at(pattern, start, mode);
+        if ends_at_slash(token.kind, token.end, place) {
             return true;
         }
-        start = next;
+        start = token.end;
     }
     start == place
 }
@@ -105,8 +105,8 @@ impl<'a> Level<'a> {
         requires more { place ≢ length self.now.pattern.now }
         ensures { AsksFor self.now.mode self.now.pattern.now place result }
     {
-        let (kind, _) = token_at(self.pattern, place, self.mode);
-        kind.wanted_byte()
+        let token = token_at(self.pattern, place, self.mode);
+        token.kind.wanted_byte()
     }
 
     /// The first place of the value, from one place on and before another, where the wanted byte stands; where none is wanted,
@@ -160,20 +160,23 @@ impl<'a> Level<'a> {
             return Answer::RecursionLimitReached;
         }
         'tokens: while place < self.pattern.len() {
-            let (kind, next) = token_at(self.pattern, place, self.mode);
-            match kind {
-                TokenKind::Free => return self.try_everywhere(next, at),
-                TokenKind::Local => return self.try_component(next, at),
-                TokenKind::Dirs => return self.try_directories(next, at),
+            let token = token_at(self.pattern, place, self.mode);
+            match token.kind {
+                TokenKind::Free => return self.try_everywhere(token.end, at),
+                TokenKind::Local => return self.try_component(token.end, at),
+                TokenKind::Dirs => return self.try_directories(token.end, at),
                 TokenKind::Nothing => return Answer::AbortAll,
                 TokenKind::Byte(_) | TokenKind::Any | TokenKind::Set => {
                     if at == self.value.len() {
                         return Answer::AbortAll;
                     }
-                    if !kind.fits_at(self.pattern, place, self.value[at], self.mode) {
+                    if !token
+                        .kind
+                        .fits_at(self.pattern, place, self.value[at], self.mode)
+                    {
                         return Answer::NoMatch;
                     }
-                    place = next;
+                    place = token.end;
                     at += 1;
                 }
             }

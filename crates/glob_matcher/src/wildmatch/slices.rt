@@ -9,14 +9,15 @@ ghost use Rattle.glob_matcher.specs.Steps.{IsBlankOf};
 use super::counts::Counts;
 use super::engine::{read_set, read_token, text_is_short};
 use super::mode::Mode;
-use super::tokens::TokenKind;
+use super::sets::SetRead;
+use super::tokens::{TokenKind, TokenRead};
 use std::marker::Brand;
 use std::sync::ledger::{Blank, Ledger};
 
 /// The token at this place, and the place after it.
-pub fn token_at(pattern: &[u8], place: usize, mode: Mode) -> (TokenKind, usize)
+pub fn token_at(pattern: &[u8], place: usize, mode: Mode) -> TokenRead
     requires { place < length pattern.now }
-    ensures { IsToken mode pattern.now place result.0 result.1 }
+    ensures { IsToken mode pattern.now place result.kind result.end }
 {
     token_with_counts::<Brand, Brand>(pattern, place, mode, Blank::new(1), Blank::new(1))
 }
@@ -29,18 +30,18 @@ fn token_with_counts<S: Ledger, L: Ledger>(
     mode: Mode,
     steps: Blank,
     looks: Blank,
-) -> (TokenKind, usize)
+) -> TokenRead
     requires steps { IsBlankOf S.name S.parts steps }
     requires looks { IsBlankOf L.name L.parts looks }
     requires inside { place < length pattern.now }
-    ensures { IsToken mode pattern.now place result.0 result.1 }
+    ensures { IsToken mode pattern.now place result.kind result.end }
 {
     text_is_short(pattern);
     read_token::<S, L, Brand>(pattern, place, mode, &mut Counts::new(steps, looks)).0
 }
 
-/// The set whose bracket stands at this place: the place after it, and whether it holds a byte. `None` where no set begins.
-fn set_at(pattern: &[u8], place: usize, byte: u8, mode: Mode) -> Option<(usize, bool)>
+/// The set whose bracket stands at this place, read for this byte; `None` where no set begins.
+fn set_at(pattern: &[u8], place: usize, byte: u8, mode: Mode) -> Option<SetRead>
     requires { HasByte pattern.now place open_bracket }
     ensures { IsSetRead mode pattern.now place byte result }
 {
@@ -56,7 +57,7 @@ fn set_with_counts<S: Ledger, L: Ledger>(
     mode: Mode,
     steps: Blank,
     looks: Blank,
-) -> Option<(usize, bool)>
+) -> Option<SetRead>
     requires steps { IsBlankOf S.name S.parts steps }
     requires looks { IsBlankOf L.name L.parts looks }
     requires bracket { HasByte pattern.now place open_bracket }
@@ -79,7 +80,7 @@ impl TokenKind {
             return false;
         }
         match set_at(pattern, place, byte, mode) {
-            Some((_, holds)) => holds,
+            Some(set) => set.holds,
             None => false,
         }
     }

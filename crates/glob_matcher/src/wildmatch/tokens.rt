@@ -31,6 +31,15 @@ pub enum TokenKind {
     Nothing,
 }
 
+/// What is read of a token.
+#[derive(Clone, Copy)]
+pub struct TokenRead {
+    /// What kind of token it is.
+    pub kind: TokenKind,
+    /// The place after it.
+    pub end: usize,
+}
+
 impl TokenKind {
     /// Whether the token is a star token.
     pub fn is_star(self) -> bool
@@ -131,42 +140,72 @@ impl<'c, 'a, S: Ledger, L: Ledger, M: Texts> Engine<'c, 'a, S, L, M> {
     }
 
     /// The run of stars at this place, and the place after it, or after its slash.
-    fn run_at(&mut self, place: usize) -> (TokenKind, usize)
+    fn run_at(&mut self, place: usize) -> TokenRead
         requires { HasByte M.pattern place star }
-        ensures token { IsToken M.mode M.pattern place result.0 result.1 }
-        ensures count { IsRunRead self.old self.new place result.0 result.1 }
+        ensures token { IsToken M.mode M.pattern place result.kind result.end }
+        ensures count { IsRunRead self.old self.new place result.kind result.end }
     {
         let end = self.run_end(place);
         if !self.is_path() {
-            return (TokenKind::Free, end);
+            return TokenRead {
+                kind: TokenKind::Free,
+                end,
+            };
         }
         if !self.is_bounded(place, end) {
-            return (TokenKind::Local, end);
+            return TokenRead {
+                kind: TokenKind::Local,
+                end,
+            };
         }
         if self.has_byte(end, b'/') {
-            return (TokenKind::Dirs, end + 1);
+            return TokenRead {
+                kind: TokenKind::Dirs,
+                end: end + 1,
+            };
         }
-        (TokenKind::Free, end)
+        TokenRead {
+            kind: TokenKind::Free,
+            end,
+        }
     }
 
     /// The token at this place, and the place after it.
-    pub fn token_at(&mut self, place: usize) -> (TokenKind, usize)
+    pub fn token_at(&mut self, place: usize) -> TokenRead
         requires { place < length M.pattern }
-        ensures token { IsToken M.mode M.pattern place result.0 result.1 }
-        ensures count { IsTokenRead self.old self.new place result.0 result.1 }
+        ensures token { IsToken M.mode M.pattern place result.kind result.end }
+        ensures count { IsTokenRead self.old self.new place result.kind result.end }
     {
         match self.pattern_byte(place) {
             b'\\' => match self.escaped_at(place) {
-                Some(byte) => (TokenKind::Byte(byte), place + 2),
-                None => (TokenKind::Nothing, self.pattern_len()),
+                Some(byte) => TokenRead {
+                    kind: TokenKind::Byte(byte),
+                    end: place + 2,
+                },
+                None => TokenRead {
+                    kind: TokenKind::Nothing,
+                    end: self.pattern_len(),
+                },
             },
-            b'?' => (TokenKind::Any, place + 1),
+            b'?' => TokenRead {
+                kind: TokenKind::Any,
+                end: place + 1,
+            },
             b'[' => match self.set_apart(place, 0) {
-                Some((end, _)) => (TokenKind::Set, end),
-                None => (TokenKind::Nothing, self.pattern_len()),
+                Some(set) => TokenRead {
+                    kind: TokenKind::Set,
+                    end: set.end,
+                },
+                None => TokenRead {
+                    kind: TokenKind::Nothing,
+                    end: self.pattern_len(),
+                },
             },
             b'*' => self.run_at(place),
-            byte => (TokenKind::Byte(byte), place + 1),
+            byte => TokenRead {
+                kind: TokenKind::Byte(byte),
+                end: place + 1,
+            },
         }
     }
 }

@@ -48,14 +48,14 @@ impl<'c, 'a, S: Ledger, L: Ledger, M: Texts> Engine<'c, 'a, S, L, M> {
         requires bracket { HasByte M.pattern state.place open_bracket }
         ensures { IsTurn M.mode M.pattern M.value state 1 result self.old self.new }
     {
-        let Some((after, fits)) = self.fits_set(state.place, state.at) else {
+        let Some(set) = self.fits_set(state.place, state.at) else {
             return Turn::NoMatch;
         };
-        if !fits {
+        if !set.holds {
             return Turn::Miss(state);
         }
         Turn::On(State {
-            place: after,
+            place: set.end,
             at: state.at + 1,
             ..state
         })
@@ -123,14 +123,14 @@ impl<'c, 'a, S: Ledger, L: Ledger, M: Texts> Engine<'c, 'a, S, L, M> {
         requires other { slice_index M.pattern state.place ≢ open_bracket }
         ensures { IsTurn M.mode M.pattern M.value state 1 result self.old self.new }
     {
-        let (kind, after) = self.token_at(state.place);
-        match kind {
-            TokenKind::Free => self.free_turn(state, after),
-            TokenKind::Dirs => self.dirs_turn(state, after),
-            TokenKind::Local => self.local_turn(state, after),
+        let token = self.token_at(state.place);
+        match token.kind {
+            TokenKind::Free => self.free_turn(state, token.end),
+            TokenKind::Dirs => self.dirs_turn(state, token.end),
+            TokenKind::Local => self.local_turn(state, token.end),
             TokenKind::Nothing => Turn::NoMatch,
             TokenKind::Byte(_) | TokenKind::Any | TokenKind::Set => {
-                self.single_turn(state, kind, after)
+                self.single_turn(state, token.kind, token.end)
             }
         }
     }

@@ -4,8 +4,8 @@ use Rattle.glob_matcher.proofs.laws.readings.each_pattern_has_a_reading.Goals as
 
 pub tokens-preserved : goal.tokens-preserved
 tokens-preserved c =
-    let x = c.token_at-next.ensures in
-    (λ ts rest. c.tokens.invariant.0 (x.token ∷ ts) (c.token_at-next.result.1, x.here, rest), x.inside)
+    let x = c.token_at-token.ensures in
+    (λ ts rest. c.tokens.invariant.0 (x.token ∷ ts) (c.token_at-token.result.end, x.here, rest), x.inside)
 
 pub returns : goal.returns
 returns c =

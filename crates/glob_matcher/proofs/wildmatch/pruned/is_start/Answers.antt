@@ -7,8 +7,8 @@ use Rattle.glob_matcher.proofs.wildmatch.pruned.is_start.Goals.{then-tokens-test
 
 pub tokens-preserved : goal.tokens-preserved
 tokens-preserved c =
-    let s = c.token_at-kind in
-    scan_next s.ensures.token s.result.1 c.tokens.invariant s.ensures.here
+    let s = c.token_at-token in
+    scan_next s.ensures.token s.result.end c.tokens.invariant s.ensures.here
     (omega arith) (λ is next. let yes = c.if-ends_at_slash.ensures.1 (s.ensures.same_kind ∙ ap kind_of is, next) in cc)
 
 pub returns : goal.returns

@@ -1,14 +1,14 @@
--- The pattern is that of the call, the value is never read, and the counts are kept behind the reference that is passed.
-use Rattle.std.proofs.Common.{◌-◌, ◌^◌, take}
+-- The pattern is that of the call, the value is empty, and the counts are kept behind the reference that is passed.
+use Rattle.std.proofs.Common.{◌-◌, ◌^◌, [], take, arith}
 use Rattle.glob_matcher.proofs.lemmas.two_marks.Texts.{short}
 use Rattle.glob_matcher.proofs.wildmatch.slices.set_with_counts.Given as goal
 
 abbrev pub ghosts-read_set : goal.ghosts-read_set
 ghosts-read_set g a = record {
   pattern = take (2 ^ 64 - 1) a.pattern.now;
-  value = take (2 ^ 64 - 1) a.pattern.now;
+  value = [];
   mode = a.mode;
   counts = a.counts.ghost_name;
   short_pattern = short a.pattern.now;
-  short_value = short a.pattern.now;
+  short_value = omega arith;
 }

@@ -1,9 +1,10 @@
-use Rattle.std.proofs.Common.{◌≡◌, ◌∙◌, ap, subst, arith}
+use Rattle.std.proofs.Common.{◌≡◌, ◌∙◌, ◌||◌, ap, subst, arith, rules}
 use Rattle.glob_matcher.specs.declared.wildmatch.mode.Mode.{Mode}
 use Rattle.glob_matcher.specs.Sets.{item_holds, set_holds}
 use Rattle.glob_matcher.proofs.lemmas.reading.Walks.{set_closed, set_broken}
 use Rattle.glob_matcher.proofs.lemmas.reading.LookLemmas.{reading_first, reading_next, search_front_here, search_front_inside}
 use Rattle.glob_matcher.proofs.wildmatch.engine.Engine.set_at.Goals as goal
+use Rattle.glob_matcher.proofs.wildmatch.engine.Engine.set_at.Goals.{then-is_held, else-is_held}
 
 pub items-init : goal.items-init
 items-init g c =
@@ -12,7 +13,9 @@ items-init g c =
 
 pub items-preserved : goal.items-preserved
 items-preserved g c =
-    reading_next c.in-Item.spelled c.holds_too-is_held.ensures c.onward-cursor.ensures c.items.invariant c.in-Item.ensures.entry
+    let held : c.if-is_held.is_held ≡ c.items.is_held || item_holds c.mode-mode.result c.args.byte c.in-Item.spelled.item =
+    elim c.if-is_held.branch [ then-is_held w ↦ search rules | else-is_held w ↦ search rules ] in
+    reading_next c.in-Item.spelled held c.onward-cursor.ensures c.items.invariant c.in-Item.ensures.entry
     c.in-Item.ensures.count
 
 pub items-smaller : goal.items-smaller
@@ -34,7 +37,7 @@ returns-in-Close-clause-read g c =
       past = omega (arith, so_far.past);
       inside = omega (arith, entry.1);
       answer =
-          subst (λ (m : Mode). c.set_holds-holds.result ≡ set_holds m all.0 c.args.byte) c.mode-mode.ensures (c.set_holds-holds.ensures ∙ all.2);
+          subst (λ (m : Mode). c.decides_set-holds.result ≡ set_holds m all.0 c.args.byte) c.mode-mode.ensures (c.decides_set-holds.ensures ∙ all.2);
     }
 
 pub returns-in-Close-clause-count : goal.returns-in-Close-clause-count

@@ -1,4 +1,5 @@
 use Rattle.std.proofs.Common.{◌≡◌, true, inr, length, refl, arith}
+use Rattle.std.proofs.lemmas.Bool.{not-true, not-false}
 use Rattle.glob_matcher.specs.declared.wildmatch.tokens.TokenKind.TheVariants as kind
 use Rattle.glob_matcher.specs.Tokens.{OneOf, Nothing}
 use Rattle.glob_matcher.specs.Private.Reader.{IsToken}
@@ -30,19 +31,19 @@ returns-in_default g c =
       progress = tt;
     }
 
-pub returns-then-not-fits : goal.returns-then-not-fits
-returns-then-not-fits g c =
+pub returns-then-not-set : goal.returns-then-not-set
+returns-then-not-set g c =
     let m = g.M.Texts in
     let found = c.in-Some.ensures.found in
     let paid = c.in-Some.ensures.count in
-    let x : IsToken m.mode m.pattern c.args.state.place kind.Set c.in-Some.after =
+    let x : IsToken m.mode m.pattern c.args.state.place kind.Set c.in-Some.set.end =
     record { token = OneOf found.set; here = found.here; same_kind = refl; past = found.past; inside = found.inside } in
     record {
       meaning = record {
         stands = c.requires.stands;
         missed =
             misses_byte m.value c.args.state.at x refl c.requires.stands.inside
-            (λ fits. let held : c.in-Some.fits ≡ true = found.answer.1 fits in let other = c.if-not-fits.true in cc);
+            (λ fits. let held : c.in-Some.set.holds ≡ true = found.answer.1 fits in let other = not-true c.in-Some.set.holds c.if-not-set.true in cc);
       };
       allows = λ measure s n low a. record {
         before = s;
@@ -59,9 +60,9 @@ returns g c =
     let m = g.M.Texts in
     let found = c.in-Some.ensures.found in
     let paid = c.in-Some.ensures.count in
-    let x : IsToken m.mode m.pattern c.args.state.place kind.Set c.in-Some.after =
+    let x : IsToken m.mode m.pattern c.args.state.place kind.Set c.in-Some.set.end =
     record { token = OneOf found.set; here = found.here; same_kind = refl; past = found.past; inside = found.inside } in
-    let fits = found.answer.0 c.if-not-fits.false in
+    let fits = found.answer.0 (not-false c.in-Some.set.holds c.if-not-set.false) in
     record {
       meaning = stands_on c.requires.stands x refl fits.0 fits.1 (λ is. cc);
       allows = λ measure s n low a.

@@ -21,7 +21,7 @@ returns-in-63-clause-token g c = any_token g.M.Texts.mode g.M.Texts.pattern c.ar
 pub returns-in-Some-set_apart-clause-token : goal.returns-in-Some-set_apart-clause-token
 returns-in-Some-set_apart-clause-token g c =
     let found = c.in-Some-set_apart.ensures.read in
-    set_token g.M.Texts.mode g.M.Texts.pattern c.args.place found.set c.in-Some-set_apart.end found.here found.past found.inside
+    set_token g.M.Texts.mode g.M.Texts.pattern c.args.place found.set c.in-Some-set_apart.set.end found.here found.past found.inside
 
 pub returns-in-None-set_apart-clause-token : goal.returns-in-None-set_apart-clause-token
 returns-in-None-set_apart-clause-token g c =

@@ -17,52 +17,52 @@ not_match answer (inr is) e = cc
 
 pub attempt-returns-in-Free : goal.attempt-returns-in-Free
 attempt-returns-in-Free t c =
-    let here = is_free c.token_at-kind.ensures c.in-Free.is in
+    let here = is_free c.token_at-token.ensures c.in-Free.is in
     star_here c.tokens.invariant (λ deep. omega arith)
     (free_star here c.tokens.invariant.value_high c.try_everywhere.ensures)
 
 pub attempt-returns-in-Local : goal.attempt-returns-in-Local
 attempt-returns-in-Local t c =
-    let here = is_local c.token_at-kind.ensures c.in-Local.is in
+    let here = is_local c.token_at-token.ensures c.in-Local.is in
     star_here c.tokens.invariant (λ deep. omega arith)
     (local_star here c.tokens.invariant.value_high c.try_component.ensures)
 
 pub attempt-returns-in-Dirs : goal.attempt-returns-in-Dirs
 attempt-returns-in-Dirs t c =
-    let here = is_dirs c.token_at-kind.ensures c.in-Dirs.is in
+    let here = is_dirs c.token_at-token.ensures c.in-Dirs.is in
     star_here c.tokens.invariant (λ deep. omega arith)
     (dirs_star here c.tokens.invariant.value_high (c.try_directories.ensures c.tokens.place here))
 
 pub attempt-returns-in-Nothing : goal.attempt-returns-in-Nothing
 attempt-returns-in-Nothing t c =
-    let here = is_nothing c.token_at-kind.ensures c.in-Nothing.is in
+    let here = is_nothing c.token_at-token.ensures c.in-Nothing.is in
     nothing_here c.tokens.invariant (λ deep. omega arith)
-    c.token_at-kind.result.1 here
+    c.token_at-token.result.end here
 
 pub attempt-returns-then-at-self : goal.attempt-returns-then-at-self
 attempt-returns-then-at-self t c =
-    let s = c.token_at-kind in
+    let s = c.token_at-token in
     let one = is_one s.ensures c.in-Byte.is in
     value_ends c.tokens.invariant (λ deep. omega arith)
-    s.ensures.token s.result.1 one s.ensures.here c.if-at-self.true
+    s.ensures.token s.result.end one s.ensures.here c.if-at-self.true
 
 pub attempt-returns-then-not-fits_at : goal.attempt-returns-then-not-fits_at
 attempt-returns-then-not-fits_at t c =
-    let s = c.token_at-kind in
+    let s = c.token_at-token in
     let one = is_one s.ensures c.in-Byte.is in
     let high : c.tokens.at ≤ length c.args.self.now.value.now = c.tokens.invariant.value_high in
-    let fits = c.if-not-fits_at.ensures s.ensures.token s.result.1 s.ensures.here s.ensures.same_kind in
+    let fits = c.if-not-fits_at.ensures s.ensures.token s.result.end s.ensures.here s.ensures.same_kind in
     misses c.tokens.invariant (λ deep. omega arith)
-    s.ensures.token s.result.1 one s.ensures.here (omega arith) (λ f. let never = fits.1 f in cc)
+    s.ensures.token s.result.end one s.ensures.here (omega arith) (λ f. let never = fits.1 f in cc)
 
 pub attempt-tokens-preserved : goal.attempt-tokens-preserved
 attempt-tokens-preserved t c =
     let p = c.args.self.now.pattern.now in
-    let s = c.token_at-kind in
+    let s = c.token_at-token in
     let one = is_one s.ensures c.in-Byte.is in
     let high : c.tokens.at ≤ length c.args.self.now.value.now = c.tokens.invariant.value_high in
-    let fits = c.if-not-fits_at.ensures s.ensures.token s.result.1 s.ensures.here s.ensures.same_kind in
-    aligned_next s.ensures.token s.result.1 c.tokens.invariant one s.ensures.here s.ensures.past (omega arith) (fits.0 refl)
+    let fits = c.if-not-fits_at.ensures s.ensures.token s.result.end s.ensures.here s.ensures.same_kind in
+    aligned_next s.ensures.token s.result.end c.tokens.invariant one s.ensures.here s.ensures.past (omega arith) (fits.0 refl)
 
 pub attempt-returns : goal.attempt-returns
 attempt-returns t c =
@@ -119,24 +119,24 @@ try_component-returns t c =
 pub attempt-try_everywhere-requires : goal.attempt-try_everywhere-requires
 attempt-try_everywhere-requires t c =
     let p = c.args.self.now.pattern.now in
-    let s = c.token_at-kind in
-    let here : TokenAt c.args.self.now.mode p c.tokens.place Free s.result.1 = is_free s.ensures c.in-Free.is in
-    let start : IsStart p s.result.1 c.args.self.now.mode = record { place = inl (start_next Free s.result.1 c.tokens.invariant.start here) } in
+    let s = c.token_at-token in
+    let here : TokenAt c.args.self.now.mode p c.tokens.place Free s.result.end = is_free s.ensures c.in-Free.is in
+    let start : IsStart p s.result.end c.args.self.now.mode = record { place = inl (start_next Free s.result.end c.tokens.invariant.start here) } in
     (search rules, (start, (here.run.whole, (c.tokens.invariant.value_high, omega arith))))
 
 pub attempt-try_component-requires : goal.attempt-try_component-requires
 attempt-try_component-requires t c =
     let p = c.args.self.now.pattern.now in
-    let s = c.token_at-kind in
-    let here : TokenAt c.args.self.now.mode p c.tokens.place Local s.result.1 = is_local s.ensures c.in-Local.is in
-    let start : IsStart p s.result.1 c.args.self.now.mode = record { place = inl (start_next Local s.result.1 c.tokens.invariant.start here) } in
+    let s = c.token_at-token in
+    let here : TokenAt c.args.self.now.mode p c.tokens.place Local s.result.end = is_local s.ensures c.in-Local.is in
+    let start : IsStart p s.result.end c.args.self.now.mode = record { place = inl (start_next Local s.result.end c.tokens.invariant.start here) } in
     (search rules, (start, (here.run.whole, (c.tokens.invariant.value_high, omega arith))))
 
 pub attempt-try_directories-requires : goal.attempt-try_directories-requires
 attempt-try_directories-requires t c =
     let p = c.args.self.now.pattern.now in
-    let s = c.token_at-kind in
-    let here : TokenAt c.args.self.now.mode p c.tokens.place Dirs s.result.1 = is_dirs s.ensures c.in-Dirs.is in (
+    let s = c.token_at-token in
+    let here : TokenAt c.args.self.now.mode p c.tokens.place Dirs s.result.end = is_dirs s.ensures c.in-Dirs.is in (
       search rules,
       (
         (c.tokens.place, dirs_boundary c.tokens.invariant.start here, here),
