@@ -1,7 +1,6 @@
 -- What the reader of a pattern answers: the items of a set and the tokens, each with the place after it.
 use Rattle.std.specs.Prelude.{◌≡◌, ℕ, ◌+◌, ◌*◌, ◌<◌, ◌≤◌, Bool, true, false, not, IsTrue, List, [], length, Option, None, MatchOption, if◌then◌else◌}
 use Rattle.glob_matcher.specs.declared.wildmatch.items.Item.{Item}
-use Rattle.glob_matcher.specs.declared.wildmatch.items.Item.TheVariants as item
 use Rattle.glob_matcher.specs.declared.wildmatch.sets.Cursor.{Cursor}
 use Rattle.glob_matcher.specs.declared.wildmatch.sets.SetRead.{SetRead}
 use Rattle.glob_matcher.specs.declared.wildmatch.sets.Spelled.{Spelled}
@@ -46,10 +45,6 @@ at_first i = record { place = i; is_first = true; low = None; close = None }
 
 abbrev pub after_item : Spelled → Cursor
 after_item s = record { place = s.next; is_first = false; low = member_of s.item; close = s.close }
-
--- the member of so many bytes that is spelled where the reader of a set stands
-abbrev pub member_at : Cursor → ℕ → ℕ → Spelled
-member_at cursor byte width = record { item = item.Member byte; next = cursor.place + width; close = cursor.close }
 
 -- what the code keeps of a token: of a set its place alone
 abbrev pub kind_of : Token → TokenKind

@@ -2,12 +2,12 @@
 //!
 //! Each `[:` wants to know where the first `]` after it is. That one stays the first for each later `[:` before it, so it is
 //! looked for only where it isn't known.
-ghost use Rattle.std.specs.Prelude.{◌↔◌, ℕ, ◌+◌, ◌-◌, ◌^◌, ◌<◌, ◌≤◌, IsTrue, MatchOption, Some, length, not, ◌&&◌, ◌==◌, ◌≡◌, if◌then◌else◌};
+ghost use Rattle.std.specs.Prelude.{◌↔◌, ℕ, ◌+◌, ◌-◌, ◌<◌, ◌≤◌, IsTrue, MatchOption, Option, Some, length, not, ◌&&◌, ◌==◌, ◌≡◌, if◌then◌else◌};
 ghost use Rattle.glob_matcher.specs.Bytes.{HasByte, IsEscaped, is_path, open_bracket, close_bracket, backslash, colon, dash, slash};
 ghost use Rattle.glob_matcher.specs.Sets.{BeginsRange, BeginsClass, IsFirstFrom, IsSign, IsUpperEnd};
 ghost use Rattle.glob_matcher.specs.Private.Takes.{Takes, TakesExactly, looks_at};
 ghost use Rattle.glob_matcher.specs.Private.Looks.{LookedOver, IsItemRead, IsKnown, IsPaidFor, read_end, search_front};
-ghost use Rattle.glob_matcher.specs.Private.Reader.{IsEntry, IsSetRead, after_item, at_first, first_item, member_at};
+ghost use Rattle.glob_matcher.specs.Private.Reader.{IsEntry, IsSetRead, after_item, at_first, first_item};
 
 use super::engine::{Engine, Texts};
 use super::items::Item;
@@ -90,18 +90,6 @@ impl Cursor {
     {
         !self.is_first && byte == b']'
     }
-
-    /// The member that is spelled here by so many bytes.
-    fn member(self, byte: u8, width: usize) -> Spelled
-        requires { self.place + width < 2 ^ 64 }
-        ensures { result ≡ member_at self byte width }
-    {
-        Spelled {
-            item: Item::Member(byte),
-            next: self.place + width,
-            close: self.close,
-        }
-    }
 }
 
 /// Whether a set holds a byte, where it is known whether one of its items does: a negated one holds it if none does, but none
@@ -157,21 +145,21 @@ impl<'c, 'a, S: Ledger, L: Ledger, M: Texts> Engine<'c, 'a, S, L, M> {
         None
     }
 
-    /// The first closing bracket after the `[:` where the cursor stands. No byte is looked at where it is known.
-    fn class_close(&mut self, cursor: Cursor) -> Option<usize>
-        requires begins { BeginsClass M.pattern cursor.place }
-        requires known { IsKnown M.pattern cursor.place cursor.close }
-        ensures close { MatchOption result ((j : ℕ) → cursor.place + 2 ≤ j → ¬ HasByte M.pattern j close_bracket)
-            (IsFirstFrom M.pattern (cursor.place + 2) close_bracket) }
+    /// The first closing bracket after the `[:` at this place. No byte is looked at where it is known.
+    fn class_close(&mut self, place: usize, close: Option<usize>) -> Option<usize>
+        requires begins { BeginsClass M.pattern place }
+        requires known { IsKnown M.pattern place close }
+        ensures close { MatchOption result ((j : ℕ) → place + 2 ≤ j → ¬ HasByte M.pattern j close_bracket)
+            (IsFirstFrom M.pattern (place + 2) close_bracket) }
         ensures steps { self.new.steps ≡ self.old.steps }
-        ensures looks { MatchOption result (LookedOver 1 self.old self.new (cursor.place + 2) (length M.pattern))
-            (λ j. self.new.looks + search_front cursor.close cursor.place ≤ self.old.looks + j) }
+        ensures looks { MatchOption result (LookedOver 1 self.old self.new (place + 2) (length M.pattern))
+            (λ j. self.new.looks + search_front close place ≤ self.old.looks + j) }
     {
-        let Some(known) = cursor.close else {
-            return self.first_close(cursor.place + 2);
+        let Some(known) = close else {
+            return self.first_close(place + 2);
         };
-        if known < cursor.place + 2 {
-            return self.first_close(cursor.place + 2);
+        if known < place + 2 {
+            return self.first_close(place + 2);
         }
         Some(known)
     }
@@ -189,23 +177,24 @@ impl<'c, 'a, S: Ledger, L: Ledger, M: Texts> Engine<'c, 'a, S, L, M> {
         self.pattern_byte(end - 1) == b':'
     }
 
-    /// The class that begins with the `[:` where the cursor stands, or a lone `[` where the first `]` ends no class. `None`
-    /// where there is no `]`, or no class of that name.
-    fn class_at(&mut self, cursor: Cursor) -> Option<Spelled>
-        requires begins { BeginsClass M.pattern cursor.place }
-        requires known { IsKnown M.pattern cursor.place cursor.close }
-        ensures { IsItemRead 2 self.old self.new M.pattern cursor.low cursor.place cursor.close result }
+    /// The class that begins with the `[:` at this place, or a lone `[` where the first `]` ends no class. `None` where there
+    /// is no `]`, or no class of that name.
+    fn class_at(&mut self, place: usize, close: Option<usize>) -> Option<Spelled>
+        requires begins { BeginsClass M.pattern place }
+        requires known { IsKnown M.pattern place close }
+        ensures { (low : Option ℕ) → IsItemRead 2 self.old self.new M.pattern low place close result }
     {
-        let Some(end) = self.class_close(cursor) else {
+        let Some(end) = self.class_close(place, close) else {
             return None;
         };
-        if !self.ends_class(cursor.place, end) {
+        if !self.ends_class(place, end) {
             return Some(Spelled {
+                item: Item::Member(b'['),
+                next: place + 1,
                 close: Some(end),
-                ..cursor.member(b'[', 1)
             });
         }
-        let Some(class) = self.class_named(cursor.place + 2, end - 1) else {
+        let Some(class) = self.class_named(place + 2, end - 1) else {
             return None;
         };
         Some(Spelled {
@@ -215,50 +204,55 @@ impl<'c, 'a, S: Ledger, L: Ledger, M: Texts> Engine<'c, 'a, S, L, M> {
         })
     }
 
-    /// The lower end of the range that begins with the `-` where the cursor stands; `None` where none begins.
-    fn range_from(&mut self, cursor: Cursor) -> Option<u8>
-        requires { HasByte M.pattern cursor.place dash }
-        ensures low { MatchOption result (¬ BeginsRange M.pattern cursor.low cursor.place)
-            (λ from. (cursor.low ≡ Some from) × BeginsRange M.pattern (Some from) cursor.place) }
+    /// The lower end of the range that the `-` at this place begins, after the member `low` or none; `None` where it begins
+    /// none.
+    fn range_from(&mut self, low: Option<u8>, place: usize) -> Option<u8>
+        requires { HasByte M.pattern place dash }
+        ensures low { MatchOption result (¬ BeginsRange M.pattern low place)
+            (λ from. (low ≡ Some from) × BeginsRange M.pattern (Some from) place) }
         ensures count { Takes self.old self.new 0 1 }
     {
-        let Some(member) = cursor.low else {
+        let Some(member) = low else {
             return None;
         };
         if member == 0 {
             return None;
         }
-        match self.look_at(cursor.place + 1) {
+        match self.look_at(place + 1) {
             Some(b']') | None => None,
             Some(_) => Some(member),
         }
     }
 
-    /// The range from this lower end whose `-` stands where the cursor does.
-    fn range_at(&mut self, from: u8, cursor: Cursor) -> Option<Spelled>
-        requires begins { BeginsRange M.pattern (Some from) cursor.place }
-        requires known { IsKnown M.pattern cursor.place cursor.close }
-        ensures { IsItemRead 2 self.old self.new M.pattern (Some from) cursor.place cursor.close result }
+    /// The range whose `-` stands at this place.
+    fn range_at(&mut self, from: u8, place: usize, close: Option<usize>) -> Option<Spelled>
+        requires begins { BeginsRange M.pattern (Some from) place }
+        requires known { IsKnown M.pattern place close }
+        ensures { IsItemRead 2 self.old self.new M.pattern (Some from) place close result }
     {
-        let Some((high, next)) = self.upper_end(cursor.place + 1) else {
+        let Some((high, next)) = self.upper_end(place + 1) else {
             return None;
         };
         Some(Spelled {
             item: Item::Range(from, high),
             next,
-            close: cursor.close,
+            close,
         })
     }
 
-    /// The range that begins with the `-` where the cursor stands, or a `-` alone.
-    fn dash_at(&mut self, cursor: Cursor) -> Option<Spelled>
-        requires here { HasByte M.pattern cursor.place dash }
-        requires known { IsKnown M.pattern cursor.place cursor.close }
-        ensures { IsItemRead 1 self.old self.new M.pattern cursor.low cursor.place cursor.close result }
+    /// The range that begins with the `-` at this place, or a `-` alone.
+    fn dash_at(&mut self, low: Option<u8>, place: usize, close: Option<usize>) -> Option<Spelled>
+        requires here { HasByte M.pattern place dash }
+        requires known { IsKnown M.pattern place close }
+        ensures { IsItemRead 1 self.old self.new M.pattern low place close result }
     {
-        match self.range_from(cursor) {
-            Some(from) => self.range_at(from, cursor),
-            None => Some(cursor.member(b'-', 1)),
+        match self.range_from(low, place) {
+            Some(from) => self.range_at(from, place, close),
+            None => Some(Spelled {
+                item: Item::Member(b'-'),
+                next: place + 1,
+                close,
+            }),
         }
     }
 
@@ -271,28 +265,36 @@ impl<'c, 'a, S: Ledger, L: Ledger, M: Texts> Engine<'c, 'a, S, L, M> {
         matches!(self.look_at(place + 1), Some(b':'))
     }
 
-    /// The class that begins with the `[` where the cursor stands, or a `[` alone.
-    fn bracket_at(&mut self, cursor: Cursor) -> Option<Spelled>
-        requires here { HasByte M.pattern cursor.place open_bracket }
-        requires known { IsKnown M.pattern cursor.place cursor.close }
-        ensures { IsItemRead 1 self.old self.new M.pattern cursor.low cursor.place cursor.close result }
+    /// The class that begins with the `[` at this place, or a `[` alone.
+    fn bracket_at(&mut self, low: Option<u8>, place: usize, close: Option<usize>) -> Option<Spelled>
+        requires here { HasByte M.pattern place open_bracket }
+        requires known { IsKnown M.pattern place close }
+        ensures { IsItemRead 1 self.old self.new M.pattern low place close result }
     {
-        if self.begins_class(cursor.place) {
-            return self.class_at(cursor);
+        if self.begins_class(place) {
+            return self.class_at(place, close);
         }
-        Some(cursor.member(b'[', 1))
+        Some(Spelled {
+            item: Item::Member(b'['),
+            next: place + 1,
+            close,
+        })
     }
 
-    /// The member that the backslash where the cursor stands escapes.
-    fn escape_at(&mut self, cursor: Cursor) -> Option<Spelled>
-        requires here { HasByte M.pattern cursor.place backslash }
-        requires known { IsKnown M.pattern cursor.place cursor.close }
-        ensures { IsItemRead 1 self.old self.new M.pattern cursor.low cursor.place cursor.close result }
+    /// The member that the backslash at this place escapes.
+    fn escape_at(&mut self, place: usize, close: Option<usize>) -> Option<Spelled>
+        requires here { HasByte M.pattern place backslash }
+        requires known { IsKnown M.pattern place close }
+        ensures { (low : Option ℕ) → IsItemRead 1 self.old self.new M.pattern low place close result }
     {
-        let Some(byte) = self.escaped_at(cursor.place) else {
+        let Some(byte) = self.escaped_at(place) else {
             return None;
         };
-        Some(cursor.member(byte, 2))
+        Some(Spelled {
+            item: Item::Member(byte),
+            next: place + 2,
+            close,
+        })
     }
 
     /// The item where the cursor stands, at this byte.
@@ -302,10 +304,14 @@ impl<'c, 'a, S: Ledger, L: Ledger, M: Texts> Engine<'c, 'a, S, L, M> {
         ensures { IsItemRead 1 self.old self.new M.pattern cursor.low cursor.place cursor.close result }
     {
         match byte {
-            b'\\' => self.escape_at(cursor),
-            b'-' => self.dash_at(cursor),
-            b'[' => self.bracket_at(cursor),
-            _ => Some(cursor.member(byte, 1)),
+            b'\\' => self.escape_at(cursor.place, cursor.close),
+            b'-' => self.dash_at(cursor.low, cursor.place, cursor.close),
+            b'[' => self.bracket_at(cursor.low, cursor.place, cursor.close),
+            _ => Some(Spelled {
+                item: Item::Member(byte),
+                next: cursor.place + 1,
+                close: cursor.close,
+            }),
         }
     }
 

@@ -8,7 +8,7 @@ use Rattle.glob_matcher.specs.declared.wildmatch.sets.Entry.TheVariants as entry
 use Rattle.glob_matcher.specs.Steps.{Counts}
 use Rattle.glob_matcher.specs.Bytes.{HasByte, close_bracket}
 use Rattle.glob_matcher.specs.Private.Looks.{IsItemRead, IsKnown, IsPaid, LookedOver, search_front}
-use Rattle.glob_matcher.specs.Private.Reader.{IsEntry, after_item, at_first, member_at}
+use Rattle.glob_matcher.specs.Private.Reader.{IsEntry, after_item, at_first}
 use Rattle.glob_matcher.specs.Private.Takes.{Takes, TakesExactly, looks_at}
 use Rattle.glob_matcher.proofs.lemmas.reading.Walks.{IsUnderway, underway_first, underway_next}
 
@@ -65,14 +65,6 @@ pub paid_same : {before after : Counts} {i : ℕ} {s : Spelled} (spare : ℕ) �
     → after.looks + spare + 3 * i ≤ before.looks + 3 * s.next → IsPaid spare before after i s.close s
 paid_same {i = i} {s = s} spare steps low looks =
     record { steps = steps; looks = let more = search_front_on s.close i s.next low in omega (arith, looks, more) }
-
--- a member is paid by three looks a byte
-pub paid_member : {before after : Counts} (cursor : Cursor) {byte : ℕ} (width : ℕ) {s : Spelled} (spare : ℕ) → s ≡ member_at cursor byte width
-    → after.steps ≡ before.steps → after.looks + spare ≤ before.looks + 3 * width
-    → IsPaid spare before after cursor.place cursor.close s
-paid_member {before = before} {after = after} cursor {byte} width spare is steps looks =
-    subst (λ (x : Spelled). IsPaid spare before after cursor.place cursor.close x) (sym is)
-    (paid_same {s = member_at cursor byte width} spare steps (omega arith) (omega (arith, looks)))
 
 -- one of the looks that were left over was taken before
 pub spare_taken : {before between after : Counts} {text : List ℕ} {low : Option ℕ} {i : ℕ} {known : Option ℕ} {item : Option Spelled}

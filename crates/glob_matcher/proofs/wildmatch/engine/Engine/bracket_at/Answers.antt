@@ -1,11 +1,11 @@
 use Rattle.std.proofs.Common.{arith, rules}
-use Rattle.glob_matcher.proofs.lemmas.reading.LookLemmas.{paid_member, spare_taken}
+use Rattle.glob_matcher.proofs.lemmas.reading.LookLemmas.{paid_same, spare_taken}
 use Rattle.glob_matcher.proofs.wildmatch.engine.Engine.bracket_at.Goals as goal
 
 pub returns-then-begins_class : goal.returns-then-begins_class
-returns-then-begins_class g c = spare_taken c.if-begins_class.ensures.count c.class_at.ensures
+returns-then-begins_class g c = spare_taken c.if-begins_class.ensures.count (c.class_at.ensures c.args.low)
 
 pub returns : goal.returns
 returns g c =
     let takes = c.if-begins_class.ensures.count in
-    record { answer = search rules; paid = paid_member {after = c.begins_class.new.self} c.args.cursor 1 1 c.member.ensures (omega (arith, takes.steps)) (omega (arith, takes.looks)) }
+    record { answer = search rules; paid = paid_same {after = c.begins_class.new.self} 1 (omega (arith, takes.steps)) (omega arith) (omega (arith, takes.looks)) }

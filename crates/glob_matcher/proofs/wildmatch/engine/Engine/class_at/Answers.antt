@@ -1,4 +1,4 @@
-use Rattle.std.proofs.Common.{ap, arith, rules}
+use Rattle.std.proofs.Common.{arith, rules}
 use Rattle.glob_matcher.proofs.lemmas.reading.LookLemmas.{search_front_low}
 use Rattle.glob_matcher.proofs.wildmatch.engine.Engine.class_at.Goals as goal
 
@@ -6,12 +6,11 @@ pub returns-then-not-ends_class : goal.returns-then-not-ends_class
 returns-then-not-ends_class g c =
     let takes = c.ends_class.ensures.count in
     let far = c.in-Some.ensures.close.low in
-    let next = ap (λ x. x.next) c.member.ensures in
-    record {
+    λ low. record {
       answer = search rules;
       paid = record {
         steps = omega (arith, takes.steps, c.class_close.ensures.steps);
-        looks = omega (arith, takes.looks, c.in-Some.ensures.looks, far, next);
+        looks = omega (arith, takes.looks, c.in-Some.ensures.looks, far);
       };
     }
 
@@ -19,9 +18,9 @@ pub returns-in_default-class_named : goal.returns-in_default-class_named
 returns-in_default-class_named g c =
     let takes = c.ends_class.ensures.count in
     let over = c.class_named.ensures.count in
-    let from = search_front_low c.args.cursor.close c.args.cursor.place in
+    let from = search_front_low c.args.close c.args.place in
     let first = c.in-Some.ensures.close in
-    record {
+    λ low. record {
       answer = search rules;
       paid = record {
         steps = omega (arith, takes.steps, over.steps, c.class_close.ensures.steps);
@@ -34,7 +33,7 @@ returns g c =
     let takes = c.ends_class.ensures.count in
     let over = c.class_named.ensures.count in
     let far = c.in-Some.ensures.close.low in
-    record {
+    λ low. record {
       answer = search rules;
       paid = record {
         steps = omega (arith, takes.steps, over.steps, c.class_close.ensures.steps);

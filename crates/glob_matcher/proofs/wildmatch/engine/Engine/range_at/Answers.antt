@@ -5,7 +5,7 @@ use Rattle.glob_matcher.proofs.wildmatch.engine.Engine.range_at.Goals as goal
 
 pub returns-in_default : goal.returns-in_default
 returns-in_default g c = record {
-  answer = no_item_without_end g.M.Texts.pattern (Some c.args.from) c.args.cursor.place c.requires.begins c.in_default.ensures.end;
+  answer = no_item_without_end g.M.Texts.pattern (Some c.args.from) c.args.place c.requires.begins c.in_default.ensures.end;
   paid = search rules;
 }
 
