@@ -109,9 +109,9 @@ next_of_chain classes links heads class end r chained inside some h =
 pub last_below : (classes : List ℕ) (class end nearer : ℕ) (r : Link) → nearer ≤ end → r.0 ≤ nearer → IsLastBelow classes class end r → IsLastBelow classes class nearer r
 last_below classes class end nearer r near low h = record { below = low; others = λ m from below. h.others m from (omega arith); here = h.here }
 
-class_at : (rows : List Row) (m : ℕ) (row : Row) → slice_get rows m ≡ Some row → get_or (classes_of rows) m 0 ≡ place_of row.class
-class_at rows m row got =
-    get_or-map (λ (seen : Row). place_of seen.class) rows m row 0 (slice_get_within rows m row got) ∙ ap (λ (seen : Row). place_of seen.class) (get_or_from_slice_get rows m row row got)
+class_at : (rows : List Row) (m : ℕ) (there : Row) → slice_get rows m ≡ Some there → get_or (classes_of rows) m 0 ≡ place_of there.class
+class_at rows m there got =
+    get_or-map (λ (seen : Row). place_of seen.class) rows m there 0 (slice_get_within rows m there got) ∙ ap (λ (seen : Row). place_of seen.class) (get_or_from_slice_get rows m there there got)
 
 -- what passes is of the class of the path's last byte, or always looked at
 class_of_passing : (row : Row) (probe : Probe) (class : Class) → PassesBy row probe class → (place_of class ≡ place_of Always) ⊎ (place_of class ≡ place_of (EndsIn probe.last))
