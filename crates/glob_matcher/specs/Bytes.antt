@@ -70,17 +70,13 @@ pub record NoSlash (value : List ℕ) (k e : ℕ) : Type 0 where
 abbrev pub has_slash : List ℕ → Bool
 has_slash text = list_any (λ b. b == slash) text
 
--- the bits of a mode, as a number
-abbrev pub bits : Mode → ℕ
-bits mode = mode.0
-
 -- whether the mode asks that no wildcard match a slash
 abbrev pub is_path : Mode → Bool
-is_path mode = bit_and (bits mode) 1 == 1
+is_path mode = bit_and mode.0 1 == 1
 
 -- whether the mode asks that the case of ASCII letters not count
 abbrev pub folds : Mode → Bool
-folds mode = bit_and (bits mode) 2 == 2
+folds mode = bit_and mode.0 2 == 2
 
 -- a byte after folding, where the mode asks for it
 abbrev pub fold : Mode → ℕ → ℕ

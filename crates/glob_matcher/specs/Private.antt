@@ -11,3 +11,4 @@ pub mod Prices
 pub mod Budget
 pub mod Turns
 pub mod Components
+pub mod Spelling

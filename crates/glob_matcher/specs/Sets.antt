@@ -9,35 +9,26 @@ use Rattle.glob_matcher.specs.declared.wildmatch.items.Item.{Item}
 use Rattle.glob_matcher.specs.declared.wildmatch.items.Item.TheVariants as item
 use Rattle.glob_matcher.specs.Bytes.{HasByte, IsEscaped, fold, folds, is_path, open_bracket, close_bracket, backslash, slash, dash, colon, exclamation_mark, caret}
 
--- the name that stands for a class between `[:` and `:]`
-abbrev pub name_of : Class → List ℕ
-name_of class.Alnum = codes "alnum"
-name_of class.Alpha = codes "alpha"
-name_of class.Blank = codes "blank"
-name_of class.Cntrl = codes "cntrl"
-name_of class.Digit = codes "digit"
-name_of class.Graph = codes "graph"
-name_of class.Lower = codes "lower"
-name_of class.Print = codes "print"
-name_of class.Punct = codes "punct"
-name_of class.Space = codes "space"
-name_of class.Upper = codes "upper"
-name_of class.Xdigit = codes "xdigit"
+-- The classes: the name that stands for one between `[:` and `:]`, and its bytes, which are folded already.
+abbrev pub class_row : Class → List ℕ × (Mode → ℕ → Bool)
+class_row class.Alnum = (codes "alnum", λ mode b. is_ascii_alphanumeric b)
+class_row class.Alpha = (codes "alpha", λ mode b. is_ascii_alphabetic b)
+class_row class.Blank = (codes "blank", λ mode b. b == 32 || b == 9)
+class_row class.Cntrl = (codes "cntrl", λ mode b. is_ascii_control b)
+class_row class.Digit = (codes "digit", λ mode b. is_ascii_digit b)
+class_row class.Graph = (codes "graph", λ mode b. is_ascii_graphic b)
+class_row class.Lower = (codes "lower", λ mode b. is_ascii_lowercase b)
+class_row class.Print = (codes "print", λ mode b. b == 32 || is_ascii_graphic b)
+class_row class.Punct = (codes "punct", λ mode b. is_ascii_punctuation b)
+class_row class.Space = (codes "space", λ mode b. (b == 32 || b == 9) || (b == 10 || b == 13))
+class_row class.Upper = (codes "upper", λ mode b. is_ascii_uppercase b || (folds mode && is_ascii_lowercase b))
+class_row class.Xdigit = (codes "xdigit", λ mode b. is_ascii_hexdigit b)
 
--- the bytes of a class, where `b` is folded already
+abbrev pub name_of : Class → List ℕ
+name_of class = (class_row class).0
+
 abbrev pub class_holds : Mode → Class → ℕ → Bool
-class_holds mode class.Alnum b = is_ascii_alphanumeric b
-class_holds mode class.Alpha b = is_ascii_alphabetic b
-class_holds mode class.Blank b = b == 32 || b == 9
-class_holds mode class.Cntrl b = is_ascii_control b
-class_holds mode class.Digit b = is_ascii_digit b
-class_holds mode class.Graph b = is_ascii_graphic b
-class_holds mode class.Lower b = is_ascii_lowercase b
-class_holds mode class.Print b = b == 32 || is_ascii_graphic b
-class_holds mode class.Punct b = is_ascii_punctuation b
-class_holds mode class.Space b = (b == 32 || b == 9) || (b == 10 || b == 13)
-class_holds mode class.Upper b = is_ascii_uppercase b || (folds mode && is_ascii_lowercase b)
-class_holds mode class.Xdigit b = is_ascii_hexdigit b
+class_holds mode class b = (class_row class).1 mode b
 
 -- a number lies between two others, in either order
 abbrev pub is_between : ℕ → ℕ → ℕ → Bool
@@ -121,8 +112,7 @@ ItemAt text low i (item.Class c) j =
 -- the member that an item leaves for a range after it
 abbrev pub member_of : Item → Option ℕ
 member_of (item.Member b) = Some b
-member_of (item.Range from to) = None
-member_of (item.Class c) = None
+member_of _ = None
 
 -- The items lie from place i up to the closing bracket at place j. A `]` at the place of the first item doesn't close.
 abbrev pub ItemsAt : List ℕ → Bool → Option ℕ → ℕ → List Item → ℕ → Type 0
@@ -131,14 +121,10 @@ ItemsAt text first low i (x ∷ xs) j =
     (IsTrue (not first) → ¬ HasByte text i close_bracket)
     × (m : ℕ) × ItemAt text low i x m × ItemsAt text false (member_of x) m xs j
 
--- a sign that negates stands at place i
-abbrev pub IsSign : List ℕ → ℕ → Type 0
-IsSign text i = HasByte text i exclamation_mark ⊎ HasByte text i caret
-
--- The text of a set lies from place i up to place j: `[`, a sign or none, one item or more, and `]`.
+-- The text of a set lies from place i up to place j: `[`, where it is negated `!` or `^`, one item or more, and `]`.
 pub record SetAt (text : List ℕ) (i : ℕ) (set : Set) (j : ℕ) : Type 0 where
   pub bracket : HasByte text i open_bracket
-  pub sign : IsTrue set.negated ↔ IsSign text (i + 1)
+  pub sign : IsTrue set.negated ↔ (HasByte text (i + 1) exclamation_mark ⊎ HasByte text (i + 1) caret)
   pub close : ℕ
   pub items : ItemsAt text true None (if set.negated then i + 2 else i + 1) set.items close
   pub after : j ≡ close + 1

@@ -27,25 +27,11 @@ pub record IsRun (pattern : List ℕ) (i j : ℕ) : Type 0 where
   pub stars : (m : ℕ) → i ≤ m → m < j → HasByte pattern m star
   pub whole : ¬ HasByte pattern j star
 
--- place i is the pattern's start, or comes directly after a slash
-abbrev pub IsAfterSlash : List ℕ → ℕ → Type 0
-IsAfterSlash pattern i = (i ≡ 0) ⊎ HasByte pattern (i - 1) slash
-
--- place j is the pattern's end, or has a slash, bare or escaped
-abbrev pub IsBeforeSlash : List ℕ → ℕ → Type 0
-IsBeforeSlash pattern j = (j ≡ length pattern) ⊎ (HasByte pattern j slash ⊎ IsEscaped pattern j slash)
-
 -- the run is of two stars or more, at the pattern's start or after a slash, and before the pattern's end, a slash or an escaped slash
 pub record IsBounded (pattern : List ℕ) (i j : ℕ) : Type 0 where
   pub many : i + 2 ≤ j
-  pub before : IsAfterSlash pattern i
-  pub after : IsBeforeSlash pattern j
-
--- The byte b is spelled from place i up to place j: escaped, or bare where it stands for itself.
-abbrev pub ByteAt : List ℕ → ℕ → ℕ → ℕ → Type 0
-ByteAt pattern i b j =
-    (IsEscaped pattern i b × (j ≡ i + 2))
-    ⊎ (HasByte pattern i b × StandsForItself b × (j ≡ i + 1))
+  pub before : (i ≡ 0) ⊎ HasByte pattern (i - 1) slash
+  pub after : (j ≡ length pattern) ⊎ (HasByte pattern j slash ⊎ IsEscaped pattern j slash)
 
 -- a run that crosses slashes: any in plain mode, and in path mode a bounded one with no bare slash after it
 pub record FreeAt (mode : Mode) (pattern : List ℕ) (i j : ℕ) : Type 0 where
@@ -73,9 +59,9 @@ IsBroken pattern i =
     (HasByte pattern i backslash × (i + 1 ≡ length pattern))
     ⊎ (HasByte pattern i open_bracket × ((set : Set) (j : ℕ) → ¬ SetAt pattern i set j))
 
--- The token is spelled from place i up to place j.
+-- The token is spelled from place i up to place j. A byte is escaped, or bare where it stands for itself.
 abbrev pub TokenAt : Mode → List ℕ → ℕ → Token → ℕ → Type 0
-TokenAt mode pattern i (Byte b) j = ByteAt pattern i b j
+TokenAt mode pattern i (Byte b) j = (IsEscaped pattern i b × (j ≡ i + 2)) ⊎ (HasByte pattern i b × StandsForItself b × (j ≡ i + 1))
 TokenAt mode pattern i Any j = HasByte pattern i question_mark × (j ≡ i + 1)
 TokenAt mode pattern i (OneOf set) j = SetAt pattern i set j
 TokenAt mode pattern i Free j = FreeAt mode pattern i j

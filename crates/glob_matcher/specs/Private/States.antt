@@ -11,7 +11,8 @@ use Rattle.glob_matcher.specs.declared.wildmatch.state.Turn.TheVariants as turn
 use Rattle.glob_matcher.specs.Bytes.{NoSlash, StandsForItself, is_path, slash}
 use Rattle.glob_matcher.specs.declared.wildmatch.scan.Scan.{Scan}
 use Rattle.glob_matcher.specs.declared.wildmatch.scan.Scan.TheVariants as scan
-use Rattle.glob_matcher.specs.Tokens.{Token, Byte, TokenAt, IsAfterSlash}
+use Rattle.glob_matcher.specs.Tokens.{Token, Byte, TokenAt}
+use Rattle.glob_matcher.specs.Private.Spelling.{IsAfterSlash}
 use Rattle.glob_matcher.specs.Matching.{Splits, SplitsFrom}
 use Rattle.glob_matcher.specs.Private.Fitting.{Fits, AfterSlash}
 use Rattle.glob_matcher.specs.Private.Scans.{reached_by, scan_steps}

@@ -1,7 +1,8 @@
 //! The reader of tokens: what stands at a place of the pattern, and the place after it.
 ghost use Rattle.std.specs.Prelude.{◌≡◌, ◌≢◌, ◌↔◌, ◌+◌, ◌<◌, ◌≤◌, IsTrue, length};
 ghost use Rattle.glob_matcher.specs.declared.wildmatch.tokens.TokenKind.TheVariants as kind;
-ghost use Rattle.glob_matcher.specs.Tokens.{Token, IsRun, IsBounded, IsAfterSlash, IsBeforeSlash};
+ghost use Rattle.glob_matcher.specs.Tokens.{Token, IsRun, IsBounded};
+ghost use Rattle.glob_matcher.specs.Private.Spelling.{IsAfterSlash, IsBeforeSlash};
 ghost use Rattle.glob_matcher.specs.Bytes.{HasByte, slash, star};
 ghost use Rattle.glob_matcher.specs.Private.Takes.{Takes};
 ghost use Rattle.glob_matcher.specs.Private.Looks.{LookedOver};

@@ -6,7 +6,8 @@ use Rattle.glob_matcher.specs.declared.wildmatch.mode.Mode.{Mode}
 use Rattle.glob_matcher.specs.declared.wildmatch.items.Item.{Item}
 use Rattle.glob_matcher.specs.declared.wildmatch.items.Item.TheVariants as item
 use Rattle.glob_matcher.specs.Bytes.{HasByte, IsEscaped, is_path, star, open_bracket, close_bracket, exclamation_mark, caret, question_mark, backslash, dash, colon}
-use Rattle.glob_matcher.specs.Sets.{BeginsRange, BeginsClass, NamesClass, NamesNoClass, IsBare, IsUpperEnd, IsFirstFrom, ItemAt, ItemsAt, SetAt, Set, member_of, IsSign}
+use Rattle.glob_matcher.specs.Sets.{BeginsRange, BeginsClass, NamesClass, NamesNoClass, IsBare, IsUpperEnd, IsFirstFrom, ItemAt, ItemsAt, SetAt, Set, member_of}
+use Rattle.glob_matcher.specs.Private.Spelling.{IsSign}
 use Rattle.glob_matcher.specs.Tokens.{Token, Byte, Any, OneOf, Free, Local, Dirs, Nothing, TokenAt, IsRun, IsBroken, Spells, From}
 use Rattle.glob_matcher.proofs.lemmas.reading.SetLemmas.{two_bytes}
 use Rattle.glob_matcher.proofs.lemmas.reading.Existence.{items_close, item_past, items_past, upper_past, set_past, set_inside, TokenAt-past, From-short}

@@ -5,7 +5,8 @@ use Rattle.glob_matcher.specs.declared.wildmatch.items.Class.TheVariants as clas
 use Rattle.glob_matcher.specs.declared.wildmatch.items.Item.{Item}
 use Rattle.glob_matcher.specs.declared.wildmatch.items.Item.TheVariants as item
 use Rattle.glob_matcher.specs.Bytes.{HasByte, IsEscaped, open_bracket, close_bracket, backslash, dash}
-use Rattle.glob_matcher.specs.Sets.{BeginsRange, NamesClass, NamesNoClass, IsUpperEnd, IsFirstFrom, ItemAt, ItemsAt, SetAt, Set, member_of, name_of, IsSign}
+use Rattle.glob_matcher.specs.Sets.{BeginsRange, NamesClass, NamesNoClass, IsUpperEnd, IsFirstFrom, ItemAt, ItemsAt, SetAt, Set, member_of, name_of}
+use Rattle.glob_matcher.specs.Private.Spelling.{IsSign}
 
 -- a place has one byte
 pub HasByte-unique : (text : List ℕ) (i a b : ℕ) → HasByte text i a → HasByte text i b → a ≡ b

@@ -2,10 +2,14 @@
 use Rattle.std.proofs.Common.{◌≡◌, ◌≢◌, ◌⊎◌, inl, inr, ⊎_elim, ℕ, ◌+◌, ◌<◌, true, List, [], ◌∷◌, length, refl, sym, ◌∙◌, ap, subst, arith}
 use Rattle.std.proofs.lemmas.Bool.{eqb-true, false≢true, false_from_ne_true, or_cases}
 use Rattle.glob_matcher.specs.declared.wildmatch.mode.Mode.{Mode}
-use Rattle.glob_matcher.specs.Bytes.{HasByte, StandsForItself, is_special, star, question_mark, open_bracket, backslash, slash}
+use Rattle.glob_matcher.specs.Bytes.{HasByte, IsEscaped, StandsForItself, is_special, star, question_mark, open_bracket, backslash, slash}
 use Rattle.glob_matcher.specs.Sets.{Set, SetAt}
-use Rattle.glob_matcher.specs.Tokens.{Token, Byte, Any, OneOf, Free, Local, Dirs, Nothing, TokenAt, ByteAt, FreeAt, LocalAt, DirsAt, IsRun, IsBounded, IsBroken, From}
+use Rattle.glob_matcher.specs.Tokens.{Token, Byte, Any, OneOf, Free, Local, Dirs, Nothing, TokenAt, FreeAt, LocalAt, DirsAt, IsRun, IsBounded, IsBroken, From}
 use Rattle.glob_matcher.proofs.lemmas.reading.SetLemmas.{HasByte-unique, IsEscaped-unique, two_bytes, SetAt-unique}
+
+-- the byte b is spelled from place i up to place j
+abbrev pub ByteAt : List ℕ → ℕ → ℕ → ℕ → Type 0
+ByteAt p i b j = (IsEscaped p i b × (j ≡ i + 2)) ⊎ (HasByte p i b × StandsForItself b × (j ≡ i + 1))
 
 -- a run of stars ends in one place
 run_not_longer : (p : List ℕ) (i j m : ℕ) → IsRun p i j → IsRun p i m → j < m → ⊥

@@ -7,7 +7,8 @@ use Rattle.glob_matcher.specs.declared.wildmatch.state.Crossing.{Crossing}
 use Rattle.glob_matcher.specs.declared.wildmatch.state.Crossing.TheVariants as crossing
 use Rattle.glob_matcher.specs.declared.wildmatch.state.State.{State}
 use Rattle.glob_matcher.specs.Bytes.{NoSlash, is_path, slash, star}
-use Rattle.glob_matcher.specs.Tokens.{Token, Byte, Free, Local, Dirs, TokenAt, IsRun, IsAfterSlash, IsBeforeSlash}
+use Rattle.glob_matcher.specs.Tokens.{Token, Byte, Free, Local, Dirs, TokenAt, IsRun}
+use Rattle.glob_matcher.specs.Private.Spelling.{IsAfterSlash, IsBeforeSlash}
 use Rattle.glob_matcher.specs.Matching.{Splits, SplitsFrom}
 use Rattle.glob_matcher.specs.Private.Fitting.{AfterSlash}
 use Rattle.glob_matcher.specs.Private.Components.{separates, next_component}

@@ -5,7 +5,8 @@ use Rattle.glob_matcher.specs.declared.wildmatch.engine.Mark.{Mark}
 use Rattle.glob_matcher.specs.declared.wildmatch.state.Crossing.{Crossing}
 use Rattle.glob_matcher.specs.declared.wildmatch.state.Crossing.TheVariants as crossing
 use Rattle.glob_matcher.specs.declared.wildmatch.state.State.{State}
-use Rattle.glob_matcher.specs.Tokens.{Nothing, TokenAt, IsAfterSlash}
+use Rattle.glob_matcher.specs.Tokens.{Nothing, TokenAt}
+use Rattle.glob_matcher.specs.Private.Spelling.{IsAfterSlash}
 use Rattle.glob_matcher.specs.Matching.{Splits, SplitsFrom}
 use Rattle.glob_matcher.specs.Private.Components.{ends, next_component}
 use Rattle.glob_matcher.specs.Private.States.{LaterDirs, LaterLocalIfSet, SuccessAhead, SuccessFar, SuccessNear, LocalKnownIfSet, StandsAt, IsLeft, IsMiss}

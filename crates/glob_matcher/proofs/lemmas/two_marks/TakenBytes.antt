@@ -7,7 +7,8 @@ use Rattle.glob_matcher.specs.declared.wildmatch.engine.Mark.{Mark}
 use Rattle.glob_matcher.specs.declared.wildmatch.state.Crossing.{Crossing}
 use Rattle.glob_matcher.specs.declared.wildmatch.state.State.{State}
 use Rattle.glob_matcher.specs.Bytes.{NoSlash, is_path, slash}
-use Rattle.glob_matcher.specs.Tokens.{Token, Byte, IsAfterSlash}
+use Rattle.glob_matcher.specs.Tokens.{Token, Byte}
+use Rattle.glob_matcher.specs.Private.Spelling.{IsAfterSlash}
 use Rattle.glob_matcher.specs.Matching.{SplitsFrom}
 use Rattle.glob_matcher.specs.Private.Reader.{IsToken, is_star}
 use Rattle.glob_matcher.specs.Private.Fitting.{Fits}
