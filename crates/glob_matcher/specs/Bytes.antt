@@ -2,42 +2,25 @@
 use Rattle.std.specs.Prelude.{◌≡◌, ◌≢◌, ℕ, ◌+◌, ◌<◌, ◌≤◌, Bool, false, List, [], ◌∷◌, ◌++◌, length, slice_index, ◌==◌, bit_and, ◌||◌, if◌then◌else◌}
 use Rattle.std.specs.Char.{to_ascii_lowercase}
 use Rattle.std.specs.List.{list_any}
+use Rattle.std.specs.Str.{byte}
 use Rattle.glob_matcher.specs.declared.wildmatch.mode.Mode.{Mode}
 
--- the bytes with a meaning of their own
+-- bytes with a meaning of their own
 abbrev pub star : ℕ
-star = 42
-
-abbrev pub question_mark : ℕ
-question_mark = 63
+star = byte "*"
 
 abbrev pub open_bracket : ℕ
-open_bracket = 91
-
-abbrev pub close_bracket : ℕ
-close_bracket = 93
+open_bracket = byte "["
 
 abbrev pub backslash : ℕ
-backslash = 92
+backslash = byte "\\"
 
 abbrev pub slash : ℕ
-slash = 47
-
-abbrev pub dash : ℕ
-dash = 45
-
-abbrev pub colon : ℕ
-colon = 58
-
-abbrev pub exclamation_mark : ℕ
-exclamation_mark = 33
-
-abbrev pub caret : ℕ
-caret = 94
+slash = byte "/"
 
 -- the wildcards, escaped or not
 abbrev pub is_wildcard : ℕ → Bool
-is_wildcard b = (b == star || b == question_mark) || b == open_bracket
+is_wildcard b = (b == star || b == byte "?") || b == open_bracket
 
 -- the special bytes, which may mean more than themselves: the wildcards, and the backslash
 abbrev pub is_special : ℕ → Bool

@@ -7,7 +7,8 @@ use Rattle.glob_matcher.specs.declared.wildmatch.items.Class.{Class}
 use Rattle.glob_matcher.specs.declared.wildmatch.items.Class.TheVariants as class
 use Rattle.glob_matcher.specs.declared.wildmatch.items.Item.{Item}
 use Rattle.glob_matcher.specs.declared.wildmatch.items.Item.TheVariants as item
-use Rattle.glob_matcher.specs.Bytes.{HasByte, IsEscaped, fold, folds, is_path, open_bracket, close_bracket, backslash, slash, dash, colon, exclamation_mark, caret}
+use Rattle.glob_matcher.specs.Bytes.{HasByte, IsEscaped, fold, folds, is_path, open_bracket, backslash, slash}
+use Rattle.std.specs.Str.{byte}
 
 -- The classes: the name that stands for one between `[:` and `:]`, and its bytes, which are folded already.
 abbrev pub class_row : Class → List ℕ × (Mode → ℕ → Bool)
@@ -67,34 +68,30 @@ pub record IsFirstFrom (text : List ℕ) (i b j : ℕ) : Type 0 where
 
 -- `-` stands at place i directly after a member that isn't byte 0, and the next byte isn't `]`: a range begins
 pub record BeginsRange (text : List ℕ) (low : Option ℕ) (i : ℕ) : Type 0 where
-  pub dash : HasByte text i dash
+  pub dash : HasByte text i (byte "-")
   pub after : IsSomeAnd low (λ m. m ≢ 0)
   pub inside : i + 1 < length text
-  pub not_closed : ¬ HasByte text (i + 1) close_bracket
+  pub not_closed : ¬ HasByte text (i + 1) (byte "]")
 
 -- `[:` stands at place i
 pub record BeginsClass (text : List ℕ) (i : ℕ) : Type 0 where
   pub bracket : HasByte text i open_bracket
-  pub colon : HasByte text (i + 1) colon
+  pub colon : HasByte text (i + 1) (byte ":")
 
 -- the first `]` after the `[:` at place i stands at place j, three places on or more, and ends a `:]`
 pub record NamesClass (text : List ℕ) (i j : ℕ) : Type 0 where
   pub begins : BeginsClass text i
-  pub first : IsFirstFrom text (i + 2) close_bracket j
+  pub first : IsFirstFrom text (i + 2) (byte "]") j
   pub far : i + 3 ≤ j
-  pub colon : HasByte text (j - 1) colon
+  pub colon : HasByte text (j - 1) (byte ":")
 
--- there is a `]` after the `[:` at place i, and the first one ends no class
-pub record NamesNoClass (text : List ℕ) (i : ℕ) : Type 0 where
-  pub begins : BeginsClass text i
-  pub some : (m : ℕ) × IsFirstFrom text (i + 2) close_bracket m × ¬ NamesClass text i m
-
--- a byte that is a member by itself: no escape, and neither a range nor a class begins with it
+-- A byte that is a member by itself: no escape, and no range begins with it. Where `[:` does, there is a `]` after it, and the
+-- first one ends no class.
 pub record IsBare (text : List ℕ) (low : Option ℕ) (i b : ℕ) : Type 0 where
   pub here : HasByte text i b
   pub unescaped : b ≢ backslash
   pub no_range : ¬ BeginsRange text low i
-  pub no_class : BeginsClass text i → NamesNoClass text i
+  pub no_class : BeginsClass text i → (m : ℕ) × IsFirstFrom text (i + 2) (byte "]") m × ¬ NamesClass text i m
 
 -- the upper end of a range, at place i
 abbrev pub IsUpperEnd : List ℕ → ℕ → ℕ → ℕ → Type 0
@@ -116,15 +113,15 @@ member_of _ = None
 
 -- The items lie from place i up to the closing bracket at place j. A `]` at the place of the first item doesn't close.
 abbrev pub ItemsAt : List ℕ → Bool → Option ℕ → ℕ → List Item → ℕ → Type 0
-ItemsAt text first low i [] j = IsTrue (not first) × HasByte text i close_bracket × (i ≡ j)
+ItemsAt text first low i [] j = IsTrue (not first) × HasByte text i (byte "]") × (i ≡ j)
 ItemsAt text first low i (x ∷ xs) j =
-    (IsTrue (not first) → ¬ HasByte text i close_bracket)
+    (IsTrue (not first) → ¬ HasByte text i (byte "]"))
     × (m : ℕ) × ItemAt text low i x m × ItemsAt text false (member_of x) m xs j
 
 -- The text of a set lies from place i up to place j: `[`, where it is negated `!` or `^`, one item or more, and `]`.
 pub record SetAt (text : List ℕ) (i : ℕ) (set : Set) (j : ℕ) : Type 0 where
   pub bracket : HasByte text i open_bracket
-  pub sign : IsTrue set.negated ↔ (HasByte text (i + 1) exclamation_mark ⊎ HasByte text (i + 1) caret)
+  pub sign : IsTrue set.negated ↔ (HasByte text (i + 1) (byte "!") ⊎ HasByte text (i + 1) (byte "^"))
   pub close : ℕ
   pub items : ItemsAt text true None (if set.negated then i + 2 else i + 1) set.items close
   pub after : j ≡ close + 1

@@ -1,8 +1,9 @@
 -- The tokens of a pattern, by the places where they are spelled.
 use Rattle.std.specs.Prelude.{◌≡◌, ◌⊎◌, ℕ, ◌+◌, ◌-◌, ◌<◌, ◌≤◌, IsTrue, List, [], ◌∷◌, length}
 use Rattle.glob_matcher.specs.declared.wildmatch.mode.Mode.{Mode}
-use Rattle.glob_matcher.specs.Bytes.{HasByte, IsEscaped, StandsForItself, is_path, star, question_mark, open_bracket, backslash, slash}
+use Rattle.glob_matcher.specs.Bytes.{HasByte, IsEscaped, StandsForItself, is_path, star, open_bracket, backslash, slash}
 use Rattle.glob_matcher.specs.Sets.{Set, SetAt}
+use Rattle.std.specs.Str.{byte}
 
 -- a token of a pattern
 pub data Token : Type 0 where
@@ -62,7 +63,7 @@ IsBroken pattern i =
 -- The token is spelled from place i up to place j. A byte is escaped, or bare where it stands for itself.
 abbrev pub TokenAt : Mode → List ℕ → ℕ → Token → ℕ → Type 0
 TokenAt mode pattern i (Byte b) j = (IsEscaped pattern i b × (j ≡ i + 2)) ⊎ (HasByte pattern i b × StandsForItself b × (j ≡ i + 1))
-TokenAt mode pattern i Any j = HasByte pattern i question_mark × (j ≡ i + 1)
+TokenAt mode pattern i Any j = HasByte pattern i (byte "?") × (j ≡ i + 1)
 TokenAt mode pattern i (OneOf set) j = SetAt pattern i set j
 TokenAt mode pattern i Free j = FreeAt mode pattern i j
 TokenAt mode pattern i Local j = LocalAt mode pattern i j

@@ -6,7 +6,7 @@ use Rattle.glob_matcher.specs.declared.wildmatch.sets.SetRead.{SetRead}
 use Rattle.glob_matcher.specs.declared.wildmatch.sets.Spelled.{Spelled}
 use Rattle.glob_matcher.specs.declared.wildmatch.sets.Entry.{Entry}
 use Rattle.glob_matcher.specs.declared.wildmatch.sets.Entry.TheVariants as entry
-use Rattle.glob_matcher.specs.Bytes.{close_bracket}
+use Rattle.glob_matcher.specs.Private.Spelling.{close_bracket}
 use Rattle.glob_matcher.specs.Sets.{IsFirstFrom, ItemAt}
 use Rattle.glob_matcher.specs.Steps.{Counts}
 use Rattle.glob_matcher.specs.Private.Takes.{Takes}

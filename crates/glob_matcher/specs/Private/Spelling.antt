@@ -1,6 +1,26 @@
--- What the readers of the pattern say of a place to one another: a sign, or a slash beside it.
+-- What the readers of the pattern say of a place to one another: which byte stands there, a sign, or a slash beside it.
 use Rattle.std.specs.Prelude.{◌≡◌, ◌⊎◌, ℕ, ◌-◌, List, length}
-use Rattle.glob_matcher.specs.Bytes.{HasByte, IsEscaped, slash, exclamation_mark, caret}
+use Rattle.std.specs.Str.{byte}
+use Rattle.glob_matcher.specs.Bytes.{HasByte, IsEscaped, slash}
+
+-- bytes with a meaning of their own
+abbrev pub question_mark : ℕ
+question_mark = byte "?"
+
+abbrev pub close_bracket : ℕ
+close_bracket = byte "]"
+
+abbrev pub dash : ℕ
+dash = byte "-"
+
+abbrev pub colon : ℕ
+colon = byte ":"
+
+abbrev pub exclamation_mark : ℕ
+exclamation_mark = byte "!"
+
+abbrev pub caret : ℕ
+caret = byte "^"
 
 -- a sign that negates a set stands at place i
 abbrev pub IsSign : List ℕ → ℕ → Type 0

@@ -8,7 +8,8 @@ use Rattle.glob_matcher.specs.declared.wildmatch.tokens.TokenKind.TheVariants as
 use Rattle.glob_matcher.specs.Bytes.{NoSlash, fold, slash}
 use Rattle.glob_matcher.specs.Matching.{SplitsFrom}
 use Rattle.glob_matcher.specs.Private.Reader.{IsToken}
-use Rattle.glob_matcher.specs.Pruning.{HasRoom}
+use Rattle.glob_matcher.specs.Tokens.{Token, From}
+use Rattle.glob_matcher.specs.Pruning.{star_count}
 
 -- the byte that a token of this kind asks for, where it asks for one
 abbrev pub wanted_by : TokenKind → Option ℕ
@@ -34,6 +35,12 @@ pub record IsComponentEnd (value : List ℕ) (k e : ℕ) : Type 0 where
   pub inside : e ≤ length value
   pub none : NoSlash value k e
   pub ends : e < length value → slice_index value e ≡ slash
+
+-- there is room: the depth, and the number of star tokens from place i of the pattern on, make at most 63 together
+pub record HasRoom (pattern : List ℕ) (i : ℕ) (mode : Mode) (depth : ℕ) : Type 0 where
+  pub tokens : List Token
+  pub read : From mode pattern i tokens
+  pub few : depth + star_count tokens ≤ 63
 
 -- What a search over all places of the value answers, for the tokens from place i of the pattern on.
 pub record IsTriedEverywhere (answer : Answer) (pattern : List ℕ) (i : ℕ) (value : List ℕ) (k : ℕ) (mode : Mode) (depth : ℕ) : Type 0 where

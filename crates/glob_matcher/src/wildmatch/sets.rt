@@ -3,9 +3,9 @@
 //! Each `[:` wants to know where the first `]` after it is. That one stays the first for each later `[:` before it, so it is
 //! looked for only where it isn't known.
 ghost use Rattle.std.specs.Prelude.{◌↔◌, ℕ, ◌+◌, ◌-◌, ◌<◌, ◌≤◌, IsTrue, MatchOption, Option, Some, length, not, ◌&&◌, ◌==◌, ◌≡◌, if◌then◌else◌};
-ghost use Rattle.glob_matcher.specs.Bytes.{HasByte, IsEscaped, is_path, open_bracket, close_bracket, backslash, colon, dash, slash};
+ghost use Rattle.glob_matcher.specs.Bytes.{HasByte, IsEscaped, is_path, open_bracket, backslash, slash};
+ghost use Rattle.glob_matcher.specs.Private.Spelling.{close_bracket, colon, dash, IsSign};
 ghost use Rattle.glob_matcher.specs.Sets.{BeginsRange, BeginsClass, IsFirstFrom, IsUpperEnd};
-ghost use Rattle.glob_matcher.specs.Private.Spelling.{IsSign};
 ghost use Rattle.glob_matcher.specs.Private.Takes.{Takes, TakesExactly, looks_at};
 ghost use Rattle.glob_matcher.specs.Private.Looks.{LookedOver, IsItemRead, IsKnown, IsPaidFor, read_end, search_front};
 ghost use Rattle.glob_matcher.specs.Private.Reader.{IsEntry, IsSetRead, after_item, at_first, first_item};

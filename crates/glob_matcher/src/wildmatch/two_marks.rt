@@ -7,7 +7,8 @@
 //! Its turns are in `turns`, the ways back to a mark in `backtrack`, and the scans from one in `scan`. All of them read the
 //! two texts through `engine`.
 ghost use Rattle.std.specs.Prelude.{◌≢◌, ◌↔◌, ◌+◌, ◌≤◌, true, IsTrue, IfSome, length};
-ghost use Rattle.glob_matcher.specs.Bytes.{close_bracket, question_mark, slash, star};
+ghost use Rattle.glob_matcher.specs.Bytes.{slash, star};
+ghost use Rattle.glob_matcher.specs.Private.Spelling.{close_bracket, question_mark};
 ghost use Rattle.glob_matcher.specs.Matching.{Splits};
 ghost use Rattle.glob_matcher.specs.Private.Takes.{Takes};
 ghost use Rattle.glob_matcher.specs.Steps.{look_limit, step_limit};

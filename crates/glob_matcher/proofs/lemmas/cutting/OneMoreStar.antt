@@ -225,19 +225,9 @@ pub same_stars : (mode : Mode) (p : List ℕ) (i j n : ℕ) → is_path mode ≡
     → HasStars p n ↔ HasStars (insert p i star) n
 same_stars mode p i j n plain start free = (
   λ s.
-      let r = plain_reading s.mode mode p 0 s.tokens plain s.read in
-      record {
-        mode = mode;
-        tokens = r.tokens;
-        read = reads_there mode p start.tokens i j plain start.spelled free r.tokens r.read;
-        counted = r.counted ∙ s.counted;
-      },
+      let r = plain_reading s.0 mode p 0 s.1 plain s.2 in
+      (mode, r.tokens, reads_there mode p start.tokens i j plain start.spelled free r.tokens r.read, r.counted ∙ s.3),
   λ s.
-      let r = plain_reading s.mode mode (insert p i star) 0 s.tokens plain s.read in
-      record {
-        mode = mode;
-        tokens = r.tokens;
-        read = reads_back mode p start.tokens i j plain start.spelled free r.tokens r.read;
-        counted = r.counted ∙ s.counted;
-      },
+      let r = plain_reading s.0 mode (insert p i star) 0 s.1 plain s.2 in
+      (mode, r.tokens, reads_back mode p start.tokens i j plain start.spelled free r.tokens r.read, r.counted ∙ s.3),
 )

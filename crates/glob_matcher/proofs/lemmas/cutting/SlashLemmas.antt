@@ -2,7 +2,8 @@
 use Rattle.std.proofs.Common.{◌≡◌, inl, inr, ℕ, ◌+◌, ◌-◌, Bool, true, false, IsTrue, if◌then◌else◌, List, refl, sym, ◌∙◌, ap, subst, arith, rules, tests}
 use Rattle.std.specs.Char.{to_ascii_lowercase}
 use Rattle.glob_matcher.specs.declared.wildmatch.mode.Mode.{Mode}
-use Rattle.glob_matcher.specs.Bytes.{HasByte, fold, folds, is_path, slash, question_mark, close_bracket}
+use Rattle.glob_matcher.specs.Bytes.{HasByte, fold, folds, is_path, slash}
+use Rattle.glob_matcher.specs.Private.Spelling.{question_mark, close_bracket}
 use Rattle.glob_matcher.specs.Sets.{Set, set_holds}
 use Rattle.glob_matcher.specs.Tokens.{Token, Byte, Any, OneOf, Free, Local, Dirs, Nothing, TokenAt}
 use Rattle.glob_matcher.specs.Private.Fitting.{Fits}

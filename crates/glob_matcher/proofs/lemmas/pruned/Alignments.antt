@@ -6,12 +6,20 @@ use Rattle.glob_matcher.specs.Bytes.{HasByte, NoSlash, is_path, slash, star}
 use Rattle.glob_matcher.specs.Tokens.{Token, Byte, Any, OneOf, Free, Local, Dirs, Nothing, TokenAt, From}
 use Rattle.glob_matcher.specs.Matching.{OneByte, Lang, IsCut, SplitsFrom}
 use Rattle.glob_matcher.specs.Private.Fitting.{Fits}
-use Rattle.glob_matcher.specs.Pruning.{IsStart, TakeOneByte, EndsShort, star_count}
+use Rattle.glob_matcher.specs.Pruning.{IsStart, TakeOneByte, star_count}
 use Rattle.glob_matcher.proofs.lemmas.reading.TokenLemmas.{TokenAt-unique, TokenAt-inside}
 use Rattle.glob_matcher.proofs.lemmas.cutting.CutLemmas.{IsOne, one_byte_in, one_byte_out, lang_is_one, one_is_lang, one_in, one_out}
 use Rattle.glob_matcher.proofs.lemmas.cutting.SplitLemmas.{IsStarToken, IsOtherToken, star_or_other}
 use Rattle.glob_matcher.proofs.lemmas.cutting.SlashLemmas.{fold_slash, only_slash, ends_in_slash_byte}
 use Rattle.glob_matcher.proofs.lemmas.reading.Starts.{start_next}
+
+-- The value's bytes from place k on are cut by a beginning, not the whole, of the tokens from place i of the pattern on.
+pub record EndsShortFrom (v : List ℕ) (k : ℕ) (p : List ℕ) (i : ℕ) (mode : Mode) : Type 0 where
+  pub beginning : List Token
+  pub next : Token
+  pub rest : List Token
+  pub read : From mode p i (beginning ++ next ∷ rest)
+  pub cut : IsCut mode beginning (drop k v)
 
 -- Place m of the value, where the alignment may begin too, leads to place n.
 pub record Moved (mode : Mode) (p v : List ℕ) (i k j e m n : ℕ) : Type 0 where
@@ -37,8 +45,8 @@ pub record Aligned (mode : Mode) (p v : List ℕ) (i k j e : ℕ) : Type 0 where
   pub back : SplitsFrom v e p j mode → SplitsFrom v k p i mode
   pub forth : (m : ℕ) → k ≤ m → m ≤ length v → SplitsFrom v m p i mode → Moved mode p v i k j e m (m + (e - k))
   pub list : (ts : List Token) → From mode p i ts → ListMoved mode p j ts
-  pub short_back : EndsShort v e p j mode → EndsShort v k p i mode
-  pub short_forth : EndsShort v k p i mode → EndsShort v e p j mode
+  pub short_back : EndsShortFrom v e p j mode → EndsShortFrom v k p i mode
+  pub short_forth : EndsShortFrom v k p i mode → EndsShortFrom v e p j mode
 
 one_count : (t : Token) (ts : List Token) → IsOne t → star_count (t ∷ ts) ≡ star_count ts
 one_count (Byte b) ts one = refl
@@ -100,7 +108,7 @@ list_then x next =
 module _ {mode : Mode} {p v : List ℕ} {i k : ℕ} (t : Token) (j : ℕ) where
   -- one more byte taken by the beginning of a list
   short_in : TokenAt mode p i t j → k < length v
-      → Fits mode t (get_or v k 0) → EndsShort v (k + 1) p j mode → EndsShort v k p i mode
+      → Fits mode t (get_or v k 0) → EndsShortFrom v (k + 1) p j mode → EndsShortFrom v k p i mode
   short_in here inside fits later =
       let one = one_byte_in (Fits mode t) v k inside fits in record {
         beginning = t ∷ later.beginning;
@@ -111,10 +119,10 @@ module _ {mode : Mode} {p v : List ℕ} {i k : ℕ} (t : Token) (j : ℕ) where
       }
 
   pub short_out : IsOne t → TokenAt mode p i t j → k < length v
-      → EndsShort v k p i mode → Fits mode t (get_or v k 0) × EndsShort v (k + 1) p j mode
+      → EndsShortFrom v k p i mode → Fits mode t (get_or v k 0) × EndsShortFrom v (k + 1) p j mode
   short_out one here inside all = out all.beginning all.read all.cut where
     out : (ts : List Token) → From mode p i (ts ++ all.next ∷ all.rest) → IsCut mode ts (drop k v)
-        → Fits mode t (get_or v k 0) × EndsShort v (k + 1) p j mode
+        → Fits mode t (get_or v k 0) × EndsShortFrom v (k + 1) p j mode
     out [] read cut =
         let none : length v - k ≡ 0 = sym (length-drop k v) ∙ ap (λ (xs : List ℕ). length xs) cut in absurd (omega arith)
     out (u ∷ us) read cut =

@@ -1,6 +1,6 @@
 -- Where an alignment ends, what it answers means what the contract says: at the pattern's end, at a token of one byte, at one that
 -- matches nothing, and at a star token.
-use Rattle.std.proofs.Common.{◌≡◌, ◌≢◌, ◌⊎◌, inl, inr, ℕ, ◌+◌, ◌-◌, ◌<◌, ◌≤◌, true, false, List, [], ◌∷◌, ◌++◌, length, get_or, refl, sym, subst, arith}
+use Rattle.std.proofs.Common.{◌≡◌, ◌≢◌, ◌⊎◌, inl, inr, ℕ, ◌+◌, ◌-◌, ◌<◌, ◌≤◌, true, false, List, [], ◌∷◌, ◌++◌, length, get_or, drop, ◌↔◌, refl, sym, subst, arith}
 use Rattle.std.proofs.lemmas.Bool.{cases_eq, cases_lt}
 use Rattle.std.proofs.Math.ListN.{drop_of_length-le}
 use Rattle.glob_matcher.specs.declared.wildmatch.mode.Mode.{Mode}
@@ -10,15 +10,66 @@ use Rattle.glob_matcher.specs.Bytes.{HasByte, star}
 use Rattle.glob_matcher.specs.Tokens.{Token, Free, Dirs, Nothing, TokenAt, From}
 use Rattle.glob_matcher.specs.Matching.{Splits, SplitsFrom}
 use Rattle.glob_matcher.specs.Private.Fitting.{Fits}
-use Rattle.glob_matcher.specs.Pruning.{Holds, HasRoom, Excludes, TakeOneByte, IsFlat, EndsShort, BeginsCrossing, IsAttempt, star_count}
-use Rattle.glob_matcher.proofs.lemmas.reading.TokenLemmas.{TokenAt-unique, TokenAt-inside, run_lead}
+use Rattle.glob_matcher.specs.Pruning.{Holds, Excludes, TakeOneByte, EndsShort, BeginsCrossing, Aborts, IsAttempt, star_count}
+use Rattle.glob_matcher.specs.Private.StarSearch.{HasRoom}
+use Rattle.glob_matcher.proofs.lemmas.reading.TokenLemmas.{From-unique, TokenAt-unique, TokenAt-inside, run_lead}
 use Rattle.glob_matcher.proofs.lemmas.cutting.CutLemmas.{IsOne, one_out, end_in, end_out, nothing_out}
 use Rattle.glob_matcher.proofs.lemmas.cutting.SplitLemmas.{star_count_alike}
-use Rattle.glob_matcher.proofs.lemmas.pruned.StarLemmas.{AtStar}
-use Rattle.glob_matcher.proofs.lemmas.pruned.Alignments.{Aligned, Moved, short_out, single_one, one_no_star}
+use Rattle.glob_matcher.proofs.lemmas.pruned.StarLemmas.{BeginsCrossingAt, AtStar, excluded}
+use Rattle.glob_matcher.proofs.lemmas.pruned.Alignments.{EndsShortFrom, Aligned, Moved, short_out, single_one, one_no_star}
+
+-- ---- the tokens from a place on, by that place
+
+-- each token from place i of the pattern on takes one byte
+record IsFlat (p : List ℕ) (i : ℕ) (mode : Mode) : Type 0 where
+  pub tokens : List Token
+  pub read : From mode p i tokens
+  pub single : TakeOneByte tokens
+
+record AbortsAt (answer : Answer) (p : List ℕ) (i : ℕ) (v : List ℕ) (k : ℕ) (mode : Mode) : Type 0 where
+  pub short : IsFlat p i mode → (answer ≡ AbortAll) ↔ EndsShortFrom v k p i mode
+  pub long : IsFlat p i mode → (answer ≡ AbortAll) ⊎ ((answer ≡ Match) ⊎ (answer ≡ NoMatch))
+  pub crossing : BeginsCrossingAt p i mode → answer ≢ NoMatch
+
+module _ {mode : Mode} {p : List ℕ} {i : ℕ} (ts : List Token) (read : From mode p i ts) where
+  short_by_place : {v : List ℕ} {k : ℕ} → EndsShort mode ts (drop k v) → EndsShortFrom v k p i mode
+  short_by_place e = record {
+    beginning = e.0;
+    next = e.1;
+    rest = e.2;
+    read = subst (λ (us : List Token). From mode p i us) e.3 read;
+    cut = e.4;
+  }
+
+  short_by_tokens : {v : List ℕ} {k : ℕ} → EndsShortFrom v k p i mode → EndsShort mode ts (drop k v)
+  short_by_tokens e = (e.beginning, e.next, e.rest, From-unique mode p i ts (e.beginning ++ e.next ∷ e.rest) read e.read, e.cut)
+
+  crossing_by_place : BeginsCrossing ts → BeginsCrossingAt p i mode
+  crossing_by_place b = by b.1 where
+    by : (ts ≡ Free ∷ b.0) ⊎ (ts ≡ Dirs ∷ b.0) → BeginsCrossingAt p i mode
+    by (inl so) = let there = subst (λ (us : List Token). From mode p i us) so read in record { after = there.0; token = inl there.1 }
+    by (inr so) = let there = subst (λ (us : List Token). From mode p i us) so read in record { after = there.0; token = inr there.1 }
+
+  aborts_by_tokens : {answer : Answer} {v : List ℕ} {k : ℕ} → AbortsAt answer p i v k mode → Aborts answer mode ts (drop k v)
+  aborts_by_tokens {answer} {v} {k} x = record {
+    short = λ single.
+        let same = x.short (record { tokens = ts; read = read; single = single }) in
+        (λ so. short_by_tokens (same.0 so), λ e. same.1 (short_by_place {v = v} {k = k} e));
+    long = λ single. x.long (record { tokens = ts; read = read; single = single });
+    crossing = λ b. x.crossing (crossing_by_place b);
+  }
+
+-- what an answer excludes, and where an abort comes, by the place
+in_room : {answer : Answer} {mode : Mode} {p v : List ℕ} {i k depth : ℕ}
+    → (HasRoom p i mode depth → Excludes answer p i v k mode) → (HasRoom p i mode depth → AbortsAt answer p i v k mode)
+    → (ts : List Token) → From mode p i ts → depth + star_count ts ≤ 63
+    → Excludes answer p i v k mode × Aborts answer mode ts (drop k v)
+in_room {mode = mode} {p = p} {v = v} {i = i} {k = k} {depth = depth} excludes aborts ts read few =
+    let room : HasRoom p i mode depth = record { tokens = ts; read = read; few = few } in
+    (excludes room, aborts_by_tokens ts read {v = v} {k = k} (aborts room))
 
 -- a crossing token begins with a star
-crossing_star : (mode : Mode) (p : List ℕ) (i : ℕ) → BeginsCrossing p i mode → HasByte p i star
+crossing_star : (mode : Mode) (p : List ℕ) (i : ℕ) → BeginsCrossingAt p i mode → HasByte p i star
 crossing_star mode p i x = by x.token where
   by : TokenAt mode p i Free x.after ⊎ TokenAt mode p i Dirs x.after → HasByte p i star
   by (inl so) = run_lead p i x.after so.run
@@ -41,15 +92,15 @@ module _ {mode : Mode} {p v : List ℕ} {i k j e : ℕ} (x : Aligned mode p v i 
     by (inl past) = absurd (x.no_star past h)
     by (inr same) = let low : i ≤ j = x.low in omega arith
 
-  crossing_here : BeginsCrossing p i mode → BeginsCrossing p j mode
-  crossing_here b = subst (λ (m : ℕ). BeginsCrossing p m mode) (star_at_start (crossing_star mode p i b)) b
+  crossing_here : BeginsCrossingAt p i mode → BeginsCrossingAt p j mode
+  crossing_here b = subst (λ (m : ℕ). BeginsCrossingAt p m mode) (star_at_start (crossing_star mode p i b)) b
 
   flat_here : IsFlat p i mode → IsFlat p j mode
   flat_here f =
       let moved = x.list f.tokens f.read in record { tokens = moved.tokens; read = moved.read; single = moved.single f.single }
 
   -- at the pattern's end
-  no_short_end : j ≡ length p → ¬ EndsShort v e p j mode
+  no_short_end : j ≡ length p → ¬ EndsShortFrom v e p j mode
   no_short_end at_end so = by so.beginning so.read where
     by : (ts : List Token) → From mode p j (ts ++ so.next ∷ so.rest) → ⊥
     by [] read = let inside = TokenAt-inside mode p j so.next read.0 read.1 in omega arith
@@ -58,17 +109,18 @@ module _ {mode : Mode} {p v : List ℕ} {i k j e : ℕ} (x : Aligned mode p v i 
   end_match : {depth : ℕ} → depth ≢ 64 → j ≡ length p → e ≡ length v → IsAttempt Match p i v k mode depth
   end_match shallow at_end all = record {
     split = λ so. x.back (end_in mode p v j e at_end (omega arith));
-    excludes = λ room. record {
-      here = λ ne. absurd (ne refl);
-      everywhere = λ so. cc;
-      component = λ so. cc;
-      limit = λ so. cc;
-    };
-    aborts = λ room. record {
-      short = λ flat. ((λ so. cc), λ so. absurd (no_short_end at_end (x.short_forth so)));
-      long = λ flat. inr (inl refl);
-      crossing = λ b so. cc;
-    };
+    room = in_room
+        (λ room. record {
+          here = λ ne. absurd (ne refl);
+          everywhere = λ so. cc;
+          component = λ so. cc;
+          limit = λ so. cc;
+        })
+        (λ room. record {
+          short = λ flat. ((λ so. cc), λ so. absurd (no_short_end at_end (x.short_forth so)));
+          long = λ flat. inr (inl refl);
+          crossing = λ b so. cc;
+        });
     path = λ so. cc;
     limit = λ deep. absurd (shallow deep);
   }
@@ -76,21 +128,22 @@ module _ {mode : Mode} {p v : List ℕ} {i k j e : ℕ} (x : Aligned mode p v i 
   end_more : {depth : ℕ} → depth ≢ 64 → j ≡ length p → e ≢ length v → IsAttempt NoMatch p i v k mode depth
   end_more shallow at_end more = record {
     split = λ so. cc;
-    excludes = λ room. record {
-      here = λ ne s.
-          let all : length v ≤ e = end_out mode p v j e at_end (moved_here s) in
-          let high : e ≤ length v = x.value_high in
-          more (omega arith);
-      everywhere = λ so. cc;
-      component = λ so. cc;
-      limit = λ so. cc;
-    };
-    aborts = λ room. record {
-      short = λ flat. ((λ so. cc), λ so. absurd (no_short_end at_end (x.short_forth so)));
-      long = λ flat. inr (inr refl);
-      crossing = λ b so.
-          let inside = HasByte.inside (crossing_star mode p j (crossing_here b)) in omega arith;
-    };
+    room = in_room
+        (λ room. record {
+          here = λ ne s.
+              let all : length v ≤ e = end_out mode p v j e at_end (moved_here s) in
+              let high : e ≤ length v = x.value_high in
+              more (omega arith);
+          everywhere = λ so. cc;
+          component = λ so. cc;
+          limit = λ so. cc;
+        })
+        (λ room. record {
+          short = λ flat. ((λ so. cc), λ so. absurd (no_short_end at_end (x.short_forth so)));
+          long = λ flat. inr (inr refl);
+          crossing = λ b so.
+              let inside = HasByte.inside (crossing_star mode p j (crossing_here b)) in omega arith;
+        });
     path = λ so. cc;
     limit = λ deep. absurd (shallow deep);
   }
@@ -122,9 +175,9 @@ module _ {mode : Mode} {p v : List ℕ} {i k j e : ℕ} (x : Aligned mode p v i 
       omega arith
 
   -- the value ends before the list does
-  short_now : (t : Token) (next : ℕ) → TokenAt mode p j t next → e ≡ length v → IsFlat p j mode → EndsShort v e p j mode
+  short_now : (t : Token) (next : ℕ) → TokenAt mode p j t next → e ≡ length v → IsFlat p j mode → EndsShortFrom v e p j mode
   short_now t next here all f = by f.tokens f.read where
-    by : (ts : List Token) → From mode p j ts → EndsShort v e p j mode
+    by : (ts : List Token) → From mode p j ts → EndsShortFrom v e p j mode
     by [] read = let inside = TokenAt-inside mode p j t next here in absurd (omega arith)
     by (u ∷ us) read = record { beginning = []; next = u; rest = us; read = read; cut = drop_of_length-le v (omega arith) }
 
@@ -132,12 +185,13 @@ module _ {mode : Mode} {p v : List ℕ} {i k j e : ℕ} (x : Aligned mode p v i 
       → IsAttempt AbortAll p i v k mode depth
   value_ends shallow t next one here all = record {
     split = λ so. cc;
-    excludes = λ room. lost (one_lost t next one here all);
-    aborts = λ room. record {
-      short = λ flat. ((λ so. x.short_back (short_now t next here all (flat_here flat))), λ so. refl);
-      long = λ flat. inl refl;
-      crossing = λ b so. cc;
-    };
+    room = in_room
+        (λ room. lost (one_lost t next one here all))
+        (λ room. record {
+          short = λ flat. ((λ so. x.short_back (short_now t next here all (flat_here flat))), λ so. refl);
+          long = λ flat. inl refl;
+          crossing = λ b so. cc;
+        });
     path = λ so. cc;
     limit = λ deep. absurd (shallow deep);
   }
@@ -154,12 +208,13 @@ module _ {mode : Mode} {p v : List ℕ} {i k j e : ℕ} (x : Aligned mode p v i 
   pub nothing_here : {depth : ℕ} → depth ≢ 64 → (next : ℕ) → TokenAt mode p j Nothing next → IsAttempt AbortAll p i v k mode depth
   nothing_here shallow next here = record {
     split = λ so. cc;
-    excludes = λ room. lost (λ m low high s. nothing_out mode p v j next m here high s);
-    aborts = λ room. record {
-      short = λ flat. absurd (flat_one Nothing next here (flat_here flat));
-      long = λ flat. inl refl;
-      crossing = λ b so. cc;
-    };
+    room = in_room
+        (λ room. lost (λ m low high s. nothing_out mode p v j next m here high s))
+        (λ room. record {
+          short = λ flat. absurd (flat_one Nothing next here (flat_here flat));
+          long = λ flat. inl refl;
+          crossing = λ b so. cc;
+        });
     path = λ so. cc;
     limit = λ deep. absurd (shallow deep);
   }
@@ -168,17 +223,18 @@ module _ {mode : Mode} {p v : List ℕ} {i k j e : ℕ} (x : Aligned mode p v i 
       → ¬ Fits mode t (get_or v e 0) → IsAttempt NoMatch p i v k mode depth
   misses shallow t next one here inside unfit = record {
     split = λ so. cc;
-    excludes = λ room. record {
-      here = λ ne s. unfit (one_out mode p v j next e t one here (moved_here s)).1;
-      everywhere = λ so. cc;
-      component = λ so. cc;
-      limit = λ so. cc;
-    };
-    aborts = λ room. record {
-      short = λ flat. ((λ so. cc), λ so. absurd (unfit (short_out t next one here inside (x.short_forth so)).0));
-      long = λ flat. inr (inr refl);
-      crossing = λ b so. absurd (one_no_star mode p j t next one here (crossing_star mode p j (crossing_here b)));
-    };
+    room = in_room
+        (λ room. record {
+          here = λ ne s. unfit (one_out mode p v j next e t one here (moved_here s)).1;
+          everywhere = λ so. cc;
+          component = λ so. cc;
+          limit = λ so. cc;
+        })
+        (λ room. record {
+          short = λ flat. ((λ so. cc), λ so. absurd (unfit (short_out t next one here inside (x.short_forth so)).0));
+          long = λ flat. inr (inr refl);
+          crossing = λ b so. absurd (one_no_star mode p j t next one here (crossing_star mode p j (crossing_here b)));
+        });
     path = λ so. cc;
     limit = λ deep. absurd (shallow deep);
   }
@@ -187,23 +243,24 @@ module _ {mode : Mode} {p v : List ℕ} {i k j e : ℕ} (x : Aligned mode p v i 
   pub star_here : {depth : ℕ} {answer : Answer} → depth ≢ 64 → AtStar answer p j v e mode depth → IsAttempt answer p i v k mode depth
   star_here {depth} shallow s = record {
     split = λ so. x.back (s.found so);
-    excludes = λ room. record {
-      here = λ ne whole. s.lost (room_here room) ne (moved_here whole);
-      everywhere = λ so bare m low high whole.
-          let moved = x.forth m low high whole in
-          let value_low : k ≤ e = x.value_low in
-          s.everywhere (room_here room) so (omega (arith, past bare)) (m + (e - k)) (omega arith) moved.inside (moved.behind (past bare)) moved.here;
-      component = λ so bare m low high none whole.
-          let moved = x.forth m low high whole in
-          let value_low : k ≤ e = x.value_low in
-          s.component (room_here room) so (m + (e - k)) (omega arith) moved.inside (moved.level (s.path so) none) moved.here;
-      limit = s.limit (room_here room);
-    };
-    aborts = λ room. record {
-      short = λ flat. absurd (not_flat flat);
-      long = λ flat. absurd (not_flat flat);
-      crossing = λ b. s.crossing (crossing_here b);
-    };
+    room = in_room
+        (λ room. record {
+          here = λ ne whole. s.lost (room_here room) ne (moved_here whole);
+          everywhere = λ so bare m low high whole.
+              let moved = x.forth m low high whole in
+              let value_low : k ≤ e = x.value_low in
+              s.everywhere (room_here room) so (omega (arith, past bare)) (m + (e - k)) (omega arith) moved.inside (moved.behind (past bare)) moved.here;
+          component = λ so bare m low high none whole.
+              let moved = x.forth m low high whole in
+              let value_low : k ≤ e = x.value_low in
+              s.component (room_here room) so (m + (e - k)) (omega arith) moved.inside (moved.level (s.path so) none) moved.here;
+          limit = s.limit (room_here room);
+        })
+        (λ room. record {
+          short = λ flat. absurd (not_flat flat);
+          long = λ flat. absurd (not_flat flat);
+          crossing = λ b. s.crossing (crossing_here b);
+        });
     path = s.path;
     limit = λ deep. absurd (shallow deep);
   } where
@@ -243,9 +300,9 @@ pub whole_no_match : {mode : Mode} {p v : List ℕ} {answer : Answer} → IsAtte
 whole_no_match {mode} {p} x no_match = record {
   yes = λ so. cc;
   excludes = λ n stars few all.
-      let counted : star_count all.tokens ≡ star_count stars.tokens =
-      star_count_alike mode stars.mode p 0 all.tokens stars.tokens all.read stars.read in
-      let is : star_count stars.tokens ≡ n = stars.counted in
+      let counted : star_count all.tokens ≡ star_count stars.1 =
+      star_count_alike mode stars.0 p 0 all.tokens stars.1 all.read stars.2 in
+      let is : star_count stars.1 ≡ n = stars.3 in
       let room : HasRoom p 0 mode 0 = record { tokens = all.tokens; read = all.read; few = omega arith } in
-      absurd ((x.excludes room).here no_match all);
+      absurd ((excluded x room).here no_match all);
 }

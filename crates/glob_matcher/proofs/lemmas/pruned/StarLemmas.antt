@@ -10,8 +10,8 @@ use Rattle.glob_matcher.specs.Tokens.{Token, Byte, Any, OneOf, Free, Local, Dirs
 use Rattle.glob_matcher.specs.Matching.{SplitsFrom}
 use Rattle.glob_matcher.specs.Private.Reader.{kind_of}
 use Rattle.glob_matcher.specs.Private.Fitting.{AfterSlash}
-use Rattle.glob_matcher.specs.Pruning.{HasRoom, BeginsCrossing, IsAttempt, star_count}
-use Rattle.glob_matcher.specs.Private.StarSearch.{wanted_by, AsksFor, Skips, IsComponentEnd, IsTriedEverywhere, IsTriedInComponent, IsTriedInDirectories}
+use Rattle.glob_matcher.specs.Pruning.{Excludes, IsAttempt, star_count}
+use Rattle.glob_matcher.specs.Private.StarSearch.{HasRoom, wanted_by, AsksFor, Skips, IsComponentEnd, IsTriedEverywhere, IsTriedInComponent, IsTriedInDirectories}
 use Rattle.glob_matcher.proofs.lemmas.reading.TokenLemmas.{TokenAt-unique, TokenAt-inside, run_lead}
 use Rattle.glob_matcher.proofs.lemmas.cutting.CutLemmas.{IsOne, one_in, one_out, free_in, free_out, local_in, local_out, dirs_in_empty, dirs_in, dirs_out, end_out, nothing_out}
 use Rattle.glob_matcher.proofs.lemmas.cutting.SplitLemmas.{IsStarToken, slash_token, no_slash_join}
@@ -38,6 +38,10 @@ pub room_at_slash : {mode : Mode} {p : List ℕ} {i depth : ℕ} → HasByte p i
     → HasRoom p i mode depth
 room_at_slash {mode} {p} {i} h room =
     record { tokens = Byte slash ∷ room.tokens; read = (i + 1, slash_token mode p i h, room.read); few = room.few }
+
+pub excluded : {answer : Answer} {mode : Mode} {p v : List ℕ} {i k depth : ℕ} → IsAttempt answer p i v k mode depth → HasRoom p i mode depth
+    → Excludes answer p i v k mode
+excluded x room = (x.room room.tokens room.read room.few).0
 
 -- ---- the first token after a star
 
@@ -122,7 +126,7 @@ module _ {mode : Mode} {p v : List ℕ} {i depth k e until found : ℕ} {wanted 
         by room m above below (inl before) = tried_to x first skips room m above before
         by room m above below (inr after) =
             let same : found ≡ m = omega arith in
-            subst (λ (n : ℕ). ¬ SplitsFrom v n p i mode) same ((attempt.excludes room).here lost)
+            subst (λ (n : ℕ). ¬ SplitsFrom v n p i mode) same ((excluded attempt room).here lost)
 
   -- all places from the one found on are lost, and so all from the start on
   all_lost : ¬ HasByte p i star
@@ -132,7 +136,7 @@ module _ {mode : Mode} {p v : List ℕ} {i depth k e until found : ℕ} {wanted 
   all_lost bare x first skips attempt room m low high = by (cases_lt m found) where
     by : (m < found) ⊎ (found ≤ m) → ¬ SplitsFrom v m p i mode
     by (inl before) = tried_to x first skips room m low before
-    by (inr after) = (attempt.excludes room).everywhere refl bare m after high
+    by (inr after) = (excluded attempt room).everywhere refl bare m after high
 
 module _ {mode : Mode} {p v : List ℕ} {i k e depth : ℕ} {wanted : Option ℕ} where
   -- no further place
@@ -175,8 +179,8 @@ module _ {mode : Mode} {p v : List ℕ} {i k e depth : ℕ} {wanted : Option ℕ
   cross_answer AbortToStarStar bare x first skips inside attempt n1 n2 = absurd (n2 refl)
   cross_answer RecursionLimitReached bare x first skips inside attempt n1 n2 = record {
     found = λ so. cc;
-    lost = λ room ne. absurd ((attempt.excludes room).limit refl);
-    limit = λ room so. (attempt.excludes room).limit refl;
+    lost = λ room ne. absurd ((excluded attempt room).limit refl);
+    limit = λ room so. (excluded attempt room).limit refl;
     not_here_alone = n1;
     not_component_alone = n2;
   }
@@ -257,15 +261,20 @@ module _ {mode : Mode} {p v : List ℕ} {i k e end until depth : ℕ} {wanted : 
     by room m low high none (inr after) =
         let from : k ≤ e = tried.low in
         let past : e ≤ found = skips.low in
-        (attempt.excludes room).component refl bare m after high (record { at = λ q above below. none.at q (omega arith) below })
+        (excluded attempt room).component refl bare m after high (record { at = λ q above below. none.at q (omega arith) below })
   stay_answer RecursionLimitReached bare x reach tried first skips inside attempt n1 = record {
     found = λ so. cc;
-    lost = λ room ne. absurd ((attempt.excludes room).limit refl);
+    lost = λ room ne. absurd ((excluded attempt room).limit refl);
     everywhere = λ room so. cc;
-    limit = λ room so. (attempt.excludes room).limit refl;
+    limit = λ room so. (excluded attempt room).limit refl;
   }
 
 -- ---- at the star token
+
+-- the token at place i is a run that crosses slashes, or a double star with its slash
+pub record BeginsCrossingAt (p : List ℕ) (i : ℕ) (mode : Mode) : Type 0 where
+  pub after : ℕ
+  pub token : TokenAt mode p i Free after ⊎ TokenAt mode p i Dirs after
 
 -- What an answer says at a star token: what it says of further places, it says of those that the bytes before it allow.
 pub record AtStar (answer : Answer) (p : List ℕ) (i : ℕ) (v : List ℕ) (k : ℕ) (mode : Mode) (depth : ℕ) : Type 0 where
@@ -281,7 +290,7 @@ pub record AtStar (answer : Answer) (p : List ℕ) (i : ℕ) (v : List ℕ) (k :
   pub component : HasRoom p i mode depth → answer ≡ AbortToStarStar → (e : ℕ) → k ≤ e → e ≤ length v → NoSlash v k e
       → ¬ SplitsFrom v e p i mode
   pub limit : HasRoom p i mode depth → answer ≢ RecursionLimitReached
-  pub crossing : BeginsCrossing p i mode → answer ≢ NoMatch
+  pub crossing : BeginsCrossingAt p i mode → answer ≢ NoMatch
 
 abort_no_match : (answer : Answer) → answer ≡ AbortAll → answer ≢ Match
 abort_no_match answer so f = cc
@@ -289,7 +298,7 @@ abort_no_match answer so f = cc
 component_no_match : (answer : Answer) → answer ≡ AbortToStarStar → answer ≢ Match
 component_no_match answer so f = cc
 
-local_not_crossing : {mode : Mode} {p : List ℕ} {i j : ℕ} → TokenAt mode p i Local j → BeginsCrossing p i mode → ⊥
+local_not_crossing : {mode : Mode} {p : List ℕ} {i j : ℕ} → TokenAt mode p i Local j → BeginsCrossingAt p i mode → ⊥
 local_not_crossing {mode} {p} {i} {j} here b = by b.token where
   by : TokenAt mode p i Free b.after ⊎ TokenAt mode p i Dirs b.after → ⊥
   by (inl so) = let same : Local ≡ Free = (TokenAt-unique mode p i Local Free j b.after here so).0 in cc
@@ -428,6 +437,6 @@ module _ {mode : Mode} {p v : List ℕ} {i j k depth : ℕ} where
           slash_then room ne m past high (behind (λ is. omega arith)) (subst (λ (n : ℕ). SplitsFrom v n p j mode) same rest)
       by (inr only) =
           let is : e ≡ k = omega arith in
-          (empty.excludes room).here none (subst (λ (n : ℕ). SplitsFrom v n p j mode) is rest)
+          (excluded empty room).here none (subst (λ (n : ℕ). SplitsFrom v n p j mode) is rest)
     later room ne m low high behind e (inr after) rest =
         let past : m < e = after.past in slash_then room ne e (omega arith) after.inside after.slash rest

@@ -5,9 +5,9 @@ use Rattle.std.proofs.lemmas.Grind.{same_number_lists}
 use Rattle.glob_matcher.specs.declared.wildmatch.mode.Mode.{Mode}
 use Rattle.glob_matcher.specs.declared.wildmatch.items.Item.{Item}
 use Rattle.glob_matcher.specs.declared.wildmatch.items.Item.TheVariants as item
-use Rattle.glob_matcher.specs.Bytes.{HasByte, IsEscaped, is_path, star, open_bracket, close_bracket, exclamation_mark, caret, question_mark, backslash, dash, colon}
-use Rattle.glob_matcher.specs.Sets.{BeginsRange, BeginsClass, NamesClass, NamesNoClass, IsBare, IsUpperEnd, IsFirstFrom, ItemAt, ItemsAt, SetAt, Set, member_of}
-use Rattle.glob_matcher.specs.Private.Spelling.{IsSign}
+use Rattle.glob_matcher.specs.Bytes.{HasByte, IsEscaped, is_path, star, open_bracket, backslash}
+use Rattle.glob_matcher.specs.Private.Spelling.{close_bracket, exclamation_mark, caret, question_mark, dash, colon, IsSign}
+use Rattle.glob_matcher.specs.Sets.{BeginsRange, BeginsClass, NamesClass, IsBare, IsUpperEnd, IsFirstFrom, ItemAt, ItemsAt, SetAt, Set, member_of}
 use Rattle.glob_matcher.specs.Tokens.{Token, Byte, Any, OneOf, Free, Local, Dirs, Nothing, TokenAt, IsRun, IsBroken, Spells, From}
 use Rattle.glob_matcher.proofs.lemmas.reading.SetLemmas.{two_bytes}
 use Rattle.glob_matcher.proofs.lemmas.reading.Existence.{items_close, item_past, items_past, upper_past, set_past, set_inside, TokenAt-past, From-short}
@@ -148,23 +148,19 @@ start_low x false = omega arith
 module _ (p : List ℕ) (a : ℕ) (q : List ℕ) (b n : ℕ) where
   -- the first bracket that closes is not past one that does
   none_alike : Alike p a q b n → (x y z : ℕ) → Faces a b n x y → HasByte p z close_bracket → x + 2 ≤ z → z < a + n
-      → NamesNoClass p x → NamesNoClass q y
-  none_alike l x y z f close far inside e =
-      let k : ℕ = e.some.0 in
-      let first : IsFirstFrom p (x + 2) close_bracket k = e.some.1 in
+      → (k : ℕ) → IsFirstFrom p (x + 2) close_bracket k → ¬ NamesClass p x k
+      → (m : ℕ) × IsFirstFrom q (y + 2) close_bracket m × ¬ NamesClass q y m
+  none_alike l x y z f close far inside k first none =
       let low : x + 2 ≤ k = first.low in
       let high : k ≤ z = first.before z far close in
       let same : x + b ≡ y + a = f.same in
-      let on = faces_on a b n x y (x + 2) (y + 2) f (omega arith) (omega arith) (omega arith) in record {
-        begins = class_alike p a q b n l x y f (omega arith) e.begins;
-        some = (
-          y + (k - x),
-          first_alike p a q b n l (x + 2) (y + 2) close_bracket k (y + (k - x)) on (omega arith) (omega arith) first,
-          λ h.
-              e.some.2
-              (names_alike q b p a n (alike_flip p a q b n l) y x (y + (k - x)) k (faces_flip a b n x y f) (omega arith) (omega arith) h),
-        );
-      }
+      let on = faces_on a b n x y (x + 2) (y + 2) f (omega arith) (omega arith) (omega arith) in (
+        y + (k - x),
+        first_alike p a q b n l (x + 2) (y + 2) close_bracket k (y + (k - x)) on (omega arith) (omega arith) first,
+        λ h.
+            none
+            (names_alike q b p a n (alike_flip p a q b n l) y x (y + (k - x)) k (faces_flip a b n x y f) (omega arith) (omega arith) h),
+      )
 
   bare_alike : Alike p a q b n → (low : Option ℕ) (x y z c : ℕ) → Faces a b n x y → HasByte p z close_bracket → x + 1 ≤ z
       → z < a + n → IsBare p low x c → IsBare q low y c
@@ -179,7 +175,8 @@ module _ (p : List ℕ) (a : ℕ) (q : List ℕ) (b n : ℕ) where
             let begins = class_alike q b p a n back y x turned (omega arith) h in
             let apart : x + 1 ≡ z → ⊥ = λ at.
             two_bytes p z colon close_bracket (subst (λ (k : ℕ). HasByte p k colon) at begins.colon) close (λ is. omega arith) in
-            none_alike l x y z f close (omega arith) inside (e.no_class begins);
+            let none = e.no_class begins in
+            none_alike l x y z f close (omega arith) inside none.0 none.1 none.2;
       }
 
   item_alike : Alike p a q b n → (low : Option ℕ) (x y z : ℕ) (it : Item) (k m : ℕ) → Faces a b n x y → HasByte p z close_bracket

@@ -6,7 +6,8 @@ use Rattle.glob_matcher.specs.declared.wildmatch.sets.Spelled.{Spelled}
 use Rattle.glob_matcher.specs.declared.wildmatch.sets.Cursor.{Cursor}
 use Rattle.glob_matcher.specs.declared.wildmatch.sets.Entry.TheVariants as entry
 use Rattle.glob_matcher.specs.Steps.{Counts}
-use Rattle.glob_matcher.specs.Bytes.{HasByte, close_bracket}
+use Rattle.glob_matcher.specs.Bytes.{HasByte}
+use Rattle.glob_matcher.specs.Private.Spelling.{close_bracket}
 use Rattle.glob_matcher.specs.Private.Looks.{IsItemRead, IsKnown, IsPaid, LookedOver, search_front}
 use Rattle.glob_matcher.specs.Private.Reader.{IsEntry, after_item, at_first}
 use Rattle.glob_matcher.specs.Private.Takes.{Takes, TakesExactly, looks_at}

@@ -4,9 +4,9 @@ use Rattle.glob_matcher.specs.declared.wildmatch.items.Class.{Class}
 use Rattle.glob_matcher.specs.declared.wildmatch.items.Class.TheVariants as class
 use Rattle.glob_matcher.specs.declared.wildmatch.items.Item.{Item}
 use Rattle.glob_matcher.specs.declared.wildmatch.items.Item.TheVariants as item
-use Rattle.glob_matcher.specs.Bytes.{HasByte, IsEscaped, open_bracket, close_bracket, backslash, dash}
-use Rattle.glob_matcher.specs.Sets.{BeginsRange, NamesClass, NamesNoClass, IsUpperEnd, IsFirstFrom, ItemAt, ItemsAt, SetAt, Set, member_of, name_of}
-use Rattle.glob_matcher.specs.Private.Spelling.{IsSign}
+use Rattle.glob_matcher.specs.Bytes.{HasByte, IsEscaped, open_bracket, backslash}
+use Rattle.glob_matcher.specs.Private.Spelling.{close_bracket, dash, IsSign}
+use Rattle.glob_matcher.specs.Sets.{BeginsRange, NamesClass, IsUpperEnd, IsFirstFrom, ItemAt, ItemsAt, SetAt, Set, member_of, name_of}
 
 -- a place has one byte
 pub HasByte-unique : (text : List ℕ) (i a b : ℕ) → HasByte text i a → HasByte text i b → a ≡ b
@@ -73,10 +73,9 @@ name_of-injective c d e =
     sym (class_of_key-name_of c) ∙ (ap (λ (name : List ℕ). class_of_key (key_of name)) e ∙ class_of_key-name_of d)
 
 -- the bytes after a `[:` name a class or none
-class_or_none : (text : List ℕ) (i m : ℕ) → NamesClass text i m → NamesNoClass text i → ⊥
-class_or_none text i m named none =
-    let same : m ≡ none.some.0 = IsFirstFrom-unique text (i + 2) close_bracket m none.some.0 named.first none.some.1 in
-    none.some.2 (subst (λ (n : ℕ). NamesClass text i n) same named)
+class_or_none : (text : List ℕ) (i m n : ℕ) → NamesClass text i m → IsFirstFrom text (i + 2) close_bracket n → ¬ NamesClass text i n → ⊥
+class_or_none text i m n named first none =
+    none (subst (λ (k : ℕ). NamesClass text i k) (IsFirstFrom-unique text (i + 2) close_bracket m n named.first first) named)
 
 abbrev set_of : Bool → List Item → Set
 set_of negated items = record { negated = negated; items = items }
@@ -111,11 +110,13 @@ ItemAt-unique text low i (item.Range a b) (item.Range c d) j m e f =
 ItemAt-unique text low i (item.Member a) (item.Class c) j m (inl e) f =
     absurd (two_bytes text i backslash open_bracket e.0.escape f.1.begins.bracket (λ h. omega arith))
 ItemAt-unique text low i (item.Member a) (item.Class c) j m (inr e) f =
-    absurd (class_or_none text i f.0 f.1 (e.0.no_class f.1.begins))
+    let none = e.0.no_class f.1.begins in
+    absurd (class_or_none text i f.0 none.0 f.1 none.1 none.2)
 ItemAt-unique text low i (item.Class c) (item.Member a) j m e (inl f) =
     absurd (two_bytes text i open_bracket backslash e.1.begins.bracket f.0.escape (λ h. omega arith))
 ItemAt-unique text low i (item.Class c) (item.Member a) j m e (inr f) =
-    absurd (class_or_none text i e.0 e.1 (f.0.no_class e.1.begins))
+    let none = f.0.no_class e.1.begins in
+    absurd (class_or_none text i e.0 none.0 e.1 none.1 none.2)
 ItemAt-unique text low i (item.Range a b) (item.Class c) j m e f =
     absurd (two_bytes text i dash open_bracket e.0.dash f.1.begins.bracket (λ h. omega arith))
 ItemAt-unique text low i (item.Class c) (item.Range a b) j m e f =

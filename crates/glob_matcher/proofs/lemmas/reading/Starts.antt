@@ -3,7 +3,7 @@ use Rattle.std.proofs.Common.{◌≡◌, ◌⊎◌, inl, inr, ℕ, ◌+◌, ◌-
 use Rattle.glob_matcher.specs.declared.wildmatch.mode.Mode.{Mode}
 use Rattle.glob_matcher.specs.Bytes.{HasByte, star, slash}
 use Rattle.glob_matcher.specs.Tokens.{Token, Byte, Any, OneOf, Free, Local, Dirs, Nothing, TokenAt, DirsAt, IsRun, Spells}
-use Rattle.glob_matcher.specs.Pruning.{IsBoundary, IsDirsSlash, IsStart}
+use Rattle.glob_matcher.specs.Pruning.{IsBoundary, IsStart}
 use Rattle.glob_matcher.proofs.lemmas.reading.TokenLemmas.{TokenAt-unique, TokenAt-inside}
 use Rattle.glob_matcher.proofs.lemmas.reading.Existence.{set_inside, TokenAt-past}
 use Rattle.glob_matcher.proofs.lemmas.cutting.SplitLemmas.{slash_token}
@@ -14,6 +14,10 @@ run_inside p i j run =
     let last : HasByte p (j - 1) star = run.stars (j - 1) (omega arith) (omega arith) in
     let inside : j - 1 < length p = last.inside in
     omega arith
+
+-- place i is the slash that ends the token of a double star
+abbrev pub IsDirsSlash : List ℕ → ℕ → Mode → Type 0
+IsDirsSlash p i mode = (m : ℕ) × IsBoundary p m mode × TokenAt mode p m Dirs (i + 1)
 
 module _ (mode : Mode) (p : List ℕ) where
   -- a token ends inside the pattern
@@ -51,7 +55,7 @@ module _ (mode : Mode) (p : List ℕ) where
   pub record Scan (from place : ℕ) : Type 0 where
     pub boundary : IsBoundary p place mode
     pub ahead : (x : IsBoundary p from mode) → (ts : List Token) × Spells mode p place ts from
-    pub slash_ahead : (x : IsDirsSlash p from mode) → (ts : List Token) × Spells mode p place ts x.begin
+    pub slash_ahead : (x : IsDirsSlash p from mode) → (ts : List Token) × Spells mode p place ts x.0
 
   -- the tokens after the first
   spells_rest : (place : ℕ) (t : Token) (next : ℕ) (ts : List Token) (to : ℕ) → TokenAt mode p place t next
@@ -82,7 +86,7 @@ module _ {mode : Mode} {p : List ℕ} where
     by : IsBoundary p i mode ⊎ IsDirsSlash p i mode → i ≤ length p
     by (inl here) = boundary_inside here
     by (inr here) =
-        let at_slash : HasByte p i slash = dirs_slash mode p here.begin i here.dirs in
+        let at_slash : HasByte p i slash = dirs_slash mode p here.0 i here.2 in
         let inside : i < length p = at_slash.inside in
         omega arith
 
@@ -92,21 +96,21 @@ module _ {mode : Mode} {p : List ℕ} where
     by : IsBoundary p i mode ⊎ IsDirsSlash p i mode → IsBoundary p j mode
     by (inl at) = boundary_next t j at here
     by (inr at) =
-        let at_slash : HasByte p i slash = dirs_slash mode p at.begin i at.dirs in
+        let at_slash : HasByte p i slash = dirs_slash mode p at.0 i at.2 in
         let same = TokenAt-unique mode p i (Byte slash) t (i + 1) j (slash_token mode p i at_slash) here in
-        subst (λ (n : ℕ). IsBoundary p n mode) same.1 (boundary_next Dirs (i + 1) at.boundary at.dirs)
+        subst (λ (n : ℕ). IsBoundary p n mode) same.1 (boundary_next Dirs (i + 1) at.1 at.2)
 
   pub scan_next : {from place : ℕ} (t : Token) (next : ℕ) → Scan mode p from place → TokenAt mode p place t next
       → place < from → (t ≡ Dirs → next ≡ from + 1 → ⊥) → Scan mode p from next
   scan_next {from} {place} t next x here before other = record {
     boundary = boundary_next t next x.boundary here;
     ahead = λ y. let on = x.ahead y in spells_rest mode p place t next on.0 from here (λ is. omega arith) on.1;
-    slash_ahead = λ y. let on = x.slash_ahead y in spells_rest mode p place t next on.0 y.begin here (differ y) on.1;
+    slash_ahead = λ y. let on = x.slash_ahead y in spells_rest mode p place t next on.0 y.0 here (differ y) on.1;
   } where
-    differ : (y : IsDirsSlash p from mode) → place ≡ y.begin → ⊥
+    differ : (y : IsDirsSlash p from mode) → place ≡ y.0 → ⊥
     differ y is =
         let same = TokenAt-unique mode p place t Dirs next (from + 1) here
-        (subst (λ (n : ℕ). DirsAt mode p n (from + 1)) (sym is) y.dirs) in
+        (subst (λ (n : ℕ). DirsAt mode p n (from + 1)) (sym is) y.2) in
         other same.0 same.1
 
   -- where the scan ends, the place sought is this one or none
@@ -122,9 +126,9 @@ module _ {mode : Mode} {p : List ℕ} where
         omega arith
     by (inr y) =
         let on = x.slash_ahead y in
-        let forward : place ≤ y.begin = spells_forward mode p place on.0 y.begin on.1 in
-        let after : from + 1 ≡ y.dirs.run_end + 1 = y.dirs.after in
-        let longer : y.begin < y.dirs.run_end = y.dirs.run.some in
-        let inside : y.begin < length p = TokenAt-inside mode p y.begin Dirs (from + 1) y.dirs in
+        let forward : place ≤ y.0 = spells_forward mode p place on.0 y.0 on.1 in
+        let after : from + 1 ≡ y.2.run_end + 1 = y.2.after in
+        let longer : y.0 < y.2.run_end = y.2.run.some in
+        let inside : y.0 < length p = TokenAt-inside mode p y.0 Dirs (from + 1) y.2 in
         let past : length p ≤ place = stopped (omega arith) in
         omega arith

@@ -8,11 +8,11 @@ use Rattle.glob_matcher.specs.Sets.{Set, SetAt, set_holds}
 use Rattle.glob_matcher.specs.Tokens.{Token, Byte, Any, OneOf, Free, Local, Dirs, Nothing, TokenAt, DirsAt}
 use Rattle.glob_matcher.specs.Private.Reader.{IsToken, kind_of}
 use Rattle.glob_matcher.specs.Private.Fitting.{Fits}
-use Rattle.glob_matcher.specs.Pruning.{IsStart, IsBoundary, IsDirsSlash}
+use Rattle.glob_matcher.specs.Pruning.{IsStart, IsBoundary}
 use Rattle.glob_matcher.proofs.lemmas.reading.SetLemmas.{SetAt-unique, two_bytes}
 use Rattle.glob_matcher.proofs.lemmas.reading.TokenLemmas.{run_lead}
 use Rattle.glob_matcher.proofs.lemmas.cutting.CutLemmas.{IsOne}
-use Rattle.glob_matcher.proofs.lemmas.reading.Starts.{dirs_slash}
+use Rattle.glob_matcher.proofs.lemmas.reading.Starts.{IsDirsSlash, dirs_slash}
 
 -- what a kind tells of its token
 abbrev pub IsOf : TokenKind → Token → Type 0
@@ -76,4 +76,4 @@ dirs_boundary {mode} {p} {i} {j} x here = by x.place where
   by : IsBoundary p i mode ⊎ IsDirsSlash p i mode → IsBoundary p i mode
   by (inl at) = at
   by (inr at) =
-      absurd (two_bytes p i slash star (dirs_slash mode p at.begin i at.dirs) (run_lead p i here.run_end here.run) (λ h. omega arith))
+      absurd (two_bytes p i slash star (dirs_slash mode p at.0 i at.2) (run_lead p i here.run_end here.run) (λ h. omega arith))

@@ -2,7 +2,8 @@
 use Rattle.std.proofs.Common.{◌≡◌, ◌≢◌, ◌⊎◌, inl, inr, ⊎_elim, ℕ, ◌+◌, ◌<◌, true, List, [], ◌∷◌, length, refl, sym, ◌∙◌, ap, subst, arith}
 use Rattle.std.proofs.lemmas.Bool.{eqb-true, false≢true, false_from_ne_true, or_cases}
 use Rattle.glob_matcher.specs.declared.wildmatch.mode.Mode.{Mode}
-use Rattle.glob_matcher.specs.Bytes.{HasByte, IsEscaped, StandsForItself, is_special, star, question_mark, open_bracket, backslash, slash}
+use Rattle.glob_matcher.specs.Bytes.{HasByte, IsEscaped, StandsForItself, is_special, star, open_bracket, backslash, slash}
+use Rattle.glob_matcher.specs.Private.Spelling.{question_mark}
 use Rattle.glob_matcher.specs.Sets.{Set, SetAt}
 use Rattle.glob_matcher.specs.Tokens.{Token, Byte, Any, OneOf, Free, Local, Dirs, Nothing, TokenAt, FreeAt, LocalAt, DirsAt, IsRun, IsBounded, IsBroken, From}
 use Rattle.glob_matcher.proofs.lemmas.reading.SetLemmas.{HasByte-unique, IsEscaped-unique, two_bytes, SetAt-unique}

@@ -4,9 +4,9 @@ use Rattle.std.specs.List.{list_any}
 use Rattle.glob_matcher.specs.declared.wildmatch.items.Item.{Item}
 use Rattle.glob_matcher.specs.declared.wildmatch.items.Item.TheVariants as item
 use Rattle.glob_matcher.specs.declared.wildmatch.mode.Mode.{Mode}
-use Rattle.glob_matcher.specs.Bytes.{HasByte, is_path, open_bracket, close_bracket, slash}
+use Rattle.glob_matcher.specs.Bytes.{HasByte, is_path, open_bracket, slash}
+use Rattle.glob_matcher.specs.Private.Spelling.{close_bracket, IsSign}
 use Rattle.glob_matcher.specs.Sets.{Set, SetAt, ItemAt, ItemsAt, item_holds, member_of, set_holds}
-use Rattle.glob_matcher.specs.Private.Spelling.{IsSign}
 use Rattle.glob_matcher.specs.Private.Reader.{first_item}
 use Rattle.glob_matcher.proofs.lemmas.reading.SetLemmas.{ItemAt-unique, negated-unique}
 
