@@ -2,13 +2,18 @@
 -- token, or the pattern's end, tested at one place of the value; one mark set; or one mark moved by one byte or found unable to
 -- move. A look reads at most one byte of the pattern or of the value: it is counted also where the value has none there, and a
 -- comparison counts each byte that it may read.
-use Rattle.std.specs.Prelude.{◌≡◌, ℕ, ◌+◌, ◌*◌, ◌<◌}
+use Rattle.std.specs.Prelude.{◌≡◌, ℕ, ◌+◌, ◌*◌, ◌<◌, ◌≤◌}
 use Rattle.std.specs.declared.sync.ledger.Blank.{Blank}
 
 -- what a match has taken so far
 pub record Counts : Type 0 where
   pub steps : ℕ
   pub looks : ℕ
+
+-- what was counted stays counted: no count falls
+pub record NeverFall (before after : Counts) : Type 0 where
+  pub steps : before.steps ≤ after.steps
+  pub looks : before.looks ≤ after.looks
 
 -- A blank that becomes the ledger of this name, of so many parts, one at least: a new count is made of it.
 pub record IsBlankOf (name parts : ℕ) (blank : Blank) : Type 0 where

@@ -98,10 +98,10 @@ module _ (measure : Measure) (mode : Mode) (p v : List ℕ) where
   AllowsLocal c None spent limit = AllowsLeft c spent limit
   AllowsLocal c (Some next) spent limit = AllowsAt next spent limit
 
--- a turn that doesn't end the match takes a step
+-- a turn takes a step, but where the match ends in a star that takes the rest of the value
 abbrev pub CountsOutcome : Turn → ℕ → ℕ → Type 0
 CountsOutcome turn.Match before after = Unit {0}
-CountsOutcome turn.NoMatch before after = Unit {0}
+CountsOutcome turn.NoMatch before after = before < after
 CountsOutcome (turn.Miss state) before after = before < after
 CountsOutcome (turn.On next) before after = before < after
 

@@ -9,17 +9,25 @@ use Rattle.glob_matcher.specs.declared.wildmatch.sets.Entry.TheVariants as entry
 use Rattle.glob_matcher.specs.Private.Spelling.{close_bracket}
 use Rattle.glob_matcher.specs.Sets.{IsFirstFrom, ItemAt}
 use Rattle.glob_matcher.specs.Steps.{Counts}
-use Rattle.glob_matcher.specs.Private.Takes.{Takes}
+use Rattle.glob_matcher.specs.Private.Takes.{TakesExactly}
 
--- no step, and at most n looks for each byte from place i up to place j
+-- no step, and one look at each byte from place i up to place j
+pub record LookedAtEach (before after : Counts) (i j : ℕ) : Type 0 where
+  pub steps : after.steps ≡ before.steps
+  pub looks : after.looks + i ≡ before.looks + j
+
+-- no step, and at most n looks for each byte from place i up to place j; no count falls
 pub record LookedOver (n : ℕ) (before after : Counts) (i j : ℕ) : Type 0 where
   pub steps : after.steps ≡ before.steps
   pub looks : after.looks + n * i ≤ before.looks + n * j
+  pub low : before.looks ≤ after.looks
 
--- A set from place i up to place j is tested in s steps, with one look at the value and at most four for each byte of its spelling.
-pub record IsSetPaid (s : ℕ) (before after : Counts) (i j : ℕ) : Type 0 where
-  pub steps : after.steps ≡ before.steps + s
+-- A set from place i up to place j is tested in one step, with one look at the value and at most four for each byte of its
+-- spelling.
+pub record IsSetPaid (before after : Counts) (i j : ℕ) : Type 0 where
+  pub steps : after.steps ≡ before.steps + 1
   pub looks : after.looks + 4 * i ≤ before.looks + 4 * j + 1
+  pub low : before.looks < after.looks
 
 -- what is known of a closing bracket: where it isn't passed yet, it is the first from place i on
 abbrev pub IsKnown : List ℕ → ℕ → Option ℕ → Type 0
@@ -43,11 +51,13 @@ pub record IsSpelled (text : List ℕ) (low : Option ℕ) (i : ℕ) (s : Spelled
 pub record IsPaid (spare : ℕ) (before after : Counts) (i : ℕ) (known : Option ℕ) (s : Spelled) : Type 0 where
   pub steps : after.steps ≡ before.steps
   pub looks : after.looks + spare + 3 * i + search_front known i ≤ before.looks + 3 * s.next + search_front s.close s.next
+  pub low : before.looks ≤ after.looks
 
 -- Where no item is spelled, they are paid by the way to the text's end, two a byte.
 pub record IsPaidToEnd (spare : ℕ) (before after : Counts) (text : List ℕ) (i : ℕ) : Type 0 where
   pub steps : after.steps ≡ before.steps
   pub looks : after.looks + spare + 2 * i ≤ before.looks + 2 * length text
+  pub low : before.looks ≤ after.looks
 
 -- What is read at place i, after the member `low` or none, where so much is known of the closing bracket: the item that is spelled
 -- there, or that none is. As many looks as `spare` are left over.
@@ -63,5 +73,5 @@ read_end text (Some set) = set.end
 -- the looks at what stands at place i
 abbrev pub IsPaidFor : Counts → Counts → List ℕ → ℕ → Option ℕ → Entry → Type 0
 IsPaidFor before after text i known (entry.Item s) = IsPaid 0 before after i known s
-IsPaidFor before after text i known entry.Close = Takes before after 0 1
+IsPaidFor before after text i known entry.Close = TakesExactly before after 0 1
 IsPaidFor before after text i known entry.Broken = IsPaidToEnd 0 before after text i

@@ -77,9 +77,11 @@ pub record IsRunRead (before after : Counts) (i : ℕ) (kind : TokenKind) (j : �
   pub run : is_star kind ≡ true
   pub steps : after.steps ≡ before.steps
   pub looks : after.looks + 5 * i + 4 ≤ before.looks + 5 * j
+  pub low : before.looks ≤ after.looks
 
 -- Reading a token from place i up to place j takes at most five looks a byte, less three, if it is a star token, else six.
 pub record IsTokenRead (before after : Counts) (i : ℕ) (kind : TokenKind) (j : ℕ) : Type 0 where
   pub steps : after.steps ≡ before.steps
   pub run : is_star kind ≡ true → after.looks + 5 * i + 3 ≤ before.looks + 5 * j
   pub other : is_star kind ≡ false → after.looks + 6 * i ≤ before.looks + 6 * j
+  pub low : before.looks ≤ after.looks

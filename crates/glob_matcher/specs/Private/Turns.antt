@@ -4,7 +4,7 @@ use Rattle.std.specs.Prelude.{ℕ, ◌+◌, ◌<◌, ◌≤◌, List, Option, On
 use Rattle.glob_matcher.specs.declared.wildmatch.mode.Mode.{Mode}
 use Rattle.glob_matcher.specs.declared.wildmatch.state.State.{State}
 use Rattle.glob_matcher.specs.declared.wildmatch.state.Turn.{Turn}
-use Rattle.glob_matcher.specs.Steps.{Counts}
+use Rattle.glob_matcher.specs.Steps.{Counts, NeverFall}
 use Rattle.glob_matcher.specs.Private.States.{IsOutcome, Resumes, ResumesLocal}
 use Rattle.glob_matcher.specs.Private.Prices.{Measure, amount, amount_of}
 use Rattle.glob_matcher.specs.Private.Budget.{AllowsAt, AllowsMiss, AllowsOutcome, AllowsResumed, AllowsLocal, CountsOutcome}
@@ -16,12 +16,14 @@ module _ (mode : Mode) (p v : List ℕ) where
     pub allows : (measure : Measure) (spent limit : ℕ) → amount_of measure before ≤ spent + amount measure 0 looked
         → AllowsAt measure mode p v state spent limit → AllowsOutcome measure mode p v turn (amount_of measure after) limit
     pub progress : CountsOutcome turn before.steps after.steps
+    pub grows : NeverFall before after
 
   -- A way back to a mark, where so much is allowed before.
   pub record IsBacktrack (allowed : Measure → ℕ → Type 0) (next : Option State) (before after : Counts) : Type 0 where
     pub meaning : Resumes mode p v next
     pub allows : (measure : Measure) (limit : ℕ) → allowed measure limit → AllowsResumed measure mode p v next (amount_of measure after) limit
     pub progress : OnSome next (before.steps < after.steps)
+    pub grows : NeverFall before after
 
   -- A way back to the local mark of a state at which the token does not fit.
   pub record IsBacktrackLocal (state : State) (next : Option State) (before after : Counts) : Type 0 where
@@ -29,4 +31,4 @@ module _ (mode : Mode) (p v : List ℕ) where
     pub allows : (measure : Measure) (limit : ℕ) → AllowsMiss measure mode p v state (amount_of measure before) limit
         → AllowsLocal measure mode p v state.crossing next (amount_of measure after) limit
     pub progress : OnSome next (before.steps < after.steps)
-    pub low : before.steps ≤ after.steps
+    pub grows : NeverFall before after

@@ -3,6 +3,7 @@ ghost use Rattle.std.specs.Prelude.{◌≡◌, ◌≢◌, ◌+◌, ◌-◌, ◌<
 ghost use Rattle.glob_matcher.specs.Bytes.{NoSlash, slash};
 ghost use Rattle.glob_matcher.specs.Private.States.{IsLeft, IsMiss, IsNextDirectory, IsScanFor};
 ghost use Rattle.glob_matcher.specs.Private.Takes.{Takes};
+ghost use Rattle.glob_matcher.specs.Steps.{NeverFall};
 ghost use Rattle.glob_matcher.specs.Private.Prices.{amount_of};
 ghost use Rattle.glob_matcher.specs.Private.Budget.{AllowsLeft, AllowsMiss};
 ghost use Rattle.glob_matcher.specs.Private.Turns.{IsBacktrack, IsBacktrackLocal};
@@ -21,6 +22,7 @@ impl<'c, 'a, S: Ledger, L: Ledger, M: Texts> Engine<'c, 'a, S, L, M> {
         ensures moved { IfSome result (λ m. IsNextDirectory M.value mark m) }
         ensures moves { IfSome result (λ m. Takes self.old self.new (m.at - mark.at) (m.at - mark.at)) }
         ensures unable { IfNone result (NoSlash M.value mark.at (length M.value)) }
+        ensures grows { NeverFall self.old self.new }
         ensures count { IfNone result (mark.at ≤ length M.value → Takes self.old self.new (length M.value + 1 - mark.at) (length M.value + 1 - mark.at)) }
     {
         let mut reached = mark;

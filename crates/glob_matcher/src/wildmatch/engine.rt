@@ -12,9 +12,9 @@ ghost use Rattle.glob_matcher.specs.Tokens.{Token, Byte};
 ghost use Rattle.glob_matcher.specs.Private.Reader.{kind_of, IsSetRead, IsToken};
 ghost use Rattle.glob_matcher.specs.Private.Fitting.{Fits, IsSetTested};
 ghost use Rattle.glob_matcher.specs.Matching.{Splits};
-ghost use Rattle.glob_matcher.specs.Private.Looks.{LookedOver, IsSetPaid, read_end};
-ghost use Rattle.glob_matcher.specs.Private.Takes.{Takes, TakesExactly, looks_at};
-ghost use Rattle.glob_matcher.specs.Steps.{look_limit, step_limit};
+ghost use Rattle.glob_matcher.specs.Private.Looks.{LookedAtEach, LookedOver, IsSetPaid, read_end};
+ghost use Rattle.glob_matcher.specs.Private.Takes.{TakesExactly, looks_at};
+ghost use Rattle.glob_matcher.specs.Steps.{NeverFall, look_limit, step_limit};
 
 use super::counts::Counts;
 use super::items::Class;
@@ -193,8 +193,7 @@ impl<'c, 'a, S: Ledger, L: Ledger, M: Texts> Engine<'c, 'a, S, L, M> {
         requires inside { to ≤ length M.pattern }
         ensures class { MatchOption result ((class : Class) → ¬ (slice_range M.pattern from to ≡ name_of class))
             (λ class. slice_range M.pattern from to ≡ name_of class) }
-        ensures count { LookedOver 1 self.old self.new from to }
-        ensures looks { self.new.looks + from ≡ self.old.looks + to }
+        ensures count { LookedAtEach self.old self.new from to }
     {
         self.counts.looks(to - from);
         Class::named(&self.pattern[from..to])
@@ -204,7 +203,7 @@ impl<'c, 'a, S: Ledger, L: Ledger, M: Texts> Engine<'c, 'a, S, L, M> {
     #[inline(always)]
     pub fn ends_at(&mut self, at: usize) -> bool
         ensures answer { IsTrue result ↔ (length M.value ≤ at) }
-        ensures count { Takes self.old self.new 1 0 }
+        ensures count { TakesExactly self.old self.new 1 0 }
     {
         self.counts.step();
         at >= self.value.len()
@@ -244,16 +243,16 @@ impl<'c, 'a, S: Ledger, L: Ledger, M: Texts> Engine<'c, 'a, S, L, M> {
         at < self.value.len() && kind.fits(self.value[at], self.mode)
     }
 
-    /// Looks at the byte at a place of the value, which the caller counts as a step; `None` where the value ends.
+    /// Takes the byte at a place of the value, in a step of its own; `None` where the value ends.
     #[inline(always)]
     fn value_at(&mut self, at: usize) -> Option<u8>
         ensures byte { MatchOption result (length M.value ≤ at) (HasByte M.value at) }
-        ensures count { TakesExactly self.old self.new 0 (looks_at result) }
+        ensures count { TakesExactly self.old self.new 1 1 }
     {
+        self.counts.step_with_look();
         if at >= self.value.len() {
             return None;
         }
-        self.counts.look();
         Some(self.value[at])
     }
 
@@ -264,30 +263,37 @@ impl<'c, 'a, S: Ledger, L: Ledger, M: Texts> Engine<'c, 'a, S, L, M> {
         requires { HasByte M.pattern place open_bracket }
         ensures read { IsSetRead M.mode M.pattern place byte result }
         ensures count { LookedOver 4 self.old self.new place (read_end M.pattern result) }
+        ensures looked { IfSome result (λ set. self.old.looks < self.new.looks) }
     {
         read_set::<S, L, Brand>(self.pattern, place, byte, self.mode, &mut *self.counts).0
     }
 
     /// Tests the set whose bracket stands at a place of the pattern: whether it holds the byte of the value. Where the value
-    /// ends, it is read for any byte, and holds none. `None` where no set begins, which is no step: the value is looked at
-    /// first, and the step is counted once a set is known to begin.
+    /// ends, it is read for any byte, and holds none. `None` where no set begins.
     #[inline(always)]
     pub fn fits_set(&mut self, place: usize, at: usize) -> Option<SetRead>
         requires { HasByte M.pattern place open_bracket }
         ensures found { IfSome result (λ set. IsSetTested M.mode M.pattern M.value place at set.end set.holds) }
         ensures none { IfNone result ((set : Set) (end : ℕ) → ¬ SetAt M.pattern place set end) }
-        ensures count { IfSome result (λ set. IsSetPaid 1 self.old self.new place set.end) }
-        ensures broken { IfNone result (IsSetPaid 0 self.old self.new place (length M.pattern)) }
+        ensures count { IsSetPaid self.old self.new place (read_end M.pattern result) }
+        ensures looked { IfSome result (λ set. self.old.looks + 1 < self.new.looks) }
     {
         let byte = self.value_at(at);
         let Some(SetRead { end, holds }) = self.set_apart(place, byte.unwrap_or(0)) else {
             return None;
         };
-        self.counts.step();
         Some(SetRead {
             end,
             holds: byte.is_some() && holds,
         })
+    }
+
+    /// Tests a token that matches nothing: it fits no byte, and none is read.
+    #[inline(always)]
+    pub fn fits_nothing(&mut self)
+        ensures { TakesExactly self.old self.new 1 0 }
+    {
+        self.counts.step();
     }
 
     /// Sets a mark.
@@ -295,7 +301,7 @@ impl<'c, 'a, S: Ledger, L: Ledger, M: Texts> Engine<'c, 'a, S, L, M> {
     pub fn set_mark(&mut self, place: usize, at: usize) -> Mark
         ensures place { result.place ≡ place }
         ensures at { result.at ≡ at }
-        ensures count { Takes self.old self.new 1 0 }
+        ensures count { TakesExactly self.old self.new 1 0 }
     {
         self.counts.step();
         Mark { place, at }
@@ -325,7 +331,7 @@ impl<'c, 'a, S: Ledger, L: Ledger, M: Texts> Engine<'c, 'a, S, L, M> {
         requires { mark.at < length M.value }
         ensures place { result.place ≡ mark.place }
         ensures at { result.at ≡ mark.at + 1 }
-        ensures count { Takes self.old self.new 1 0 }
+        ensures count { TakesExactly self.old self.new 1 0 }
     {
         self.counts.step();
         Mark {
@@ -403,6 +409,7 @@ fn decide_by_ends<'c, 'a, S: Ledger, L: Ledger, M: Texts>(
     ensures same { result.1.ghost_name ≡ counts.entry.ghost_name }
     ensures steps { result.1.now.steps ≤ counts.old.steps + 1 }
     ensures looks { result.1.now.looks ≤ counts.old.looks + 2 }
+    ensures grows { NeverFall counts.old result.1.now }
 {
     let mut ends = Engine::<'c, 'a, S, L, M>::new(pattern, value, mode, counts);
     let answer = ends.ends_decide();
@@ -427,6 +434,7 @@ fn search_whole<'c, 'a, S: Ledger, L: Ledger, M: Texts>(
     ensures same { result.1.ghost_name ≡ counts.entry.ghost_name }
     ensures steps { result.1.now.steps + 1 ≤ counts.old.steps + step_limit (length pattern.now) (length value.now) }
     ensures looks { result.1.now.looks + 2 ≤ counts.old.looks + look_limit (length pattern.now) (length value.now) }
+    ensures grows { NeverFall counts.old result.1.now }
 {
     let mut engine = Engine::<'c, 'a, S, L, M>::new(pattern, value, mode, counts);
     let answer = engine.search();
@@ -450,6 +458,7 @@ pub fn decide<'c, 'a, S: Ledger, L: Ledger, M: Texts>(
     ensures same { result.1.ghost_name ≡ counts.entry.ghost_name }
     ensures steps { result.1.now.steps ≤ counts.old.steps + step_limit (length pattern.now) (length value.now) }
     ensures looks { result.1.now.looks ≤ counts.old.looks + look_limit (length pattern.now) (length value.now) }
+    ensures grows { NeverFall counts.old result.1.now }
 {
     let (decision, counts) = decide_by_ends::<S, L, M>(pattern, value, mode, counts);
     // Each arm names its answer: a bit that is handed on costs every call an instruction.
@@ -500,6 +509,7 @@ pub fn read_set<'c, 'a, S: Ledger, L: Ledger, M: Texts>(
     ensures read { IsSetRead mode pattern.now place byte result.0 }
     ensures same { result.1.ghost_name ≡ counts.entry.ghost_name }
     ensures count { LookedOver 4 counts.old result.1.now place (read_end pattern.now result.0) }
+    ensures looked { IfSome result.0 (λ set. counts.old.looks < result.1.now.looks) }
 {
     let mut engine = Engine::<'c, 'a, S, L, M>::new(pattern, &[], mode, counts);
     let answer = engine.set_at(place, byte);

@@ -2,12 +2,12 @@
 //!
 //! Each `[:` wants to know where the first `]` after it is. That one stays the first for each later `[:` before it, so it is
 //! looked for only where it isn't known.
-ghost use Rattle.std.specs.Prelude.{◌↔◌, ℕ, ◌+◌, ◌-◌, ◌<◌, ◌≤◌, IsTrue, MatchOption, Option, Some, length, not, ◌&&◌, ◌==◌, ◌≡◌, if◌then◌else◌};
+ghost use Rattle.std.specs.Prelude.{◌↔◌, ℕ, ◌+◌, ◌-◌, ◌<◌, ◌≤◌, IsTrue, IfSome, MatchOption, Option, Some, length, not, ◌&&◌, ◌==◌, ◌≡◌, if◌then◌else◌};
 ghost use Rattle.glob_matcher.specs.Bytes.{HasByte, IsEscaped, is_path, open_bracket, backslash, slash};
 ghost use Rattle.glob_matcher.specs.Private.Spelling.{close_bracket, colon, dash, IsSign};
 ghost use Rattle.glob_matcher.specs.Sets.{BeginsRange, BeginsClass, IsFirstFrom, IsUpperEnd};
 ghost use Rattle.glob_matcher.specs.Private.Takes.{Takes, TakesExactly, looks_at};
-ghost use Rattle.glob_matcher.specs.Private.Looks.{LookedOver, IsItemRead, IsKnown, IsPaidFor, read_end, search_front};
+ghost use Rattle.glob_matcher.specs.Private.Looks.{LookedAtEach, LookedOver, IsItemRead, IsKnown, IsPaidFor, read_end, search_front};
 ghost use Rattle.glob_matcher.specs.Private.Reader.{IsEntry, IsSetRead, after_item, at_first, first_item};
 
 use super::engine::{Engine, Texts};
@@ -116,7 +116,7 @@ impl<'c, 'a, S: Ledger, L: Ledger, M: Texts> Engine<'c, 'a, S, L, M> {
         requires { place < length M.pattern }
         ensures end { MatchOption result ((high j : ℕ) → ¬ IsUpperEnd M.pattern place high j)
             (λ end. IsUpperEnd M.pattern place end.0 end.1 × (place < end.1) × (end.1 ≤ length M.pattern)) }
-        ensures count { MatchOption result (Takes self.old self.new 0 1) (λ end. LookedOver 1 self.old self.new place end.1) }
+        ensures count { MatchOption result (Takes self.old self.new 0 1) (λ end. LookedAtEach self.old self.new place end.1) }
     {
         let byte = self.pattern_byte(place);
         if byte != b'\\' {
@@ -133,8 +133,8 @@ impl<'c, 'a, S: Ledger, L: Ledger, M: Texts> Engine<'c, 'a, S, L, M> {
         requires { from ≤ length M.pattern }
         ensures close { MatchOption result ((j : ℕ) → from ≤ j → ¬ HasByte M.pattern j close_bracket)
             (IsFirstFrom M.pattern from close_bracket) }
-        ensures count { MatchOption result (LookedOver 1 self.old self.new from (length M.pattern))
-            (λ close. LookedOver 1 self.old self.new from (close + 1)) }
+        ensures count { MatchOption result (LookedAtEach self.old self.new from (length M.pattern))
+            (λ close. LookedAtEach self.old self.new from (close + 1)) }
     {
         let mut place = from;
         'bytes: while let Some(byte) = self.look_at(place) {
@@ -153,7 +153,8 @@ impl<'c, 'a, S: Ledger, L: Ledger, M: Texts> Engine<'c, 'a, S, L, M> {
         ensures close { MatchOption result ((j : ℕ) → place + 2 ≤ j → ¬ HasByte M.pattern j close_bracket)
             (IsFirstFrom M.pattern (place + 2) close_bracket) }
         ensures steps { self.new.steps ≡ self.old.steps }
-        ensures looks { MatchOption result (LookedOver 1 self.old self.new (place + 2) (length M.pattern))
+        ensures low { self.old.looks ≤ self.new.looks }
+        ensures looks { MatchOption result (LookedAtEach self.old self.new (place + 2) (length M.pattern))
             (λ j. self.new.looks + search_front close place ≤ self.old.looks + j) }
     {
         let Some(known) = close else {
@@ -363,6 +364,7 @@ impl<'c, 'a, S: Ledger, L: Ledger, M: Texts> Engine<'c, 'a, S, L, M> {
         requires { HasByte M.pattern place open_bracket }
         ensures read { IsSetRead M.mode M.pattern place byte result }
         ensures count { LookedOver 4 self.old self.new place (read_end M.pattern result) }
+        ensures looked { IfSome result (λ set. self.old.looks < self.new.looks) }
     {
         let mode = self.mode();
         let (is_negated, first) = self.set_opening(place);

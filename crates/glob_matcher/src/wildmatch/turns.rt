@@ -128,7 +128,10 @@ impl<'c, 'a, S: Ledger, L: Ledger, M: Texts> Engine<'c, 'a, S, L, M> {
             TokenKind::Free => self.free_turn(state, token.end),
             TokenKind::Dirs => self.dirs_turn(state, token.end),
             TokenKind::Local => self.local_turn(state, token.end),
-            TokenKind::Nothing => Turn::NoMatch,
+            TokenKind::Nothing => {
+                self.fits_nothing();
+                Turn::NoMatch
+            }
             TokenKind::Byte(_) | TokenKind::Any | TokenKind::Set => {
                 self.single_turn(state, token.kind, token.end)
             }

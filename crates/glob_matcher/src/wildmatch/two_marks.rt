@@ -11,7 +11,7 @@ ghost use Rattle.glob_matcher.specs.Bytes.{slash, star};
 ghost use Rattle.glob_matcher.specs.Private.Spelling.{close_bracket, question_mark};
 ghost use Rattle.glob_matcher.specs.Matching.{Splits};
 ghost use Rattle.glob_matcher.specs.Private.Takes.{Takes};
-ghost use Rattle.glob_matcher.specs.Steps.{look_limit, step_limit};
+ghost use Rattle.glob_matcher.specs.Steps.{NeverFall, look_limit, step_limit};
 ghost use Rattle.glob_matcher.specs.Private.Budget.{IsWithinLimits};
 
 use super::counts::Counts;
@@ -52,6 +52,7 @@ impl<'c, 'a, S: Ledger, L: Ledger, M: Texts> Engine<'c, 'a, S, L, M> {
         ensures meaning { IfSome result (λ answer. IsTrue answer ↔ Splits M.value M.pattern M.mode) }
         ensures steps { self.new.steps ≤ self.old.steps + 1 }
         ensures looks { self.new.looks ≤ self.old.looks + 2 }
+        ensures grows { NeverFall self.old self.new }
     {
         let len = self.pattern_len();
         if len == 0 {
@@ -75,6 +76,7 @@ impl<'c, 'a, S: Ledger, L: Ledger, M: Texts> Engine<'c, 'a, S, L, M> {
     pub fn search(&mut self) -> bool
         ensures exact { IsTrue result ↔ Splits M.value M.pattern M.mode }
         ensures limits { IsWithinLimits (length M.pattern) (length M.value) self.old self.new }
+        ensures grows { NeverFall self.old self.new }
     {
         let mut state = State {
             place: 0,
@@ -110,6 +112,7 @@ pub fn marked<S: Ledger, L: Ledger>(
     ensures exact { IsTrue result ↔ Splits value.now pattern.now mode }
     ensures limit { counts.new.steps ≤ counts.old.steps + step_limit (length pattern.now) (length value.now) }
     ensures looks { counts.new.looks ≤ counts.old.looks + look_limit (length pattern.now) (length value.now) }
+    ensures grows { NeverFall counts.old counts.new }
 {
     text_is_short(pattern);
     text_is_short(value);

@@ -8,15 +8,15 @@ use Rattle.glob_matcher.specs.declared.wildmatch.sets.Entry.TheVariants as entry
 use Rattle.glob_matcher.specs.Steps.{Counts}
 use Rattle.glob_matcher.specs.Bytes.{HasByte}
 use Rattle.glob_matcher.specs.Private.Spelling.{close_bracket}
-use Rattle.glob_matcher.specs.Private.Looks.{IsItemRead, IsKnown, IsPaid, LookedOver, search_front}
+use Rattle.glob_matcher.specs.Private.Looks.{IsItemRead, IsKnown, IsPaid, LookedAtEach, search_front}
 use Rattle.glob_matcher.specs.Private.Reader.{IsEntry, after_item, at_first}
 use Rattle.glob_matcher.specs.Private.Takes.{Takes, TakesExactly, looks_at}
 use Rattle.glob_matcher.proofs.lemmas.reading.Walks.{IsUnderway, underway_first, underway_next}
 
 -- at most one look is taken at a place
 pub one_look : {before after : Counts} (byte : Option ℕ) → TakesExactly before after 0 (looks_at byte) → Takes before after 0 1
-one_look None exact = record { steps = exact.steps; looks = omega (arith, exact.looks) }
-one_look (Some b) exact = record { steps = exact.steps; looks = omega (arith, exact.looks) }
+one_look None exact = record { steps = exact.steps; looks = omega (arith, exact.looks); low = omega (arith, exact.looks) }
+one_look (Some b) exact = record { steps = exact.steps; looks = omega (arith, exact.looks); low = omega (arith, exact.looks) }
 
 pub search_front_on : (known : Option ℕ) (i j : ℕ) → i ≤ j → search_front known i ≤ search_front known j
 search_front_on None i j low = low
@@ -56,27 +56,27 @@ search_front_passed known m i is near = subst (λ (x : Option ℕ). search_front
 
 -- the looks of a new search, behind the two bytes of a `[:`
 pub search_front_anew : (result known : Option ℕ) (before after : Counts) (i n : ℕ) → search_front known i ≤ i + 1
-    → MatchOption result (LookedOver 1 before after (i + 2) n) (λ m. LookedOver 1 before after (i + 2) (m + 1))
-    → MatchOption result (LookedOver 1 before after (i + 2) n) (λ m. after.looks + search_front known i ≤ before.looks + m)
+    → MatchOption result (LookedAtEach before after (i + 2) n) (λ m. LookedAtEach before after (i + 2) (m + 1))
+    → MatchOption result (LookedAtEach before after (i + 2) n) (λ m. after.looks + search_front known i ≤ before.looks + m)
 search_front_anew None known before after i n near over = over
 search_front_anew (Some m) known before after i n near over = omega (arith, near, over.looks)
 
 -- what is known of the closing bracket is as before
 pub paid_same : {before after : Counts} {i : ℕ} {s : Spelled} (spare : ℕ) → after.steps ≡ before.steps → i ≤ s.next
-    → after.looks + spare + 3 * i ≤ before.looks + 3 * s.next → IsPaid spare before after i s.close s
-paid_same {i = i} {s = s} spare steps low looks =
-    record { steps = steps; looks = let more = search_front_on s.close i s.next low in omega (arith, looks, more) }
+    → after.looks + spare + 3 * i ≤ before.looks + 3 * s.next → before.looks ≤ after.looks → IsPaid spare before after i s.close s
+paid_same {i = i} {s = s} spare steps past looks low =
+    record { steps = steps; looks = let more = search_front_on s.close i s.next past in omega (arith, looks, more); low = low }
 
 -- one of the looks that were left over was taken before
 pub spare_taken : {before between after : Counts} {text : List ℕ} {low : Option ℕ} {i : ℕ} {known : Option ℕ} {item : Option Spelled}
     → Takes before between 0 1 → IsItemRead 2 between after text low i known item → IsItemRead 1 before after text low i known item
 spare_taken {item = None} takes read = record {
   answer = read.answer;
-  paid = record { steps = omega (arith, takes.steps, read.paid.steps); looks = omega (arith, takes.looks, read.paid.looks) };
+  paid = record { steps = omega (arith, takes.steps, read.paid.steps); looks = omega (arith, takes.looks, read.paid.looks); low = omega (arith, takes.low, read.paid.low) };
 }
 spare_taken {item = Some s} takes read = record {
   answer = read.answer;
-  paid = record { steps = omega (arith, takes.steps, read.paid.steps); looks = omega (arith, takes.looks, read.paid.looks) };
+  paid = record { steps = omega (arith, takes.steps, read.paid.steps); looks = omega (arith, takes.looks, read.paid.looks); low = omega (arith, takes.low, read.paid.low) };
 }
 
 -- The reader of a set stands at this cursor: the items so far, and those from here on, are the set's; what is known of the closing
@@ -88,6 +88,7 @@ pub record IsReading (text : List ℕ) (place start : ℕ) (test : Item → Bool
   pub known : IsKnown text cursor.place cursor.close
   pub steps : now.steps ≡ before.steps
   pub looks : now.looks + 4 * place + 3 ≤ before.looks + 3 * cursor.place + search_front cursor.close cursor.place
+  pub low : before.looks ≤ now.looks
 
 module _ {text : List ℕ} {place start : ℕ} {test : Item → Bool} {before now : Counts} where
   pub reading_first : {cursor : Cursor} → cursor ≡ at_first start → place < cursor.place → cursor.place ≤ length text
@@ -102,6 +103,7 @@ module _ {text : List ℕ} {place start : ℕ} {test : Item → Bool} {before no
         looks =
             let low : place < start = subst (λ (x : Cursor). place < x.place) is past in
             omega (arith, takes.looks, low);
+        low = takes.low;
       })
 
   pub reading_next : {held next_held : Bool} {cursor next : Cursor} {after : Counts} (s : Spelled)
@@ -117,4 +119,5 @@ module _ {text : List ℕ} {place start : ℕ} {test : Item → Bool} {before no
         known = here.1.known;
         steps = omega (arith, so_far.steps, paid.steps);
         looks = omega (arith, so_far.looks, paid.looks);
+        low = omega (arith, so_far.low, paid.low);
       }))

@@ -4,7 +4,7 @@ use Rattle.std.proofs.lemmas.Bool.{cases_Bool}
 use Rattle.std.proofs.Math.Nat.{mul-le-mul_left, mul-le-mul}
 use Rattle.glob_matcher.specs.declared.wildmatch.mode.Mode.{Mode}
 use Rattle.glob_matcher.specs.declared.wildmatch.tokens.TokenKind.{TokenKind}
-use Rattle.glob_matcher.specs.Steps.{Counts, step_limit, look_limit}
+use Rattle.glob_matcher.specs.Steps.{Counts, NeverFall, step_limit, look_limit}
 use Rattle.glob_matcher.specs.Tokens.{Token, TokenAt, From}
 use Rattle.glob_matcher.specs.Private.Takes.{Takes, TakesExactly}
 use Rattle.glob_matcher.specs.Private.Reader.{IsToken, kind_of, is_star}
@@ -34,7 +34,17 @@ amount-same Looks n = refl
 
 -- what is taken exactly is taken at most
 pub TakesExactly-at_most : {x y : Counts} {a b : ℕ} → TakesExactly x y a b → Takes x y a b
-TakesExactly-at_most t = record { steps = t.steps; looks = omega (arith, t.looks) }
+TakesExactly-at_most t = record { steps = t.steps; looks = omega (arith, t.looks); low = omega (arith, t.looks) }
+
+-- what is taken makes no count fall
+pub Takes-grows : {x y : Counts} {a b : ℕ} → Takes x y a b → NeverFall x y
+Takes-grows t = record { steps = omega (arith, t.steps); looks = t.low }
+
+pub NeverFall-on : {x y z : Counts} → NeverFall x y → NeverFall y z → NeverFall x z
+NeverFall-on l m = record { steps = omega (arith, l.steps, m.steps); looks = omega (arith, l.looks, m.looks) }
+
+pub NeverFall-same : {x : Counts} → NeverFall x x
+NeverFall-same = record { steps = omega arith; looks = omega arith }
 
 -- what was taken is within a price
 pub Takes-within : (measure : Measure) {x y : Counts} (s a b : ℕ) {c d e f : ℕ} → amount_of measure x ≤ s + amount measure a b → Takes x y c d
@@ -45,13 +55,13 @@ Takes-within Looks s a b low t steps looks = omega (arith, t.looks)
 
 -- what was taken, one after the other
 pub Takes-both : {x y z : Counts} {a b c d : ℕ} → Takes x y a b → Takes y z c d → Takes x z (a + c) (b + d)
-Takes-both t u = record { steps = omega (arith, t.steps, u.steps); looks = omega (arith, t.looks, u.looks) }
+Takes-both t u = record { steps = omega (arith, t.steps, u.steps); looks = omega (arith, t.looks, u.looks); low = omega (arith, t.low, u.low) }
 
 pub Takes-on : {x y z : Counts} {a b c d e f : ℕ} → Takes x y a b → Takes y z c d → a + c ≡ e → b + d ≤ f → Takes x z e f
-Takes-on t u steps looks = record { steps = omega (arith, t.steps, u.steps); looks = omega (arith, t.looks, u.looks) }
+Takes-on t u steps looks = record { steps = omega (arith, t.steps, u.steps); looks = omega (arith, t.looks, u.looks); low = omega (arith, t.low, u.low) }
 
 pub Takes-none : {x : Counts} → Takes x x 0 0
-Takes-none = record { steps = omega arith; looks = omega arith }
+Takes-none = record { steps = omega arith; looks = omega arith; low = omega arith }
 
 -- the price of a move, and of a scan after it
 pub move-some : (measure : Measure) → 1 ≤ move measure

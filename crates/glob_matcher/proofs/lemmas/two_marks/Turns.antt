@@ -11,11 +11,11 @@ use Rattle.glob_matcher.specs.Private.Looks.{IsSetPaid}
 use Rattle.glob_matcher.specs.Private.Reader.{IsTokenRead, is_star}
 use Rattle.glob_matcher.specs.Private.Budget.{CountsOutcome}
 use Rattle.glob_matcher.specs.Private.Turns.{IsTurn}
-use Rattle.glob_matcher.proofs.lemmas.two_marks.Prices.{Takes-within}
+use Rattle.glob_matcher.proofs.lemmas.two_marks.Prices.{NeverFall-on, Takes-grows, Takes-within}
 
 counts_on : (t : Turn) (a b c : ℕ) → b ≡ a → CountsOutcome t b c → CountsOutcome t a c
 counts_on turn.Match a b c same more = tt
-counts_on turn.NoMatch a b c same more = tt
+counts_on turn.NoMatch a b c same more = omega arith
 counts_on (turn.Miss s) a b c same more = omega arith
 counts_on (turn.On s) a b c same more = omega arith
 
@@ -26,6 +26,7 @@ turn_on {t = t} {before} {between} {after} {looked = looked} taken enough so = r
   meaning = so.meaning;
   allows = λ measure s n low a. so.allows measure s n (Takes-within measure s 0 looked low taken (omega arith) enough) a;
   progress = counts_on t before.steps between.steps after.steps (omega (arith, taken.steps)) so.progress;
+  grows = NeverFall-on (Takes-grows taken) so.grows;
 }
 
 -- the looks of the readers
@@ -33,12 +34,12 @@ pub token_looks : {before after : Counts} {i : ℕ} {kind : TokenKind} {j : ℕ}
     → Takes before after 0 (6 * (j - i))
 token_looks {before} {after} {i} {kind} {j} past read = cases (is_star kind) refl where
   cases : (star : Bool) → is_star kind ≡ star → Takes before after 0 (6 * (j - i))
-  cases true star = record { steps = omega (arith, read.steps); looks = omega (arith, read.run star) }
-  cases false one = record { steps = omega (arith, read.steps); looks = omega (arith, read.other one) }
+  cases true star = record { steps = omega (arith, read.steps); looks = omega (arith, read.run star); low = read.low }
+  cases false one = record { steps = omega (arith, read.steps); looks = omega (arith, read.other one); low = read.low }
 
 pub star_looks : {before after : Counts} {i : ℕ} {kind : TokenKind} {j : ℕ} → i < j → is_star kind ≡ true → IsTokenRead before after i kind j
     → Takes before after 0 (5 * (j - i) - 3)
-star_looks {i = i} {j = j} past star read = record { steps = omega (arith, read.steps); looks = omega (arith, read.run star) }
+star_looks {i = i} {j = j} past star read = record { steps = omega (arith, read.steps); looks = omega (arith, read.run star); low = read.low }
 
-pub set_looks : {n : ℕ} {before after : Counts} {i j : ℕ} → i ≤ j → IsSetPaid n before after i j → Takes before after n (4 * (j - i) + 1)
-set_looks {i = i} {j} low paid = record { steps = paid.steps; looks = omega (arith, paid.looks) }
+pub set_looks : {before after : Counts} {i j : ℕ} → i ≤ j → IsSetPaid before after i j → Takes before after 1 (4 * (j - i) + 1)
+set_looks {i = i} {j} inside paid = record { steps = paid.steps; looks = omega (arith, paid.looks); low = omega (arith, paid.low) }

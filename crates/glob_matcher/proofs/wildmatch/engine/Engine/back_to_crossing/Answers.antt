@@ -6,7 +6,7 @@ use Rattle.glob_matcher.specs.Private.Turns.{IsBacktrack}
 use Rattle.glob_matcher.proofs.lemmas.two_marks.States.{IsLeft-crossing, Stands-places}
 use Rattle.glob_matcher.proofs.lemmas.two_marks.MovedMarks.{stands_dirs_moved}
 use Rattle.glob_matcher.proofs.lemmas.two_marks.StuckMarks.{dirs_stuck, unmet_left}
-use Rattle.glob_matcher.proofs.lemmas.two_marks.Prices.{moves-price}
+use Rattle.glob_matcher.proofs.lemmas.two_marks.Prices.{NeverFall-same, Takes-grows, moves-price}
 use Rattle.glob_matcher.proofs.lemmas.two_marks.Budget.{Allows-places, AllowsLeft-crossing, allows_left, allows_less}
 use Rattle.glob_matcher.proofs.lemmas.two_marks.MovedMarkCosts.{allows_dirs_moved, dirs_stuck_counts}
 use Rattle.glob_matcher.proofs.wildmatch.engine.Engine.back_to_crossing.Goals as goal
@@ -17,6 +17,7 @@ returns-in-Unmet g c =
       meaning = unmet_left (IsLeft-crossing c.in-Unmet.is c.requires);
       allows = λ measure n a. allows_left a;
       progress = tt;
+      grows = NeverFall-same;
     }
 
 pub returns-in-Free : goal.returns-in-Free
@@ -33,6 +34,7 @@ returns-in-None g c =
       allows = λ measure n a.
           dirs_stuck_counts (λ inside. moves-price measure (c.in-None.ensures.count inside)) (AllowsLeft-crossing c.in-Dirs.is a);
       progress = tt;
+      grows = c.next_directory.ensures.grows;
     }
 
 pub returns-in-Some : goal.returns-in-Some
@@ -46,4 +48,5 @@ returns-in-Some g c =
           Allows-places (allows_less (moves-price measure moves) (allows_dirs_moved moved (AllowsLeft-crossing c.in-Dirs.is a)))
           c.place.ensures c.at.ensures;
       progress = omega (arith, moved.after.past, moves.steps);
+      grows = Takes-grows moves;
     }

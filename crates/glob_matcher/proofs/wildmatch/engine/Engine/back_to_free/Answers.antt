@@ -2,7 +2,7 @@ use Rattle.std.proofs.Common.{◌+◌, ◌-◌, ◌*◌, ℕ, ap, arith}
 use Rattle.glob_matcher.proofs.lemmas.two_marks.States.{Stands-places}
 use Rattle.glob_matcher.proofs.lemmas.two_marks.MovedMarks.{stands_free_moved}
 use Rattle.glob_matcher.proofs.lemmas.two_marks.StuckMarks.{free_stuck}
-use Rattle.glob_matcher.proofs.lemmas.two_marks.Prices.{Takes-both, TakesExactly-at_most, amount-same, move-price, scan-price}
+use Rattle.glob_matcher.proofs.lemmas.two_marks.Prices.{Takes-both, Takes-grows, TakesExactly-at_most, amount-same, move-price, scan-price}
 use Rattle.glob_matcher.proofs.lemmas.two_marks.Budget.{Allows-places, allows_less}
 use Rattle.glob_matcher.proofs.lemmas.two_marks.MovedMarkCosts.{allows_free_moved, free_stuck_counts}
 use Rattle.glob_matcher.proofs.lemmas.two_marks.Scans.{allows_found, allows_free_skipped, stands_found, stands_free_skipped, unset_past}
@@ -14,6 +14,7 @@ returns-in_default g c =
       meaning = free_stuck c.requires c.in_default.ensures.unable;
       allows = λ measure n a. omega (arith, free_stuck_counts a, move-price measure (TakesExactly-at_most c.pass.ensures.count) (omega arith) (omega arith));
       progress = tt;
+      grows = Takes-grows (TakesExactly-at_most c.pass.ensures.count);
     }
 
 pub returns-in-Blocked : goal.returns-in-Blocked
@@ -36,6 +37,7 @@ returns-in-Undecided g c =
           (allows_free_skipped to (allows_free_moved x moved.2 moved.0 moved.1 a) so.same so.low so.inside))
           c.place.ensures c.at.ensures;
       progress = omega (arith, so.takes.steps, c.pass.ensures.count.steps);
+      grows = Takes-grows (Takes-both (TakesExactly-at_most c.pass.ensures.count) so.takes);
     }
 
 pub returns-in-Found : goal.returns-in-Found
@@ -56,4 +58,5 @@ returns-in-Found g c =
           (allows_found reached (allows_free_skipped to (allows_free_moved x moved.2 moved.0 moved.1 a) so.same so.low so.inside) so.met unset_past))
           (ap (λ (n : ℕ). n + 1) c.place-in-Found.ensures) (ap (λ (n : ℕ). n + 1) c.at-in-Found.ensures);
       progress = omega (arith, so.takes.steps, c.pass.ensures.count.steps);
+      grows = Takes-grows (Takes-both (TakesExactly-at_most c.pass.ensures.count) so.takes);
     }

@@ -1,7 +1,7 @@
 use Rattle.std.proofs.Common.{◌+◌, ◌-◌, ◌*◌, ℕ, Some, inr, ap, refl, arith}
 use Rattle.glob_matcher.proofs.lemmas.two_marks.States.{Stands-places, miss_of}
 use Rattle.glob_matcher.proofs.lemmas.two_marks.StuckMarks.{left_stuck, left_without}
-use Rattle.glob_matcher.proofs.lemmas.two_marks.Prices.{Takes-both, TakesExactly-at_most, amount-same, move-over, move-price, scan-price}
+use Rattle.glob_matcher.proofs.lemmas.two_marks.Prices.{NeverFall-same, Takes-both, Takes-grows, TakesExactly-at_most, amount-same, move-over, move-price, scan-price}
 use Rattle.glob_matcher.proofs.lemmas.two_marks.Budget.{Allows-places, allows_less, allows_missed, left_less}
 use Rattle.glob_matcher.proofs.lemmas.two_marks.MovedMarkCosts.{left_missed, left_stuck_counts}
 use Rattle.glob_matcher.proofs.lemmas.two_marks.Scans.{IsLocalPast, allows_found, local_scanned, local_scanned_counts, none_of, stands_found}
@@ -13,7 +13,7 @@ returns-in_default g c =
       meaning = left_without c.requires (none_of c.args.state.local c.in_default.not-Some);
       allows = λ measure n a. left_missed c.requires.stands.inside a;
       progress = tt;
-      low = omega arith;
+      grows = NeverFall-same;
     }
 
 pub returns-in_default-pass_within_or_end : goal.returns-in_default-pass_within_or_end
@@ -25,7 +25,7 @@ returns-in_default-pass_within_or_end g c =
       allows = λ measure n a.
           left_less (move-price measure pass (omega arith) (omega arith)) (left_stuck_counts a c.in-Some.is stuck);
       progress = tt;
-      low = omega (arith, pass.steps);
+      grows = Takes-grows pass;
     }
 
 pub returns-in-Blocked : goal.returns-in-Blocked
@@ -42,7 +42,7 @@ returns-in-Blocked g c =
           (left_stuck_counts (allows_missed (local_scanned_counts c.requires c.in-Some.is moved.2 moved.3 moved.0 moved.1 so a)) refl
           (inr so.met.1));
       progress = tt;
-      low = omega (arith, so.takes.steps, pass.steps);
+      grows = Takes-grows (Takes-both pass so.takes);
     }
 
 pub returns-in-Undecided : goal.returns-in-Undecided
@@ -60,7 +60,7 @@ returns-in-Undecided g c =
           (local_scanned_counts c.requires c.in-Some.is moved.2 moved.3 moved.0 moved.1 so a))
           c.place.ensures c.at.ensures;
       progress = omega (arith, so.takes.steps, pass.steps);
-      low = omega (arith, so.takes.steps, pass.steps);
+      grows = Takes-grows (Takes-both pass so.takes);
     }
 
 pub returns-in-Found : goal.returns-in-Found
@@ -82,5 +82,5 @@ returns-in-Found g c =
           (allows_found reached (local_scanned_counts c.requires c.in-Some.is moved.2 moved.3 moved.0 moved.1 so a) so.met past))
           place at;
       progress = omega (arith, so.takes.steps, pass.steps, c.local_past.ensures.count.steps);
-      low = omega (arith, so.takes.steps, pass.steps, c.local_past.ensures.count.steps);
+      grows = Takes-grows all;
     }

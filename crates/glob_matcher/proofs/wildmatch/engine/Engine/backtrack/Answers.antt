@@ -1,3 +1,4 @@
+use Rattle.glob_matcher.proofs.lemmas.two_marks.Prices.{NeverFall-on}
 use Rattle.glob_matcher.proofs.lemmas.two_marks.Scans.{progress_on}
 use Rattle.glob_matcher.proofs.wildmatch.engine.Engine.backtrack.Goals as goal
 
@@ -6,6 +7,7 @@ returns-in-Some g c = record {
   meaning = c.in-Some.ensures.meaning;
   allows = λ measure n a. c.in-Some.ensures.allows measure n a;
   progress = c.in-Some.ensures.progress;
+  grows = c.in-Some.ensures.grows;
 }
 
 pub returns-in-None : goal.returns-in-None
@@ -14,5 +16,6 @@ returns-in-None g c = record {
   allows = λ measure n a. c.back_to_crossing.ensures.allows measure n (c.in-None.ensures.allows measure n a);
   progress =
       progress_on c.back_to_crossing.result c.args.self.now.steps c.back_to_local.new.self.steps c.back_to_crossing.new.self.steps
-      c.in-None.ensures.low c.back_to_crossing.ensures.progress;
+      c.in-None.ensures.grows.steps c.back_to_crossing.ensures.progress;
+  grows = NeverFall-on c.in-None.ensures.grows c.back_to_crossing.ensures.grows;
 }

@@ -8,4 +8,4 @@ returns-then-begins_class g c = spare_taken c.if-begins_class.ensures.count (c.c
 pub returns : goal.returns
 returns g c =
     let takes = c.if-begins_class.ensures.count in
-    record { answer = search rules; paid = paid_same {after = c.begins_class.new.self} 1 (omega (arith, takes.steps)) (omega arith) (omega (arith, takes.looks)) }
+    record { answer = search rules; paid = paid_same {after = c.begins_class.new.self} 1 (omega (arith, takes.steps)) (omega arith) (omega (arith, takes.looks)) takes.low }

@@ -1,4 +1,4 @@
-use Rattle.std.proofs.Common.{arith, rules}
+use Rattle.std.proofs.Common.{refl, arith, rules}
 use Rattle.glob_matcher.proofs.lemmas.reading.LookLemmas.{search_front_low}
 use Rattle.glob_matcher.proofs.wildmatch.engine.Engine.class_at.Goals as goal
 
@@ -11,6 +11,7 @@ returns-then-not-ends_class g c =
       paid = record {
         steps = omega (arith, takes.steps, c.class_close.ensures.steps);
         looks = omega (arith, takes.looks, c.in-Some.ensures.looks, far);
+        low = omega (arith, takes.low, c.class_close.ensures.low);
       };
     }
 
@@ -25,6 +26,7 @@ returns-in_default-class_named g c =
       paid = record {
         steps = omega (arith, takes.steps, over.steps, c.class_close.ensures.steps);
         looks = omega (arith, takes.looks, over.looks, c.in-Some.ensures.looks, from, first.low, first.here.inside);
+        low = omega (arith, takes.low, over.looks, c.class_close.ensures.low, (c.if-not-ends_class.ensures.answer.0 refl).0);
       };
     }
 
@@ -38,5 +40,6 @@ returns g c =
       paid = record {
         steps = omega (arith, takes.steps, over.steps, c.class_close.ensures.steps);
         looks = omega (arith, takes.looks, over.looks, c.in-Some.ensures.looks, far);
+        low = omega (arith, takes.low, over.looks, c.class_close.ensures.low, (c.if-not-ends_class.ensures.answer.0 refl).0);
       };
     }

@@ -11,4 +11,4 @@ returns-in-Some g c =
 pub returns-in-None : goal.returns-in-None
 returns-in-None g c =
     let takes = c.range_from.ensures.count in
-    record { answer = search rules; paid = paid_same {after = c.range_from.new.self} 1 (omega (arith, takes.steps)) (omega arith) (omega (arith, takes.looks)) }
+    record { answer = search rules; paid = paid_same {after = c.range_from.new.self} 1 (omega (arith, takes.steps)) (omega arith) (omega (arith, takes.looks)) takes.low }

@@ -8,7 +8,7 @@ invariant-bytes g l = record {
   inside : l.place ≤ length g.M.Texts.pattern;
   none : (m : ℕ) → l.from ≤ m → m < l.place → get_or g.M.Texts.pattern m 0 ≡ 93 → ⊥;
   steps : l.self.steps ≡ l.fn.self.steps;
-  looks : l.self.looks + l.from ≤ l.fn.self.looks + l.place;
+  looks : l.self.looks + l.from ≡ l.fn.self.looks + l.place;
 }
 
 abbrev pub decreases-bytes : goal.decreases-bytes

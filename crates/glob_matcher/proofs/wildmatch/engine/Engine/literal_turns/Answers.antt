@@ -6,7 +6,7 @@ use Rattle.glob_matcher.specs.Private.Prices.{amount, amount_of}
 use Rattle.glob_matcher.specs.Bytes.{StandsForItself}
 use Rattle.glob_matcher.proofs.lemmas.reading.Reading.{literal_token}
 use Rattle.glob_matcher.proofs.lemmas.two_marks.TakenBytes.{inner_of, misses_byte, stands_on}
-use Rattle.glob_matcher.proofs.lemmas.two_marks.Prices.{Takes-both, Takes-on, Takes-within, TakesExactly-at_most, amount-mono, amount-same, amount-sum}
+use Rattle.glob_matcher.proofs.lemmas.two_marks.Prices.{Takes-both, Takes-grows, Takes-on, Takes-within, TakesExactly-at_most, amount-mono, amount-same, amount-sum}
 use Rattle.glob_matcher.proofs.lemmas.two_marks.Budget.{allows_less, test_of_token}
 use Rattle.glob_matcher.proofs.lemmas.two_marks.TakenByteCosts.{allows_on}
 use Rattle.glob_matcher.proofs.lemmas.two_marks.Scans.{byte_of}
@@ -42,6 +42,9 @@ returns-then-not-fits_byte g c =
             allows = c.bytes.invariant.allows measure s n a;
           };
       progress = omega (arith, c.fits_byte.ensures.count.steps, c.pattern_byte-byte.ensures.count.steps, c.bytes.invariant.count.steps);
+      grows =
+          Takes-grows
+          (Takes-both c.bytes.invariant.count (Takes-both (TakesExactly-at_most c.pattern_byte-byte.ensures.count) (TakesExactly-at_most c.fits_byte.ensures.count)));
     }
 
 pub bytes-preserved : goal.bytes-preserved
@@ -78,7 +81,7 @@ bytes-init g c =
           let none : amount measure (start - start) (8 * (start - start)) ≤ amount measure 0 0 = amount-mono measure (omega arith) (omega arith) in
           allows_less (omega (arith, none, amount-same measure 0)) a;
       low = omega arith;
-      count = record { steps = omega arith; looks = omega arith };
+      count = record { steps = omega arith; looks = omega arith; low = omega arith };
     }
 
 pub returns-after-bytes : goal.returns-after-bytes
@@ -89,6 +92,7 @@ returns-after-bytes g c =
       allows = λ measure s n low a.
           allows_less (Takes-within measure s 0 1 low c.bytes.invariant.count (omega arith) (omega arith)) (c.bytes.invariant.allows measure s n a);
       progress = omega (arith, c.bytes.invariant.count.steps);
+      grows = Takes-grows c.bytes.invariant.count;
     }
 
 pub returns-then-byte-eq47 : goal.returns-then-byte-eq47
@@ -113,4 +117,5 @@ returns-then-byte-eq47 g c =
           (Takes-within measure s 0 1 low (Takes-both c.bytes.invariant.count (TakesExactly-at_most c.pattern_byte-byte.ensures.count)) (omega arith) (omega arith))
           (c.bytes.invariant.allows measure s n a);
       progress = omega (arith, c.bytes.invariant.count.steps, c.pattern_byte-byte.ensures.count.steps);
+      grows = Takes-grows (Takes-both c.bytes.invariant.count (TakesExactly-at_most c.pattern_byte-byte.ensures.count));
     }

@@ -1,6 +1,6 @@
 use Rattle.std.proofs.Common.{arith}
 use Rattle.glob_matcher.proofs.lemmas.two_marks.MetStars.{stands_local_met}
-use Rattle.glob_matcher.proofs.lemmas.two_marks.Prices.{Takes-within}
+use Rattle.glob_matcher.proofs.lemmas.two_marks.Prices.{Takes-grows, Takes-within, TakesExactly-at_most}
 use Rattle.glob_matcher.proofs.lemmas.two_marks.MetStarCosts.{allows_local_met}
 use Rattle.glob_matcher.proofs.wildmatch.engine.Engine.local_turn.Goals as goal
 
@@ -11,6 +11,7 @@ returns g c =
       meaning = stands_local_met c.set_mark-mark.result c.requires.stands c.requires.token c.requires.inside mark.place mark.at;
       allows = λ measure s n low a.
           allows_local_met c.set_mark-mark.result c.requires.token c.requires.stands.inside mark.place mark.at
-          (Takes-within measure s 0 _ low mark.count (omega arith) (omega arith)) a;
+          (Takes-within measure s 0 _ low (TakesExactly-at_most mark.count) (omega arith) (omega arith)) a;
       progress = omega (arith, mark.count.steps);
+      grows = Takes-grows (TakesExactly-at_most mark.count);
     }

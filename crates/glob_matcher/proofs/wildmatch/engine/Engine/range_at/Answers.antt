@@ -13,4 +13,4 @@ pub returns : goal.returns
 returns g c =
     let past = c.in-Some.ensures.end.1 in
     let over = c.in-Some.ensures.count in
-    record { answer = search rules; paid = paid_same {after = c.upper_end.new.self} 2 over.steps (omega (arith, past)) (omega (arith, past, over.looks)) }
+    record { answer = search rules; paid = paid_same {after = c.upper_end.new.self} 2 over.steps (omega (arith, past)) (omega (arith, past, over.looks)) (omega (arith, past, over.looks)) }

@@ -10,6 +10,7 @@ invariant-stars g l = record {
   inside : l.end ≤ length g.M.Texts.pattern;
   steps : l.self.steps ≡ l.fn.self.steps;
   looks : l.self.looks + l.place + 1 ≤ l.fn.self.looks + l.end;
+  low : l.fn.self.looks ≤ l.self.looks;
 }
 
 abbrev pub decreases-stars : goal.decreases-stars

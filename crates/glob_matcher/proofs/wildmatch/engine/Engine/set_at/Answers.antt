@@ -45,14 +45,14 @@ returns-in-Close-clause-count g c =
     let so_far = c.items.invariant in
     let takes = c.in-Close.ensures.count in
     let ahead = search_front_here g.M.Texts.pattern c.items.cursor.place c.items.cursor.close so_far.known c.in-Close.ensures.entry.0.1 in
-    record { steps = omega (arith, so_far.steps, takes.steps); looks = omega (arith, so_far.looks, takes.looks, ahead) }
+    record { steps = omega (arith, so_far.steps, takes.steps); looks = omega (arith, so_far.looks, takes.looks, ahead); low = omega (arith, so_far.low, takes.looks) }
 
 pub returns-in-Broken-clause-count : goal.returns-in-Broken-clause-count
 returns-in-Broken-clause-count g c =
     let so_far = c.items.invariant in
     let paid = c.in-Broken.ensures.count in
     let ahead = search_front_inside g.M.Texts.pattern c.items.cursor.place c.items.cursor.close so_far.known so_far.inside in
-    record { steps = omega (arith, so_far.steps, paid.steps); looks = omega (arith, so_far.looks, paid.looks, ahead, so_far.inside) }
+    record { steps = omega (arith, so_far.steps, paid.steps); looks = omega (arith, so_far.looks, paid.looks, ahead, so_far.inside); low = omega (arith, so_far.low, paid.low) }
 
 pub returns-in-Broken-clause-read : goal.returns-in-Broken-clause-read
 returns-in-Broken-clause-read g c =

@@ -5,7 +5,7 @@ use Rattle.glob_matcher.specs.Tokens.{OneOf, Nothing}
 use Rattle.glob_matcher.specs.Private.Reader.{IsToken}
 use Rattle.glob_matcher.proofs.lemmas.two_marks.States.{nothing_met}
 use Rattle.glob_matcher.proofs.lemmas.two_marks.TakenBytes.{inner_of, misses_byte, stands_on}
-use Rattle.glob_matcher.proofs.lemmas.two_marks.Prices.{Takes-within}
+use Rattle.glob_matcher.proofs.lemmas.two_marks.Prices.{Takes-grows, Takes-within}
 use Rattle.glob_matcher.proofs.lemmas.two_marks.Turns.{set_looks}
 use Rattle.glob_matcher.proofs.lemmas.two_marks.Budget.{allows_test, test_of_token}
 use Rattle.glob_matcher.proofs.lemmas.two_marks.TakenByteCosts.{allows_on}
@@ -27,8 +27,9 @@ returns-in_default g c =
       allows = λ measure s n low a.
           allows_test c.requires.stands.inside
           (test_of_token x refl
-          (Takes-within measure s 0 1 low (set_looks (omega arith) c.in_default.ensures.broken) (omega arith) (omega (arith, inside)))) a;
-      progress = tt;
+          (Takes-within measure s 0 1 low (set_looks (omega arith) c.in_default.ensures.count) (omega arith) (omega (arith, inside)))) a;
+      progress = omega (arith, c.in_default.ensures.count.steps);
+      grows = Takes-grows (set_looks (omega arith) c.in_default.ensures.count);
     }
 
 pub returns-then-not-set : goal.returns-then-not-set
@@ -53,6 +54,7 @@ returns-then-not-set g c =
         allows = a;
       };
       progress = omega (arith, paid.steps);
+      grows = Takes-grows (set_looks (omega (arith, found.past)) paid);
     }
 
 pub returns : goal.returns
@@ -70,4 +72,5 @@ returns g c =
           (Takes-within measure s 0 1 low (set_looks (omega (arith, found.past)) paid) (omega arith) (omega (arith, found.past))) fits.0 fits.1
           (inner_of x.token c.requires.stands fits.1 (λ is. cc)) a;
       progress = omega (arith, paid.steps);
+      grows = Takes-grows (set_looks (omega (arith, found.past)) paid);
     }

@@ -2,7 +2,7 @@ use Rattle.std.proofs.Common.{◌≡◌, ◌∙◌, false, true, ap, refl, sym, 
 use Rattle.glob_matcher.specs.Private.Reader.{kind_of}
 use Rattle.glob_matcher.proofs.lemmas.reading.TokenKinds.{token_is}
 use Rattle.glob_matcher.proofs.lemmas.two_marks.TakenBytes.{stands_on, stands_past_slash, misses_byte, inner_of}
-use Rattle.glob_matcher.proofs.lemmas.two_marks.Prices.{Takes-within, TakesExactly-at_most}
+use Rattle.glob_matcher.proofs.lemmas.two_marks.Prices.{Takes-grows, Takes-within, TakesExactly-at_most}
 use Rattle.glob_matcher.proofs.lemmas.two_marks.Budget.{test_of_token}
 use Rattle.glob_matcher.proofs.lemmas.two_marks.TakenByteCosts.{allows_on, allows_past_slash}
 use Rattle.glob_matcher.proofs.wildmatch.engine.Engine.single_turn.Goals as goal
@@ -26,6 +26,7 @@ returns-then-not-fits g c =
         allows = a;
       };
       progress = omega (arith, c.fits.ensures.count.steps);
+      grows = Takes-grows (TakesExactly-at_most c.fits.ensures.count);
     }
 
 pub returns-then-is_slash : goal.returns-then-is_slash
@@ -40,6 +41,7 @@ returns-then-is_slash g c =
           allows_past_slash x c.requires.single
           (Takes-within measure s 0 _ low (TakesExactly-at_most c.fits.ensures.count) (omega arith) (omega (arith, x.past))) fits.0 fits.1 a;
       progress = omega (arith, c.fits.ensures.count.steps);
+      grows = Takes-grows (TakesExactly-at_most c.fits.ensures.count);
     }
 
 pub returns : goal.returns
@@ -57,4 +59,5 @@ returns g c =
           (inner_of x.token c.requires.stands fits.1
           (λ is. let wrong : false ≡ true = c.if-is_slash.ensures.1 (x.same_kind ∙ ap kind_of is) in cc)) a;
       progress = omega (arith, c.fits.ensures.count.steps);
+      grows = Takes-grows (TakesExactly-at_most c.fits.ensures.count);
     }

@@ -3,7 +3,7 @@ use Rattle.glob_matcher.specs.Tokens.{Byte}
 use Rattle.glob_matcher.specs.Private.Fitting.{Fits}
 use Rattle.glob_matcher.proofs.lemmas.reading.Reading.{literal_token}
 use Rattle.glob_matcher.proofs.lemmas.two_marks.TakenBytes.{misses_byte, stands_past_slash}
-use Rattle.glob_matcher.proofs.lemmas.two_marks.Prices.{Takes-within, TakesExactly-at_most}
+use Rattle.glob_matcher.proofs.lemmas.two_marks.Prices.{Takes-grows, Takes-within, TakesExactly-at_most}
 use Rattle.glob_matcher.proofs.lemmas.two_marks.Budget.{test_of_token}
 use Rattle.glob_matcher.proofs.lemmas.two_marks.TakenByteCosts.{allows_past_slash}
 use Rattle.glob_matcher.proofs.lemmas.two_marks.Scans.{slash_is_itself}
@@ -31,6 +31,7 @@ returns-then-not-fits_byte g c =
             allows = a;
           };
       progress = omega (arith, c.fits_byte.ensures.count.steps);
+      grows = Takes-grows (TakesExactly-at_most c.fits_byte.ensures.count);
     }
 
 pub returns : goal.returns
@@ -45,4 +46,5 @@ returns g c =
       allows = λ measure s n low a.
           allows_past_slash token refl (Takes-within measure s 0 1 low (TakesExactly-at_most c.fits_byte.ensures.count) (omega arith) (omega arith)) fits.0 fits.1 a;
       progress = omega (arith, c.fits_byte.ensures.count.steps);
+      grows = Takes-grows (TakesExactly-at_most c.fits_byte.ensures.count);
     }

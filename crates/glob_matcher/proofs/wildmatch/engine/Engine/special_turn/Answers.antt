@@ -2,7 +2,7 @@ use Rattle.std.proofs.Common.{ap, arith}
 use Rattle.glob_matcher.specs.Private.Reader.{is_star}
 use Rattle.glob_matcher.proofs.lemmas.reading.TokenKinds.{is_free, is_local, is_dirs, is_nothing, no_set}
 use Rattle.glob_matcher.proofs.lemmas.two_marks.States.{nothing_met}
-use Rattle.glob_matcher.proofs.lemmas.two_marks.Prices.{Takes-within}
+use Rattle.glob_matcher.proofs.lemmas.two_marks.Prices.{Takes-both, Takes-grows, Takes-within, TakesExactly-at_most}
 use Rattle.glob_matcher.proofs.lemmas.two_marks.Turns.{star_looks, token_looks, turn_on}
 use Rattle.glob_matcher.proofs.lemmas.two_marks.Budget.{allows_test, test_of_token}
 use Rattle.glob_matcher.proofs.wildmatch.engine.Engine.special_turn.Goals as goal
@@ -39,12 +39,14 @@ returns-in-Byte g c =
 pub returns-in-Nothing : goal.returns-in-Nothing
 returns-in-Nothing g c =
     let x = c.token_at-token.ensures.token in
+    let taken = Takes-both (token_looks x.past c.token_at-token.ensures.count) (TakesExactly-at_most c.fits_nothing.ensures) in
     record {
       meaning = nothing_met _ c.requires.stands (is_nothing x c.in-Nothing.is);
       allows = λ measure s n low a.
           allows_test c.requires.stands.inside
-          (test_of_token x (ap is_star c.in-Nothing.is) (Takes-within measure s 0 1 low (token_looks x.past c.token_at-token.ensures.count) (omega arith) (omega (arith, x.past)))) a;
-      progress = tt;
+          (test_of_token x (ap is_star c.in-Nothing.is) (Takes-within measure s 0 1 low taken (omega arith) (omega (arith, x.past)))) a;
+      progress = omega (arith, taken.steps);
+      grows = Takes-grows taken;
     }
 
 pub single_turn-requires-clause-other : goal.single_turn-requires-clause-other

@@ -1,7 +1,7 @@
 use Rattle.std.proofs.Common.{◌≡◌, ◌+◌, ◌≤◌, length, false, true, refl, arith}
 use Rattle.glob_matcher.specs.Private.Prices.{amount, amount_of}
 use Rattle.glob_matcher.proofs.lemmas.two_marks.States.{end_met, end_missed}
-use Rattle.glob_matcher.proofs.lemmas.two_marks.Prices.{Takes-within, TakesExactly-at_most, amount-same}
+use Rattle.glob_matcher.proofs.lemmas.two_marks.Prices.{Takes-grows, Takes-within, TakesExactly-at_most, amount-same}
 use Rattle.glob_matcher.proofs.lemmas.two_marks.Turns.{turn_on}
 use Rattle.glob_matcher.proofs.lemmas.two_marks.Budget.{allows_test, test_of_one}
 use Rattle.glob_matcher.proofs.wildmatch.engine.Engine.take_turn.Goals as goal
@@ -15,9 +15,10 @@ returns-then-ends_at g c =
       meaning = end_met c.requires (omega arith) (c.if-ends_at.ensures.answer.0 refl);
       allows = λ measure s n low a.
           let one : amount_of measure c.ends_at.new.self ≤ s + amount measure 1 1 =
-          Takes-within measure s 0 0 low c.ends_at.ensures.count (omega arith) (omega arith) in
+          Takes-within measure s 0 0 low (TakesExactly-at_most c.ends_at.ensures.count) (omega arith) (omega arith) in
           allows_test c.requires.inside (test_of_one (omega (arith, one, amount-same measure 1))) a;
       progress = tt;
+      grows = Takes-grows (TakesExactly-at_most c.ends_at.ensures.count);
     }
 
 pub returns-then-state-pattern_len : goal.returns-then-state-pattern_len
@@ -34,9 +35,10 @@ returns-then-state-pattern_len g c =
       };
       allows = λ measure s n low a.
           let one : amount_of measure c.ends_at.new.self ≤ s + amount measure 1 1 =
-          Takes-within measure s 0 0 low c.ends_at.ensures.count (omega arith) (omega arith) in
+          Takes-within measure s 0 0 low (TakesExactly-at_most c.ends_at.ensures.count) (omega arith) (omega arith) in
           record { before = s; tested = test_of_one (omega (arith, one, amount-same measure 1)); allows = a };
       progress = omega (arith, c.ends_at.ensures.count.steps);
+      grows = Takes-grows (TakesExactly-at_most c.ends_at.ensures.count);
     }
 
 pub returns-then-byte-eq47 : goal.returns-then-byte-eq47
