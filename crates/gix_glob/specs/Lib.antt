@@ -6,6 +6,7 @@ pub mod Entries
 pub mod Orders
 pub mod EntryLists
 pub mod Deciding
+pub mod DecisionLimits
 pub mod Equations
 pub mod Private
 pub use Rattle.glob_patterns.specs.Folding

@@ -11,4 +11,4 @@ mod row;
 mod table;
 
 pub use index::ListIndex;
-pub use rests::rest_of;
+pub use rests::{rest_of, rest_of_with_counts};

@@ -1,15 +1,20 @@
 //! Which pattern of a stack of lists decides about a path: the last one that matches it.
-ghost use Rattle.std.specs.Prelude.{◌↔◌, ◌≤◌, ℕ, IsTrue, MatchOption, map};
+ghost use Rattle.std.specs.Prelude.{◌↔◌, ◌+◌, ◌≤◌, ℕ, IsTrue, MatchOption, length, map, option_map};
+ghost use Rattle.std.specs.Vec.{vec_items};
 ghost use Rattle.gix_glob.specs.Deciding.{AnswersAt, BasesAreFolders, Decides, HasFolder};
+ghost use Rattle.gix_glob.specs.DecisionLimits.{decision_look_limit, decision_step_limit, list_look_limit, list_step_limit, strip_looks};
 ghost use Rattle.gix_glob.specs.EntryLists.{entry_list_of};
 ghost use Rattle.gix_glob.specs.Paths.{IsFolder, IsPlainPath};
 ghost use Rattle.gix_glob.specs.RepositoryPaths.{IsBasenameStart};
+ghost use Rattle.gix_glob.specs.Steps.{IsBlankOf};
 
 use gix_glob::pattern::{Case, basename_start};
 use gix_glob::search;
 use gix_glob::search::pattern::List;
-use gix_glob::wildmatch::Mode;
-use glob_index::rest_of;
+use gix_glob::wildmatch::{Counts, Mode};
+use glob_index::rest_of_with_counts;
+use std::marker::Brand;
+use std::sync::ledger::{Blank, Ledger};
 
 /// Which pattern decides about a path, in a stack of lists where a later one decides over an earlier one: the last mapping, of
 /// the last list that has one, that matches what the base of its list leaves of the path. The answer is the place of the list
@@ -28,9 +33,66 @@ pub fn decide<T: search::Pattern>(
     requires folders { BasesAreFolders (map (entry_list_of T.seen) lists.now) }
     ensures { Decides (map (entry_list_of T.seen) lists.now) path.now is_dir case result }
 {
+    decide_with_new_counts::<T, Brand, Brand>(
+        lists,
+        path,
+        is_dir,
+        case,
+        Blank::new(1),
+        Blank::new(1),
+    )
+}
+
+/// Which pattern decides about a path, with new counts that no one asks for.
+#[inline(always)]
+fn decide_with_new_counts<T: search::Pattern, S: Ledger, L: Ledger>(
+    lists: &[List<T>],
+    path: &[u8],
+    is_dir: bool,
+    case: Case,
+    steps: Blank,
+    looks: Blank,
+) -> Option<(usize, usize)>
+    requires plain { IsPlainPath path.now }
+    requires folders { BasesAreFolders (map (entry_list_of T.seen) lists.now) }
+    requires steps { IsBlankOf S.name S.parts steps }
+    requires looks { IsBlankOf L.name L.parts looks }
+    ensures { Decides (map (entry_list_of T.seen) lists.now) path.now is_dir case result }
+{
+    decide_with_counts(
+        lists,
+        path,
+        is_dir,
+        case,
+        &mut Counts::<S, L>::new(steps, looks),
+    )
+}
+
+/// Which pattern decides about a path, as [`decide`] answers it and under its conditions, with its steps and looks counted.
+///
+/// With `v` the length of the path in bytes, and `p` that of a pattern's text, the count of steps rises by at most the sum of
+/// `2 * (p + 1) * (v + 1)` over all patterns of all lists. That of looks rises by at most the sum of `10 * (p + 1) * (v + 1)`, and
+/// for each list twice the length of its base, or of the path where that is shorter, and `v` once, for where the path's last
+/// part begins. Neither falls.
+pub fn decide_with_counts<T: search::Pattern, S: Ledger, L: Ledger>(
+    lists: &[List<T>],
+    path: &[u8],
+    is_dir: bool,
+    case: Case,
+    counts: &mut Counts<S, L>,
+) -> Option<(usize, usize)>
+    requires plain { IsPlainPath path.now }
+    requires folders { BasesAreFolders (map (entry_list_of T.seen) lists.now) }
+    ensures exact { Decides (map (entry_list_of T.seen) lists.now) path.now is_dir case result }
+    ensures steps { counts.new.steps
+        ≤ counts.old.steps + decision_step_limit (map (entry_list_of T.seen) lists.now) (length path.now) }
+    ensures looks { counts.new.looks
+        ≤ counts.old.looks + decision_look_limit (map (entry_list_of T.seen) lists.now) (length path.now) }
+{
+    counts.looks(path.len());
     let position = basename_start(path);
     for i in (0..lists.len()).rev() {
-        if let Some(m) = last_match(&lists[i], path, position, is_dir, case) {
+        if let Some(m) = last_match(&lists[i], path, position, is_dir, case, counts) {
             return Some((i, m));
         }
     }
@@ -38,27 +100,36 @@ pub fn decide<T: search::Pattern>(
 }
 
 /// The place of the last mapping of a list that matches what the base of the list leaves of a path.
-fn last_match<T: search::Pattern>(
+fn last_match<T: search::Pattern, S: Ledger, L: Ledger>(
     list: &List<T>,
     path: &[u8],
     position: Option<usize>,
     is_dir: bool,
     case: Case,
+    counts: &mut Counts<S, L>,
 ) -> Option<usize>
     requires plain { IsPlainPath path.now }
     requires basename { IsBasenameStart path.now position }
     requires folder { HasFolder (entry_list_of T.seen list.now) }
-    ensures { MatchOption result
+    ensures last { MatchOption result
         ((m : ℕ) → ¬ AnswersAt (entry_list_of T.seen list.now) path.now is_dir case m)
         (λ last. AnswersAt (entry_list_of T.seen list.now) path.now is_dir case last
         × ((m : ℕ) → AnswersAt (entry_list_of T.seen list.now) path.now is_dir case m → m ≤ last)) }
+    ensures steps { counts.new.steps ≤ counts.old.steps + list_step_limit (entry_list_of T.seen list.now) (length path.now) }
+    ensures looks { counts.new.looks ≤ counts.old.looks + list_look_limit (entry_list_of T.seen list.now) (length path.now) }
 {
-    let (rest, position) = rest_of(list, path, position, case)?;
+    let (rest, position) = rest_of_with_counts(list, path, position, case, counts)?;
     let mappings = list.patterns.as_slice();
-    let mode = Mode::NO_MATCH_SLASH_LITERAL;
     for m in (0..mappings.len()).rev() {
         let pattern = &mappings[m].pattern;
-        if pattern.matches_repo_relative_path(rest, position, Some(is_dir), case, mode) {
+        if pattern.matches_repo_relative_path_with_counts(
+            rest,
+            position,
+            Some(is_dir),
+            case,
+            Mode::NO_MATCH_SLASH_LITERAL,
+            counts,
+        ) {
             return Some(m);
         }
     }

@@ -17,7 +17,7 @@ mod plain;
 mod transfer;
 mod wild;
 
-pub use deciding::{bases_are_folders, decide};
+pub use deciding::{bases_are_folders, decide, decide_with_counts};
 pub use decisions::run_ignore;
 pub use fault::EngineFault;
 pub use ignore::IgnoreLines;

@@ -3,6 +3,7 @@ pub mod LiteralLemmas
 pub mod LiteralBytes
 pub mod LiteralEnds
 pub mod ModeBits
+pub mod PathLimits
 pub mod PatternOrder
 pub mod ReadingEquations
 pub mod ReadingLemmas

@@ -6,4 +6,4 @@ mod stripping;
 
 pub use list::List;
 pub use mapping::Mapping;
-pub use stripping::strip_base_handle_recompute_basename_pos;
+pub use stripping::{strip_base_handle_recompute_basename_pos, strip_base_with_counts};

@@ -141,13 +141,73 @@ impl<'a> PatternView<'a> {
         ensures { IsPattern self.entry.text.now self.entry.mode self.entry.first_wildcard_pos →
             IsTrue result ↔ Answers self.entry.text.now self.entry.mode path.now basename_start_pos is_dir case mode }
     {
+        let blanks = (Blank::new(1), Blank::new(1));
+        self.matches_path_with_new_counts::<Brand, Brand>(
+            path,
+            basename_start_pos,
+            is_dir,
+            case,
+            mode,
+            blanks,
+        )
+    }
+
+    /// Whether a path of a repository matches, with new counts that no one asks for.
+    #[inline(always)]
+    fn matches_path_with_new_counts<S: Ledger, L: Ledger>(
+        self,
+        path: &[u8],
+        basename_start_pos: Option<usize>,
+        is_dir: Option<bool>,
+        case: Case,
+        mode: wildmatch::Mode,
+        blanks: (Blank, Blank),
+    ) -> bool
+        requires relative { ¬ HasByte path.now 0 slash }
+        requires basename { ForSome basename_start_pos (IsAfterLastSlash path.now) }
+        requires steps { IsBlankOf S.name S.parts blanks.0 }
+        requires looks { IsBlankOf L.name L.parts blanks.1 }
+        ensures { IsPattern self.entry.text.now self.entry.mode self.entry.first_wildcard_pos →
+            IsTrue result ↔ Answers self.entry.text.now self.entry.mode path.now basename_start_pos is_dir case mode }
+    {
+        let mut counts = Counts::<S, L>::new(blanks.0, blanks.1);
+        self.matches_repo_relative_path_with_counts(
+            path,
+            basename_start_pos,
+            is_dir,
+            case,
+            mode,
+            &mut counts,
+        )
+    }
+
+    /// Whether a path of a repository matches, as [`PatternView::matches_repo_relative_path`] answers it, with its steps and
+    /// looks counted.
+    ///
+    /// The counts rise by no more than those of [`PatternView::matches_with_counts`] for the whole path may, and never fall.
+    #[inline(always)]
+    pub fn matches_repo_relative_path_with_counts<S: Ledger, L: Ledger>(
+        self,
+        path: &[u8],
+        basename_start_pos: Option<usize>,
+        is_dir: Option<bool>,
+        case: Case,
+        mode: wildmatch::Mode,
+        counts: &mut Counts<S, L>,
+    ) -> bool
+        requires relative { ¬ HasByte path.now 0 slash }
+        requires basename { ForSome basename_start_pos (IsAfterLastSlash path.now) }
+        ensures exact { IsPattern self.entry.text.now self.entry.mode self.entry.first_wildcard_pos →
+            IsTrue result ↔ Answers self.entry.text.now self.entry.mode path.now basename_start_pos is_dir case mode }
+        ensures steps { counts.new.steps ≤ counts.old.steps + step_limit (length self.entry.text.now) (length path.now) }
+        ensures looks { counts.new.looks
+            ≤ counts.old.looks + pattern_look_limit (length self.entry.text.now) (length path.now) }
+    {
         if self.mode.contains(Mode::MUST_BE_DIR) && is_dir != Some(true) {
             return false;
         }
-        self.matches(
-            self.subject(path, basename_start_pos),
-            with_case(mode, case),
-        )
+        let subject = self.subject(path, basename_start_pos);
+        self.matches_with_counts(subject, with_case(mode, case), counts)
     }
 
     /// The bytes of a path that the pattern looks at.

@@ -1,12 +1,15 @@
 //! A list of patterns that knows where it comes from and what its base is.
-ghost use Rattle.std.specs.Prelude.{◌≡◌, [], None, All, IsTrue, IfOk, MatchOption, option_map};
+ghost use Rattle.std.specs.Prelude.{◌≡◌, ◌+◌, [], None, All, IsTrue, IfOk, MatchOption, length, option_map};
 ghost use Rattle.std.specs.Vec.{vec_items};
+ghost use Rattle.gix_glob.specs.DecisionLimits.{strip_looks};
 ghost use Rattle.gix_glob.specs.Stripping.{RestOf, NothingLeft, IsPlaced, place_after};
 
-use super::{Mapping, strip_base_handle_recompute_basename_pos};
+use super::{Mapping, strip_base_handle_recompute_basename_pos, strip_base_with_counts};
 use crate::pattern::Case;
 use crate::search::Pattern;
+use crate::wildmatch::Counts;
 use std::alloc::{AllocError, Global};
+use std::sync::ledger::Ledger;
 
 /// A list of patterns, which may know where it was loaded from and what its base is.
 ///
@@ -76,6 +79,30 @@ impl<T: Pattern> List<T> {
             }
             None => Some((relative_path, basename_pos)),
         }
+    }
+
+    /// What is left of `relative_path` under the base of this list, as [`List::strip_base_handle_recompute_basename_pos`]
+    /// answers it, under its condition, with looks counted as [`strip_base_with_counts`] does. Without a base there are none.
+    pub fn strip_base_with_counts<'a, S: Ledger, L: Ledger>(
+        &self,
+        relative_path: &'a [u8],
+        basename_pos: Option<usize>,
+        case: Case,
+        counts: &mut Counts<S, L>,
+    ) -> Option<(&'a [u8], Option<usize>)>
+        requires { IsPlaced case (option_map vec_items self.now.base) relative_path.now basename_pos }
+        ensures rest { MatchOption result
+            (NothingLeft case (option_map vec_items self.now.base) relative_path.entry.now)
+            (λ left. RestOf case (option_map vec_items self.now.base) relative_path.entry.now left.0.now
+            × (left.1 ≡ place_after (option_map vec_items self.now.base) basename_pos)) }
+        ensures steps { counts.new.steps ≡ counts.old.steps }
+        ensures looks { counts.new.looks
+            ≡ counts.old.looks + strip_looks (option_map vec_items self.now.base) (length relative_path.entry.now) }
+    {
+        let Some(base) = &self.base else {
+            return Some((relative_path, basename_pos));
+        };
+        strip_base_with_counts(base, relative_path, basename_pos, case, counts)
     }
 }
 

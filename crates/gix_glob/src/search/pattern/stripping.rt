@@ -1,9 +1,12 @@
 //! What is left of a path once a base is stripped from its front.
-ghost use Rattle.std.specs.Prelude.{◌≡◌, ◌≤◌, length, Some, MatchOption};
+ghost use Rattle.std.specs.Prelude.{◌≡◌, ◌+◌, ◌≤◌, length, Some, MatchOption};
 ghost use Rattle.std.specs.Option.{ForSome};
+ghost use Rattle.gix_glob.specs.DecisionLimits.{strip_looks};
 ghost use Rattle.gix_glob.specs.Stripping.{Rest, NothingLeft, IsPlaced, stripped_place};
 
 use crate::pattern::Case;
+use crate::wildmatch::Counts;
+use std::sync::ledger::Ledger;
 
 /// Strips `base` from the front of `relative_path`, and answers what follows it, a part of the given path, with the
 /// place `basename_pos` counted from there; `None` where the path does not begin with the base.
@@ -24,6 +27,28 @@ pub fn strip_base_handle_recompute_basename_pos<'a>(
 {
     let rest = strip_base(base, relative_path, case)?;
     Some((rest, stripped_place(base.len(), basename_pos)))
+}
+
+/// Strips `base` as [`strip_base_handle_recompute_basename_pos`] does, under its condition, and counts a look at each byte that
+/// it may read: those of the base as far as the path goes, and those of the path beside them. No step is counted.
+pub fn strip_base_with_counts<'a, S: Ledger, L: Ledger>(
+    base: &[u8],
+    relative_path: &'a [u8],
+    basename_pos: Option<usize>,
+    case: Case,
+    counts: &mut Counts<S, L>,
+) -> Option<(&'a [u8], Option<usize>)>
+    requires { IsPlaced case (Some base.now) relative_path.now basename_pos }
+    ensures rest { MatchOption result
+        (NothingLeft case (Some base.now) relative_path.entry.now)
+        (λ left. Rest case base.now relative_path.entry.now left.0.now × (left.1 ≡ stripped_place (length base.now) basename_pos)) }
+    ensures steps { counts.new.steps ≡ counts.old.steps }
+    ensures looks { counts.new.looks ≡ counts.old.looks + strip_looks (Some base.now) (length relative_path.entry.now) }
+{
+    let compared = base.len().min(relative_path.len());
+    counts.looks(compared);
+    counts.looks(compared);
+    strip_base_handle_recompute_basename_pos(base, relative_path, basename_pos, case)
 }
 
 /// What follows the base; `None` where the path does not begin with it.
