@@ -6,7 +6,7 @@ use Rattle.gix_glob.specs.Entries.{Entry}
 use Rattle.gix_glob.specs.EntryLists.{EntryList}
 use Rattle.gix_glob.specs.Paths.{IsPlainPath}
 use Rattle.gix_glob.specs.Patterns.{is_negative}
-use Rattle.glob_lines.specs.Lines.{Lines, WritesEach}
+use Rattle.glob_lines.specs.Lines.{EndsInFeed, Lines, WritesEach}
 use Rattle.glob_lines.specs.PathLines.{MarksDirectory}
 
 -- what is said of an entry that decides: whether the path is kept or ignored, by which list, and by which number in it
@@ -39,5 +39,5 @@ WritesDecisions lists case line written =
 -- The text has a line for each path line, in order.
 pub record DecisionsText {V : Type 0} (lists : List (EntryList V)) (case : Case) (paths text : List ℕ) : Type 0 where
   pub lines : List (List ℕ)
-  pub cut : Lines paths lines
+  pub cut : Lines EndsInFeed paths lines
   pub writes : WritesEach (WritesDecisions lists case) lines text

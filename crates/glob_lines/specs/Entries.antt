@@ -23,8 +23,9 @@ EntriesFrom {V} Gives number (line ∷ lines) entries =
     ⊎ ((first : Entry V) × (more : List (Entry V)) × (entries ≡ first ∷ more) × IsEntryOf Gives line number first × EntriesFrom Gives (number + 1) lines more)
 
 -- The entries of the lines of the bytes: for each line, numbered from 1, that has an entry, this entry.
--- `Gives line text value` says what a line gives: the text that a pattern is read from, and the value beside the pattern.
-pub record Entries {V : Type 0} (Gives : List ℕ → List ℕ → V → Type 0) (bytes : List ℕ) (entries : List (Entry V)) : Type 0 where
+-- `Ends line ending` says how a line ends, and `Gives line text value` what it gives: the text that a pattern is read from, and
+-- the value beside the pattern.
+pub record Entries {V : Type 0} (Ends : List ℕ → List ℕ → Type 0) (Gives : List ℕ → List ℕ → V → Type 0) (bytes : List ℕ) (entries : List (Entry V)) : Type 0 where
   pub lines : List (List ℕ)
-  pub cut : Lines bytes lines
+  pub cut : Lines Ends bytes lines
   pub each : EntriesFrom Gives 1 lines entries

@@ -1,32 +1,20 @@
 -- What the parser of ignore lines means: the readings of the lines as Git's ignore files have them.
-use Rattle.std.specs.Prelude.{◌≡◌, ◌≢◌, ℕ, ◌<◌, Bool, ◌&&◌, ◌==◌, true, false, nat_eq, if◌then◌else◌, List, [], ◌∷◌, ◌++◌, length, drop, Option, MatchOption, codes}
-use Rattle.std.specs.List.{AllByRecursion, concat, starts_with}
+use Rattle.std.specs.Prelude.{◌≡◌, ◌≢◌, ◌⊎◌, ℕ, Bool, ◌==◌, true, false, nat_eq, if◌then◌else◌, List, [], ◌∷◌, ◌++◌, drop, Option, MatchOption, codes}
+use Rattle.std.specs.List.{AllByRecursion, concat, ends_with, starts_with}
 use Rattle.gix_glob.specs.Bytes.{backslash}
-use Rattle.glob_lines.specs.Lines.{Lines, line_feed}
+use Rattle.glob_lines.specs.Lines.{CutsLine}
 use Rattle.glob_lines.specs.Entries.{Entries}
 use Rattle.glob_lines.specs.Plain.{PlainEntry}
 
 -- ---- the bytes that hold the lines
 
--- the three bytes of a byte order mark
-abbrev pub byte_order_mark : List ℕ
-byte_order_mark = 239 ∷ 187 ∷ 191 ∷ []
-
--- what follows the byte order mark at the front, where there is one
+-- what follows the byte order mark at the front, where there is one: three bytes
 abbrev pub without_mark : List ℕ → List ℕ
-without_mark bytes = if starts_with nat_eq bytes byte_order_mark then drop 3 bytes else bytes
+without_mark bytes = if starts_with nat_eq bytes (239 ∷ 187 ∷ 191 ∷ []) then drop 3 bytes else bytes
 
--- the byte of a carriage return
-abbrev pub carriage_return : ℕ
-carriage_return = 13
-
--- the bytes without each carriage return that stands directly before a line feed
-abbrev pub without_returns : List ℕ → List ℕ
-without_returns [] = []
-without_returns (b ∷ bytes) =
-    if b == carriage_return && starts_with nat_eq bytes (line_feed ∷ [])
-    then without_returns bytes
-    else b ∷ without_returns bytes
+-- a line ends in a line feed, with the carriage return that stands directly before it, where one does
+abbrev pub EndsIgnoreLine : List ℕ → List ℕ → Type 0
+EndsIgnoreLine line ending = (ending ≡ codes "\r\n") ⊎ ((ending ≡ codes "\n") × (ends_with nat_eq line (codes "\r") ≡ false))
 
 -- ---- a line
 
@@ -43,18 +31,14 @@ units_of (b ∷ c ∷ bytes) =
     then (b ∷ c ∷ []) ∷ units_of bytes
     else (b ∷ []) ∷ units_of (c ∷ bytes)
 
--- the unit that is a space
-abbrev pub space : List ℕ
-space = codes " "
-
 -- The text is the line without the spaces at its end: the line's units are those that are kept, the last of which is no space,
 -- and then spaces.
 pub record Trims (line text : List ℕ) : Type 0 where
   pub kept : List (List ℕ)
   pub spaces : List (List ℕ)
   pub units : units_of line ≡ kept ++ spaces
-  pub each : AllByRecursion (λ unit. unit ≡ space) spaces
-  pub last : (before : List (List ℕ)) → kept ≢ before ++ space ∷ []
+  pub each : AllByRecursion (λ unit. unit ≡ codes " ") spaces
+  pub last : (before : List (List ℕ)) → kept ≢ before ++ codes " " ∷ []
   pub joined : text ≡ concat kept
 
 -- a line that is no comment gives its text without the spaces at its end
@@ -63,21 +47,14 @@ pub record GivesTrimmed (line text : List ℕ) (value : Unit {0}) : Type 0 where
   pub trims : Trims line text
 
 -- The ignore entries of the bytes: for each line, numbered from 1, that is no comment and whose text without the spaces at its
--- end has a reading, this reading and the number. A byte order mark at the front isn't of the lines, and neither is a carriage
--- return directly before a line feed.
+-- end has a reading, this reading and the number. A byte order mark at the front isn't of the lines.
 abbrev pub Ignore : List ℕ → List PlainEntry → Type 0
-Ignore bytes entries = Entries GivesTrimmed (without_returns (without_mark bytes)) entries
+Ignore bytes entries = Entries EndsIgnoreLine GivesTrimmed (without_mark bytes) entries
 
 -- ---- one line after the other
 
--- The lines of the bytes, whose byte order mark is taken off, are a first line and then those of the rest. The first line gives
--- this text, or is a comment where there is no text. The rest is the bytes but for so many at their front, at least one.
+-- The bytes are a first line, its ending and the rest. The line gives this text, or is a comment where there is no text.
 pub record BeginsWithLine (bytes : List ℕ) (text : Option (List ℕ)) (rest : List ℕ) : Type 0 where
   pub line : List ℕ
-  pub others : List (List ℕ)
-  pub of_rest : Lines (without_returns rest) others
-  pub of_bytes : Lines (without_returns bytes) (line ∷ others)
+  pub cut : CutsLine EndsIgnoreLine bytes line rest
   pub gives : MatchOption text (is_comment line ≡ true) (λ line_text. GivesTrimmed line line_text tt)
-  pub taken : ℕ
-  pub behind : rest ≡ drop taken bytes
-  pub shorter : length rest < length bytes

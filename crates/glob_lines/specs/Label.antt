@@ -1,7 +1,7 @@
 -- What the parser of labels means: the readings of what stands before the lines' tabs, with what stands after them as values.
 use Rattle.std.specs.Prelude.{◌≡◌, ◌⊎◌, ℕ, List, [], ◌∷◌, ◌++◌}
 use Rattle.gix_glob.specs.Entries.{Entry}
-use Rattle.glob_lines.specs.Lines.{HasNo}
+use Rattle.glob_lines.specs.Lines.{EndsInFeed, HasNo}
 use Rattle.glob_lines.specs.Entries.{Entries}
 use Rattle.glob_lines.specs.Plain.{PlainEntry}
 
@@ -22,7 +22,7 @@ pub record GivesLabel (line text value : List ℕ) : Type 0 where
 -- The labelled entries of the bytes: for each line, numbered from 1, whose part before the first tab has a reading, this
 -- reading with the part after that tab, and the number.
 abbrev pub Label : List ℕ → List LabelEntry → Type 0
-Label bytes entries = Entries GivesLabel bytes entries
+Label bytes entries = Entries EndsInFeed GivesLabel bytes entries
 
 -- the plain entry, with an empty label
 abbrev pub entry_with_empty_label : PlainEntry → LabelEntry

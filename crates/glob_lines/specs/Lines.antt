@@ -10,27 +10,26 @@ line_feed = 10
 abbrev pub HasNo : ℕ → List ℕ → Type 0
 HasNo byte text = AllByRecursion (λ b. b ≢ byte) text
 
--- the text holds no line feed
-abbrev pub HasNoLineFeed : List ℕ → Type 0
-HasNoLineFeed text = HasNo line_feed text
-
 -- the texts, each followed by a line feed
 abbrev pub text_of_lines : List (List ℕ) → List ℕ
 text_of_lines texts = flat_map (λ text. text ++ line_feed ∷ []) texts
 
--- the bytes are the texts, each followed by a line feed but the last, which isn't empty
-pub record EndsOpen (bytes : List ℕ) (texts : List (List ℕ)) : Type 0 where
-  pub front : List (List ℕ)
-  pub last : List ℕ
-  pub some : last ≢ []
-  pub is : texts ≡ front ++ last ∷ []
-  pub joined : bytes ≡ text_of_lines front ++ last
+-- The bytes are a line without a line feed, its ending and the rest. `Ends line ending` says which endings a line has; the last
+-- line may lack its ending where it isn't empty.
+pub record CutsLine (Ends : List ℕ → List ℕ → Type 0) (bytes line rest : List ℕ) : Type 0 where
+  pub whole : HasNo line_feed line
+  pub ending : List ℕ
+  pub joined : bytes ≡ line ++ (ending ++ rest)
+  pub ended : Ends line ending ⊎ ((line ≢ []) × (ending ≡ []) × (rest ≡ []))
 
--- The lines of the bytes: the texts that hold no line feed and that, each followed by one, give the bytes.
--- The last line feed may be missing after a text that isn't empty.
-pub record Lines (bytes : List ℕ) (texts : List (List ℕ)) : Type 0 where
-  pub each : AllByRecursion HasNoLineFeed texts
-  pub joined : (bytes ≡ text_of_lines texts) ⊎ EndsOpen bytes texts
+-- the lines of the bytes: the first one is cut off them, and the others are those of the rest
+abbrev pub Lines : (List ℕ → List ℕ → Type 0) → List ℕ → List (List ℕ) → Type 0
+Lines Ends bytes [] = bytes ≡ []
+Lines Ends bytes (line ∷ lines) = (rest : List ℕ) × CutsLine Ends bytes line rest × Lines Ends rest lines
+
+-- a line ends in a line feed
+abbrev pub EndsInFeed : List ℕ → List ℕ → Type 0
+EndsInFeed line ending = ending ≡ line_feed ∷ []
 
 -- The text has one line for each of these lines, in order: `P line written` says what is written for a line.
 pub record WritesEach (P : List ℕ → List ℕ → Type 0) (lines : List (List ℕ)) (text : List ℕ) : Type 0 where

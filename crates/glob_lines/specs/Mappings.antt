@@ -5,7 +5,7 @@ use Rattle.gix_glob.specs.Deciding.{path_mode}
 use Rattle.gix_glob.specs.Paths.{Base}
 use Rattle.gix_glob.specs.RepositoryPaths.{Answers, IsBasenameStart}
 use Rattle.gix_glob.specs.Stripping.{NothingLeft, RestOf}
-use Rattle.glob_lines.specs.Lines.{Lines, WritesEach}
+use Rattle.glob_lines.specs.Lines.{EndsInFeed, Lines, WritesEach}
 use Rattle.glob_lines.specs.Numbers.{Picks, text_of_numbers}
 use Rattle.glob_lines.specs.PathLines.{IsPlainPath, MarksDirectory}
 use Rattle.glob_lines.specs.Plain.{Plain, PlainEntry}
@@ -39,7 +39,7 @@ WritesMatches entries base case line written =
 -- the text has a line for each path line, in order
 pub record MatchesText (entries : List PlainEntry) (base : Option (List ℕ)) (case : Case) (paths text : List ℕ) : Type 0 where
   pub lines : List (List ℕ)
-  pub cut : Lines paths lines
+  pub cut : Lines EndsInFeed paths lines
   pub writes : WritesEach (WritesMatches entries base case) lines text
 
 -- what is read: pattern lines, and path lines

@@ -2,7 +2,7 @@
 use Rattle.std.specs.Prelude.{◌≡◌, ◌↔◌, ℕ, Bool, IsTrue, List, codes, if◌then◌else◌}
 use Rattle.gix_glob.specs.declared.wildmatch.Mode.{Mode}
 use Rattle.gix_glob.specs.Matching.{Splits}
-use Rattle.glob_lines.specs.Lines.{Lines, WritesEach}
+use Rattle.glob_lines.specs.Lines.{EndsInFeed, Lines, WritesEach}
 
 -- the word for an answer
 abbrev pub word_of : Bool → List ℕ
@@ -17,5 +17,5 @@ pub record WritesAnswer (pattern : List ℕ) (mode : Mode) (value line : List �
 -- The text of values: a line with the answer for each line of the input, in order.
 pub record ValuesText (pattern : List ℕ) (mode : Mode) (input text : List ℕ) : Type 0 where
   pub values : List (List ℕ)
-  pub lines : Lines input values
+  pub lines : Lines EndsInFeed input values
   pub answers : WritesEach (WritesAnswer pattern mode) values text

@@ -1,8 +1,8 @@
 //! One line of an ignore file after the other, without a copy.
-ghost use Rattle.std.specs.Prelude.{◌≡◌, ◌<◌, ℕ, [], ◌∷◌, ◌++◌, drop, length, MatchOption};
+ghost use Rattle.std.specs.Prelude.{◌≡◌, ◌<◌, [], ◌++◌, length, MatchOption};
 ghost use Rattle.std.specs.Option.{option_copied};
-ghost use Rattle.glob_lines.specs.Equations.Lines.{lines_of};
-ghost use Rattle.glob_lines.specs.Ignore.{BeginsWithLine, Trims, is_comment, without_mark, without_returns};
+ghost use Rattle.glob_lines.specs.Ignore.{BeginsWithLine, EndsIgnoreLine, Trims, is_comment, without_mark};
+ghost use Rattle.glob_lines.specs.Lines.{CutsLine};
 ghost use Rattle.glob_lines.specs.Private.Trimming.{StandsBefore, is_open, return_of};
 
 use memchr::memchr;
@@ -12,7 +12,7 @@ use memchr::memchr;
 pub struct IgnoreLine<'a> {
     /// The bytes that a pattern is read from, without the spaces at their end. `None` where the line is a comment.
     pub text: Option<&'a [u8]>,
-    /// The bytes after the line and its line feed.
+    /// The bytes after the line and its ending.
     pub rest: &'a [u8],
 }
 
@@ -56,9 +56,7 @@ fn is_comment(line: &[u8]) -> bool
 /// The first line of bytes that are not empty, without its ending, and what follows it.
 fn split_ended_line(bytes: &[u8]) -> (&[u8], &[u8])
     requires { 0 < length bytes.now }
-    ensures lines { lines_of (without_returns bytes.now) ≡ result.0.now ∷ lines_of (without_returns result.1.now) }
-    ensures behind { (taken : ℕ) × (result.1.now ≡ drop taken bytes.now) }
-    ensures shorter { length result.1.now < length bytes.now }
+    ensures { CutsLine EndsIgnoreLine bytes.now result.0.now result.1.now }
 {
     match memchr(b'\n', bytes) {
         Some(end) => (without_return(&bytes[..end]), &bytes[end + 1..]),

@@ -10,7 +10,7 @@ ghost use Rattle.glob_lines.specs.Ignore.{Ignore};
 ghost use Rattle.glob_lines.specs.Equations.Ignore.{ignore_of};
 ghost use Rattle.glob_lines.specs.Label.{Label, LabelEntry, tab, entry_with_empty_label};
 ghost use Rattle.glob_lines.specs.Equations.Label.{label_of};
-ghost use Rattle.glob_lines.specs.Lines.{HasNo, Lines};
+ghost use Rattle.glob_lines.specs.Lines.{EndsInFeed, HasNo, Lines};
 ghost use Rattle.glob_lines.specs.Equations.Lines.{lines_of};
 ghost use Rattle.glob_lines.specs.Mappings.{MappingsText, PatternsAndPaths};
 ghost use Rattle.glob_lines.specs.Plain.{Plain, PlainEntry};
@@ -22,7 +22,7 @@ use gix_glob::search;
 
 /// Bytes have one list of lines, which the equations of `lines_of` give.
 pub fn lines_are_these()
-    ensures { (bytes : List ℕ) (texts : List (List ℕ)) → Lines bytes texts ↔ (texts ≡ lines_of bytes) }
+    ensures { (bytes : List ℕ) (texts : List (List ℕ)) → Lines EndsInFeed bytes texts ↔ (texts ≡ lines_of bytes) }
 {}
 
 /// Bytes have one list of plain entries, which the equations of `plain_of` give.

@@ -9,10 +9,9 @@ use Rattle.gix_glob.specs.Entries.{Entry, entry_of}
 use Rattle.gix_glob.specs.Equations.Entries.{entry_with}
 use Rattle.gix_glob.specs.Patterns.{Reads}
 use Rattle.gix_glob.specs.Equations.Readings.{Reading, reading_of}
-use Rattle.glob_lines.specs.Equations.Lines.{lines_of}
 use Rattle.glob_lines.specs.Entries.{Entries, EntriesFrom, HasNoEntry, IsEntryOf}
-use Rattle.glob_lines.specs.Equations.Entries.{LineContent, entries_from, entries_of, entry_of_content, entry_of_line}
-use Rattle.glob_lines.proofs.lemmas.LinesLemmas.{Lines-lines_of, Lines-only}
+use Rattle.glob_lines.specs.Equations.Entries.{LineContent, entries_from, entry_of_content, entry_of_line}
+use Rattle.glob_lines.proofs.lemmas.LinesLemmas.{Lines-are, Lines-only, TellsLines}
 
 -- the law `readings_are_these`, restated: a lemma can't cite a clause
 abbrev pub ReadingsAreThese : Type 0
@@ -117,15 +116,18 @@ module _ {V : Type 0} (Gives : List ℕ → List ℕ → V → Type 0) (content_
       h.2 ∙ ap (λ l. h.0 ∷ l) (EntriesFrom-only (number + 1) lines h.1 h.4)
       ∙ sym (ap (λ o. cons_option o (entries_from content_of (number + 1) lines)) (entry_of_line-is number line h.0 h.3))
 
-  pub Entries-entries_of : (bytes : List ℕ) → Entries Gives bytes (entries_of content_of bytes)
-  Entries-entries_of bytes = record { lines = lines_of bytes; cut = Lines-lines_of bytes; each = entries_from-EntriesFrom 1 (lines_of bytes) }
+  -- ---- the entries of the lines of bytes
 
-  pub Entries-only : (bytes : List ℕ) (entries : List (Entry V)) → Entries Gives bytes entries → entries ≡ entries_of content_of bytes
-  Entries-only bytes entries h = EntriesFrom-only 1 h.lines entries h.each ∙ ap (entries_from content_of 1) (Lines-only bytes h.lines h.cut)
+  module _ (Ends : List ℕ → List ℕ → Type 0) (lines : List ℕ → List (List ℕ)) (are_lines : TellsLines Ends lines) where
+    pub Entries-are : (bytes : List ℕ) → Entries Ends Gives bytes (entries_from content_of 1 (lines bytes))
+    Entries-are bytes = record { lines = lines bytes; cut = Lines-are Ends lines are_lines bytes; each = entries_from-EntriesFrom 1 (lines bytes) }
 
-  -- the relation and the equation agree
-  pub entries_are_these : (bytes : List ℕ) (entries : List (Entry V)) → Entries Gives bytes entries ↔ (entries ≡ entries_of content_of bytes)
-  entries_are_these bytes entries = (Entries-only bytes entries, λ is. subst (Entries Gives bytes) (sym is) (Entries-entries_of bytes))
+    pub Entries-only : (bytes : List ℕ) (entries : List (Entry V)) → Entries Ends Gives bytes entries → entries ≡ entries_from content_of 1 (lines bytes)
+    Entries-only bytes entries h = EntriesFrom-only 1 h.lines entries h.each ∙ ap (entries_from content_of 1) (Lines-only Ends lines are_lines bytes h.lines h.cut)
+
+    -- the relation and the equation agree
+    pub entries_are_these : (bytes : List ℕ) (entries : List (Entry V)) → Entries Ends Gives bytes entries ↔ (entries ≡ entries_from content_of 1 (lines bytes))
+    entries_are_these bytes entries = (Entries-only bytes entries, λ is. subst (Entries Ends Gives bytes) (sym is) (Entries-are bytes))
 
 -- ---- one line after the other
 

@@ -1,19 +1,18 @@
 -- The lines of an ignore file: endings, comments, and the entries of all lines.
-use Rattle.std.proofs.Common.{◌≡◌, ◌≢◌, ⊎_elim, ℕ, ◌<◌, ◌≤◌, Bool, true, false, cond, ◌&&◌, List, [], ◌∷◌, ◌++◌, length, drop, Option, None, Some, refl, sym, ap, subst, ◌∙◌, append_assoc, append-nil, length-drop, le_refl, arith}
-use Rattle.std.specs.Prelude.{◌==◌, nat_eq, MatchOption}
+use Rattle.std.proofs.Common.{◌≡◌, ◌≢◌, inl, inr, ⊎_elim, ℕ, ◌-◌, ◌<◌, ◌≤◌, Bool, true, false, cond, ◌&&◌, List, [], ◌∷◌, ◌++◌, length, take, drop, Option, None, Some, refl, sym, ap, subst, ◌∙◌, append_assoc, append-nil, length-drop, le_refl, arith}
+use Rattle.std.specs.Prelude.{◌==◌, nat_eq}
 use Rattle.std.specs.List.{starts_with}
 use Rattle.std.proofs.lemmas.Bool.Decides.{Decides-eqb}
 use Rattle.std.proofs.lemmas.Slice.Eq.{ends_is}
 use Rattle.std.proofs.lemmas.Bool.{cases_Bool, false≢true, ne_eqb}
-use Rattle.memchr.specs.Find.{IsFirstByte, is_byte}
-use Rattle.glob_lines.specs.Lines.{HasNo, HasNoLineFeed, Lines, line_feed}
+use Rattle.glob_lines.specs.Lines.{CutsLine, EndsInFeed, HasNo, line_feed}
 use Rattle.glob_lines.specs.Equations.Lines.{lines_of}
 use Rattle.glob_lines.specs.Equations.Entries.{LineContent}
 use Rattle.glob_lines.specs.Private.Trimming.{ends_in_return, return_of}
-use Rattle.glob_lines.specs.Ignore.{BeginsWithLine, GivesTrimmed, Trims, byte_order_mark, carriage_return, is_comment, without_mark, without_returns}
-use Rattle.glob_lines.specs.Equations.Ignore.{text_before_spaces, ignore_content}
+use Rattle.glob_lines.specs.Ignore.{BeginsWithLine, EndsIgnoreLine, GivesTrimmed, Trims, is_comment, without_mark}
+use Rattle.glob_lines.specs.Equations.Ignore.{carriage_return, ignore_content, text_before_spaces, without_returns}
 use Rattle.glob_lines.proofs.lemmas.ListLemmas.{AllByRecursion-append_parts}
-use Rattle.glob_lines.proofs.lemmas.LinesLemmas.{Lines-lines_of, Lines-only, last_line, lines_of-line, length-lines_of-le, HasNo-not_found, IsCutAt}
+use Rattle.glob_lines.proofs.lemmas.LinesLemmas.{CutsLine-by, CutsLine-open, CutsLine-shorter, HasLine, IsCutAt, TellsLines, has_line, length-lines_of-le, lines_of-last, lines_of-line}
 use Rattle.glob_lines.proofs.lemmas.EntriesLemmas.{Tells}
 use Rattle.glob_lines.proofs.lemmas.TrimLemmas.{Trims-only, Trims-text_before_spaces}
 
@@ -38,7 +37,7 @@ no_feed_next : (c : ℕ) (bytes : List ℕ) → c ≢ line_feed → begins_with_
 no_feed_next c bytes other = rw (ne_eqb line_feed c (λ is. other (sym is))) refl
 
 -- what stands before a byte that is no line feed stays, but for the rules of that byte
-pub without_returns-front : (front : List ℕ) (c : ℕ) (bytes : List ℕ) → HasNoLineFeed front → c ≢ line_feed → without_returns (front ++ c ∷ bytes) ≡ front ++ without_returns (c ∷ bytes)
+pub without_returns-front : (front : List ℕ) (c : ℕ) (bytes : List ℕ) → HasNo line_feed front → c ≢ line_feed → without_returns (front ++ c ∷ bytes) ≡ front ++ without_returns (c ∷ bytes)
 without_returns-front [] c bytes none other = refl
 without_returns-front (b ∷ []) c bytes none other = stays b (c ∷ bytes) (no_feed_next c bytes other)
 without_returns-front (b ∷ d ∷ front) c bytes none other =
@@ -46,14 +45,14 @@ without_returns-front (b ∷ d ∷ front) c bytes none other =
     ∙ ap (λ l. b ∷ l) (without_returns-front (d ∷ front) c bytes none.1 other)
 
 -- a line's carriage return
-pub without_returns-return : (line rest : List ℕ) → HasNoLineFeed line → without_returns ((line ++ carriage_return ∷ []) ++ line_feed ∷ rest) ≡ line ++ line_feed ∷ without_returns rest
+pub without_returns-return : (line rest : List ℕ) → HasNo line_feed line → without_returns ((line ++ carriage_return ∷ []) ++ line_feed ∷ rest) ≡ line ++ line_feed ∷ without_returns rest
 without_returns-return line rest none =
     let other : carriage_return ≢ line_feed = λ (is : carriage_return ≡ line_feed). absurd (omega arith) in
     ap without_returns (append_assoc line (carriage_return ∷ []) (line_feed ∷ rest))
     ∙ without_returns-front line carriage_return (line_feed ∷ rest) none other
 
 -- a line whose last byte is no carriage return
-without_returns-last : (front : List ℕ) (c : ℕ) (rest : List ℕ) → HasNoLineFeed front → c ≢ line_feed → c ≢ carriage_return → without_returns (front ++ c ∷ line_feed ∷ rest) ≡ (front ++ c ∷ []) ++ line_feed ∷ without_returns rest
+without_returns-last : (front : List ℕ) (c : ℕ) (rest : List ℕ) → HasNo line_feed front → c ≢ line_feed → c ≢ carriage_return → without_returns (front ++ c ∷ line_feed ∷ rest) ≡ (front ++ c ∷ []) ++ line_feed ∷ without_returns rest
 without_returns-last front c rest none feed other =
     without_returns-front front c (line_feed ∷ rest) none feed
     ∙ ap (λ l. front ++ l) (other_stays c (line_feed ∷ rest) other)
@@ -68,7 +67,7 @@ last_of : (b : ℕ) (bytes : List ℕ) → HasLast (b ∷ bytes)
 last_of b [] = record { front = []; last = b; is = refl }
 last_of b (c ∷ bytes) = let h = last_of c bytes in record { front = b ∷ h.front; last = h.last; is = ap (λ l. b ∷ l) h.is }
 
-pub without_returns-other : (line rest : List ℕ) → HasNoLineFeed line → ((before : List ℕ) → line ≢ before ++ carriage_return ∷ []) → without_returns (line ++ line_feed ∷ rest) ≡ line ++ line_feed ∷ without_returns rest
+pub without_returns-other : (line rest : List ℕ) → HasNo line_feed line → ((before : List ℕ) → line ≢ before ++ carriage_return ∷ []) → without_returns (line ++ line_feed ∷ rest) ≡ line ++ line_feed ∷ without_returns rest
 without_returns-other [] rest none other = refl
 without_returns-other (b ∷ bytes) rest none other =
     let h = last_of b bytes in
@@ -80,72 +79,101 @@ without_returns-other (b ∷ bytes) rest none other =
     ∙ without_returns-last h.front h.last rest parts.0 parts.1.0 dark
     ∙ sym (ap (λ l. l ++ line_feed ∷ without_returns rest) h.is)
 
-pub without_returns-none : (bytes : List ℕ) → HasNoLineFeed bytes → without_returns bytes ≡ bytes
+pub without_returns-none : (bytes : List ℕ) → HasNo line_feed bytes → without_returns bytes ≡ bytes
 without_returns-none [] none = refl
 without_returns-none (b ∷ []) none = stays b [] refl
 without_returns-none (b ∷ c ∷ bytes) none = stays b (c ∷ bytes) (no_feed_next c bytes none.1.0) ∙ ap (λ l. b ∷ l) (without_returns-none (c ∷ bytes) none.1)
 
 -- ---- the first line
 
-pub ignore_line-by_return : (bytes line text rest : List ℕ) → IsCutAt line_feed bytes line rest → line ≡ text ++ carriage_return ∷ [] → lines_of (without_returns bytes) ≡ text ∷ lines_of (without_returns rest)
-ignore_line-by_return bytes line text rest h is =
-    let none = AllByRecursion-append_parts (λ b. b ≢ line_feed) text (carriage_return ∷ []) (subst (HasNo line_feed) is h.none) in
-    ap (λ l. lines_of (without_returns l)) (h.joined ∙ ap (λ l. l ++ line_feed ∷ rest) is)
-    ∙ ap lines_of (without_returns-return text rest none.0)
-    ∙ lines_of-line text (without_returns rest) none.0
+-- a line's ending has a byte
+ending_has_bytes : (line ending : List ℕ) → EndsIgnoreLine line ending → 0 < length ending
+ending_has_bytes line ending (inl both) = omega (arith, ap length both)
+ending_has_bytes line ending (inr feed) = omega (arith, ap length feed.0)
 
-pub ignore_line-by_feed : (bytes line rest : List ℕ) → IsCutAt line_feed bytes line rest → ((before : List ℕ) → line ≢ before ++ carriage_return ∷ []) → lines_of (without_returns bytes) ≡ line ∷ lines_of (without_returns rest)
-ignore_line-by_feed bytes line rest h other =
-    ap (λ l. lines_of (without_returns l)) h.joined
-    ∙ ap lines_of (without_returns-other line rest h.none other)
-    ∙ lines_of-line line (without_returns rest) h.none
+pub CutsLine-shorter_by : (bytes line rest : List ℕ) → CutsLine EndsIgnoreLine bytes line rest → length rest < length bytes
+CutsLine-shorter_by bytes line rest cut = CutsLine-shorter EndsIgnoreLine bytes line rest cut (ending_has_bytes line)
 
--- without its carriage return, where it has one
-pub ignore_line-first : (bytes line text rest : List ℕ) → IsCutAt line_feed bytes line rest → line ≡ text ++ return_of line → lines_of (without_returns bytes) ≡ text ∷ lines_of (without_returns rest)
-ignore_line-first bytes line text rest h parts =
+no_return : (line : List ℕ) → ends_in_return line ≡ false → (before : List ℕ) → line ≢ before ++ carriage_return ∷ []
+no_return line other before is = false≢true (sym other ∙ (ends_is Decides-eqb line (carriage_return ∷ []) (ends_in_return line) refl).1 before is)
+
+-- without the carriage returns it is cut off by a line feed
+ignore_line_cut : (bytes line rest : List ℕ) → CutsLine EndsIgnoreLine bytes line rest → lines_of (without_returns bytes) ≡ line ∷ lines_of (without_returns rest)
+ignore_line_cut bytes line rest cut =
+    let by = CutsLine-by EndsIgnoreLine bytes line rest cut in
     ⊎_elim
-    (λ (yes : ends_in_return line ≡ true). ignore_line-by_return bytes line text rest h (parts ∙ ap (λ b. text ++ cond b (carriage_return ∷ []) []) yes))
+    (λ (ends : EndsIgnoreLine line cut.ending). ⊎_elim
+    (λ (both : cut.ending ≡ carriage_return ∷ line_feed ∷ []).
+    ap (λ l. lines_of (without_returns l)) (by (carriage_return ∷ line_feed ∷ []) both ∙ sym (append_assoc line (carriage_return ∷ []) (line_feed ∷ rest)))
+    ∙ ap lines_of (without_returns-return line rest cut.whole) ∙ lines_of-line line (without_returns rest) cut.whole)
+    (λ (feed : (cut.ending ≡ line_feed ∷ []) × (ends_in_return line ≡ false)).
+    ap (λ l. lines_of (without_returns l)) (by (line_feed ∷ []) feed.0)
+    ∙ ap lines_of (without_returns-other line rest cut.whole (no_return line feed.1)) ∙ lines_of-line line (without_returns rest) cut.whole)
+    ends)
+    (λ (bare : (line ≢ []) × (cut.ending ≡ []) × (rest ≡ [])).
+    ap (λ l. lines_of (without_returns l)) (CutsLine-open EndsIgnoreLine bytes line rest cut bare.1 bare.2)
+    ∙ ap lines_of (without_returns-none line cut.whole) ∙ lines_of-last line bare.0 cut.whole ∙ sym (ap (λ l. line ∷ lines_of (without_returns l)) bare.2))
+    cut.ended
+
+-- what stands before a line feed, without its carriage return
+pub CutsLine-before_feed : (bytes line text rest : List ℕ) → IsCutAt line_feed bytes line rest → line ≡ text ++ return_of line → CutsLine EndsIgnoreLine bytes text rest
+CutsLine-before_feed bytes line text rest h parts =
+    ⊎_elim
+    (λ (yes : ends_in_return line ≡ true).
+    let is : line ≡ text ++ carriage_return ∷ [] = parts ∙ ap (λ b. text ++ cond b (carriage_return ∷ []) []) yes in record {
+      whole = (AllByRecursion-append_parts (λ b. b ≢ line_feed) text (carriage_return ∷ []) (subst (HasNo line_feed) is h.none)).0;
+      ending = carriage_return ∷ line_feed ∷ [];
+      joined = h.joined ∙ ap (λ l. l ++ line_feed ∷ rest) is ∙ append_assoc text (carriage_return ∷ []) (line_feed ∷ rest);
+      ended = inl (inl refl);
+    })
     (λ (no : ends_in_return line ≡ false).
-    let same : line ≡ text = parts ∙ ap (λ b. text ++ cond b (carriage_return ∷ []) []) no ∙ append-nil text in
-    let other : (before : List ℕ) → line ≢ before ++ carriage_return ∷ [] = λ before is. false≢true (sym no ∙ (ends_is Decides-eqb line (carriage_return ∷ []) (ends_in_return line) refl).1 before is) in
-    ignore_line-by_feed bytes line rest h other ∙ ap (λ l. l ∷ lines_of (without_returns rest)) same)
+    let same : line ≡ text = parts ∙ ap (λ b. text ++ cond b (carriage_return ∷ []) []) no ∙ append-nil text in record {
+      whole = subst (HasNo line_feed) same h.none;
+      ending = line_feed ∷ [];
+      joined = h.joined ∙ ap (λ l. l ++ line_feed ∷ rest) same;
+      ended = inl (inr (refl, ap ends_in_return (sym same) ∙ no));
+    })
     (cases_Bool (ends_in_return line))
 
-pub ignore_line-last : (bytes : List ℕ) → 0 < length bytes → IsFirstByte (is_byte line_feed) bytes None → lines_of (without_returns bytes) ≡ bytes ∷ []
-ignore_line-last bytes some h =
-    ap lines_of (without_returns-none bytes (HasNo-not_found line_feed bytes h)) ∙ last_line bytes some h
+pub CutsLine-last : (bytes : List ℕ) → bytes ≢ [] → HasNo line_feed bytes → CutsLine EndsIgnoreLine bytes bytes []
+CutsLine-last bytes some none = record { whole = none; ending = []; joined = sym (append-nil bytes); ended = inr (some, refl, refl) }
+
+before_return : (line : List ℕ) → (text : List ℕ) × (line ≡ text ++ return_of line)
+before_return line =
+    let front = take (length line - 1) line in
+    ⊎_elim
+    (λ (yes : ends_in_return line ≡ true). (front, (ends_is Decides-eqb line (carriage_return ∷ []) (ends_in_return line) refl).0 yes ∙ sym (ap (λ b. front ++ cond b (carriage_return ∷ []) []) yes)))
+    (λ (no : ends_in_return line ≡ false). (line, sym (ap (λ b. line ++ cond b (carriage_return ∷ []) []) no ∙ append-nil line)))
+    (cases_Bool (ends_in_return line))
+
+has_ignore_line : (b : ℕ) (bytes : List ℕ) → HasLine EndsIgnoreLine (b ∷ bytes)
+has_ignore_line b bytes =
+    let plain = has_line b bytes in
+    let cut = plain.cut in
+    ⊎_elim
+    (λ (feed : cut.ending ≡ line_feed ∷ []).
+    let text = before_return plain.line in
+    let at : IsCutAt line_feed (b ∷ bytes) plain.line plain.rest = record { none = cut.whole; joined = CutsLine-by EndsInFeed (b ∷ bytes) plain.line plain.rest cut (line_feed ∷ []) feed } in
+    record { line = text.0; rest = plain.rest; cut = CutsLine-before_feed (b ∷ bytes) plain.line text.0 plain.rest at text.1 })
+    (λ (bare : (plain.line ≢ []) × (cut.ending ≡ []) × (plain.rest ≡ [])).
+    let same : b ∷ bytes ≡ plain.line = CutsLine-open EndsInFeed (b ∷ bytes) plain.line plain.rest cut bare.1 bare.2 in
+    record { line = b ∷ bytes; rest = []; cut = CutsLine-last (b ∷ bytes) (λ e. cc) (subst (HasNo line_feed) (sym same) cut.whole) })
+    cut.ended
+
+pub TellsLines-ignore : TellsLines EndsIgnoreLine (λ bytes. lines_of (without_returns bytes))
+TellsLines-ignore = record { none = refl; first = ignore_line_cut; shorter = CutsLine-shorter_by; some = has_ignore_line }
 
 -- ---- what a line gives
 
--- bytes of which a first line was cut off
-pub record IsCutBehind (bytes line rest : List ℕ) : Type 0 where
-  pub lines : lines_of (without_returns bytes) ≡ line ∷ lines_of (without_returns rest)
-  pub behind : (taken : ℕ) × (rest ≡ drop taken bytes)
-  pub shorter : length rest < length bytes
+pub begins_with_comment : (bytes line rest : List ℕ) → CutsLine EndsIgnoreLine bytes line rest → is_comment line ≡ true → BeginsWithLine bytes None rest
+begins_with_comment bytes line rest cut comment = record { line = line; cut = cut; gives = comment }
 
-begins_with_line : (bytes line rest : List ℕ) (text : Option (List ℕ)) → IsCutBehind bytes line rest → MatchOption text (is_comment line ≡ true) (λ line_text. GivesTrimmed line line_text tt) → BeginsWithLine bytes text rest
-begins_with_line bytes line rest text cut gives = record {
-  line = line;
-  others = lines_of (without_returns rest);
-  of_rest = Lines-lines_of (without_returns rest);
-  of_bytes = subst (Lines (without_returns bytes)) cut.lines (Lines-lines_of (without_returns bytes));
-  gives = gives;
-  taken = cut.behind.0;
-  behind = cut.behind.1;
-  shorter = cut.shorter;
-}
-
-pub begins_with_comment : (bytes line rest : List ℕ) → IsCutBehind bytes line rest → is_comment line ≡ true → BeginsWithLine bytes None rest
-begins_with_comment bytes line rest cut comment = begins_with_line bytes line rest None cut comment
-
-pub begins_with_text : (bytes line rest text : List ℕ) → IsCutBehind bytes line rest → is_comment line ≡ false → Trims line text → BeginsWithLine bytes (Some text) rest
-begins_with_text bytes line rest text cut other trims = begins_with_line bytes line rest (Some text) cut (record { no_comment = other; trims = trims })
+pub begins_with_text : (bytes line rest text : List ℕ) → CutsLine EndsIgnoreLine bytes line rest → is_comment line ≡ false → Trims line text → BeginsWithLine bytes (Some text) rest
+begins_with_text bytes line rest text cut other trims = record { line = line; cut = cut; gives = record { no_comment = other; trims = trims } }
 
 -- the lines of the bytes are the first one and those of the rest, by equation
 pub BeginsWithLine-lines : (bytes rest : List ℕ) (text : Option (List ℕ)) (first : BeginsWithLine bytes text rest) → lines_of (without_returns bytes) ≡ first.line ∷ lines_of (without_returns rest)
-BeginsWithLine-lines bytes rest text first =
-    sym (Lines-only (without_returns bytes) (first.line ∷ first.others) first.of_bytes)
-    ∙ ap (λ l. first.line ∷ l) (Lines-only (without_returns rest) first.others first.of_rest)
+BeginsWithLine-lines bytes rest text first = ignore_line_cut bytes first.line rest first.cut
 
 GivesTrimmed-content : (line : List ℕ) (it : LineContent (Unit {0})) → ignore_content line ≡ Some it → GivesTrimmed line it.text it.value
 GivesTrimmed-content line it is =
@@ -188,7 +216,7 @@ length-without_mark-le bytes =
     ⊎_elim
     (λ yes. rw yes (omega (arith, length-drop 3 bytes)))
     (λ no. rw no (le_refl _))
-    (cases_Bool (starts_with nat_eq bytes byte_order_mark))
+    (cases_Bool (starts_with nat_eq bytes (239 ∷ 187 ∷ 191 ∷ [])))
 
 pub length-ignore_lines-le : (bytes : List ℕ) → length (lines_of (without_returns (without_mark bytes))) ≤ length bytes
 length-ignore_lines-le bytes = omega (arith, length-lines_of-le (without_returns (without_mark bytes)), length-without_returns-le (without_mark bytes), length-without_mark-le bytes)

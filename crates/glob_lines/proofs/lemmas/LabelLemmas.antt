@@ -10,13 +10,13 @@ use Rattle.gix_glob.specs.Equations.Entries.{entry_with}
 use Rattle.gix_glob.specs.Equations.Readings.{Reading, reading_of}
 use Rattle.glob_lines.specs.Label.{GivesLabel, Label, tab, entry_with_empty_label}
 use Rattle.glob_lines.specs.Equations.Label.{is_tab, label_of, label_content}
-use Rattle.glob_lines.specs.Lines.{HasNo, line_feed}
+use Rattle.glob_lines.specs.Lines.{EndsInFeed, HasNo, line_feed}
 use Rattle.glob_lines.specs.Equations.Lines.{lines_of}
 use Rattle.glob_lines.specs.Equations.Entries.{LineContent, entries_from, entry_of_content, entry_of_line}
 use Rattle.glob_lines.specs.Plain.{GivesItself, Plain, PlainEntry}
 use Rattle.glob_lines.specs.Equations.Plain.{plain_content}
-use Rattle.glob_lines.proofs.lemmas.LinesLemmas.{HasNo-not_found, IsCutAt-found}
-use Rattle.glob_lines.proofs.lemmas.EntriesLemmas.{Entries-entries_of, Entries-only, ReadingsAreThese, Tells}
+use Rattle.glob_lines.proofs.lemmas.LinesLemmas.{HasNo-not_found, IsCutAt-found, TellsLines-lines_of}
+use Rattle.glob_lines.proofs.lemmas.EntriesLemmas.{Entries-are, Entries-only, ReadingsAreThese, Tells}
 use Rattle.glob_lines.proofs.lemmas.PlainLemmas.{Tells-plain_content}
 
 -- ---- the first tab
@@ -131,5 +131,5 @@ lines-none (b ∷ bytes) none =
 pub Label-without_tabs : ReadingsAreThese → (bytes : List ℕ) (entries : List PlainEntry) → HasNo tab bytes → Plain bytes entries → Label bytes (map entry_with_empty_label entries)
 Label-without_tabs readings bytes entries none plain =
     let is : map entry_with_empty_label entries ≡ label_of bytes =
-    ap (map entry_with_empty_label) (Entries-only GivesItself plain_content Tells-plain_content readings bytes entries plain) ∙ sym (entries-none 1 (lines_of bytes) (lines-none bytes none)) in
-    subst (Label bytes) (sym is) (Entries-entries_of GivesLabel label_content Tells-label_content readings bytes)
+    ap (map entry_with_empty_label) (Entries-only GivesItself plain_content Tells-plain_content readings EndsInFeed lines_of TellsLines-lines_of bytes entries plain) ∙ sym (entries-none 1 (lines_of bytes) (lines-none bytes none)) in
+    subst (Label bytes) (sym is) (Entries-are GivesLabel label_content Tells-label_content readings EndsInFeed lines_of TellsLines-lines_of bytes)

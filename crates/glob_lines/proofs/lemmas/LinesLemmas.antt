@@ -1,14 +1,13 @@
 -- The lines of bytes: the relation and the equations agree.
-use Rattle.std.proofs.Common.{◌≡◌, ◌≢◌, inl, inr, ⊎_elim, ℕ, zero, suc, ◌+◌, ◌<◌, ◌≤◌, cond, List, [], ◌∷◌, ◌++◌, length, take, drop, get_or, Some, None, refl, sym, ap, subst, ◌∙◌, append_assoc, append-nil, le_refl, take_all, take-append-drop, arith}
+use Rattle.std.proofs.Common.{◌≡◌, ◌≢◌, inl, inr, ⊎_elim, ℕ, zero, suc, ◌+◌, ◌<◌, ◌≤◌, cond, List, [], ◌∷◌, ◌++◌, length, length-append, take, drop, get_or, Some, None, refl, sym, ap, subst, ◌∙◌, append_assoc, append-nil, le_refl, take_all, take-append-drop, arith}
 use Rattle.std.specs.List.{AllByRecursion, onto_first}
 use Rattle.std.proofs.lemmas.Bool.{ne_eqb, eqb-true, eq-eqb}
 use Rattle.std.proofs.lemmas.Bool.Decides.{eqb_tells}
 use Rattle.std.proofs.lemmas.List.{drop_more, flat_map_more}
 use Rattle.std.proofs.lemmas.List.Elements.{AllZip-push}
 use Rattle.memchr.specs.Find.{IsFirstByte, is_byte}
-use Rattle.glob_lines.specs.Lines.{Lines, EndsOpen, HasNo, HasNoLineFeed, WritesEach, line_feed, text_of_lines}
+use Rattle.glob_lines.specs.Lines.{CutsLine, EndsInFeed, HasNo, Lines, WritesEach, line_feed, text_of_lines}
 use Rattle.glob_lines.specs.Equations.Lines.{lines_of}
-use Rattle.glob_lines.proofs.lemmas.ListLemmas.{AllByRecursion-append_parts, push_not-nil}
 
 -- ---- the equations, a line at a time
 
@@ -17,11 +16,11 @@ lines_of-cons : (b : ℕ) (bytes : List ℕ) → b ≢ line_feed → lines_of (b
 lines_of-cons b bytes apart =
     ap (λ test. cond test ([] ∷ lines_of bytes) (onto_first b (lines_of bytes))) (ne_eqb b line_feed apart)
 
-pub lines_of-line : (text rest : List ℕ) → HasNoLineFeed text → lines_of (text ++ line_feed ∷ rest) ≡ text ∷ lines_of rest
+pub lines_of-line : (text rest : List ℕ) → HasNo line_feed text → lines_of (text ++ line_feed ∷ rest) ≡ text ∷ lines_of rest
 lines_of-line [] rest h = refl
 lines_of-line (b ∷ text) rest h = lines_of-cons b (text ++ line_feed ∷ rest) h.0 ∙ ap (onto_first b) (lines_of-line text rest h.1)
 
-pub lines_of-last : (text : List ℕ) → text ≢ [] → HasNoLineFeed text → lines_of text ≡ text ∷ []
+pub lines_of-last : (text : List ℕ) → text ≢ [] → HasNo line_feed text → lines_of text ≡ text ∷ []
 lines_of-last [] some h = absurd (some refl)
 lines_of-last (b ∷ []) some h = lines_of-cons b [] h.0
 lines_of-last (b ∷ c ∷ text) some h = lines_of-cons b (c ∷ text) h.0 ∙ ap (onto_first b) (lines_of-last (c ∷ text) (λ e. cc) h.1)
@@ -52,84 +51,106 @@ pub HasNo-not_found : (byte : ℕ) (bytes : List ℕ) → IsFirstByte (is_byte b
 HasNo-not_found byte bytes h =
     subst (HasNo byte) (take_all (length bytes) bytes (le_refl _)) (HasNo-take byte bytes (length bytes) (λ j below is. h j (omega arith) below (eq-eqb _ _ is)))
 
--- ---- uniqueness
+-- ---- the relation and the equations
 
-lines_of-text_of_lines : (texts : List (List ℕ)) (rest : List ℕ) → AllByRecursion HasNoLineFeed texts → lines_of (text_of_lines texts ++ rest) ≡ texts ++ lines_of rest
-lines_of-text_of_lines [] rest h = refl
-lines_of-text_of_lines (text ∷ texts) rest h =
-    ap lines_of (append_assoc (text ++ line_feed ∷ []) (text_of_lines texts) rest ∙ append_assoc text (line_feed ∷ []) (text_of_lines texts ++ rest))
-    ∙ lines_of-line text (text_of_lines texts ++ rest) h.0
-    ∙ ap (λ l. text ∷ l) (lines_of-text_of_lines texts rest h.1)
+-- bytes of which a first line can be cut off
+pub record HasLine (Ends : List ℕ → List ℕ → Type 0) (bytes : List ℕ) : Type 0 where
+  pub line : List ℕ
+  pub rest : List ℕ
+  pub cut : CutsLine Ends bytes line rest
 
-whole_is : (bytes : List ℕ) (texts : List (List ℕ)) → AllByRecursion HasNoLineFeed texts → bytes ≡ text_of_lines texts → texts ≡ lines_of bytes
-whole_is bytes texts each is =
-    sym (ap lines_of (is ∙ sym (append-nil (text_of_lines texts))) ∙ lines_of-text_of_lines texts [] each ∙ append-nil texts)
+-- `lines` gives by equation the lines whose endings `Ends` tells
+pub record TellsLines (Ends : List ℕ → List ℕ → Type 0) (lines : List ℕ → List (List ℕ)) : Type 0 where
+  pub none : lines [] ≡ []
+  pub first : (bytes line rest : List ℕ) → CutsLine Ends bytes line rest → lines bytes ≡ line ∷ lines rest
+  pub shorter : (bytes line rest : List ℕ) → CutsLine Ends bytes line rest → length rest < length bytes
+  pub some : (b : ℕ) (bytes : List ℕ) → HasLine Ends (b ∷ bytes)
 
-open_is : (bytes : List ℕ) (texts : List (List ℕ)) → AllByRecursion HasNoLineFeed texts → EndsOpen bytes texts → texts ≡ lines_of bytes
-open_is bytes texts each h =
-    let parts = AllByRecursion-append_parts HasNoLineFeed h.front (h.last ∷ []) (subst (AllByRecursion HasNoLineFeed) h.is each) in
-    h.is ∙ sym (ap lines_of h.joined ∙ lines_of-text_of_lines h.front h.last parts.0 ∙ ap (λ l. h.front ++ l) (lines_of-last h.last h.some parts.1.0))
+module _ (Ends : List ℕ → List ℕ → Type 0) (lines : List ℕ → List (List ℕ)) (tells : TellsLines Ends lines) where
+  -- no other texts are the lines of the bytes
+  pub Lines-only : (bytes : List ℕ) (texts : List (List ℕ)) → Lines Ends bytes texts → texts ≡ lines bytes
+  Lines-only bytes [] none = sym (ap lines none ∙ tells.none)
+  Lines-only bytes (text ∷ texts) h = ap (λ l. text ∷ l) (Lines-only h.0 texts h.2) ∙ sym (tells.first bytes text h.0 h.1)
 
--- no other texts are the lines of the bytes
-pub Lines-only : (bytes : List ℕ) (texts : List (List ℕ)) → Lines bytes texts → texts ≡ lines_of bytes
-Lines-only bytes texts h = ⊎_elim (whole_is bytes texts h.each) (open_is bytes texts h.each) h.joined
+  Lines-up_to : (n : ℕ) (bytes : List ℕ) → length bytes ≤ n → Lines Ends bytes (lines bytes)
+  Lines-up_to n [] low = subst (Lines Ends []) (sym tells.none) refl
+  Lines-up_to zero (b ∷ bytes) low = absurd (omega arith)
+  Lines-up_to (suc n) (b ∷ bytes) low =
+      let first = tells.some b bytes in
+      let shorter = tells.shorter (b ∷ bytes) first.line first.rest first.cut in
+      subst (Lines Ends (b ∷ bytes)) (sym (tells.first (b ∷ bytes) first.line first.rest first.cut))
+      (first.rest, first.cut, Lines-up_to n first.rest (omega arith))
 
--- ---- existence
+  -- the equations give the lines of the bytes
+  pub Lines-are : (bytes : List ℕ) → Lines Ends bytes (lines bytes)
+  Lines-are bytes = Lines-up_to (length bytes) bytes (le_refl _)
 
-pub Lines-empty : Lines [] []
-Lines-empty = record { each = tt; joined = inl refl }
+-- ---- a line that was cut off
 
-ends_line : (bytes : List ℕ) (texts : List (List ℕ)) → Lines bytes texts → Lines (line_feed ∷ bytes) ([] ∷ texts)
-ends_line bytes texts h = record {
-  each = (tt, h.each);
-  joined = ⊎_elim (λ whole. inl (ap (λ l. line_feed ∷ l) whole))
-      (λ (ends : EndsOpen bytes texts). inr (record {
-        front = [] ∷ ends.front;
-        last = ends.last;
-        some = ends.some;
-        is = ap (λ l. [] ∷ l) ends.is;
-        joined = ap (λ l. line_feed ∷ l) ends.joined;
-      })) h.joined;
-}
+some_bytes : (bytes : List ℕ) → bytes ≢ [] → 0 < length bytes
+some_bytes [] some = absurd (some refl)
+some_bytes (b ∷ bytes) some = omega arith
 
--- the byte goes onto the first line, or is the only one
-open_more : (b : ℕ) (bytes text : List ℕ) (texts front : List (List ℕ)) (last : List ℕ) → last ≢ [] → text ∷ texts ≡ front ++ last ∷ [] → bytes ≡ text_of_lines front ++ last
-    → EndsOpen (b ∷ bytes) ((b ∷ text) ∷ texts)
-open_more b bytes text texts [] last some is joined = record {
-  front = [];
-  last = b ∷ last;
-  some = λ e. cc;
-  is = cc;
-  joined = ap (λ l. b ∷ l) joined;
-}
-open_more b bytes text texts (first ∷ front) last some is joined = record {
-  front = (b ∷ first) ∷ front;
-  last = last;
-  some = some;
-  is = cc;
-  joined = ap (λ l. b ∷ l) joined;
-}
+module _ (Ends : List ℕ → List ℕ → Type 0) (bytes line rest : List ℕ) (cut : CutsLine Ends bytes line rest) where
+  -- what has this ending
+  pub CutsLine-by : (ending : List ℕ) → cut.ending ≡ ending → bytes ≡ line ++ (ending ++ rest)
+  CutsLine-by ending is = cut.joined ∙ ap (λ l. line ++ (l ++ rest)) is
 
-goes_on : (b : ℕ) (bytes : List ℕ) (texts : List (List ℕ)) → b ≢ line_feed → Lines bytes texts → Lines (b ∷ bytes) (onto_first b texts)
-goes_on b bytes [] apart h =
-    let none : bytes ≡ [] = ⊎_elim (λ whole. whole) (λ (ends : EndsOpen bytes []). absurd (push_not-nil ends.front ends.last ends.is)) h.joined in
-    record {
-      each = ((apart, tt), tt);
-      joined = inr (record { front = []; last = b ∷ []; some = λ e. cc; is = refl; joined = ap (λ l. b ∷ l) none });
-    }
-goes_on b bytes (text ∷ texts) apart h = record {
-  each = ((apart, h.each.0), h.each.1);
-  joined = ⊎_elim (λ whole. inl (ap (λ l. b ∷ l) whole)) (λ (ends : EndsOpen bytes (text ∷ texts)). inr (open_more b bytes text texts ends.front ends.last ends.some ends.is ends.joined)) h.joined;
-}
+  -- what has none, and no rest, is the line
+  pub CutsLine-open : cut.ending ≡ [] → rest ≡ [] → bytes ≡ line
+  CutsLine-open none last = CutsLine-by [] none ∙ ap (λ l. line ++ l) last ∙ append-nil line
 
--- the equations give the lines of the bytes
-pub Lines-lines_of : (bytes : List ℕ) → Lines bytes (lines_of bytes)
-Lines-lines_of [] = Lines-empty
-Lines-lines_of (b ∷ bytes) =
+  pub CutsLine-shorter : ((ending : List ℕ) → Ends line ending → 0 < length ending) → length rest < length bytes
+  CutsLine-shorter some =
+      let parts : length bytes ≡ length line + length (cut.ending ++ rest) = ap length cut.joined ∙ length-append line (cut.ending ++ rest) in
+      let behind = length-append cut.ending rest in
+      ⊎_elim
+      (λ (ends : Ends line cut.ending). let more = some cut.ending ends in omega arith)
+      (λ (bare : (line ≢ []) × (cut.ending ≡ []) × (rest ≡ [])). let more = some_bytes line bare.0 in let none = ap length bare.2 in omega arith)
+      cut.ended
+
+-- ---- lines that end in a line feed
+
+first_line_cut : (bytes line rest : List ℕ) → CutsLine EndsInFeed bytes line rest → lines_of bytes ≡ line ∷ lines_of rest
+first_line_cut bytes line rest cut =
     ⊎_elim
-    (λ is. subst (λ c. Lines (c ∷ bytes) (lines_of (c ∷ bytes))) (sym is.1) (ends_line bytes (lines_of bytes) (Lines-lines_of bytes)))
-    (λ is. subst (Lines (b ∷ bytes)) (sym (lines_of-cons b bytes is.1)) (goes_on b bytes (lines_of bytes) is.1 (Lines-lines_of bytes)))
+    (λ (feed : cut.ending ≡ line_feed ∷ []). ap lines_of (CutsLine-by EndsInFeed bytes line rest cut (line_feed ∷ []) feed) ∙ lines_of-line line rest cut.whole)
+    (λ (bare : (line ≢ []) × (cut.ending ≡ []) × (rest ≡ [])).
+    ap lines_of (CutsLine-open EndsInFeed bytes line rest cut bare.1 bare.2) ∙ lines_of-last line bare.0 cut.whole ∙ sym (ap (λ l. line ∷ lines_of l) bare.2))
+    cut.ended
+
+feed_first : (b : ℕ) (bytes : List ℕ) → b ≡ line_feed → HasLine EndsInFeed (b ∷ bytes)
+feed_first b bytes is = record { line = []; rest = bytes; cut = record { whole = tt; ending = line_feed ∷ []; joined = ap (λ x. x ∷ bytes) is; ended = inl refl } }
+
+pub has_line : (b : ℕ) (bytes : List ℕ) → HasLine EndsInFeed (b ∷ bytes)
+has_line b [] =
+    ⊎_elim
+    (λ is. feed_first b [] is.1)
+    (λ is. record { line = b ∷ []; rest = []; cut = record { whole = (is.1, tt); ending = []; joined = refl; ended = inr (λ e. cc, refl, refl) } })
     (eqb_tells b line_feed)
+has_line b (c ∷ bytes) =
+    let more = has_line c bytes in
+    ⊎_elim
+    (λ is. feed_first b (c ∷ bytes) is.1)
+    (λ is. record {
+      line = b ∷ more.line;
+      rest = more.rest;
+      cut = record {
+        whole = (is.1, more.cut.whole);
+        ending = more.cut.ending;
+        joined = ap (λ l. b ∷ l) more.cut.joined;
+        ended = ⊎_elim (λ feed. inl feed) (λ bare. inr (λ e. cc, bare.1, bare.2)) more.cut.ended;
+      };
+    })
+    (eqb_tells b line_feed)
+
+pub TellsLines-lines_of : TellsLines EndsInFeed lines_of
+TellsLines-lines_of = record {
+  none = refl;
+  first = first_line_cut;
+  shorter = λ bytes line rest cut. CutsLine-shorter EndsInFeed bytes line rest cut (λ ending is. omega (arith, ap length is));
+  some = has_line;
+}
 
 -- ---- what a search for the first line feed tells
 

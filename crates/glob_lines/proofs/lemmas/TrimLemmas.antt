@@ -9,8 +9,8 @@ use Rattle.std.proofs.lemmas.List.{nil_from_length, same_from_push, take_more}
 use Rattle.std.proofs.lemmas.List.Folds.{concat-append}
 use Rattle.std.proofs.lemmas.Slice.Eq.{bytes_eq-Decides}
 use Rattle.gix_glob.specs.Bytes.{backslash}
-use Rattle.glob_lines.specs.Ignore.{Trims, space, units_of}
-use Rattle.glob_lines.specs.Equations.Ignore.{units_before_spaces, text_before_spaces}
+use Rattle.glob_lines.specs.Ignore.{Trims, units_of}
+use Rattle.glob_lines.specs.Equations.Ignore.{space, units_before_spaces, text_before_spaces}
 use Rattle.glob_lines.specs.Private.Trimming.{StandsBefore, is_open}
 use Rattle.glob_lines.proofs.lemmas.ListLemmas.{AllByRecursion-append_parts, push_not-nil}
 

@@ -1,10 +1,27 @@
 -- The ignore entries of bytes by equation.
-use Rattle.std.specs.Prelude.{ℕ, if◌then◌else◌, List, [], ◌∷◌, Option, None, Some}
-use Rattle.std.specs.List.{concat, list_all}
+use Rattle.std.specs.Prelude.{ℕ, ◌&&◌, ◌==◌, nat_eq, if◌then◌else◌, List, [], ◌∷◌, Option, None, Some, codes}
+use Rattle.std.specs.List.{concat, list_all, starts_with}
 use Rattle.std.specs.Str.{bytes_eq}
-use Rattle.glob_lines.specs.Ignore.{is_comment, space, units_of, without_mark, without_returns}
+use Rattle.glob_lines.specs.Ignore.{is_comment, units_of, without_mark}
+use Rattle.glob_lines.specs.Lines.{line_feed}
 use Rattle.glob_lines.specs.Plain.{PlainEntry}
 use Rattle.glob_lines.specs.Equations.Entries.{LineContent, entries_of}
+
+-- the byte of a carriage return
+abbrev pub carriage_return : ℕ
+carriage_return = 13
+
+-- the bytes without each carriage return that stands directly before a line feed
+abbrev pub without_returns : List ℕ → List ℕ
+without_returns [] = []
+without_returns (b ∷ bytes) =
+    if b == carriage_return && starts_with nat_eq bytes (line_feed ∷ [])
+    then without_returns bytes
+    else b ∷ without_returns bytes
+
+-- the unit that is a space
+abbrev pub space : List ℕ
+space = codes " "
 
 -- the units but for the spaces at the end
 abbrev pub units_before_spaces : List (List ℕ) → List (List ℕ)

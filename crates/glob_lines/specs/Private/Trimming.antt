@@ -2,7 +2,7 @@
 use Rattle.std.specs.Prelude.{◌≡◌, ◌≢◌, ◌==◌, ℕ, Bool, false, nat_eq, if◌then◌else◌, List, [], ◌∷◌, ◌++◌}
 use Rattle.std.specs.List.{AllByRecursion, ends_with}
 use Rattle.gix_glob.specs.Bytes.{backslash}
-use Rattle.glob_lines.specs.Ignore.{carriage_return}
+use Rattle.glob_lines.specs.Equations.Ignore.{carriage_return}
 
 -- the carriage return that a line ends in
 abbrev pub ends_in_return : List ℕ → Bool

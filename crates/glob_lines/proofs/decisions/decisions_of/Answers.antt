@@ -3,7 +3,8 @@ use Rattle.std.proofs.Common.{◌≡◌, ◌++◌, ◌∷◌, [], ap, map, subst
 use Rattle.gix_glob.specs.Deciding.{BasesAreFolders}
 use Rattle.gix_glob.specs.EntryLists.{entry_list_of}
 use Rattle.glob_lines.specs.Equations.Lines.{lines_of}
-use Rattle.glob_lines.proofs.lemmas.LinesLemmas.{IsWrittenUpTo-all, IsWrittenUpTo-more, IsWrittenUpTo-none, Lines-lines_of}
+use Rattle.glob_lines.specs.Lines.{EndsInFeed}
+use Rattle.glob_lines.proofs.lemmas.LinesLemmas.{IsWrittenUpTo-all, IsWrittenUpTo-more, IsWrittenUpTo-none, Lines-are, TellsLines-lines_of}
 use Rattle.glob_lines.proofs.decisions.decisions_of.Goals as goal
 
 pub loop-line-init : goal.loop-line-init
@@ -20,7 +21,7 @@ loop-line-preserved g c =
 pub returns : goal.returns
 returns g c = record {
   lines = _;
-  cut = Lines-lines_of c.args.paths.now;
+  cut = Lines-are EndsInFeed lines_of TellsLines-lines_of c.args.paths.now;
   writes = IsWrittenUpTo-all _ _ _ _ c.loop-line.invariant c.in-None.ensures.steps.0;
 }
 

@@ -1,8 +1,10 @@
-use Rattle.glob_lines.specs.Ignore.{GivesTrimmed, without_mark, without_returns}
-use Rattle.glob_lines.specs.Equations.Ignore.{ignore_content}
-use Rattle.glob_lines.proofs.lemmas.IgnoreLemmas.{Tells-ignore_content}
+use Rattle.glob_lines.specs.Ignore.{EndsIgnoreLine, GivesTrimmed, without_mark}
+use Rattle.glob_lines.specs.Equations.Ignore.{ignore_content, without_returns}
+use Rattle.glob_lines.specs.Equations.Lines.{lines_of}
+use Rattle.glob_lines.proofs.lemmas.IgnoreLemmas.{Tells-ignore_content, TellsLines-ignore}
 use Rattle.glob_lines.proofs.lemmas.EntriesLemmas.{entries_are_these}
 use Rattle.glob_lines.proofs.laws.ignore_entries_are_these.Goals as goal
 
 pub returns : goal.returns
-returns c bytes = entries_are_these GivesTrimmed ignore_content Tells-ignore_content c.readings_are_these.ensures.some (without_returns (without_mark bytes))
+returns c bytes =
+    entries_are_these GivesTrimmed ignore_content Tells-ignore_content c.readings_are_these.ensures.some EndsIgnoreLine (λ bytes. lines_of (without_returns bytes)) TellsLines-ignore (without_mark bytes)

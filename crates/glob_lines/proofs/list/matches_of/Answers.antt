@@ -1,6 +1,8 @@
 -- What is written for a path line, and its line feed, is the next line of the text.
 use Rattle.std.proofs.Common.{◌++◌, ◌∷◌, [], ap, ◌∙◌, append_assoc}
-use Rattle.glob_lines.proofs.lemmas.LinesLemmas.{IsWrittenUpTo-all, IsWrittenUpTo-more, Lines-lines_of}
+use Rattle.glob_lines.specs.Equations.Lines.{lines_of}
+use Rattle.glob_lines.specs.Lines.{EndsInFeed}
+use Rattle.glob_lines.proofs.lemmas.LinesLemmas.{IsWrittenUpTo-all, IsWrittenUpTo-more, Lines-are, TellsLines-lines_of}
 use Rattle.glob_lines.proofs.list.matches_of.Goals as goal
 
 pub loop-line-preserved : goal.loop-line-preserved
@@ -12,7 +14,7 @@ loop-line-preserved c =
 pub returns : goal.returns
 returns c = record {
   lines = _;
-  cut = Lines-lines_of c.args.paths.now;
+  cut = Lines-are EndsInFeed lines_of TellsLines-lines_of c.args.paths.now;
   writes = IsWrittenUpTo-all _ _ _ _ c.loop-line.invariant c.in-None.ensures.steps.0;
 }
 

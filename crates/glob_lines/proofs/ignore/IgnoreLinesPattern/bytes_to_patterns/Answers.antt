@@ -1,7 +1,7 @@
 -- Each line has its number; a comment gives nothing, and another line the entry of its text.
 use Rattle.std.proofs.Common.{◌≡◌, ◌+◌, ◌∷◌, length, None, Some, ap, arith}
-use Rattle.glob_lines.specs.Ignore.{BeginsWithLine, without_returns}
-use Rattle.glob_lines.specs.Equations.Ignore.{ignore_of, ignore_content}
+use Rattle.glob_lines.specs.Ignore.{BeginsWithLine}
+use Rattle.glob_lines.specs.Equations.Ignore.{ignore_of, ignore_content, without_returns}
 use Rattle.glob_lines.specs.Equations.Lines.{lines_of}
 use Rattle.glob_lines.proofs.lemmas.IgnoreLemmas.{BeginsWithLine-lines, ignore_content-comment, length-ignore_lines-le, ignore_content-text}
 use Rattle.glob_lines.proofs.lemmas.EntriesLemmas.{meant-more, meant-skip}

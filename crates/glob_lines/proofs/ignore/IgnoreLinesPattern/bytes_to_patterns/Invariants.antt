@@ -1,7 +1,7 @@
 use Rattle.std.proofs.Common.{◌≡◌, ◌+◌, ◌++◌, length, map}
 use Rattle.gix_glob.specs.Entries.{entry_of}
-use Rattle.glob_lines.specs.Ignore.{without_mark, without_returns}
-use Rattle.glob_lines.specs.Equations.Ignore.{ignore_of, ignore_content}
+use Rattle.glob_lines.specs.Ignore.{without_mark}
+use Rattle.glob_lines.specs.Equations.Ignore.{ignore_of, ignore_content, without_returns}
 use Rattle.glob_lines.specs.Equations.Lines.{lines_of}
 use Rattle.glob_lines.specs.Equations.Entries.{entries_from}
 use Rattle.glob_lines.proofs.ignore.IgnoreLinesPattern.bytes_to_patterns.Given as goal
