@@ -1,5 +1,5 @@
 -- A carriage return before the line feed is cut off.
-use Rattle.std.proofs.Common.{◌+◌, length, take, drop, refl, sym, le_refl}
+use Rattle.std.proofs.Common.{◌+◌, length, take, drop, refl, le_refl}
 use Rattle.std.proofs.lemmas.List.{drop_all, take_rest}
 use Rattle.glob_lines.specs.Lines.{line_feed}
 use Rattle.glob_lines.proofs.lemmas.IgnoreLemmas.{ignore_line-first, ignore_line-last}
@@ -16,7 +16,9 @@ pub returns-in-Some-clause-behind : goal.returns-in-Some-clause-behind
 returns-in-Some-clause-behind c = rw take_rest (c.in-Some.end + 1, refl)
 
 pub returns-in-None-clause-behind : goal.returns-in-None-clause-behind
-returns-in-None-clause-behind c = (length c.args.bytes.now, sym (drop_all (length c.args.bytes.now) c.args.bytes.now (le_refl _)))
+returns-in-None-clause-behind c = rw take_rest (length c.args.bytes.now, refl)
 
 pub returns-in-None-clause-lines : goal.returns-in-None-clause-lines
-returns-in-None-clause-lines c = ignore_line-last c.args.bytes.now c.requires c.in-None.ensures
+returns-in-None-clause-lines c =
+    let bytes = c.args.bytes.now in
+    rw (take_rest, drop_all (length bytes) bytes (le_refl _)) (ignore_line-last bytes c.requires c.in-None.ensures)
