@@ -3,6 +3,7 @@ pub mod Entries
 pub mod Ignore
 pub mod Label
 pub mod Lines
+pub mod Memory
 pub mod Mappings
 pub mod Numbers
 pub mod PathLines

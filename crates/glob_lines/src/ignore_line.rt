@@ -1,8 +1,9 @@
 //! One line of an ignore file after the other, without a copy.
-ghost use Rattle.std.specs.Prelude.{◌≡◌, ◌<◌, [], ◌++◌, length, MatchOption};
+ghost use Rattle.std.specs.Prelude.{◌≡◌, ◌<◌, [], ◌++◌, length, IfSome, MatchOption};
 ghost use Rattle.std.specs.Option.{option_copied};
 ghost use Rattle.glob_lines.specs.Ignore.{BeginsWithLine, EndsIgnoreLine, Trims, is_comment, without_mark};
 ghost use Rattle.glob_lines.specs.Lines.{CutsLine};
+ghost use Rattle.glob_lines.specs.Memory.{end_of};
 ghost use Rattle.glob_lines.specs.Private.Trimming.{StandsBefore, is_open, return_of};
 
 use memchr::memchr;
@@ -20,9 +21,13 @@ pub struct IgnoreLine<'a> {
 ///
 /// It is called once, before the first line is taken off by [`next_ignore_line`].
 pub fn without_byte_order_mark(bytes: &[u8]) -> &[u8]
-    ensures { result.now ≡ without_mark bytes.now }
+    ensures bytes { result.now ≡ without_mark bytes.entry.now }
+    ensures place { end_of result ≡ end_of bytes.entry }
 {
-    bytes.strip_prefix(b"\xEF\xBB\xBF").unwrap_or(bytes)
+    match bytes {
+        [0xEF, 0xBB, 0xBF, rest @ ..] => rest,
+        _ => bytes,
+    }
 }
 
 /// Takes the first line off an ignore file's bytes; `None` where there are no bytes.
@@ -32,7 +37,8 @@ pub fn without_byte_order_mark(bytes: &[u8]) -> &[u8]
 /// comment. The pattern of another line is what `Pattern::from_bytes` or `PatternView::from_bytes` reads from its text,
 /// if it reads one. A caller that numbers the lines counts each of them. The rules are in `docs/LINES.md`.
 pub fn next_ignore_line(bytes: &[u8]) -> Option<IgnoreLine<'_>>
-    ensures { MatchOption result (bytes.now ≡ []) (λ line. BeginsWithLine bytes.now (option_copied line.text) line.rest.now) }
+    ensures line { MatchOption result (bytes.entry.now ≡ []) (λ line. BeginsWithLine bytes.entry.now (option_copied line.text) line.rest.now) }
+    ensures place { IfSome result (λ line. end_of line.rest ≡ end_of bytes.entry) }
 {
     if bytes.is_empty() {
         return None;
@@ -56,11 +62,12 @@ fn is_comment(line: &[u8]) -> bool
 /// The first line of bytes that are not empty, without its ending, and what follows it.
 fn split_ended_line(bytes: &[u8]) -> (&[u8], &[u8])
     requires { 0 < length bytes.now }
-    ensures { CutsLine EndsIgnoreLine bytes.now result.0.now result.1.now }
+    ensures cut { CutsLine EndsIgnoreLine bytes.now result.0.now result.1.now }
+    ensures place { end_of result.1 ≡ end_of bytes.entry }
 {
     match memchr(b'\n', bytes) {
         Some(end) => (without_return(&bytes[..end]), &bytes[end + 1..]),
-        None => (bytes, &[]),
+        None => (bytes, &bytes[bytes.len()..]),
     }
 }
 

@@ -1,10 +1,10 @@
 //! A pattern whose text is borrowed: the parts of a line that was read, without a copy of its text.
-ghost use Rattle.std.specs.Prelude.{◌≡◌, ◌↔◌, ◌+◌, ◌≤◌, drop, length, take, true, IsTrue, MatchOption, IfSome};
+ghost use Rattle.std.specs.Prelude.{◌≡◌, ◌↔◌, ◌+◌, ◌≤◌, drop, length, take, true, IsNone, IsTrue, MatchOption, IfSome};
 ghost use Rattle.std.specs.Option.{ForSome};
 ghost use Rattle.glob_matcher.specs.Bytes.{HasByte, slash};
 ghost use Rattle.glob_matcher.specs.Matching.{Splits};
 ghost use Rattle.glob_matcher.specs.Steps.{IsBlankOf, pattern_look_limit, step_limit};
-ghost use Rattle.glob_patterns.specs.Patterns.{HasReading, IsPattern, Reads};
+ghost use Rattle.glob_patterns.specs.Patterns.{HasReading, IsPattern, Reads, is_blank, without_negation};
 ghost use Rattle.glob_patterns.specs.RepositoryPaths.{Answers, IsAfterLastSlash, subject};
 
 use super::comparisons::{are_alike, begins_alike, ends_alike, is_one_component};
@@ -54,6 +54,7 @@ impl<'a> PatternView<'a> {
     pub fn from_bytes(line: &'a [u8]) -> Option<PatternView<'a>>
         ensures reads { MatchOption result (¬ HasReading line.now true)
             (λ view. Reads line.now true view.text.now view.mode view.first_wildcard_pos) }
+        ensures blank { IsNone result ↔ IsTrue (is_blank (without_negation line.now)) }
         ensures lawful { IfSome result (λ view. IsPattern view.text.now view.mode view.first_wildcard_pos) }
     {
         let (text, mode, first_wildcard_pos) = parse::pattern(line, true)?;

@@ -4,8 +4,8 @@ use Rattle.glob_lines.proofs.lemmas.IgnoreLemmas.{begins_with_comment, begins_wi
 use Rattle.glob_lines.proofs.ignore_line.next_ignore_line.Goals.{then-is_comment, else-is_comment}
 use Rattle.glob_lines.proofs.ignore_line.next_ignore_line.Goals as goal
 
-pub returns : goal.returns
-returns c =
+pub returns-clause-line : goal.returns-clause-line
+returns-clause-line c =
     let bytes = c.args.bytes.now in
     let line = c.split_ended_line.result.0.now in
     let rest = c.split_ended_line.result.1.now in

@@ -9,7 +9,7 @@ use Rattle.glob_lines.proofs.ignore.IgnoreLinesPattern.bytes_to_patterns.Goals.{
 use Rattle.glob_lines.proofs.ignore.IgnoreLinesPattern.bytes_to_patterns.Goals as goal
 
 pub overflow_add-number : goal.overflow_add-number
-overflow_add-number c = omega (arith, length-ignore_lines-le c.args.bytes.now, ap length (BeginsWithLine-lines _ _ _ c.in-Some.ensures))
+overflow_add-number c = omega (arith, length-ignore_lines-le c.args.bytes.now, ap length (BeginsWithLine-lines _ _ _ c.in-Some.ensures.line))
 
 pub lines-preserved : goal.lines-preserved
 lines-preserved c =
@@ -21,7 +21,7 @@ lines-preserved c =
     elim c.match-line.branch [
       | in-Some-text+in_ok-push_pattern w ↦
           let text = w.in-Some-text.text.now in
-          let first : BeginsWithLine c.lines.rest.now (Some text) c.in-Some.line.rest.now = rw w.in-Some-text.is at c.in-Some.ensures in
+          let first : BeginsWithLine c.lines.rest.now (Some text) c.in-Some.line.rest.now = rw w.in-Some-text.is at c.in-Some.ensures.line in
           let lines : before ≡ first.line ∷ after = BeginsWithLine-lines _ _ _ first in
           record {
             counted = omega (arith, ap length lines);
@@ -29,7 +29,7 @@ lines-preserved c =
                 w.in_ok-push_pattern.ensures lines (ignore_content-text first.line text first.gives) c.lines.invariant.meant);
           }
       | in_default-text w ↦
-          let first : BeginsWithLine c.lines.rest.now None c.in-Some.line.rest.now = rw w.in_default-text.is at c.in-Some.ensures in
+          let first : BeginsWithLine c.lines.rest.now None c.in-Some.line.rest.now = rw w.in_default-text.is at c.in-Some.ensures.line in
           let lines : before ≡ first.line ∷ after = BeginsWithLine-lines _ _ _ first in
           record {
             counted = omega (arith, ap length lines);
