@@ -12,10 +12,15 @@ ghost use Rattle.gix_glob.specs.Patterns.{HasReading};
 ghost use Rattle.glob_lines.specs.Ignore.{Ignore};
 ghost use Rattle.glob_uses.specs.Uses.{LineAnswers};
 
+#[cfg(test)]
+mod compare;
+mod own_parser;
+
 use gix_glob::pattern::{Case, PatternView, basename_start};
 use gix_glob::search::pattern::List;
 use gix_glob::wildmatch::Mode;
 use glob_lines::{IgnoreLines, bases_are_folders, decide, laws, plain_path};
+pub use own_parser::{Whole, whole_entries_are_these};
 use std::alloc::{AllocError, Global};
 
 /// Whether a pattern line matches the path of a file. It takes no memory.
