@@ -1,11 +1,15 @@
-/* Does what `globline ignore` does: ./ignore sensitive|fold ROOT FILE.. < PATHS
+/* Answers as `globline ignore` does: ./ignore sensitive|fold ROOT FILE.. < PATHS
  *
  * For each path, which line of which ignore file decides about it: `ignored L:N` or `kept L:N` with the place of the file and
  * the number of the line, `none` where no line matches, `!` for what is no path. A path that ends in a slash is a directory's.
- * A FILE that can't be read is passed over. ROOT and FILE are compared as they are written.
+ * A FILE that is missing or a folder is passed over. ROOT and FILE are compared as they are written.
+ *
+ * The status is 0 where each path was answered, 1 where something can't be read or written, and 2 for wrong words.
  *
  * Build it by `examples/c/install PREFIX` and `cc ignore.c $(pkg-config --cflags --libs gix_glob)`. */
+#include <errno.h>
 #include <gix_glob.h>
+#include <signal.h>
 #include <stdio.h>
 #include <stdlib.h>
 #include <string.h>
@@ -27,28 +31,52 @@ static void find_base(struct rule *rule, const char *file, const char *root)
     rule->base_len = is_below ? end - skipped : 0;
 }
 
-static bool load(FILE *from, const char *file, const char *root)
+static void stop(const char *what)
+{
+    perror(what);
+    exit(1);
+}
+
+/* The bytes of a file, which stay: the texts of the patterns lie in them. NULL where it is missing or a folder. */
+static char *read_whole(const char *file, size_t *len)
+{
+    char *bytes = NULL;
+    FILE *to = open_memstream(&bytes, len), *from = fopen(file, "rb");
+
+    for (int byte; to && from && (byte = getc(from)) != EOF;)
+        putc(byte, to);
+    const bool is_read = from && !ferror(from);
+    if (!is_read && errno != ENOENT && errno != EISDIR && errno != ENOTDIR)
+        stop(file);
+    if (!to || ferror(to) || fclose(to))
+        stop("ignore");
+    if (from)
+        fclose(from);
+    if (is_read)
+        return bytes;
+    free(bytes);
+    return NULL;
+}
+
+static void load(const char *file, const char *root)
 {
     struct rule rule = { GIX_GLOB_PATTERN_INIT, NULL, 0, files + 1, 0 };
-    char *bytes = NULL; /* they stay: the texts of the patterns lie in them */
     size_t len = 0;
     bool has_pattern = false;
-    FILE *to = open_memstream(&bytes, &len);
+    const char *bytes = read_whole(file, &len);
 
-    for (int byte; to && (byte = getc(from)) != EOF;)
-        putc(byte, to);
-    if (!to || fclose(to) || ferror(from))
-        return free(bytes), false;
+    if (!bytes)
+        return;
+    files++;
     find_base(&rule, file, root);
     struct gix_glob_lines lines = gix_glob_lines_of(bytes, len);
     while (gix_glob_parse_ignore_line(&lines, &rule.pattern, &has_pattern))
         if (has_pattern) {
             rule.line = lines.number;
             if (!(rules = (struct rule *)realloc(rules, (count + 1) * sizeof *rules)))
-                exit((perror("ignore"), 1));
+                stop("ignore");
             rules[count++] = rule;
         }
-    return true;
 }
 
 static const struct rule *last_match(const char *path, size_t len, bool is_dir, bool fold)
@@ -75,13 +103,9 @@ int main(int argc, char **argv)
     const bool fold = argc > 3 && !strcmp(argv[1], "fold");
     if (argc < 4 || (!fold && strcmp(argv[1], "sensitive")))
         return fprintf(stderr, "usage: %s sensitive|fold ROOT FILE.. < PATHS\n", argv[0]), 2;
-    for (int i = 3; i < argc; i++) {
-        FILE *from = fopen(argv[i], "rb");
-        if (!from)
-            continue;
-        files += load(from, argv[i], argv[2]);
-        fclose(from);
-    }
+    signal(SIGPIPE, SIG_IGN); /* a reader that goes away is a write that fails */
+    for (int i = 3; i < argc; i++)
+        load(argv[i], argv[2]);
     char *path = NULL;
     size_t room = 0;
     for (ssize_t len; (len = getline(&path, &room, stdin)) > 0;) {
@@ -96,5 +120,7 @@ int main(int argc, char **argv)
             printf("%s %zu:%zu\n", rule->pattern.mode & GIX_GLOB_NEGATIVE ? "kept" : "ignored", rule->file, rule->line);
     }
     free(path);
-    return ferror(stdin) ? perror("ignore"), 1 : 0;
+    if (!feof(stdin) || fflush(stdout) || ferror(stdout))
+        stop("ignore");
+    return 0;
 }

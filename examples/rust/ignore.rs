@@ -1,8 +1,11 @@
 //! Decides about paths by ignore files, over the proved library: ./ignore FILE.. < PATHS
 //!
 //! `Pattern` and `decide` are a safe wrapper over the C exports of `gix_glob_c`; `main` answers for each path as `globline ignore
-//! sensitive - FILE..` does. A path that ends in a slash is a directory's. It is built and run by hand, as README.md says.
-use std::io::{BufRead, Write};
+//! sensitive - FILE..` does. A path that ends in a slash is a directory's. A FILE that is missing or a folder is passed over;
+//! where another one, or standard input, can't be read, or the output can't be written, the status is 1. README.md says how it
+//! is built.
+use std::ffi::OsString;
+use std::io::{self, BufRead, ErrorKind, Write};
 use std::marker::PhantomData;
 
 #[repr(C)]
@@ -81,11 +84,19 @@ pub fn decide(patterns: &[Pattern<'_>], path: &[u8], is_dir: bool, fold: bool) -
     (at != usize::MAX).then_some(at)
 }
 
-fn main() -> std::io::Result<()> {
-    let files: Vec<Vec<u8>> = std::env::args_os().skip(1).flat_map(std::fs::read).collect();
+/// The bytes of a file; `None` where it is missing or a folder.
+fn read_whole(file: OsString) -> Option<io::Result<Vec<u8>>> {
+    match std::fs::read(file) {
+        Err(error) if matches!(error.kind(), ErrorKind::NotFound | ErrorKind::IsADirectory | ErrorKind::NotADirectory) => None,
+        answer => Some(answer),
+    }
+}
+
+fn main() -> io::Result<()> {
+    let files: Vec<Vec<u8>> = std::env::args_os().skip(1).filter_map(read_whole).collect::<io::Result<_>>()?;
     let lists: Vec<(Vec<usize>, Vec<Pattern>)> = files.iter().map(|file| ignore_lines(file).unzip()).collect();
-    let mut out = std::io::stdout().lock();
-    for line in std::io::stdin().lock().split(b'\n') {
+    let mut out = io::stdout().lock();
+    for line in io::stdin().lock().split(b'\n') {
         let line = line?;
         let is_plain = !line.is_empty() && line[0] != b'/' && !line.windows(2).any(|pair| pair == b"//");
         let (path, is_dir) = line.strip_suffix(b"/").map_or((&line[..], false), |path| (path, true));

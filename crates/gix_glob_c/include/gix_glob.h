@@ -33,8 +33,8 @@ extern "C" {
 #define GIX_GLOB_NONE SIZE_MAX
 
 /* Bits of a match mode, the parameter `mode`. Other bits change no answer. */
-#define GIX_GLOB_NO_MATCH_SLASH_LITERAL 1u /* path mode: a wildcard matches no slash, save a double star that stands
-                                              alone between slashes or ends of the pattern */
+#define GIX_GLOB_NO_MATCH_SLASH_LITERAL 1u /* path mode: a wildcard matches no slash, save two or more stars that stand
+                                              alone between slashes, escaped or not, or ends of the pattern */
 #define GIX_GLOB_IGNORE_CASE 2u            /* the case of ASCII letters doesn't count */
 
 /* Bits of a pattern's `mode`: what was read of the line. */
@@ -67,7 +67,7 @@ static inline const uint8_t *gix_glob_bytes(const void *bytes)
  * carriage return at the end belong to the pattern. gix_glob_parse_ignore_line reads those.
  *   line, line_len  the line
  *   out             receives the pattern; it stays as it was where false is answered
- * Answers whether there is a pattern: a line that is blank, or a lone '!', has none. */
+ * Answers whether there is a pattern: a line of white space alone, also behind a '!', has none. */
 bool gix_glob_parse(const uint8_t *line, size_t line_len, struct gix_glob_pattern *out);
 
 /* What is left to read of an ignore file. */

@@ -1,4 +1,5 @@
-//! The parser of ignore lines: each line is a pattern as Git's ignore files have it, and its number stands beside it.
+//! The parser of ignore lines: each line of an ignore file is a pattern by Git's rules, but for the three departures that
+//! `docs/LINES.md` names, and its number stands beside it.
 
 use crate::entries::push_pattern;
 use crate::ignore_line::{next_ignore_line, without_byte_order_mark};

@@ -11,7 +11,7 @@ pub struct Mode(u8);
 
 bitflag_items! {
     impl Mode: u8 {
-        /// A wildcard does not match a slash, except for a double star that stands alone between slashes or ends of the
+        /// A wildcard does not match a slash, except for two or more stars that stand alone between slashes or ends of the
         /// pattern.
         const NO_MATCH_SLASH_LITERAL = 1;
         /// The case of ASCII letters does not count.

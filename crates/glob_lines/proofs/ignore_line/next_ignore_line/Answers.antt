@@ -9,7 +9,7 @@ returns-clause-line c =
     let bytes = c.args.bytes.now in
     let line = c.split_ended_line.result.0.now in
     let rest = c.split_ended_line.result.1.now in
-    let cut = c.split_ended_line.ensures in
+    let cut = c.split_ended_line.ensures.cut in
     elim c.if-is_comment.branch [
       | then-is_comment w ↦ rw w.text-is (begins_with_comment bytes line rest cut (sym w.if-is_comment.ensures))
       | else-is_comment w ↦ rw w.text-is (begins_with_text bytes line rest w.without_trailing_spaces.result.now cut (sym w.if-is_comment.ensures) w.without_trailing_spaces.ensures)
