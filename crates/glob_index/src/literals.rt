@@ -2,7 +2,7 @@
 ghost use Rattle.std.specs.Prelude.{◌≡◌, ◌↔◌, ◌==◌, ◌||◌, ◌+◌, ◌*◌, ◌%◌, ◌≤◌, ◌^◌, IsTrue, length};
 ghost use Rattle.std.specs.Char.{to_ascii_lowercase};
 ghost use Rattle.gix_glob.specs.Bytes.{backslash, open_bracket};
-ghost use Rattle.gix_glob.specs.Patterns.{is_joining};
+ghost use Rattle.gix_glob.specs.LiteralBytes.{is_joining};
 ghost use Rattle.glob_index.specs.Private.Literals.{EndsLiterally, NeedsBits, bit_of, end_key};
 ghost use Rattle.glob_index.specs.Private.Showing.{HasAll, HoldsBits};
 

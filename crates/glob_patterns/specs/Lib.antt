@@ -3,4 +3,5 @@ pub mod Patterns
 pub mod PatternParts
 pub mod RepositoryPaths
 pub mod Equations
+pub mod Laws
 pub mod Private

@@ -1,11 +1,11 @@
 -- Pattern lines: how a line is read, and what is shown of a pattern.
-use Rattle.std.specs.Prelude.{◌≡◌, ℕ, ◌+◌, Bool, IsTrue, false, not, ◌&&◌, ◌||◌, ◌==◌, ◌≤◌, nat_eq, if◌then◌else◌, bit_and, List, [], ◌++◌, drop, Option, codes, position, encode_utf8_all}
+use Rattle.std.specs.Prelude.{◌≡◌, ℕ, ◌+◌, Bool, IsTrue, false, not, ◌&&◌, ◌||◌, ◌==◌, nat_eq, if◌then◌else◌, bit_and, List, [], ◌++◌, drop, Option, codes, position, encode_utf8_all}
 use Rattle.std.specs.List.{list_any, list_all, starts_with, ends_with}
 use Rattle.std.specs.Char.{is_ascii_whitespace}
 use Rattle.std.specs.Str.{bytes_eq}
 use Rattle.bstr.specs.Utf8.{lossy_chars}
 use Rattle.glob_patterns.specs.declared.mode.Mode.{Mode}
-use Rattle.glob_matcher.specs.Bytes.{HasByte, has_slash, is_special, open_bracket, close_bracket, backslash, slash}
+use Rattle.glob_matcher.specs.Bytes.{has_slash, is_special}
 
 -- which of the named bits stand in a pattern's mode
 abbrev pub is_without_sub_dir : Mode → Bool
@@ -22,15 +22,6 @@ is_negative mode = bit_and mode.0 8 == 8
 
 abbrev pub is_absolute : Mode → Bool
 is_absolute mode = bit_and mode.0 16 == 16
-
--- whether a byte may be the last of a token of more than one byte: a special one, the slash, or the closing bracket
-abbrev pub is_joining : ℕ → Bool
-is_joining b = is_special b || (b == close_bracket || b == slash)
-
--- no set and no escape begins up to place i, nor there
-pub record IsUnescapedUpTo (text : List ℕ) (i : ℕ) : Type 0 where
-  pub no_set : (j : ℕ) → j ≤ i → ¬ HasByte text j open_bracket
-  pub no_escape : (j : ℕ) → j ≤ i → ¬ HasByte text j backslash
 
 -- the place of the first special byte, where a literal front ends
 abbrev pub first_special : List ℕ → Option ℕ
@@ -81,18 +72,9 @@ pub record Reads (line : List ℕ) (may_alter : Bool) (text : List ℕ) (mode : 
   pub bits : mode.0 ≡ bits_of sign lead text tail
   pub placed : place ≡ first_special text
 
--- two readings agree in all that is answered
-pub record SameReading (t t' : List ℕ) (m m' : Mode) (p p' : Option ℕ) : Type 0 where
-  pub text : t ≡ t'
-  pub mode : m ≡ m'
-  pub place : p ≡ p'
-
 -- the line has a reading
-pub record HasReading (line : List ℕ) (may_alter : Bool) : Type 0 where
-  pub text : List ℕ
-  pub mode : Mode
-  pub place : Option ℕ
-  pub read : Reads line may_alter text mode place
+abbrev pub HasReading : List ℕ → Bool → Type 0
+HasReading line may_alter = (text : List ℕ) × (mode : Mode) × (place : Option ℕ) × Reads line may_alter text mode place
 
 -- a text as it is displayed: what isn't UTF-8 gives way to U+FFFD
 abbrev pub display_of : List ℕ → List ℕ

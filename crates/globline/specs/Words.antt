@@ -4,7 +4,6 @@ use Rattle.std.specs.List.{list_all}
 use Rattle.gix_glob.specs.declared.pattern.Case.{Case}
 use Rattle.gix_glob.specs.declared.pattern.Case.TheVariants.{Sensitive, Fold}
 use Rattle.gix_glob.specs.declared.wildmatch.Mode.{Mode}
-use Rattle.gix_glob.specs.Bytes.{bits}
 use Rattle.gix_glob.specs.EntryLists.{EntryList}
 use Rattle.gix_glob.specs.Paths.{Base, has_file_part}
 use Rattle.glob_lines.specs.Decisions.{DecisionsText}
@@ -16,10 +15,10 @@ use Rattle.glob_lines.specs.Values.{ValuesText}
 -- the word names the mode
 abbrev pub NamesMode : List ℕ → Mode → Type 0
 NamesMode word mode =
-    ((word ≡ codes "plain") × (bits mode ≡ 0))
-    ⊎ (((word ≡ codes "fold") × (bits mode ≡ 2))
-    ⊎ (((word ≡ codes "path") × (bits mode ≡ 1))
-    ⊎ ((word ≡ codes "path-fold") × (bits mode ≡ 3))))
+    ((word ≡ codes "plain") × (mode.0 ≡ 0))
+    ⊎ (((word ≡ codes "fold") × (mode.0 ≡ 2))
+    ⊎ (((word ≡ codes "path") × (mode.0 ≡ 1))
+    ⊎ ((word ≡ codes "path-fold") × (mode.0 ≡ 3))))
 
 -- the word says whether case counts
 abbrev pub NamesCase : List ℕ → Case → Type 0

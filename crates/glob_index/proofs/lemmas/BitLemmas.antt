@@ -4,7 +4,7 @@ use Rattle.std.specs.Int.{bit_at, bit_not}
 use Rattle.std.proofs.lemmas.Bool.{cond_both, cases_eq, cases_lt, eqb-false, or_parts}
 use Rattle.std.proofs.lemmas.Nat.Bits.{bit_at-lt, bit_at-zero, bit_at_above, bit_at_and, bit_at_not, bit_at_ones, bit_at_set_other, bit_at_set_same, same_from_bits}
 use Rattle.gix_glob.specs.Bytes.{backslash, open_bracket}
-use Rattle.gix_glob.specs.Patterns.{IsUnescapedUpTo, is_joining}
+use Rattle.gix_glob.specs.LiteralBytes.{IsUnescapedUpTo, is_joining}
 use Rattle.glob_index.specs.Private.Literals.{NeedsBits, bit_of}
 use Rattle.glob_index.specs.Private.Showing.{HasAll, HoldsBits}
 

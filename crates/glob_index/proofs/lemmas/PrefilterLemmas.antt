@@ -11,9 +11,9 @@ use Rattle.gix_glob.specs.declared.pattern.Case.{Case}
 use Rattle.gix_glob.specs.declared.pattern.Mode as pattern
 use Rattle.gix_glob.specs.declared.wildmatch.Mode as wildmatch
 use Rattle.gix_glob.specs.Bytes.{HasByte, fold, folds, slash}
-use Rattle.gix_glob.specs.Folding.{AreAlike, EndsAlike, HasAlike}
+use Rattle.gix_glob.specs.LiteralBytes.{AreAlike, EndsAlike, HasAlike, IsUnescapedUpTo, is_joining}
 use Rattle.gix_glob.specs.Matching.{Splits}
-use Rattle.gix_glob.specs.Patterns.{IsUnescapedUpTo, is_absolute, is_joining, is_without_sub_dir}
+use Rattle.gix_glob.specs.Patterns.{is_absolute, is_without_sub_dir}
 use Rattle.gix_glob.specs.RepositoryPaths.{Answers, IsBasenameStart, subject, with_case}
 use Rattle.gix_glob.specs.Stripping.{RestOf}
 use Rattle.glob_index.specs.declared.chains.Class.{Class}

@@ -3,7 +3,7 @@ use Rattle.std.specs.Prelude.{◌≡◌, ℕ, zero, suc, ◌+◌, ◌-◌, ◌*�
 use Rattle.std.specs.Char.{to_ascii_lowercase}
 use Rattle.std.specs.Int.{bit_at}
 use Rattle.gix_glob.specs.Bytes.{HasByte}
-use Rattle.gix_glob.specs.Patterns.{IsUnescapedUpTo, is_joining}
+use Rattle.gix_glob.specs.LiteralBytes.{IsUnescapedUpTo, is_joining}
 
 -- the byte that is m bytes before the last
 abbrev pub from_end : List ℕ → ℕ → ℕ

@@ -1,10 +1,10 @@
 -- The literal bytes of a pattern: each value that is split has them.
 use Rattle.std.proofs.Common.{◌≡◌, inl, inr, ⊎_elim, ℕ, zero, suc, ◌+◌, ◌<◌, ◌≤◌, true, false, List, [], ◌∷◌, length, refl, sym, ◌∙◌, ap, subst, arith}
 use Rattle.std.proofs.lemmas.Bool.{cases_lt, false≢true}
+use Rattle.std.specs.Str.{byte}
 use Rattle.glob_matcher.specs.declared.wildmatch.mode.Mode.{Mode}
-use Rattle.glob_matcher.specs.Bytes.{HasByte, fold, question_mark, slash, star}
-use Rattle.glob_patterns.specs.Folding.{HasAlike}
-use Rattle.glob_patterns.specs.Patterns.{IsUnescapedUpTo, is_joining}
+use Rattle.glob_matcher.specs.Bytes.{HasByte, fold, slash, star}
+use Rattle.glob_patterns.specs.Laws.LiteralBytes.{HasAlike, IsUnescapedUpTo, is_joining}
 use Rattle.glob_matcher.specs.Tokens.{Token, Byte, Any, OneOf, Free, Local, Dirs, Nothing, TokenAt, From}
 use Rattle.glob_matcher.specs.Matching.{Splits, SplitsFrom}
 use Rattle.glob_matcher.proofs.lemmas.cutting.CutLemmas.{token_out, one_out}
@@ -26,7 +26,7 @@ module _ (mode : Mode) (p v : List ℕ) (i b : ℕ) (clean : IsUnescapedUpTo p i
       let byte : b ≡ c = sym h.is ∙ there.is in
       let one = one_out mode p v j e k (Byte c) tt (inr x) all in
       record { place = k; inside = one.0; alike = one.1 ∙ ap (fold mode) (sym byte) }
-  covers j e k Any low past inside x all = absurd (not_joining question_mark (at_place question_mark j (omega (arith, x.1)) x.0) refl)
+  covers j e k Any low past inside x all = absurd (not_joining (byte "?") (at_place (byte "?") j (omega (arith, x.1)) x.0) refl)
   covers j e k (OneOf s) low past inside x all = absurd (clean.no_set j low x.bracket)
   covers j e k Free low past inside x all = absurd (not_joining star (x.run.stars i low past) refl)
   covers j e k Local low past inside x all = absurd (not_joining star (x.run.stars i low past) refl)

@@ -5,10 +5,10 @@ use Rattle.std.proofs.Math.Seq.{drop-append_seam}
 use Rattle.std.proofs.lemmas.Bool.{cases_lt, cases_eq, or_parts, false≢true, false_from_ne_true}
 use Rattle.std.proofs.lemmas.List.{get_or-drop}
 use Rattle.std.proofs.lemmas.List.Folds.{list_any_at}
+use Rattle.std.specs.Str.{byte}
 use Rattle.glob_matcher.specs.declared.wildmatch.mode.Mode.{Mode}
-use Rattle.glob_matcher.specs.Bytes.{HasByte, close_bracket, fold, slash, star}
-use Rattle.glob_patterns.specs.Folding.{EndsAlike}
-use Rattle.glob_patterns.specs.Patterns.{is_joining}
+use Rattle.glob_matcher.specs.Bytes.{HasByte, fold, slash, star}
+use Rattle.glob_patterns.specs.Laws.LiteralBytes.{EndsAlike, is_joining}
 use Rattle.glob_matcher.specs.Tokens.{Token, Byte, Any, OneOf, Free, Local, Dirs, Nothing, TokenAt, From}
 use Rattle.glob_matcher.specs.Matching.{Splits, SplitsFrom}
 use Rattle.glob_matcher.proofs.lemmas.cutting.CutLemmas.{token_out, one_out, end_out, nothing_out}
@@ -70,7 +70,7 @@ straddles mode p v n i j k (Byte b) tail low past inside (inl e) all =
 straddles mode p v n i j k (Byte b) tail low past inside (inr e) all = absurd (omega (arith, e.2))
 straddles mode p v n i j k Any tail low past inside e all = absurd (omega (arith, e.1))
 straddles mode p v n i j k (OneOf s) tail low past inside e all =
-    absurd (not_in_tail p n e.close close_bracket tail (omega (arith, e.after)) (items_close p _ _ _ _ _ e.items) refl)
+    absurd (not_in_tail p n e.close (byte "]") tail (omega (arith, e.after)) (items_close p _ _ _ _ _ e.items) refl)
 straddles mode p v n i j k Free tail low past inside e all = absurd (not_in_tail p n (j - 1) star tail (omega arith) (e.run.stars (j - 1) (omega arith) (omega arith)) refl)
 straddles mode p v n i j k Local tail low past inside e all = absurd (not_in_tail p n (j - 1) star tail (omega arith) (e.run.stars (j - 1) (omega arith) (omega arith)) refl)
 straddles mode p v n i j k Dirs tail low past inside e all = absurd (not_in_tail p n e.run_end slash tail (omega (arith, e.after)) e.slash refl)

@@ -10,7 +10,7 @@ use Rattle.std.proofs.lemmas.List.Sums.{fails_before_first}
 use Rattle.std.proofs.lemmas.Slice.Eq.{starts_is}
 use Rattle.glob_matcher.specs.declared.wildmatch.mode.Mode.{Mode}
 use Rattle.glob_matcher.specs.Bytes.{HasByte, NoSlash, fold, has_slash, is_path, is_special, slash, star}
-use Rattle.glob_patterns.specs.Folding.{AreAlike}
+use Rattle.glob_patterns.specs.Laws.LiteralBytes.{AreAlike}
 use Rattle.glob_patterns.specs.Patterns.{is_star_and_literal, first_special}
 use Rattle.glob_matcher.specs.Tokens.{Byte, Free, Local, TokenAt, IsRun}
 use Rattle.glob_matcher.specs.Matching.{Splits, SplitsFrom}

@@ -150,9 +150,9 @@ reading_of-none may_alter line none =
     ⊎_elim
     (blank-none may_alter line)
     (λ some. let found = not_blank-some may_alter line some in
-    absurd (none (record { text = found.0.text; mode = found.0.mode; place = found.0.place; read = found.1.reads })))
+    absurd (none (found.0.text, found.0.mode, found.0.place, found.1.reads)))
     (cases_Bool (is_blank (rest_of may_alter line)))
 
 pub HasReading-none : (may_alter : Bool) (line : List ℕ) → reading_of may_alter line ≡ None → ¬ HasReading line may_alter
 HasReading-none may_alter line none has =
-    let both : None ≡ Some _ = sym none ∙ reading_of-Reads may_alter line has.text has.mode has.place has.read in absurd (cc)
+    let both : None ≡ Some _ = sym none ∙ reading_of-Reads may_alter line has.0 has.1 has.2 has.3 in absurd (cc)

@@ -8,10 +8,10 @@ use Rattle.std.proofs.lemmas.Bool.Decides.{Decides-eqb}
 use Rattle.std.proofs.lemmas.List.{append_cancel_left, append_cancel_right}
 use Rattle.std.proofs.lemmas.Slice.Eq.{starts_is}
 use Rattle.glob_patterns.specs.declared.mode.Mode.{Mode}
-use Rattle.glob_patterns.specs.Patterns.{Reads, SameReading, HasReading, sign_of, slash_if, first_special, is_blank, without_negation, IsPattern}
+use Rattle.glob_patterns.specs.Patterns.{Reads, HasReading, sign_of, slash_if, first_special, is_blank, without_negation, IsPattern}
 use Rattle.glob_patterns.proofs.lemmas.ModeBits.{is_by_its_end-sum}
 
-pub Reads-once : (line : List ℕ) (may_alter : Bool) (text text' : List ℕ) (mode mode' : Mode) (place place' : Option ℕ) → Reads line may_alter text mode place → Reads line may_alter text' mode' place' → SameReading text text' mode mode' place place'
+pub Reads-once : (line : List ℕ) (may_alter : Bool) (text text' : List ℕ) (mode mode' : Mode) (place place' : Option ℕ) → Reads line may_alter text mode place → Reads line may_alter text' mode' place' → (text ≡ text') × (mode ≡ mode') × (place ≡ place')
 Reads-once line may_alter text text' mode mode' place place' r s =
     let signs : r.sign ≡ s.sign = r.signed ∙ sym s.signed in
     let rests : r.lead ++ (text ++ r.tail) ≡ s.lead ++ (text' ++ s.tail) =
@@ -23,18 +23,14 @@ Reads-once line may_alter text text' mode mode' place place' r s =
     let texts : text ≡ text' =
     append_cancel_right _ _ s.tail (ap (λ (x : List ℕ). text ++ x) (sym tails) ∙ backs) in
     let bits : mode.0 ≡ mode'.0 = cc (r.bits, s.bits, signs, leads, texts, tails) in
-    record {
-      text = texts;
-      mode = ap (λ (n : ℕ). let mode : Mode = record { 0 = n } in mode) bits;
-      place = r.placed ∙ ap first_special texts ∙ sym s.placed;
-    }
+    (texts, ap (λ (n : ℕ). let mode : Mode = record { 0 = n } in mode) bits, r.placed ∙ ap first_special texts ∙ sym s.placed)
 
 -- what follows the sign of a line that has a reading isn't blank
 pub HasReading-not_blank : (line : List ℕ) (may_alter : Bool) (rest : List ℕ) → line ≡ sign_of may_alter line ++ rest → HasReading line may_alter → is_blank rest ≡ false
 HasReading-not_blank line may_alter rest e r =
-    let same : rest ≡ r.read.lead ++ (r.text ++ r.read.tail) =
-    append_cancel_left (sign_of may_alter line) _ _ (sym e ∙ r.read.joined ∙ ap (λ (x : List ℕ). x ++ (r.read.lead ++ (r.text ++ r.read.tail))) r.read.signed) in
-    ap is_blank same ∙ r.read.not_blank
+    let same : rest ≡ r.3.lead ++ (r.0 ++ r.3.tail) =
+    append_cancel_left (sign_of may_alter line) _ _ (sym e ∙ r.3.joined ∙ ap (λ (x : List ℕ). x ++ (r.3.lead ++ (r.0 ++ r.3.tail))) r.3.signed) in
+    ap is_blank same ∙ r.3.not_blank
 
 -- A line that begins with `\!` or `\#` isn't blank, and neither is what follows the backslash.
 is_blank-escaped : (line rest : List ℕ) (b : ℕ) → is_ascii_whitespace b ≡ false → starts_with nat_eq line (92 ∷ b ∷ []) ≡ true → line ≡ codes "\\" ++ rest → is_blank rest ≡ is_blank line

@@ -4,7 +4,7 @@ use Rattle.std.proofs.lemmas.List.{length-take-le}
 use Rattle.std.proofs.lemmas.Bool.{false≢true, not-true, or_cases}
 use Rattle.glob_matcher.specs.declared.wildmatch.mode.Mode.{Mode}
 use Rattle.glob_matcher.specs.Bytes.{fold, folds, has_slash, is_path}
-use Rattle.glob_patterns.specs.Folding.{AreAlike, EndsAlike}
+use Rattle.glob_patterns.specs.Laws.LiteralBytes.{AreAlike, EndsAlike}
 use Rattle.glob_patterns.specs.Private.Fronts.{BeginsAlike}
 use Rattle.glob_matcher.specs.Matching.{Splits}
 use Rattle.glob_patterns.specs.Patterns.{first_special, is_star_and_literal}

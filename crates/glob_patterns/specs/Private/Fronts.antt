@@ -1,7 +1,7 @@
 -- Values that begin with a text, up to the case of letters where the mode asks for it.
 use Rattle.std.specs.Prelude.{ℕ, ◌≤◌, List, length, take}
 use Rattle.glob_matcher.specs.declared.wildmatch.mode.Mode.{Mode}
-use Rattle.glob_patterns.specs.Folding.{AreAlike}
+use Rattle.glob_patterns.specs.Laws.LiteralBytes.{AreAlike}
 
 -- the value begins with the front, up to case where the mode folds
 pub record BeginsAlike (mode : Mode) (value front : List ℕ) : Type 0 where

@@ -7,12 +7,12 @@ ghost use Rattle.glob_matcher.specs.declared.wildmatch.mode.Mode as wildmatch;
 ghost use Rattle.glob_patterns.specs.declared.mode.Mode as pattern;
 ghost use Rattle.glob_patterns.specs.declared.pattern.Pattern.{Pattern};
 ghost use Rattle.glob_patterns.specs.declared.pattern.case.Case.{Case};
-ghost use Rattle.glob_patterns.specs.Folding.{AreAlike, EndsAlike, HasAlike};
+ghost use Rattle.glob_patterns.specs.Laws.LiteralBytes.{AreAlike, EndsAlike, HasAlike, IsUnescapedUpTo, is_joining};
 ghost use Rattle.glob_matcher.specs.Bytes.{HasByte, is_special};
 ghost use Rattle.glob_matcher.specs.Matching.{Splits};
 ghost use Rattle.glob_patterns.specs.PatternParts.{text_of, SamePattern, pattern_cmp};
 ghost use Rattle.glob_patterns.specs.Equations.Readings.{reading_of};
-ghost use Rattle.glob_patterns.specs.Patterns.{HasReading, IsUnescapedUpTo, Reads, SameReading, display_of, is_absolute, is_joining, is_negative, shown_line};
+ghost use Rattle.glob_patterns.specs.Patterns.{HasReading, Reads, display_of, is_absolute, is_negative, shown_line};
 
 use crate::pattern::{Case, Pattern};
 use std::hash::Hash;
@@ -48,7 +48,7 @@ pub fn two_answers_agree()
 pub fn line_has_one_reading()
     ensures { (line : List ℕ) (may_alter : Bool) (text text' : List ℕ) (mode mode' : pattern.Mode) (place place' : Option ℕ)
         → Reads line may_alter text mode place → Reads line may_alter text' mode' place'
-        → SameReading text text' mode mode' place place' }
+        → (text ≡ text') × (mode ≡ mode') × (place ≡ place') }
 {}
 
 /// A line has the reading that the equations of `reading_of` give, and no other.

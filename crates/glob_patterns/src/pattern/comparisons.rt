@@ -1,7 +1,7 @@
 //! The comparisons that decide without the matcher whether a value matches.
 ghost use Rattle.std.specs.Prelude.{◌≡◌, ◌↔◌, ◌||◌, ◌+◌, ◌*◌, ◌≤◌, not, IsTrue, length};
 ghost use Rattle.glob_matcher.specs.Bytes.{has_slash, is_path};
-ghost use Rattle.glob_patterns.specs.Folding.{AreAlike, EndsAlike};
+ghost use Rattle.glob_patterns.specs.Laws.LiteralBytes.{AreAlike, EndsAlike};
 ghost use Rattle.glob_patterns.specs.Private.Fronts.{BeginsAlike};
 
 use crate::byte_tests::has_slash;

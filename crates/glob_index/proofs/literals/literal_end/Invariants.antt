@@ -1,5 +1,5 @@
 use Rattle.std.proofs.Common.{◌≡◌, ◌<◌, ℕ, false}
-use Rattle.gix_glob.specs.Patterns.{is_joining}
+use Rattle.gix_glob.specs.LiteralBytes.{is_joining}
 use Rattle.glob_index.specs.Private.Literals.{from_end}
 use Rattle.glob_index.proofs.literals.literal_end.Given as goal
 

@@ -1,0 +1,30 @@
+-- What a value has of a text that matches it: bytes and ends that are equal up to the case of letters, where the mode asks for it.
+use Rattle.std.specs.Prelude.{◌≡◌, ℕ, ◌-◌, ◌<◌, ◌≤◌, ◌||◌, ◌==◌, Bool, List, length, slice_index, drop}
+use Rattle.std.specs.Str.{byte}
+use Rattle.glob_matcher.specs.declared.wildmatch.mode.Mode.{Mode}
+use Rattle.glob_matcher.specs.Bytes.{HasByte, fold, is_special, open_bracket, backslash, slash}
+use Rattle.glob_patterns.specs.Folding.{folding_of}
+
+-- the two texts are equal, up to case where the mode folds
+abbrev pub AreAlike : Mode → List ℕ → List ℕ → Type 0
+AreAlike mode a b = folding_of mode a ≡ folding_of mode b
+
+-- the value ends in the end, up to case where the mode folds
+pub record EndsAlike (mode : Mode) (value end : List ℕ) : Type 0 where
+  pub fits : length end ≤ length value
+  pub alike : AreAlike mode end (drop (length value - length end) value)
+
+-- the value has the byte at some place, up to case where the mode folds
+pub record HasAlike (mode : Mode) (value : List ℕ) (b : ℕ) : Type 0 where
+  pub place : ℕ
+  pub inside : place < length value
+  pub alike : fold mode (slice_index value place) ≡ fold mode b
+
+-- whether a byte may be the last of a token of more than one byte: a special one, the slash, or the closing bracket
+abbrev pub is_joining : ℕ → Bool
+is_joining b = is_special b || (b == byte "]" || b == slash)
+
+-- no set and no escape begins up to place i, nor there
+pub record IsUnescapedUpTo (text : List ℕ) (i : ℕ) : Type 0 where
+  pub no_set : (j : ℕ) → j ≤ i → ¬ HasByte text j open_bracket
+  pub no_escape : (j : ℕ) → j ≤ i → ¬ HasByte text j backslash
