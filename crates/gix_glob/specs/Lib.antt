@@ -3,7 +3,7 @@ pub mod Loading
 pub mod Paths
 pub mod Stripping
 pub mod Entries
-pub mod Orders
+pub mod Laws
 pub mod EntryLists
 pub mod Deciding
 pub mod DecisionLimits

@@ -1,5 +1,5 @@
 -- What loading answers, and what it leaves.
-use Rattle.std.specs.Prelude.{◌≡◌, ℕ, Bool, true, false, List, ◌++◌, ◌∷◌, [], Option, Some, None, Result, Ok, Err}
+use Rattle.std.specs.Prelude.{◌≡◌, ℕ, Bool, true, false, List, ◌++◌, ◌∷◌, [], Option, Some, is_none, Result, Ok, Err}
 use Rattle.gix_glob.specs.declared.search.fault.LoadFault.{LoadFault}
 use Rattle.gix_glob.specs.declared.search.fault.LoadFault.TheVariants.{Memory, Read}
 use Rattle.gix_glob.specs.declared.search.pattern.list.List as patterns
@@ -20,13 +20,11 @@ pub record AddsLoadedList {T X V : Type 0} (seen : X → V) (meaning : List ℕ 
   pub loaded : IsLoaded meaning bytes source root (entry_list_of seen list)
 
 -- the whole is the beginning, and then some rest
-pub record IsBeginningOf (beginning whole : List ℕ) : Type 0 where
-  pub rest : List ℕ
-  pub joined : beginning ++ rest ≡ whole
+abbrev pub IsBeginningOf : List ℕ → List ℕ → Type 0
+IsBeginningOf beginning whole = (rest : List ℕ) × (beginning ++ rest ≡ whole)
 
 -- whether a read failed: there is no list, and memory isn't the cause
 abbrev pub is_unread : {T : Type 0} → Result (Option T) LoadFault → Bool
-is_unread (Ok (Some list)) = false
-is_unread (Ok None) = true
+is_unread (Ok list) = is_none list
 is_unread (Err Memory) = false
 is_unread (Err (Read e)) = true

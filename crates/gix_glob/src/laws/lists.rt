@@ -1,7 +1,7 @@
 //! Laws of mappings and lists of patterns: what their order is, and that it and their hash agree with equality.
 ghost use Rattle.std.specs.Prelude.{◌≡◌, ◌↔◌, IsTrue};
 ghost use Rattle.std.specs.declared.cmp.Ordering.TheVariants.{Equal};
-ghost use Rattle.gix_glob.specs.Orders.{list_cmp, mapping_cmp};
+ghost use Rattle.gix_glob.specs.Laws.Orders.{list_cmp, mapping_cmp};
 
 use crate::search::Pattern;
 use crate::search::pattern::{List, Mapping};

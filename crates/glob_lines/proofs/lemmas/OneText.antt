@@ -1,12 +1,12 @@
 -- Each input has one text: what is written is determined by what was read.
-use Rattle.std.proofs.Common.{◌≡◌, ◌↔◌, ◌⊎◌, inl, inr, ℕ, Bool, IsTrue, List, [], ◌∷◌, ◌++◌, map, Option, None, Some, refl, sym, ap, subst, ◌∙◌}
-use Rattle.std.specs.List.{AllZip}
+use Rattle.std.proofs.Common.{◌≡◌, ◌↔◌, ◌⊎◌, inl, inr, ℕ, Bool, IsTrue, List, [], ◌∷◌, ◌++◌, length, take, map, Option, None, Some, refl, sym, ap, subst, ◌∙◌, arith, length-append, take_at}
+use Rattle.std.specs.List.{AllZip, flat_map}
 use Rattle.std.specs.Prelude.{codes, if◌then◌else◌}
 use Rattle.std.proofs.lemmas.List.{append_cancel_left, append_cancel_right}
 use Rattle.gix_glob.specs.declared.pattern.Case.{Case}
 use Rattle.gix_glob.specs.declared.wildmatch.Mode.{Mode}
 use Rattle.gix_glob.specs.Matching.{Splits}
-use Rattle.gix_glob.specs.Paths.{Base, folders, parts}
+use Rattle.gix_glob.specs.Paths.{Base, folder, parts}
 use Rattle.gix_glob.specs.Stripping.{NothingLeft, RestOf}
 use Rattle.gix_glob.proofs.lemmas.Answering.{basename_once, rest_once}
 use Rattle.glob_lines.specs.Lines.{WritesEach, text_of_lines}
@@ -89,11 +89,16 @@ matches_once entries base case line a b (inr x) (inr y) = path_once entries base
 
 -- ---- the base
 
+without_last_once : (xs ys : List (List ℕ)) (x y : List ℕ) → xs ++ x ∷ [] ≡ ys ++ y ∷ [] → xs ≡ ys
+without_last_once xs ys x y same =
+    let lengths : length ys ≡ length xs = omega (arith, ap length same, length-append xs (x ∷ []), length-append ys (y ∷ [])) in
+    sym (take_at xs (x ∷ []) (length xs) refl) ∙ (ap (take (length xs)) same ∙ take_at ys (y ∷ []) (length xs) lengths)
+
 pub base_once : (source : List ℕ) (root a b : Option (List ℕ)) → Base source root a → Base source root b → a ≡ b
 base_once source None a b x y = x ∙ sym y
 base_once source (Some root) None None x y = refl
-base_once source (Some root) None (Some b) x y = absurd (y.some (x y.between y.lies))
-base_once source (Some root) (Some a) None x y = absurd (x.some (y x.between x.lies))
+base_once source (Some root) None (Some b) x y = absurd (x b y)
+base_once source (Some root) (Some a) None x y = absurd (y a x)
 base_once source (Some root) (Some a) (Some b) x y =
-    let between : x.between ≡ y.between = append_cancel_left (parts root) x.between y.between (sym x.lies.joined ∙ y.lies.joined) in
-    ap Some (x.shown ∙ ap folders between ∙ sym y.shown)
+    let below = append_cancel_left (parts root) (x.between ++ x.file ∷ []) (y.between ++ y.file ∷ []) (sym x.joined ∙ y.joined) in
+    ap Some (x.shown ∙ ap (flat_map folder) (without_last_once x.between y.between x.file y.file below) ∙ sym y.shown)
