@@ -11,8 +11,8 @@ pub struct Mode(u8);
 
 bitflag_items! {
     impl Mode: u8 {
-        /// A wildcard does not match a slash, except for two or more stars that stand alone between slashes or ends of the
-        /// pattern.
+        /// A wildcard does not match a slash, except for two or more stars that stand alone between slashes, escaped or not,
+        /// or ends of the pattern.
         const NO_MATCH_SLASH_LITERAL = 1;
         /// The case of ASCII letters does not count.
         const IGNORE_CASE = 2;
