@@ -12,6 +12,8 @@ mod failing_writes;
 #[cfg(test)]
 mod fakes;
 #[cfg(test)]
+mod large_lists;
+#[cfg(test)]
 mod loading;
 #[cfg(test)]
 mod one_file;

@@ -2,6 +2,7 @@ pub mod AnsweringRows
 pub mod BitLemmas
 pub mod CandidateLemmas
 pub mod ChainLemmas
+pub mod CountLemmas
 pub mod Elements
 pub mod FoundPairs
 pub mod IndexLemmas

@@ -1,5 +1,6 @@
 -- Indexes of lists: what an index is of, and all that it finds for a path.
-use Rattle.std.specs.Prelude.{◌≡◌, ◌⊎◌, ℕ, ◌<◌, Bool, List, Some, slice_get}
+use Rattle.std.specs.Prelude.{◌≡◌, ◌⊎◌, ℕ, ◌^◌, ◌<◌, ◌≤◌, Bool, List, Some, length, slice_get}
+use Rattle.std.specs.List.{sum_by}
 use Rattle.gix_glob.specs.declared.pattern.Case.{Case}
 use Rattle.gix_glob.specs.declared.search.pattern.list.List as patterns
 use Rattle.gix_glob.specs.Deciding.{PairAnswers}
@@ -9,6 +10,14 @@ use Rattle.gix_glob.specs.EntryLists.{EntryList}
 pub record IndexedLists (T X : Type 0) : Type 0 where
   pub lists : List (patterns.List T X)
   pub case : Case
+
+-- how many entries the lists have
+abbrev pub entry_count : {V : Type 0} → List (EntryList V) → ℕ
+entry_count lists = sum_by (λ list. length list.entries) lists
+
+-- there are too many entries or lists for an index, which keeps the place of each in four bytes
+abbrev pub AreTooMany : {V : Type 0} → List (EntryList V) → Type 0
+AreTooMany lists = (2 ^ 32 ≤ entry_count lists) ⊎ (2 ^ 32 < length lists)
 
 -- the place (i, m) comes before the place (j, n): lists first
 abbrev pub ComesBefore : ℕ → ℕ → ℕ → ℕ → Type 0

@@ -1,5 +1,5 @@
 //! What chains are made of: the classes of rows, and links between rows.
-ghost use Rattle.std.specs.Prelude.{◌≡◌, ◌↔◌, ◌+◌, ◌<◌, IfSome, IsTrue, MatchOption};
+ghost use Rattle.std.specs.Prelude.{◌≡◌, ◌↔◌, ◌+◌, ◌^◌, ◌<◌, IsTrue, MatchOption};
 ghost use Rattle.glob_index.specs.Private.Chains.{place_of};
 
 /// How many classes there are: one for each byte, and [`Class::Always`].
@@ -36,14 +36,12 @@ impl Link {
     /// The link to no row.
     pub(crate) const NONE: Link = Link(0);
 
-    /// The link to the row at a place, where it fits.
-    pub(crate) fn to(place: usize) -> Option<Link>
-        ensures { IfSome result (λ link. link.0 ≡ place + 1) }
+    /// The link to the row at a place.
+    pub(crate) fn to(place: usize) -> Link
+        requires { place + 1 < 2 ^ 32 }
+        ensures { result.0 ≡ place + 1 }
     {
-        let Ok(place) = u32::try_from(place) else {
-            return None;
-        };
-        Some(Link(place.checked_add(1)?))
+        Link(place as u32 + 1)
     }
 
     /// The place of the row, where there is one.

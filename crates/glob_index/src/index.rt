@@ -1,12 +1,13 @@
 //! Lists of patterns with an index: which of their patterns match a path, and which one decides.
-ghost use Rattle.std.specs.Prelude.{◌≡◌, ◌↔◌, ◌+◌, ◌<◌, IfOk, IsTrue, OnOk, length, map};
+ghost use Rattle.std.specs.Prelude.{◌≡◌, ◌↔◌, ◌⊎◌, ◌+◌, ◌^◌, ◌<◌, ◌≤◌, IfOk, IsErrOf, IsSome, IsTrue, OnOk, length, map, min};
 ghost use Rattle.gix_glob.specs.Deciding.{BasesAreFolders, Decides, PairAnswers};
 ghost use Rattle.gix_glob.specs.EntryLists.{entry_list_of};
 ghost use Rattle.gix_glob.specs.Paths.{IsPlainPath};
 ghost use Rattle.gix_glob.specs.RepositoryPaths.{IsBasenameStart};
-ghost use Rattle.glob_index.specs.Index.{AreMatches};
+ghost use Rattle.glob_index.specs.Index.{AreMatches, AreTooMany, entry_count};
 ghost use Rattle.glob_index.specs.Private.Tables.{AreChained, AreRowsUpTo, HasEntryAt};
 
+use crate::fault::IndexError;
 use crate::laws;
 use crate::rests::rest_of;
 use crate::row::Row;
@@ -40,19 +41,34 @@ impl<'a, T: search::Pattern> Model for ListIndex<'a, T> {
     ghost invariant = { λ index. IsTableOf (map (entry_list_of T.seen) index.lists.now) index.table };
 }
 
+/// What decides about a path, and what it took to find it.
+#[derive(Debug, Clone, Copy, PartialEq, Eq)]
+pub struct CountedDecision {
+    /// The place of the list and of the mapping that decides, both from 0; `None` where no pattern matches.
+    pub pair: Option<(usize, usize)>,
+    /// How many patterns were asked whether they match.
+    pub asked: usize,
+}
+
 impl<'a, T: search::Pattern> ListIndex<'a, T> {
     /// The index of the lists. It takes 24 bytes for each pattern, and some 2 KB once.
     ///
     /// # Errors
-    /// Where memory was refused, or where there are 2^32 patterns or more, or more than 2^32 lists.
+    /// [`IndexError::TooMany`] where there are 2^32 patterns or more, or more than 2^32 lists, and there alone; each pattern in
+    /// turn then answers the same. [`IndexError::Memory`] where memory was refused.
     pub fn new(
         alloc: Global,
         lists: &'a [List<T>],
         case: Case,
-    ) -> Result<ListIndex<'a, T>, AllocError>
-        ensures { IfOk result (λ index. (index.lists ≡ lists.entry.now) × (index.case ≡ case)) }
+    ) -> Result<ListIndex<'a, T>, IndexError>
+        ensures index { IfOk result (λ index. (index.lists ≡ lists.entry.now) × (index.case ≡ case)) }
+        ensures too_many { IsErrOf result IndexError.TooMany ↔ AreTooMany (map (entry_list_of T.seen) lists.entry.now) }
     {
-        let mut table = Table::with_capacity(alloc, pattern_count(lists))?;
+        let patterns = pattern_count(lists);
+        if are_too_many(patterns, lists.len()) {
+            return Err(IndexError::TooMany);
+        }
+        let mut table = Table::with_capacity(alloc, patterns)?;
         'lists: for i in 0..lists.len() {
             add_list(&mut table, lists, i)?;
         }
@@ -93,17 +109,35 @@ impl<'a, T: search::Pattern> ListIndex<'a, T> {
         requires folders { BasesAreFolders (map (entry_list_of T.seen) self.now.lists) }
         ensures { Decides (map (entry_list_of T.seen) self.now.lists) path.now is_dir self.now.case result }
     {
+        self.decide_and_count(path, is_dir).pair
+    }
+
+    /// The pattern that decides about a path, as [`ListIndex::decide`] answers it, and how many patterns were asked to find it:
+    /// the fewer, the more the index saves.
+    ///
+    /// The path and the bases are as for [`ListIndex::decide`]. No memory is taken.
+    #[inline(always)]
+    pub fn decide_and_count(&self, path: &[u8], is_dir: bool) -> CountedDecision
+        requires plain { IsPlainPath path.now }
+        requires folders { BasesAreFolders (map (entry_list_of T.seen) self.now.lists) }
+        ensures decides { Decides (map (entry_list_of T.seen) self.now.lists) path.now is_dir self.now.case result.pair }
+        ensures each_once { result.asked ≤ entry_count (map (entry_list_of T.seen) self.now.lists) }
+        ensures some { IsSome result.pair → 0 < result.asked }
+    {
         // a law does nothing: it is called for what it ensures
         laws::answering_patterns_pass();
         let position = basename_start(path);
         let probe = self.table.probe(path, position);
         let mut walk = self.table.walk(probe.last());
+        let mut asked = 0;
         'candidates: while let Some((list, mapping)) = self.table.next_pair(&probe, &mut walk) {
+            asked += 1;
             if self.matches_at(list, mapping, path, position, is_dir) {
-                return Some((list, mapping));
+                let pair = Some((list, mapping));
+                return CountedDecision { pair, asked };
             }
         }
-        None
+        CountedDecision { pair: None, asked }
     }
 
     /// All patterns that match a path, in order: the places of the list and of the mapping in it, lists first.
@@ -187,13 +221,23 @@ impl<'a, T: search::Pattern> ListIndex<'a, T> {
     }
 }
 
-/// How many patterns the lists have.
-fn pattern_count<T: search::Pattern>(lists: &[List<T>]) -> usize {
+/// How many patterns the lists have, or the greatest number where they have more.
+fn pattern_count<T: search::Pattern>(lists: &[List<T>]) -> usize
+    ensures { result ≡ min (entry_count (map (entry_list_of T.seen) lists.now)) usize.MAX }
+{
     let mut count: usize = 0;
     for list in lists {
         count = count.saturating_add(list.patterns.len());
     }
     count
+}
+
+/// Whether so many patterns and lists are too many for an index.
+fn are_too_many(patterns: usize, lists: usize) -> bool
+    ensures { IsTrue result ↔ (2 ^ 32 ≤ patterns) ⊎ (2 ^ 32 < lists) }
+{
+    const PLACES: usize = 1 << 32;
+    patterns >= PLACES || lists > PLACES
 }
 
 /// Adds the rows of the list at place `i`.
@@ -203,20 +247,15 @@ fn add_list<T: search::Pattern>(
     i: usize,
 ) -> Result<(), AllocError>
     requires inside { i < length lists.now }
+    requires fits { ¬ AreTooMany (map (entry_list_of T.seen) lists.now) }
     requires rows { AreRowsUpTo (map (entry_list_of T.seen) lists.now) i 0 table.old.rows.items }
     requires chained { AreChained table.old }
     ensures rows { OnOk result (AreRowsUpTo (map (entry_list_of T.seen) lists.now) (i + 1) 0 table.new.rows.items) }
     ensures chained { OnOk result (AreChained table.new) }
 {
-    let Ok(list_place) = u32::try_from(i) else {
-        return Err(AllocError);
-    };
     let mappings = lists[i].patterns.as_slice();
     'mappings: for m in 0..mappings.len() {
-        let Ok(mapping_place) = u32::try_from(m) else {
-            return Err(AllocError);
-        };
-        table.push(Row::new(&mappings[m].pattern, list_place, mapping_place))?;
+        table.push(Row::new(&mappings[m].pattern, i as u32, m as u32))?;
     }
     Ok(())
 }

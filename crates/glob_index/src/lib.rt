@@ -2,6 +2,7 @@
 #![tactic(auto)]
 
 mod chains;
+mod fault;
 mod index;
 mod laws;
 mod literals;
@@ -10,5 +11,6 @@ mod rests;
 mod row;
 mod table;
 
-pub use index::ListIndex;
+pub use fault::IndexError;
+pub use index::{CountedDecision, ListIndex};
 pub use rests::{rest_of, rest_of_with_counts};

@@ -1,5 +1,5 @@
 //! Rows in order, with a chain through those of each class: a path walks down two chains, and meets only rows that can pass.
-ghost use Rattle.std.specs.Prelude.{◌≡◌, ◌+◌, ◌++◌, ◌∷◌, [], ◌<◌, IfOk, MatchOption, OnOk, length, slice_index_or};
+ghost use Rattle.std.specs.Prelude.{◌≡◌, ◌+◌, ◌^◌, ◌++◌, ◌∷◌, [], ◌<◌, IfOk, MatchOption, OnOk, length, slice_index_or};
 ghost use Rattle.gix_glob.specs.RepositoryPaths.{IsBasenameStart};
 ghost use Rattle.glob_index.specs.Private.Chains.{place_of};
 ghost use Rattle.glob_index.specs.Private.Showing.{Shows};
@@ -47,15 +47,14 @@ impl Table {
         })
     }
 
-    /// Adds a row after the others. More than 2^32 - 1 of them are refused as memory is.
+    /// Adds a row after the others.
     pub(crate) fn push(&mut self, row: Row) -> Result<(), AllocError>
-        requires { AreChained self.old }
+        requires chained { AreChained self.old }
+        requires room { length self.old.rows.items + 1 < 2 ^ 32 }
         ensures rows { OnOk result (self.new.rows.items ≡ self.old.rows.items ++ (record row { before = slice_index_or self.old.heads (place_of row.class) Link.NONE }) ∷ []) }
         ensures chained { OnOk result (AreChained self.new) }
     {
-        let Some(head) = Link::to(self.rows.len()) else {
-            return Err(AllocError);
-        };
+        let head = Link::to(self.rows.len());
         let class = row.class().place();
         let chained_row = row.after(self.heads[class]);
         self.rows.push(chained_row)?;

@@ -3,6 +3,7 @@ pub mod DecisionsLemmas
 pub mod EntriesLemmas
 pub mod FoundLemmas
 pub mod IgnoreLemmas
+pub mod IndexingLemmas
 pub mod LabelLemmas
 pub mod LinesLemmas
 pub mod ListLemmas

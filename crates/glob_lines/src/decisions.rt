@@ -1,5 +1,6 @@
 //! The engine that tells, for each path line, which line of which ignore file decides about it.
 ghost use Rattle.std.specs.Prelude.{◌≡◌, ◌↔◌, ◌++◌, false, map, IsTrue, IfOk, OnOk, IsErrOf};
+ghost use Rattle.std.specs.Option.{ForSome};
 ghost use Rattle.std.specs.Io.KnownBytes.{Appends};
 ghost use Rattle.gix_glob.specs.Deciding.{BasesAreFolders, Decides};
 ghost use Rattle.gix_glob.specs.Entries.{entry_of};
@@ -14,6 +15,7 @@ use crate::deciding::decide;
 use crate::decimal::append_decimal;
 use crate::fault::EngineFault;
 use crate::ignore::IgnoreLines;
+use crate::indexing::unless_too_many;
 use crate::lines::Lines;
 use crate::paths::{path_of, plain_path};
 use crate::transfer::{read_whole, write_whole};
@@ -74,31 +76,34 @@ fn decisions_of<T: search::Pattern>(
     requires { BasesAreFolders (map (entry_list_of T.seen) lists.now) }
     ensures { IfOk result (λ text. DecisionsText (map (entry_list_of T.seen) lists.now) case paths.now text.items) }
 {
-    let index = ListIndex::new(alloc, lists, case)?;
+    let made = unless_too_many(ListIndex::new(alloc, lists, case))?;
+    let index = made.as_ref();
     let mut text = Vec::new(alloc);
     for line in Lines::new(paths) {
-        append_decision(&mut text, &index, line)?;
+        append_decision(&mut text, lists, index, case, line)?;
         text.push(b'\n')?;
     }
     Ok(text)
 }
 
-/// Appends what is written for a path line, without the line feed.
+/// Appends what is written for a path line, without the line feed. The index, where there is one, is that of the lists.
 fn append_decision<T: search::Pattern>(
     text: &mut Vec<u8>,
-    index: &ListIndex<'_, T>,
+    lists: &[List<T>],
+    index: Option<&ListIndex<'_, T>>,
+    case: Case,
     line: &[u8],
 ) -> Result<(), AllocError>
-    requires folders { BasesAreFolders (map (entry_list_of T.seen) index.now.lists) }
-    ensures { OnOk result (Adds (WritesDecisions (map (entry_list_of T.seen) index.now.lists) index.now.case line.now) text.old.items text.new.items) }
+    requires folders { BasesAreFolders (map (entry_list_of T.seen) lists.now) }
+    requires index { ForSome index (λ index. (index.now.lists ≡ lists.now) × (index.now.case ≡ case)) }
+    ensures { OnOk result (Adds (WritesDecisions (map (entry_list_of T.seen) lists.now) case line.now) text.old.items text.new.items) }
 {
     if !plain_path(line) {
         text.push(b'!')?;
         return Ok(());
     }
     let (path, is_dir) = path_of(line);
-    let lists = index.lists();
-    match decision(index, path, is_dir) {
+    match decision(lists, index, case, path, is_dir) {
         Some((i, m)) => append_verdict(text, i + 1, &lists[i].patterns[m]),
         None => text.extend_from_slice(b"none"),
     }
@@ -106,18 +111,23 @@ fn append_decision<T: search::Pattern>(
 
 /// What decides about a path, found by the index where it pays.
 fn decision<T: search::Pattern>(
-    index: &ListIndex<'_, T>,
+    lists: &[List<T>],
+    index: Option<&ListIndex<'_, T>>,
+    case: Case,
     path: &[u8],
     is_dir: bool,
 ) -> Option<(usize, usize)>
     requires plain { IsPlainPath path.now }
-    requires folders { BasesAreFolders (map (entry_list_of T.seen) index.now.lists) }
-    ensures { Decides (map (entry_list_of T.seen) index.now.lists) path.now is_dir index.now.case result }
+    requires folders { BasesAreFolders (map (entry_list_of T.seen) lists.now) }
+    requires index { ForSome index (λ index. (index.now.lists ≡ lists.now) × (index.now.case ≡ case)) }
+    ensures { Decides (map (entry_list_of T.seen) lists.now) path.now is_dir case result }
 {
-    if index.pays_for(path) {
+    if let Some(index) = index
+        && index.pays_for(path)
+    {
         index.decide(path, is_dir)
     } else {
-        decide(index.lists(), path, is_dir, index.case())
+        decide(lists, path, is_dir, case)
     }
 }
 

@@ -8,6 +8,7 @@ mod entries;
 mod fault;
 mod ignore;
 mod ignore_line;
+mod indexing;
 mod label;
 pub mod laws;
 mod lines;

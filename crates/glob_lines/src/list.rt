@@ -15,6 +15,7 @@ ghost use Rattle.glob_lines.specs.Private.Growing.{Adds};
 
 use crate::decimal::append_decimal;
 use crate::fault::EngineFault;
+use crate::indexing::unless_too_many;
 use crate::laws;
 use crate::lines::Lines;
 use crate::paths::{path_of, plain_path};
@@ -92,12 +93,13 @@ fn matches_of(
     ensures { IfOk result (λ text.
         MatchesText (map (entry_of (λ _. tt)) list.now.patterns.items) (option_map vec_items list.now.base) case paths.now text.items) }
 {
-    let index = ListIndex::new(alloc, slice::from_ref(list), case)?;
+    let made = unless_too_many(ListIndex::new(alloc, slice::from_ref(list), case))?;
+    let index = made.as_ref();
     let mut text = Vec::new(alloc);
     // one list of pairs for all paths, so that not each of them takes memory
     let mut pairs = Vec::new(alloc);
     for line in Lines::new(paths) {
-        append_matches(&mut text, &mut pairs, &index, list, line)?;
+        append_matches(&mut text, &mut pairs, list, index, case, line)?;
         text.push(b'\n')?;
     }
     Ok(text)
@@ -114,19 +116,20 @@ struct RepositoryPath<'a> {
     is_dir: bool,
 }
 
-/// Appends what is written for a path line, without the line feed. The index is that of the list. What `pairs` holds doesn't
-/// matter.
+/// Appends what is written for a path line, without the line feed. The index, where there is one, is that of the list. What
+/// `pairs` holds doesn't matter.
 fn append_matches(
     text: &mut Vec<u8>,
     pairs: &mut Vec<(usize, usize)>,
-    index: &ListIndex<'_, PlainLines>,
     list: &List<PlainLines>,
+    index: Option<&ListIndex<'_, PlainLines>>,
+    case: Case,
     line: &[u8],
 ) -> Result<(), AllocError>
-    requires one { index.now.lists ≡ list.now ∷ [] }
+    requires index { ForSome index (λ index. (index.now.lists ≡ list.now ∷ []) × (index.now.case ≡ case)) }
     requires folder { ForSome (option_map vec_items list.now.base) IsFolder }
     ensures { OnOk result (Adds
-        (WritesMatches (map (entry_of (λ _. tt)) list.now.patterns.items) (option_map vec_items list.now.base) index.now.case line.now)
+        (WritesMatches (map (entry_of (λ _. tt)) list.now.patterns.items) (option_map vec_items list.now.base) case line.now)
         text.old.items text.new.items) }
 {
     if !plain_path(line) {
@@ -134,12 +137,13 @@ fn append_matches(
         return Ok(());
     }
     let (path, is_dir) = path_of(line);
-    let case = index.case();
     let position = basename_start(path);
     let Some((rest, start)) = rest_of(list, path, position, case) else {
         return Ok(());
     };
-    if index.pays_for(path) {
+    if let Some(index) = index
+        && index.pays_for(path)
+    {
         let whole = RepositoryPath {
             bytes: path,
             position,

@@ -37,7 +37,7 @@ fn compare(
     lists: &[List<PlainLines>],
     path: &str,
     case: Case,
-) -> Result<usize, AllocError> {
+) -> Result<usize, Fail> {
     assert!(rt; bases_are_folders(lists));
     assert!(rt; plain_path(path.as_bytes()), "{path:?} isn't plain");
     let index = ListIndex::new(rt.alloc(), lists, case)?;

@@ -1,5 +1,5 @@
 -- Making the rows of lists: one more row, and one more list.
-use Rattle.std.proofs.Common.{◌≡◌, inl, inr, ⊎_elim, ℕ, ◌+◌, ◌<◌, ◌≤◌, List, [], ◌∷◌, ◌++◌, length, Some, sym, ◌∙◌, ap, subst, arith}
+use Rattle.std.proofs.Common.{◌≡◌, inl, inr, ⊎_elim, ℕ, ◌+◌, ◌<◌, List, [], ◌∷◌, ◌++◌, length, Some, sym, ◌∙◌, ap, subst, arith, length-append}
 use Rattle.std.specs.Prelude.{slice_get}
 use Rattle.std.proofs.lemmas.Bool.{cases_eq}
 use Rattle.std.proofs.lemmas.Option.{same_Some, slice_get_within}
@@ -11,6 +11,7 @@ use Rattle.glob_index.specs.declared.row.Row.{Row}
 use Rattle.glob_index.specs.Index.{ComesBefore}
 use Rattle.glob_index.specs.Private.Tables.{AreRowsUpTo, IsEntryAt, IsRowOf}
 use Rattle.glob_index.specs.Private.Rows.{Asks}
+use Rattle.glob_index.proofs.lemmas.CountLemmas.{entry_count-more}
 use Rattle.glob_index.proofs.lemmas.Elements.{slice_get-push_cases, slice_get-push_new, slice_get-push_old}
 use Rattle.glob_index.proofs.lemmas.PlaceOrder.{before_later, before_next, before_next_list}
 
@@ -22,6 +23,7 @@ module _ {V : Type 0} (lists : List (EntryList V)) where
         before = λ k row got. (let inside = slice_get_within rows k row got in absurd (omega arith));
         rising = λ k l a b less got. (let inside = slice_get_within rows k a got in absurd (omega arith));
         all = λ i m has before. ⊎_elim (λ (x : i < 0). absurd (omega arith)) (λ (x : (i ≡ 0) × (m < 0)). absurd (omega (arith, x.1))) before;
+        count = short;
       }
 
   pub rows_more : (rows : List Row) (added : Row) (j n : ℕ) (entry : Entry V) → AreRowsUpTo lists j n rows → IsEntryAt lists j n entry → Asks entry.text entry.mode added → added.list ≡ j → added.mapping ≡ n
@@ -52,10 +54,11 @@ module _ {V : Type 0} (lists : List (EntryList V)) where
           | inl old ↦ (let at = h.all i m has old in (at.0, record { row = at.1.row; there = slice_get-push_old rows added at.0 at.1.row at.1.there; list = at.1.list; mapping = at.1.mapping }))
           | inr here ↦ (length rows, record { row = added; there = slice_get-push_new rows added; list = list ∙ sym here.0; mapping = mapping ∙ sym here.1 })
         ];
+        count = omega (arith, h.count, length-append rows (added ∷ []));
       }
 
-  pub rows_of_list : (rows : List Row) (j n : ℕ) (list : EntryList V) → slice_get lists j ≡ Some list → length list.entries ≤ n → AreRowsUpTo lists j n rows → AreRowsUpTo lists (j + 1) 0 rows
-  rows_of_list rows j n list there past h = record {
+  pub rows_of_list : (rows : List Row) (j n : ℕ) (list : EntryList V) → slice_get lists j ≡ Some list → n ≡ length list.entries → AreRowsUpTo lists j n rows → AreRowsUpTo lists (j + 1) 0 rows
+  rows_of_list rows j n list there whole h = record {
     each = h.each;
     before = λ k row got. before_next_list row.list row.mapping j n (h.before k row got);
     rising = h.rising;
@@ -70,6 +73,7 @@ module _ {V : Type 0} (lists : List (EntryList V)) where
         (cases_eq i j))
         (λ (none : (i ≡ j + 1) × (m < 0)). absurd (omega (arith, none.1)))
         before;
+    count = omega (arith, h.count, entry_count-more lists j list there);
   }
 
 -- a row asks for the same, whatever it is chained to

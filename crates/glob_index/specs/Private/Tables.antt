@@ -1,10 +1,10 @@
 -- The rows of lists: one for each entry, in order, and their chains.
-use Rattle.std.specs.Prelude.{◌≡◌, ℕ, ◌<◌, List, Some, length, slice_get}
+use Rattle.std.specs.Prelude.{◌≡◌, ℕ, ◌+◌, ◌<◌, List, Some, length, slice_get, take}
 use Rattle.gix_glob.specs.EntryLists.{EntryList}
 use Rattle.gix_glob.specs.Entries.{Entry}
 use Rattle.glob_index.specs.declared.row.Row.{Row}
 use Rattle.glob_index.specs.declared.table.Table.{Table}
-use Rattle.glob_index.specs.Index.{ComesBefore}
+use Rattle.glob_index.specs.Index.{ComesBefore, entry_count}
 use Rattle.glob_index.specs.Private.Chains.{IsChained, classes_of, links_of}
 use Rattle.glob_index.specs.Private.Rows.{Asks}
 
@@ -37,6 +37,7 @@ pub record AreRowsUpTo {V : Type 0} (lists : List (EntryList V)) (j n : ℕ) (ro
   pub before : (k : ℕ) (row : Row) → slice_get rows k ≡ Some row → ComesBefore row.list row.mapping j n
   pub rising : (k l : ℕ) (a b : Row) → k < l → slice_get rows k ≡ Some a → slice_get rows l ≡ Some b → ComesBefore a.list a.mapping b.list b.mapping
   pub all : (i m : ℕ) → HasEntryAt lists i m → ComesBefore i m j n → (k : ℕ) × IsAtPlace rows i m k
+  pub count : length rows ≡ entry_count (take j lists) + n
 
 -- the rows are those of all entries
 abbrev pub AreRows : {V : Type 0} → List (EntryList V) → List Row → Type 0

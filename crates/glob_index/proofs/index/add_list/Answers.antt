@@ -1,5 +1,5 @@
 -- The mapping's row comes after those of the mappings before it.
-use Rattle.std.proofs.Common.{◌+◌, ◌<◌, ◌≤◌, length, get_or, map, ap, sym, subst, arith}
+use Rattle.std.proofs.Common.{◌≡◌, ◌+◌, ◌<◌, length, get_or, map, ap, sym, subst, arith}
 use Rattle.std.proofs.lemmas.List.{get_or_default, length-map}
 use Rattle.gix_glob.specs.Entries.{entry_of}
 use Rattle.gix_glob.specs.EntryLists.{entry_list_of}
@@ -10,8 +10,23 @@ use Rattle.glob_index.specs.declared.row.Row.{Row}
 use Rattle.glob_index.specs.Private.Chains.{place_of}
 use Rattle.glob_index.specs.Private.Tables.{AreRowsUpTo}
 use Rattle.gix_glob.proofs.lemmas.Elements.{slice_get-map_at}
+use Rattle.glob_index.proofs.lemmas.CountLemmas.{place_fits}
 use Rattle.glob_index.proofs.lemmas.RowLemmas.{Asks-linked, rows_more, rows_of_list}
 use Rattle.glob_index.proofs.index.add_list.Goals as goal
+
+pub overflow_cast-m : goal.overflow_cast-m
+overflow_cast-m g c =
+    let held = get_or c.args.lists.now c.args.i c.index-lists-i.result in
+    let held_is = get_or_default c.args.lists.now c.args.i c.index-lists-i.result held c.requires.inside in
+    let within : c.mappings.m < length held.patterns.items = omega (arith, ap length c.as_slice-mappings.ensures.value) in
+    omega (arith, place_fits g.T.Pattern.seen c.args.lists.now c.args.i held c.requires.inside held_is c.mappings.m c.requires.fits within)
+
+pub push-requires-clause-room : goal.push-requires-clause-room
+push-requires-clause-room g c =
+    let held = get_or c.args.lists.now c.args.i c.index-lists-i.result in
+    let held_is = get_or_default c.args.lists.now c.args.i c.index-lists-i.result held c.requires.inside in
+    let within : c.mappings.m < length held.patterns.items = omega (arith, ap length c.as_slice-mappings.ensures.value) in
+    omega (arith, place_fits g.T.Pattern.seen c.args.lists.now c.args.i held c.requires.inside held_is c.mappings.m c.requires.fits within, c.mappings.invariant.rows.count)
 
 pub mappings-preserved : goal.mappings-preserved
 mappings-preserved g c =
@@ -31,7 +46,7 @@ mappings-preserved g c =
             here = slice_get-map_at (entry_of g.T.Pattern.seen) held.patterns.items c.mappings.m c.index-mappings-m.result within is;
           })
           (Asks-linked (text_of c.index-mappings-m.result.pattern) (mode_of c.index-mappings-m.result.pattern) c.new.result link asks)
-          (omega (arith, c.in-Ok.ensures, c.new.ensures.list)) (omega (arith, c.in-Ok-try_from.ensures, c.new.ensures.mapping)));
+          (omega (arith, c.new.ensures.list)) (omega (arith, c.new.ensures.mapping)));
       chained = c.in_ok-push.ensures.chained;
     }
 
@@ -39,7 +54,7 @@ pub returns-clause-rows : goal.returns-clause-rows
 returns-clause-rows g c =
     let held = get_or c.args.lists.now c.args.i c.index-lists-i.result in
     let held_is = get_or_default c.args.lists.now c.args.i c.index-lists-i.result held c.requires.inside in
-    let past : length (map (entry_of g.T.Pattern.seen) held.patterns.items) ≤ c.mappings.m =
-    omega (arith, length-map held.patterns.items (entry_of g.T.Pattern.seen), ap length c.as_slice-mappings.ensures.value, c.mappings-test.false) in
+    let whole : c.mappings.m ≡ length (map (entry_of g.T.Pattern.seen) held.patterns.items) =
+    omega (arith, length-map held.patterns.items (entry_of g.T.Pattern.seen), ap length c.as_slice-mappings.ensures.value, c.mappings-test.false, c.mappings.auto.m-end) in
     rows_of_list (map (entry_list_of g.T.Pattern.seen) c.args.lists.now) c.mappings.table.rows.items c.args.i c.mappings.m (entry_list_of g.T.Pattern.seen held)
-    (slice_get-map_at (entry_list_of g.T.Pattern.seen) c.args.lists.now c.args.i held c.requires.inside held_is) past c.mappings.invariant.rows
+    (slice_get-map_at (entry_list_of g.T.Pattern.seen) c.args.lists.now c.args.i held c.requires.inside held_is) whole c.mappings.invariant.rows

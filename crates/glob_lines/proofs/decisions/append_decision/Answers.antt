@@ -1,5 +1,5 @@
 -- What decides is a mapping of one of the lists.
-use Rattle.std.proofs.Common.{◌≡◌, ◌<◌, get_or, length, rules, subst, sym}
+use Rattle.std.proofs.Common.{◌<◌, length, rules, subst, sym}
 use Rattle.std.proofs.lemmas.Result.{on_ok_weaker}
 use Rattle.gix_glob.specs.Entries.{entry_of}
 use Rattle.gix_glob.specs.EntryLists.{entry_list_of}
@@ -16,10 +16,8 @@ decision-requires-clause-plain g c =
     IsPlainPath-marked c.args.line.now c.path_of-is_dir.result.0.now c.path_of-is_dir.result.1 (c.plain_path.ensures.0 c.if-not-plain_path.false) c.path_of-is_dir.ensures
 
 -- the list that decides is one of the lists
-list_within : (g : Over) (c : In-Some g) → c.in-Some.i < length c.lists-lists.result.now
-list_within g c =
-    subst (λ lists. c.in-Some.i < length lists) (sym c.lists-lists.ensures)
-    (slice_get-map_within (entry_list_of g.T.Pattern.seen) c.args.index.now.lists c.in-Some.i _ c.in-Some.ensures.answers.there)
+list_within : (g : Over) (c : In-Some g) → c.in-Some.i < length c.args.lists.now
+list_within g c = slice_get-map_within (entry_list_of g.T.Pattern.seen) c.args.lists.now c.in-Some.i _ c.in-Some.ensures.answers.there
 
 pub bounds-lists-i : goal.bounds-lists-i
 bounds-lists-i g c = list_within g (goal.at.bounds-lists-i g c).In-Some
@@ -37,9 +35,8 @@ overflow_add-i g c =
 pub index-requires : goal.index-requires
 index-requires g c =
     let list = entry_list_of g.T.Pattern.seen c.index-lists-i.result in
-    let is = subst (λ lists. c.index-lists-i.result ≡ get_or lists c.in-Some.i c.index-lists-i.result) c.lists-lists.ensures c.index-lists-i.is in
-    let within : c.in-Some.i < length c.args.index.now.lists = slice_get-map_within (entry_list_of g.T.Pattern.seen) c.args.index.now.lists c.in-Some.i _ c.in-Some.ensures.answers.there in
-    let there = slice_get-map_at (entry_list_of g.T.Pattern.seen) c.args.index.now.lists c.in-Some.i c.index-lists-i.result within is in
+    let within = list_within g (goal.at.index-requires g c).In-Some in
+    let there = slice_get-map_at (entry_list_of g.T.Pattern.seen) c.args.lists.now c.in-Some.i c.index-lists-i.result within c.index-lists-i.is in
     let answers = PairAnswers-only _ _ _ _ c.in-Some.i c.in-Some.m list there c.in-Some.ensures.answers in
     let inside = slice_get-map_within (entry_of g.T.Pattern.seen) c.index-lists-i.result.patterns.items c.in-Some.m _ answers.there in
     rw (← c.index-lists-i.is) (subst (λ n. c.in-Some.m < n) (sym c.index-lists-i.result.patterns.ok.0) inside)
@@ -47,14 +44,13 @@ index-requires g c =
 pub returns-in-Some : goal.returns-in-Some
 returns-in-Some g c =
     let list = entry_list_of g.T.Pattern.seen c.index-lists-i.result in
-    let is = subst (λ lists. c.index-lists-i.result ≡ get_or lists c.in-Some.i c.index-lists-i.result) c.lists-lists.ensures c.index-lists-i.is in
-    let within : c.in-Some.i < length c.args.index.now.lists = slice_get-map_within (entry_list_of g.T.Pattern.seen) c.args.index.now.lists c.in-Some.i _ c.in-Some.ensures.answers.there in
-    let there = slice_get-map_at (entry_list_of g.T.Pattern.seen) c.args.index.now.lists c.in-Some.i c.index-lists-i.result within is in
+    let within = list_within g (goal.at.returns-in-Some g c).In-Some in
+    let there = slice_get-map_at (entry_list_of g.T.Pattern.seen) c.args.lists.now c.in-Some.i c.index-lists-i.result within c.index-lists-i.is in
     let answers = PairAnswers-only _ _ _ _ c.in-Some.i c.in-Some.m list there c.in-Some.ensures.answers in
     let inside = slice_get-map_within (entry_of g.T.Pattern.seen) c.index-lists-i.result.patterns.items c.in-Some.m _ answers.there in
     let here = rw (← c.index-lists-i.is) at c.index.ensures in
     on_ok_weaker c.append_verdict.result
-    (writes_verdict _ c.args.index.now.case c.args.line.now c.path_of-is_dir.result.0.now c.path_of-is_dir.result.1 _ _ c.in-Some.i c.in-Some.m list (entry_of g.T.Pattern.seen c.index.result.now)
+    (writes_verdict _ c.args.case c.args.line.now c.path_of-is_dir.result.0.now c.path_of-is_dir.result.1 _ _ c.in-Some.i c.in-Some.m list (entry_of g.T.Pattern.seen c.index.result.now)
     (c.plain_path.ensures.0 c.if-not-plain_path.false) c.path_of-is_dir.ensures c.in-Some.ensures there
     (slice_get-map_at (entry_of g.T.Pattern.seen) c.index-lists-i.result.patterns.items c.in-Some.m c.index.result.now inside here))
     c.append_verdict.ensures
@@ -62,6 +58,6 @@ returns-in-Some g c =
 pub returns-in-None : goal.returns-in-None
 returns-in-None g c =
     on_ok_weaker c.extend_from_slice.result
-    (writes_none _ c.args.index.now.case c.args.line.now c.path_of-is_dir.result.0.now c.path_of-is_dir.result.1 _ _
+    (writes_none _ c.args.case c.args.line.now c.path_of-is_dir.result.0.now c.path_of-is_dir.result.1 _ _
     (c.plain_path.ensures.0 c.if-not-plain_path.false) c.path_of-is_dir.ensures c.in-None.ensures)
     (grown_on_ok c.extend_from_slice.result _ _ _ c.extend_from_slice.ensures.items)

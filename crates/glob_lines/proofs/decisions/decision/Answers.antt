@@ -1,5 +1,7 @@
--- Both ways speak of the lists and the case of the index.
+-- The index speaks of these lists and of this case.
 use Rattle.glob_lines.proofs.decisions.decision.Goals as goal
 
-pub returns-else-pays_for : goal.returns-else-pays_for
-returns-else-pays_for g c = rw (c.lists.ensures, c.case.ensures) at c.decide-else-pays_for.ensures
+pub returns-then-pays_for : goal.returns-then-pays_for
+returns-then-pays_for g c =
+    let of = c.requires.index _ c.in-Some.is in
+    rw (of.0, of.1) at c.decide.ensures

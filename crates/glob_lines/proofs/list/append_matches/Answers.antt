@@ -1,9 +1,9 @@
 -- What is written for a plain path is what is written for what is left of it, or nothing.
-use Rattle.std.proofs.Common.{option_map, subst}
+use Rattle.std.proofs.Common.{option_map}
 use Rattle.std.proofs.lemmas.Result.{on_ok_weaker}
 use Rattle.std.specs.Vec.{vec_items}
 use Rattle.gix_glob.specs.Paths.{IsPlainPath}
-use Rattle.gix_glob.specs.Stripping.{NothingLeft, RestOf}
+use Rattle.gix_glob.specs.Stripping.{NothingLeft}
 use Rattle.glob_lines.proofs.lemmas.FoundLemmas.{numbers_under}
 use Rattle.glob_lines.proofs.lemmas.MappingsLemmas.{writes_nothing, writes_numbers}
 use Rattle.glob_lines.proofs.lemmas.PathsLemmas.{IsPlainPath-marked}
@@ -21,28 +21,26 @@ pub returns-then-pays_for : goal.returns-then-pays_for
 returns-then-pays_for c =
     let plain : IsPlainPath c.args.line.now = c.plain_path.ensures.0 c.if-not-plain_path.false in
     let base = option_map vec_items c.args.list.now.base in
-    let left : RestOf c.args.index.now.case base c.path_of-is_dir.result.0.now c.in-Some.rest.now = subst (λ case. RestOf case base c.path_of-is_dir.result.0.now c.in-Some.rest.now) c.case-case.ensures c.in-Some.ensures.0 in
+    let of = c.requires.index _ c.in-Some-index.is in
     on_ok_weaker c.append_found.result
-    (λ adds. writes_numbers _ base c.args.index.now.case c.args.line.now c.path_of-is_dir.result.0.now c.in-Some.rest.now c.path_of-is_dir.result.1 _ _
-    plain c.path_of-is_dir.ensures left
-    (numbers_under _ base c.path_of-is_dir.result.0.now c.in-Some.rest.now c.in-Some.start c.path_of-is_dir.result.1 c.args.index.now.case _ _ left c.in-Some.ensures.1 adds))
-    c.append_found.ensures
+    (λ adds. writes_numbers _ base c.args.case c.args.line.now c.path_of-is_dir.result.0.now c.in-Some.rest.now c.path_of-is_dir.result.1 _ _
+    plain c.path_of-is_dir.ensures c.in-Some.ensures.0
+    (numbers_under _ base c.path_of-is_dir.result.0.now c.in-Some.rest.now c.in-Some.start c.path_of-is_dir.result.1 c.args.case _ _ c.in-Some.ensures.0 c.in-Some.ensures.1 adds))
+    (rw of.1 at c.append_found.ensures)
 
-pub returns-else-pays_for : goal.returns-else-pays_for
-returns-else-pays_for c =
+pub returns-in_default-2 : goal.returns-in_default-2
+returns-in_default-2 c =
     let plain : IsPlainPath c.args.line.now = c.plain_path.ensures.0 c.if-not-plain_path.false in
     let base = option_map vec_items c.args.list.now.base in
-    let left : RestOf c.args.index.now.case base c.path_of-is_dir.result.0.now c.in-Some.rest.now = subst (λ case. RestOf case base c.path_of-is_dir.result.0.now c.in-Some.rest.now) c.case-case.ensures c.in-Some.ensures.0 in
     on_ok_weaker c.append_numbers.result
-    (writes_numbers _ base c.args.index.now.case c.args.line.now c.path_of-is_dir.result.0.now c.in-Some.rest.now c.path_of-is_dir.result.1 _ _
-    plain c.path_of-is_dir.ensures left)
-    (rw (c.deref.ensures.value, c.case-case.ensures) at c.append_numbers.ensures)
+    (writes_numbers _ base c.args.case c.args.line.now c.path_of-is_dir.result.0.now c.in-Some.rest.now c.path_of-is_dir.result.1 _ _
+    plain c.path_of-is_dir.ensures c.in-Some.ensures.0)
+    (rw c.deref.ensures.value at c.append_numbers.ensures)
 
 pub returns-in_default : goal.returns-in_default
 returns-in_default c =
     let plain : IsPlainPath c.args.line.now = c.plain_path.ensures.0 c.if-not-plain_path.false in
     let base = option_map vec_items c.args.list.now.base in
-    let none : NothingLeft c.case-case.result base c.path_of-is_dir.result.0.now = rw c.in_default.is at c.rest_of.ensures in
-    let nothing : NothingLeft c.args.index.now.case base c.path_of-is_dir.result.0.now = subst (λ case. NothingLeft case base c.path_of-is_dir.result.0.now) c.case-case.ensures none in
-    writes_nothing _ base c.args.index.now.case c.args.line.now c.path_of-is_dir.result.0.now c.path_of-is_dir.result.1 _
+    let nothing : NothingLeft c.args.case base c.path_of-is_dir.result.0.now = rw c.in_default.is at c.rest_of.ensures in
+    writes_nothing _ base c.args.case c.args.line.now c.path_of-is_dir.result.0.now c.path_of-is_dir.result.1 _
     plain c.path_of-is_dir.ensures nothing

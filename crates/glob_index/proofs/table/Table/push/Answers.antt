@@ -7,6 +7,6 @@ use Rattle.glob_index.proofs.table.Table.push.Goals as goal
 
 pub returns-clause-chained : goal.returns-clause-chained
 returns-clause-chained c =
-    subst (λ (rows : List Row). IsChained (classes_of rows) (links_of rows) (slice_set c.args.self.now.heads c.place-class.result c.in-Some.head)) (sym c.in_ok-push.ensures.items)
-    (IsChained-push c.args.self.now.rows.items c.args.self.now.heads c.args.row c.after-chained_row.result c.place-class.result c.in-Some.head
-    c.place-class.ensures.within (c.place-class.ensures.place ∙ ap place_of c.class.ensures) (omega arith) (omega (arith, c.in-Some.ensures, c.len.ensures)) c.after-chained_row.ensures c.requires)
+    subst (λ (rows : List Row). IsChained (classes_of rows) (links_of rows) (slice_set c.args.self.now.heads c.place-class.result c.to-head.result)) (sym c.in_ok-push.ensures.items)
+    (IsChained-push c.args.self.now.rows.items c.args.self.now.heads c.args.row c.after-chained_row.result c.place-class.result c.to-head.result
+    c.place-class.ensures.within (c.place-class.ensures.place ∙ ap place_of c.class.ensures) (omega arith) (omega (arith, c.to-head.ensures, c.len.ensures)) c.after-chained_row.ensures c.requires.chained)

@@ -1,0 +1,243 @@
+//! How many patterns an index asks: those alone that can match by what a path shows. And the engines ask it.
+use crate::compare::same;
+use gix_glob::pattern::Case;
+use gix_glob::search::pattern::List;
+use gix_glob::search::{Pattern as _, Watched};
+use glob_index::{CountedDecision, ListIndex};
+use glob_lines::{
+    IgnoreLines, PlainLines, bases_are_folders, plain_path, run_ignore, run_list,
+};
+use std::alloc::{AllocError, Global};
+use std::test::Fail;
+
+/// A list of pattern lines without a base.
+fn list_of(alloc: Global, text: &[u8]) -> Result<List<PlainLines>, AllocError> {
+    let mut list = List::empty(alloc);
+    list.patterns = PlainLines.bytes_to_patterns(alloc, text, "")?;
+    Ok(list)
+}
+
+/// Pattern lines, a path, and what an index of the lines answers for it.
+type Row<'a> = (&'a str, &'a str, Option<(usize, usize)>, usize);
+
+/// A pattern is asked where the path ends as its literal end does; where it has none, where the path has its literal bytes.
+const ROWS: [Row<'static>; 7] = [
+    ("a\nb\na\n/c/a\n", "a", Some((0, 2)), 2),
+    ("a\nb\na\n/c/a\n", "c/a", Some((0, 3)), 1),
+    ("a\nb\na\n/c/a\n", "b", Some((0, 1)), 1),
+    ("a\nb\na\n/c/a\n", "x", None, 0),
+    ("*.rs\n*.c\nx.rs\n", "y.rs", Some((0, 0)), 1),
+    ("*ab*\n*ac*\n*b*\n", "cba", Some((0, 2)), 1),
+    ("*ab*\n*ac*\n*d*\n", "cba", None, 2),
+];
+
+#[test]
+fn only_what_can_match_is_asked(rt: HostRuntime) -> Result<(), Fail> {
+    for (text, path, pair, asked) in ROWS {
+        let lists = [list_of(rt.alloc(), text.as_bytes())?];
+        assert!(rt; bases_are_folders(&lists) && plain_path(path.as_bytes()));
+        let index = ListIndex::new(rt.alloc(), &lists, Case::Sensitive)?;
+        let counted = index.decide_and_count(path.as_bytes(), false);
+        let wanted = CountedDecision { pair, asked };
+        same(&rt, counted, wanted, "what is asked:", (text, path));
+    }
+    Ok(())
+}
+
+/// Syllables of names. They have no `n` and no `o`, which the sets of bytes don't tell from a dot and a slash.
+const SYLLABLES: [&str; 12] = [
+    "ba", "ce", "di", "fu", "ga", "hi", "ju", "ke", "la", "mi", "re", "su",
+];
+
+/// The next number of a fixed row of numbers.
+fn next(seed: &mut u32) -> usize {
+    *seed = seed.wrapping_mul(1_664_525).wrapping_add(1_013_904_223);
+    (*seed / 65_536) as usize
+}
+
+/// The next syllable.
+fn syllable(seed: &mut u32) -> &'static str {
+    SYLLABLES[next(seed) % 12]
+}
+
+/// Appends a name of three syllables.
+fn append_name(text: &mut String, seed: &mut u32) -> Result<(), AllocError> {
+    text.push_str(syllable(seed))?;
+    text.push_str(syllable(seed))?;
+    text.push_str(syllable(seed))
+}
+
+/// Appends a pattern line: a name, an ending of names, a folder, a rooted path, a part of a name, or a name that is kept.
+fn append_pattern(text: &mut String, seed: &mut u32) -> Result<(), AllocError> {
+    match next(seed) % 8 {
+        0 | 1 => append_name(text, seed)?,
+        2 | 3 => {
+            text.push_str("*.")?;
+            text.push_str(syllable(seed))?;
+            text.push_str(syllable(seed))?;
+        }
+        4 => {
+            append_name(text, seed)?;
+            text.push('/')?;
+        }
+        5 => {
+            text.push('/')?;
+            append_name(text, seed)?;
+            text.push('/')?;
+            append_name(text, seed)?;
+        }
+        6 => {
+            text.push('*')?;
+            append_name(text, seed)?;
+            text.push('*')?;
+        }
+        _ => {
+            text.push('!')?;
+            append_name(text, seed)?;
+            text.push('.')?;
+            text.push_str(syllable(seed))?;
+        }
+    }
+    text.push('\n')
+}
+
+/// A path of a folder and a file with an ending.
+fn append_path(text: &mut String, seed: &mut u32) -> Result<(), AllocError> {
+    append_name(text, seed)?;
+    text.push('/')?;
+    append_name(text, seed)?;
+    text.push('.')?;
+    text.push_str(syllable(seed))?;
+    text.push_str(syllable(seed))
+}
+
+/// What follows the last star and the last slash of a text.
+fn literal_end(text: &[u8]) -> &[u8] {
+    let mut start = 0;
+    for (i, byte) in text.iter().enumerate() {
+        if matches!(byte, b'*' | b'/') {
+            start = i.wrapping_add(1);
+        }
+    }
+    text.get(start..).unwrap_or(text)
+}
+
+/// Whether a path ends as a text does, or, where the text ends in a star, has all its letters.
+fn is_shown(text: &[u8], path: &[u8]) -> bool {
+    let end = literal_end(text);
+    for byte in text {
+        if end.is_empty() && *byte != b'*' && !path.contains(byte) {
+            return false;
+        }
+    }
+    path.ends_with(end)
+}
+
+/// How many patterns of a list the path shows.
+fn shown_count(list: &List<PlainLines>, path: &[u8]) -> usize {
+    let mut count: usize = 0;
+    for mapping in &list.patterns {
+        if is_shown(mapping.pattern.text(), path) {
+            count = count.saturating_add(1);
+        }
+    }
+    count
+}
+
+#[test]
+fn of_a_thousand_patterns_few_are_asked(rt: HostRuntime) -> Result<(), Fail> {
+    let mut seed = 7;
+    let mut lines = String::new(rt.alloc());
+    for _ in 0..1_000 {
+        append_pattern(&mut lines, &mut seed)?;
+    }
+    let lists = [list_of(rt.alloc(), lines.as_bytes())?];
+    assert!(rt; bases_are_folders(&lists));
+    let index = ListIndex::new(rt.alloc(), &lists, Case::Sensitive)?;
+    let (mut asked, mut undecided): (usize, usize) = (0, 0);
+    for _ in 0..300 {
+        let mut path = String::new(rt.alloc());
+        append_path(&mut path, &mut seed)?;
+        let bytes = path.as_bytes();
+        assert!(rt; plain_path(bytes) && index.pays_for(bytes));
+        let counted = index.decide_and_count(bytes, false);
+        let most = shown_count(&lists[0], bytes);
+        same(&rt, counted.asked.min(most), counted.asked, "asked:", path.as_str());
+        asked = asked.saturating_add(counted.asked);
+        if counted.pair.is_none() {
+            undecided = undecided.saturating_add(1);
+        }
+    }
+    // where nothing decides, each of the 1,000 is asked in turn
+    assert!(rt; undecided >= 30);
+    assert!(rt; asked <= 3_000);
+    Ok(())
+}
+
+#[test]
+fn it_pays_where_few_can_match(rt: HostRuntime) -> Result<(), Fail> {
+    let many = [list_of(rt.alloc(), b"a\nb\nc\nd\ne\nf\ng\nh\n")?];
+    let few = [list_of(rt.alloc(), b"a\nb\nc\nd\ne\nf\ng\n")?];
+    let one_end = [list_of(rt.alloc(), b"*a\n*b\n*ca\n*da\n*ea\n*fa\n*ga\n*ha\n")?];
+    for (lists, is_worth) in [(&many, true), (&few, false), (&one_end, false)] {
+        let index = ListIndex::new(rt.alloc(), lists, Case::Sensitive)?;
+        assert_eq!(rt; index.pays_for(b"a"), is_worth);
+    }
+    Ok(())
+}
+
+/// Lines that take long to test on paths of letters `a` and a last `b`, and that the index passes over: 25 with another end,
+/// 5 that need a `c`, and 40 more.
+fn append_slow_patterns(text: &mut Vec<u8>, length: usize) -> Result<(), AllocError> {
+    for number in 0..30 {
+        text.push(b'*')?;
+        let long = text.len().saturating_add(length);
+        text.resize(long, b'a')?;
+        text.extend_from_slice(if number < 25 { b"c*cccccccb\n" } else { b"c*\n" })?;
+    }
+    for _ in 0..40 {
+        text.extend_from_slice(b"d\n")?;
+    }
+    Ok(())
+}
+
+/// Path lines of letters `a` and a last `b`.
+fn append_slow_paths(text: &mut Vec<u8>, length: usize) -> Result<(), AllocError> {
+    for _ in 0..25 {
+        let long = text.len().saturating_add(length);
+        text.resize(long, b'a')?;
+        text.extend_from_slice(b"b\n")?;
+    }
+    Ok(())
+}
+
+/// With the index an engine answers at once; without it each path takes seconds, and all more than a test has.
+#[test]
+fn the_engines_ask_the_index(rt: HostRuntime) -> Result<(), Fail> {
+    let (mut patterns, mut paths) = (Vec::new(rt.alloc()), Vec::new(rt.alloc()));
+    append_slow_patterns(&mut patterns, 16_000)?;
+    append_slow_paths(&mut paths, 32_000)?;
+    let mut writer = Watched::new(Vec::new(rt.alloc()));
+    let mut lines = Watched::new(patterns.as_slice());
+    let mut reader = Watched::new(paths.as_slice());
+    run_list(
+        rt.alloc(),
+        &mut lines,
+        "f",
+        None,
+        Case::Sensitive,
+        &mut reader,
+        &mut writer,
+    )?;
+    let output = writer.into_inner();
+    assert!(rt; output.as_slice() == [b'\n'; 25].as_slice());
+    let source = String::from_str(rt.alloc(), "f")?;
+    let lists = [List::from_bytes(rt.alloc(), &patterns, source, None, IgnoreLines)?];
+    assert!(rt; bases_are_folders(&lists));
+    let mut writer = Watched::new(Vec::new(rt.alloc()));
+    let mut reader = Watched::new(paths.as_slice());
+    run_ignore(rt.alloc(), &lists, Case::Sensitive, &mut reader, &mut writer)?;
+    let output = writer.into_inner();
+    assert!(rt; output.as_slice() == b"none\n".repeat(rt.alloc(), 25)?.as_slice());
+    Ok(())
+}
