@@ -1,6 +1,7 @@
 pub mod Answering
 pub mod Bases
 pub mod Copies
+pub mod Deciding
 pub mod Elements
 pub mod LastNumbers
 pub mod PathParts
