@@ -2,6 +2,7 @@ pub mod Answering
 pub mod Bases
 pub mod Copies
 pub mod DecisionSums
+pub mod Deciding
 pub mod Elements
 pub mod LastNumbers
 pub mod PathParts
