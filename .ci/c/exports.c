@@ -95,14 +95,18 @@ static void ignore_lines(void)
     for (size_t i = 0; i < sizeof wanted / sizeof *wanted; i++) {
         const size_t left = lines.rest_len;
         CHECK(gix_glob_parse_ignore_line(&lines, &pattern, &has_pattern));
+        CHECK(lines.rest + lines.rest_len == file + (sizeof file - 1));
         CHECK(left - lines.rest_len == wanted[i].taken && has_pattern == wanted[i].has_pattern && lines.number == i + 1);
         CHECK(!has_pattern || (pattern.text_len == wanted[i].text_len && pattern.mode == wanted[i].mode));
     }
-    CHECK(lines.rest_len == 0 && !gix_glob_parse_ignore_line(&lines, &pattern, &has_pattern));
+    CHECK(lines.rest_len == 0 && lines.rest == file + (sizeof file - 1));
+    CHECK(!gix_glob_parse_ignore_line(&lines, &pattern, &has_pattern));
+    CHECK(lines.rest == file + (sizeof file - 1) && lines.rest_len == 0 && lines.number == 5 && pattern.text_len == 3);
     lines = gix_glob_lines_of(NULL, 0);
     CHECK(!gix_glob_parse_ignore_line(&lines, &pattern, &has_pattern));
     lines = gix_glob_lines_of(file, 3);
     CHECK(!gix_glob_parse_ignore_line(&lines, &pattern, &has_pattern));
+    CHECK(lines.rest == file && lines.rest_len == 3 && lines.number == 0);
 }
 
 int main(void)

@@ -29,7 +29,7 @@
 extern "C" {
 #endif
 
-/* No place, and no index. */
+/* No place, and no index: the only number that a call writes or answers for none. */
 #define GIX_GLOB_NONE SIZE_MAX
 
 /* Bits of a match mode, the parameter `mode`. Other bits change no answer. */
@@ -50,7 +50,8 @@ extern "C" {
 struct gix_glob_pattern {
     const uint8_t *text;       /* the bytes that are matched; not NULL */
     size_t text_len;           /* how many */
-    size_t first_wildcard_pos; /* the place of the first of * ? [ and \ in the text, from 0, or GIX_GLOB_NONE */
+    size_t first_wildcard_pos; /* the place of the first of * ? [ and \ in the text, from 0; GIX_GLOB_NONE where there is
+                                  none. A call that matches takes any place past the text's end for none */
     uint32_t mode;             /* the sum of the bits that stand */
 };
 
@@ -72,7 +73,7 @@ bool gix_glob_parse(const uint8_t *line, size_t line_len, struct gix_glob_patter
 
 /* What is left to read of an ignore file. */
 struct gix_glob_lines {
-    const uint8_t *rest; /* the bytes behind the lines that were read; not NULL */
+    const uint8_t *rest; /* the bytes behind the lines that were read, at last the file's end; not NULL */
     size_t rest_len;     /* how many: a call takes as many bytes as this falls by */
     size_t number;       /* the number of the line that was read last, from 1; 0 before the first */
 };
@@ -94,7 +95,7 @@ static inline struct gix_glob_lines gix_glob_lines_of(const void *bytes, size_t 
  *   lines        the lines that are left
  *   out          receives the line's pattern; it stays as it was where the line has none
  *   has_pattern  receives whether the line has a pattern
- * Answers whether a line was left. */
+ * Answers whether a line was left; where none was, `lines` and `out` stay as they were. */
 bool gix_glob_parse_ignore_line(struct gix_glob_lines *lines, struct gix_glob_pattern *out, bool *has_pattern);
 
 /* Whether a pattern matches a path. Its '!' isn't looked at: GIX_GLOB_NEGATIVE says whether it stood there.

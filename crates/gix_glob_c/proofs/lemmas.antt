@@ -1,2 +1,3 @@
 pub mod Bits
 pub mod DecidingLemmas
+pub mod Numbers

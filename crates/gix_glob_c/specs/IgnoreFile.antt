@@ -1,5 +1,6 @@
 -- What a call takes off an ignore file.
-use Rattle.std.specs.Prelude.{◌≡◌, ℕ, Bool, true, false, ◌==◌, if◌then◌else◌, List, Option, Some}
+use Rattle.std.specs.Prelude.{◌≡◌, ℕ, Bool, true, false, ◌==◌, if◌then◌else◌, List, Option}
+use Rattle.std.specs.Option.{ForSome, IsSomeAnd}
 use Rattle.gix_glob.specs.Patterns.{HasReading}
 use Rattle.glob_lines.specs.Ignore.{BeginsWithLine, without_mark}
 use Rattle.gix_glob_c.specs.declared.ignore_file.GlobLines.{GlobLines}
@@ -10,16 +11,10 @@ use Rattle.gix_glob_c.specs.Parsed.{IsRead}
 abbrev pub unread_of : GlobLines → List ℕ
 unread_of lines = if lines.number == 0 then without_mark lines.rest.now else lines.rest.now
 
--- there is a text, and the pattern is its reading
-pub record HasRead (text : Option (List ℕ)) (pattern : GlobPattern) : Type 0 where
-  pub line : List ℕ
-  pub is : text ≡ Some line
-  pub read : IsRead line pattern
-
--- The answer says whether the text has a reading, which the new pattern then is; else the pattern is the old one.
+-- The answer says whether there is a text that has a reading, which the new pattern then is; else the pattern is the old one.
 pub record ReadsText (text : Option (List ℕ)) (old new : GlobPattern) (answer : Bool) : Type 0 where
-  pub yes : answer ≡ true → HasRead text new
-  pub no : answer ≡ false → (line : List ℕ) → text ≡ Some line → ¬ HasReading line true
+  pub yes : answer ≡ true → IsSomeAnd text (λ line. IsRead line new)
+  pub no : answer ≡ false → ForSome text (λ line. ¬ HasReading line true)
   pub kept : answer ≡ false → new ≡ old
 
 -- The bytes begin with a line, the rest follows it, and the line's text was read.

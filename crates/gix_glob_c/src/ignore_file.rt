@@ -1,6 +1,7 @@
 //! The lines of an ignore file, one after the other: `struct gix_glob_lines` of the header.
 ghost use Rattle.std.specs.Prelude.{◌≡◌, ◌↔◌, ◌<◌, ◌+◌, ◌-◌, ◌^◌, [], true, false};
 ghost use Rattle.std.specs.Option.{option_copied};
+ghost use Rattle.glob_lines.specs.Memory.{end_of};
 ghost use Rattle.gix_glob_c.specs.IgnoreFile.{ReadsText, TakesLine, unread_of};
 
 use crate::parsed::{GlobPattern, gix_glob_parse};
@@ -17,8 +18,9 @@ pub struct GlobLines<'a> {
 }
 
 /// Takes the next line off an ignore file, by the rules of [`next_ignore_line`], and reads its pattern. A byte order mark is
-/// passed over before the first line, and `lines.number` becomes the line's. `false` is answered where no line is left. A
-/// line without a pattern leaves `out` as it was, and `has_pattern` false.
+/// passed over before the first line, and `lines.number` becomes the line's. What is left ends where it ended before. `false`
+/// is answered where no line is left: `lines` and `out` are then as they were. A line without a pattern leaves `out` as it
+/// was, and `has_pattern` false.
 #[unsafe(no_mangle)]
 pub extern "C" fn gix_glob_parse_ignore_line<'a>(
     lines: &mut GlobLines<'a>,
@@ -27,6 +29,8 @@ pub extern "C" fn gix_glob_parse_ignore_line<'a>(
 ) -> bool
     ensures ended { (result ≡ false) ↔ (unread_of lines.old ≡ []) }
     ensures kept { result ≡ false → out.new ≡ out.old }
+    ensures unmoved { result ≡ false → lines.new ≡ lines.old }
+    ensures place { end_of lines.new.rest ≡ end_of lines.old.rest }
     ensures taken { result ≡ true → TakesLine (unread_of lines.old) lines.new.rest.now out.old out.new has_pattern.new }
     ensures number { result ≡ true → lines.old.number < 2 ^ 64 - 1 → lines.new.number ≡ lines.old.number + 1 }
 {
@@ -41,7 +45,8 @@ pub extern "C" fn gix_glob_parse_ignore_line<'a>(
 
 /// The bytes that are left to read, without a byte order mark at the front of the file.
 fn unread<'a>(lines: &GlobLines<'a>) -> &'a [u8]
-    ensures { result.now ≡ unread_of lines.now }
+    ensures bytes { result.now ≡ unread_of lines.now }
+    ensures place { end_of result ≡ end_of lines.now.rest }
 {
     if lines.number == 0 {
         without_byte_order_mark(lines.rest)

@@ -1,17 +1,19 @@
 //! The matcher for C: a static library over `gix_glob`, declared in `include/gix_glob.h`.
 #![tactic(auto)]
 
-ghost use Rattle.std.specs.Prelude.{◌≡◌, ◌↔◌, true, false, IsTrue};
+ghost use Rattle.std.specs.Prelude.{◌≡◌, ◌↔◌, true, false, IsTrue, None};
 ghost use Rattle.gix_glob.specs.Bytes.{HasByte, slash};
+ghost use Rattle.gix_glob.specs.Deciding.{AnswersUnder};
+ghost use Rattle.gix_glob.specs.Entries.{Entry};
 ghost use Rattle.gix_glob.specs.Matching.{Splits};
-ghost use Rattle.gix_glob.specs.Patterns.{HasReading, IsPattern};
-ghost use Rattle.gix_glob_c.specs.Parts.{LineAnswersFor, case_of, place_in};
+ghost use Rattle.gix_glob.specs.Patterns.{HasReading, IsPattern, Reads};
+ghost use Rattle.gix_glob_c.specs.Parts.{case_of, place_in};
 
 pub mod ignore_file;
-pub mod laws;
 pub mod parsed;
 
 use bitflags::Flags;
+use gix_glob::laws::line_has_one_reading;
 use gix_glob::pattern::{self, Case, PatternView, basename_start};
 use gix_glob::wildmatch::{Mode, wildmatch};
 
@@ -30,8 +32,11 @@ pub extern "C" fn gix_glob_wildmatch(pattern: &[u8], value: &[u8], mode: u8) -> 
 pub extern "C" fn gix_glob_matches_path(line: &[u8], path: &[u8], is_dir: bool, fold: bool) -> bool
     ensures blank { ¬ HasReading line.now true → result ≡ false }
     ensures absolute { HasByte path.now 0 slash → result ≡ false }
-    ensures answers { HasReading line.now true → ¬ HasByte path.now 0 slash → LineAnswersFor line.now path.now is_dir fold result }
+    ensures answers { (entry : Entry (Unit {0})) → Reads line.now true entry.text entry.mode entry.place → ¬ HasByte path.now 0 slash
+        → (IsTrue result ↔ AnswersUnder None entry path.now is_dir (case_of fold)) }
 {
+    // a law does nothing: it is called for what it ensures
+    line_has_one_reading();
     let Some(view) = PatternView::from_bytes(line) else {
         return false;
     };

@@ -1,8 +1,10 @@
 //! Patterns that are read once and matched often: `struct gix_glob_pattern` of the header, and what is asked of it.
-ghost use Rattle.std.specs.Prelude.{◌≡◌, ◌<◌, ◌⊎◌, ◌^◌, ◌-◌, ◌↔◌, length, All, IsTrue, IfSome, true, false};
-ghost use Rattle.gix_glob.specs.Patterns.{HasReading, IsPattern};
+ghost use Rattle.std.specs.Prelude.{◌≡◌, ◌<◌, ◌⊎◌, ◌↔◌, ℕ, [], ◌∷◌, length, All, IsTrue, IfSome, None, option_map, true, false};
+ghost use Rattle.gix_glob.specs.Deciding.{AnswersUnder, Decides};
+ghost use Rattle.gix_glob.specs.Patterns.{HasReading, IsPattern, is_blank, without_negation};
 ghost use Rattle.gix_glob.specs.RepositoryPaths.{IsBasenameStart};
-ghost use Rattle.gix_glob_c.specs.Parsed.{AnswersPath, IsLawful, IsPathOfFile, IsRead, LastAnswer, first_of, index_of, mode_of};
+ghost use Rattle.gix_glob_c.specs.Parsed.{IsLawful, IsPathOfFile, IsRead, entry_of_parts, first_of, list_of, mode_of};
+ghost use Rattle.gix_glob_c.specs.Parts.{case_of, none, unless_none};
 
 use crate::{case_of, place_in};
 use bitflags::Flags;
@@ -19,7 +21,8 @@ const NONE: usize = usize::MAX;
 pub struct GlobPattern<'a> {
     /// The bytes that are matched.
     pub text: &'a [u8],
-    /// The place of the text's first `*`, `?`, `[` or `\`, counted in bytes from 0. A place past its end stands for none.
+    /// The place of the text's first `*`, `?`, `[` or `\`, counted in bytes from 0. The calls that read a pattern write
+    /// `usize::MAX` where there is none; those that match take any place past the text's end for none.
     pub first_wildcard_pos: usize,
     /// The bits of what is known of the text and of what stood around it.
     pub mode: u32,
@@ -29,7 +32,8 @@ pub struct GlobPattern<'a> {
 #[unsafe(no_mangle)]
 pub extern "C" fn gix_glob_parse<'a>(line: &'a [u8], out: &mut GlobPattern<'a>) -> bool
     ensures reads { result ≡ true → IsRead line.now out.new }
-    ensures blank { result ≡ false → ¬ HasReading line.now true }
+    ensures blank { (result ≡ false) ↔ IsTrue (is_blank (without_negation line.now)) }
+    ensures unread { result ≡ false → ¬ HasReading line.now true }
     ensures kept { result ≡ false → out.new ≡ out.old }
 {
     match PatternView::from_bytes(line) {
@@ -51,7 +55,8 @@ pub extern "C" fn gix_glob_pattern_matches_path(
     fold: bool,
 ) -> bool
     ensures other { ¬ IsPathOfFile path.now → result ≡ false }
-    ensures exact { IsLawful pattern.now → (IsTrue result ↔ AnswersPath pattern.now path.now is_dir fold) }
+    ensures exact { IsLawful pattern.now → IsPathOfFile path.now
+        → (IsTrue result ↔ AnswersUnder None (entry_of_parts pattern.now) path.now is_dir (case_of fold)) }
 {
     is_path(path) && is_matched(pattern, path, basename_start(path), is_dir, fold)
 }
@@ -65,8 +70,10 @@ pub extern "C" fn gix_glob_last_match(
     is_dir: bool,
     fold: bool,
 ) -> usize
-    ensures none { (result ≡ 2 ^ 64 - 1) ⊎ (result < length patterns.now) }
-    ensures exact { All IsLawful patterns.now → LastAnswer patterns.now path.now is_dir fold (index_of patterns.now result) }
+    ensures none { (result ≡ none) ⊎ (result < length patterns.now) }
+    ensures other { ¬ IsPathOfFile path.now → result ≡ none }
+    ensures exact { All IsLawful patterns.now → IsPathOfFile path.now
+        → Decides (list_of patterns.now ∷ []) path.now is_dir (case_of fold) (option_map (λ (index : ℕ). (0, index)) (unless_none result)) }
 {
     if !is_path(path) {
         return NONE;
@@ -81,7 +88,9 @@ pub extern "C" fn gix_glob_last_match(
 fn last_match(patterns: &[GlobPattern<'_>], path: &[u8], is_dir: bool, fold: bool) -> Option<usize>
     requires { IsPathOfFile path.now }
     ensures inside { IfSome result (λ index. index < length patterns.now) }
-    ensures exact { All IsLawful patterns.now → LastAnswer patterns.now path.now is_dir fold result }
+    ensures some { IfSome result (λ index. index < none) }
+    ensures exact { All IsLawful patterns.now
+        → Decides (list_of patterns.now ∷ []) path.now is_dir (case_of fold) (option_map (λ (index : ℕ). (0, index)) result) }
 {
     let position = basename_start(path);
     for i in (0..patterns.len()).rev() {
@@ -98,6 +107,7 @@ fn parts_of<'a>(view: PatternView<'a>) -> GlobPattern<'a>
     ensures text { result.text.now ≡ view.entry.text.now }
     ensures mode { mode_of result ≡ view.entry.mode }
     ensures place { first_of result ≡ view.entry.first_wildcard_pos }
+    ensures told { unless_none result.first_wildcard_pos ≡ view.entry.first_wildcard_pos }
 {
     GlobPattern {
         text: view.text,
@@ -123,7 +133,7 @@ fn is_matched(
 ) -> bool
     requires path { IsPathOfFile path.now }
     requires start { IsBasenameStart path.now position }
-    ensures { IsLawful pattern.now → (IsTrue result ↔ AnswersPath pattern.now path.now is_dir fold) }
+    ensures { IsLawful pattern.now → (IsTrue result ↔ AnswersUnder None (entry_of_parts pattern.now) path.now is_dir (case_of fold)) }
 {
     let view = PatternView {
         text: pattern.text,

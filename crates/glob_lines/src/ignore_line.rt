@@ -13,7 +13,7 @@ use memchr::memchr;
 pub struct IgnoreLine<'a> {
     /// The bytes that a pattern is read from, without the spaces at their end. `None` where the line is a comment.
     pub text: Option<&'a [u8]>,
-    /// The bytes after the line and its ending.
+    /// The bytes after the line and its ending. They lie at the end of the bytes that were given, also where none is left.
     pub rest: &'a [u8],
 }
 

@@ -1,6 +1,7 @@
 -- What the words of the command line ask for, and what is done then.
-use Rattle.std.specs.Prelude.{◌≡◌, ◌≢◌, ◌⊎◌, ℕ, Bool, true, false, List, [], ◌∷◌, Option, None, Some, codes}
+use Rattle.std.specs.Prelude.{◌≡◌, ◌≢◌, ◌⊎◌, ℕ, Bool, true, false, List, [], ◌∷◌, map, Option, None, Some, codes, string_bytes}
 use Rattle.std.specs.List.{list_all}
+use Rattle.std.specs.Option.{option_copied}
 use Rattle.gix_glob.specs.declared.pattern.Case.{Case}
 use Rattle.gix_glob.specs.declared.pattern.Case.TheVariants.{Sensitive, Fold}
 use Rattle.gix_glob.specs.declared.wildmatch.Mode.{Mode}
@@ -11,6 +12,8 @@ use Rattle.glob_lines.specs.Ignore.{Ignore}
 use Rattle.glob_lines.specs.Mappings.{MappingsText}
 use Rattle.glob_lines.specs.Transfers.{ReadsWhole, Run}
 use Rattle.glob_lines.specs.Values.{ValuesText}
+use Rattle.globline.specs.declared.command.Command.{Command}
+use Rattle.globline.specs.declared.command.Command.TheVariants as command
 
 -- the word names the mode
 abbrev pub NamesMode : List ℕ → Mode → Type 0
@@ -57,20 +60,17 @@ pub record AskIgnore (words : List (List ℕ)) (case : Case) (root : Option (Lis
   pub rooted : NamesRoot root_word root
   pub filed : are_files files ≡ true
 
+-- the words ask for the command
+abbrev pub Ask : List (List ℕ) → Command → Type 0
+Ask words (command.Wild mode pattern) = AskWild words mode pattern.now
+Ask words (command.List case file root) = AskList words case file.now (option_copied root)
+Ask words (command.Ignore case root files) = AskIgnore words case (option_copied root) (map string_bytes files.now)
+
 -- the words ask for nothing that the program does
 pub record AreWrong (words : List (List ℕ)) : Type 0 where
   pub wild : (mode : Mode) (pattern : List ℕ) → ¬ AskWild words mode pattern
   pub list : (case : Case) (file : List ℕ) (root : Option (List ℕ)) → ¬ AskList words case file root
   pub ignore : (case : Case) (root : Option (List ℕ)) (files : List (List ℕ)) → ¬ AskIgnore words case root files
-
--- the input was read whole, and its values were answered
-pub record AnswersWild (mode : Mode) (pattern : List ℕ) (input_old input_new : Option (List ℕ)) (Written : List ℕ → Type 0) : Type 0 where
-  pub run : Run (ReadsWhole input_old input_new) (ValuesText pattern mode) Written
-
--- the input was read whole, and its paths were answered by the pattern lines that the file gave
-pub record AnswersList (case : Case) (file : List ℕ) (root : Option (List ℕ)) (input_old input_new : Option (List ℕ)) (Written : List ℕ → Type 0) : Type 0 where
-  pub patterns : List ℕ
-  pub run : Run (ReadsWhole input_old input_new) (λ paths. MappingsText file root case (record { patterns = patterns; paths = paths })) Written
 
 -- the list is what the bytes of an ignore file mean, with the base of the file under the root
 pub record IsIgnoreList (bytes file : List ℕ) (root : Option (List ℕ)) (list : EntryList (Unit {0})) : Type 0 where
@@ -85,37 +85,17 @@ AreIgnoreLists root (file ∷ files) lists =
     AreIgnoreLists root files lists
     ⊎ ((bytes : List ℕ) × (list : EntryList (Unit {0})) × (more : List (EntryList (Unit {0}))) × (lists ≡ list ∷ more) × IsIgnoreList bytes file root list × AreIgnoreLists root files more)
 
--- the files gave lists, the input was read whole, and the lists decided about its paths
-pub record AnswersIgnore (case : Case) (root : Option (List ℕ)) (files : List (List ℕ)) (input_old input_new : Option (List ℕ)) (Written : List ℕ → Type 0) : Type 0 where
-  pub lists : List (EntryList (Unit {0}))
-  pub loaded : AreIgnoreLists root files lists
-  pub run : Run (ReadsWhole input_old input_new) (DecisionsText lists case) Written
+-- The text answers an input by the command: of `list` with the bytes that its file gave, of `ignore` with the lists that its files
+-- gave.
+abbrev pub AnswersCommand : Command → List ℕ → List ℕ → Type 0
+AnswersCommand (command.Wild mode pattern) input text = ValuesText pattern.now mode input text
+AnswersCommand (command.List case file root) input text =
+    (patterns : List ℕ) × MappingsText file.now (option_copied root) case (record { patterns = patterns; paths = input }) text
+AnswersCommand (command.Ignore case root files) input text =
+    (lists : List (EntryList (Unit {0}))) × AreIgnoreLists (option_copied root) (map string_bytes files.now) lists × DecisionsText lists case input text
 
--- the words ask for values, and these were answered, as far as Written says
-pub record AnswersWildWords (words : List (List ℕ)) (input_old input_new : Option (List ℕ)) (Written : List ℕ → Type 0) : Type 0 where
-  pub mode : Mode
-  pub pattern : List ℕ
-  pub asked : AskWild words mode pattern
-  pub done : AnswersWild mode pattern input_old input_new Written
-
--- the words ask which lines of a file match, and this was answered, as far as Written says
-pub record AnswersListWords (words : List (List ℕ)) (input_old input_new : Option (List ℕ)) (Written : List ℕ → Type 0) : Type 0 where
-  pub case : Case
-  pub file : List ℕ
-  pub root : Option (List ℕ)
-  pub asked : AskList words case file root
-  pub done : AnswersList case file root input_old input_new Written
-
--- the words ask which lines of ignore files decide, and this was answered, as far as Written says
-pub record AnswersIgnoreWords (words : List (List ℕ)) (input_old input_new : Option (List ℕ)) (Written : List ℕ → Type 0) : Type 0 where
-  pub case : Case
-  pub root : Option (List ℕ)
-  pub files : List (List ℕ)
-  pub asked : AskIgnore words case root files
-  pub done : AnswersIgnore case root files input_old input_new Written
-
--- The words were answered: what they ask for was done, and of its text was written what Written says.
-abbrev pub AnswersWords : List (List ℕ) → Option (List ℕ) → Option (List ℕ) → (List ℕ → Type 0) → Type 0
-AnswersWords words input_old input_new Written =
-    AnswersWildWords words input_old input_new Written
-    ⊎ (AnswersListWords words input_old input_new Written ⊎ AnswersIgnoreWords words input_old input_new Written)
+-- The words were answered: they ask for a command, the input was read whole, and of its answer was written what Written says.
+pub record AnswersWords (words : List (List ℕ)) (input_old input_new : Option (List ℕ)) (Written : List ℕ → Type 0) : Type 0 where
+  pub command : Command
+  pub asked : Ask words command
+  pub run : Run (ReadsWhole input_old input_new) (AnswersCommand command) Written

@@ -5,8 +5,7 @@ ghost use Rattle.std.specs.Option.{option_copied};
 ghost use Rattle.gix_glob.specs.declared.pattern.Case.{Case};
 ghost use Rattle.gix_glob.specs.declared.wildmatch.Mode.{Mode};
 ghost use Rattle.gix_glob.specs.Paths.{has_file_part};
-ghost use Rattle.globline.specs.Words.{AreWrong, AskIgnore, AskList, AskWild, NamesCase, NamesMode, NamesRoot, are_files};
-ghost use Rattle.globline.specs.Private.Commands.{Ask};
+ghost use Rattle.globline.specs.Words.{AreWrong, Ask, AskIgnore, AskList, AskWild, NamesCase, NamesMode, NamesRoot, are_files};
 
 use bitflags::Flags;
 use gix_glob::pattern::Case;

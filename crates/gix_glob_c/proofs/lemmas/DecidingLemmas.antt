@@ -1,70 +1,35 @@
--- Patterns that C keeps, as one list without a base: what answers in one answers in the other.
-use Rattle.std.proofs.Common.{◌≡◌, inr, ℕ, ◌<◌, Bool, List, [], ◌∷◌, get_or, map, option_map, Option, None, Some, refl, sym, ap, subst, ◌∙◌, arith}
+-- Patterns that C keeps, as one list without a base; and what decides in a stack of one list.
+use Rattle.std.proofs.Common.{◌≡◌, inr, ℕ, ◌<◌, ◌≤◌, Bool, List, [], ◌∷◌, length, map, option_map, None, Some, refl, sym, ap, subst, ◌∙◌, slice_index_or, arith}
 use Rattle.std.specs.Prelude.{slice_get}
-use Rattle.std.proofs.lemmas.Option.{same_Some, slice_get-get_or, slice_get-map, slice_get_within}
-use Rattle.gix_glob.specs.Deciding.{AnswersUnder, Decides, PairAnswers, path_mode}
-use Rattle.gix_glob.specs.Entries.{Entry}
+use Rattle.std.proofs.lemmas.Option.{slice_get-get_or, slice_get-map, slice_get_within}
+use Rattle.gix_glob.specs.declared.pattern.Case.{Case}
+use Rattle.gix_glob.specs.Deciding.{AnswersAt, Decides, PairAnswers}
 use Rattle.gix_glob.specs.EntryLists.{EntryList}
-use Rattle.gix_glob.specs.RepositoryPaths.{Answers, IsBasenameStart}
-use Rattle.gix_glob.proofs.lemmas.Elements.{slice_get-map_within}
+use Rattle.gix_glob.proofs.lemmas.Answering.{PairAnswers-only, PairAnswers-yes}
 use Rattle.gix_glob_c.specs.declared.parsed.GlobPattern.{GlobPattern}
-use Rattle.gix_glob_c.specs.Parsed.{PatternAnswersAt, AnswersPath, IsPathOfFile, LastAnswer, entry_of_parts, list_of}
-use Rattle.gix_glob_c.specs.Parts.{case_of}
+use Rattle.gix_glob_c.specs.Parsed.{entry_of_parts}
 
 -- what the reading of an element takes where there is none
 abbrev pub blank : GlobPattern
 blank = record { text = record { ref_ptr = (0, 0); now = [] }; first_wildcard_pos = 0; mode = 0 }
 
--- an answer of a path without a base is one for the whole path
-under_none : (pattern : GlobPattern) (path : List ℕ) (is_dir fold : Bool) → IsPathOfFile path → AnswersUnder None (entry_of_parts pattern) path is_dir (case_of fold) → AnswersPath pattern path is_dir fold
-under_none pattern path is_dir fold is h = record {
-  is = is;
-  position = h.position;
-  start = subst (λ rest. IsBasenameStart rest h.position) h.left h.basename;
-  answers = subst (λ rest. Answers pattern.text.now (entry_of_parts pattern).mode rest h.position (Some is_dir) (case_of fold) path_mode) h.left h.answers;
-}
+-- the entry at a place is that of the pattern there
+pub entry_at : (patterns : List GlobPattern) (m : ℕ) → m < length patterns → slice_get (map entry_of_parts patterns) m ≡ Some (entry_of_parts (slice_index_or patterns m blank))
+entry_at patterns m within = slice_get-map entry_of_parts patterns m ∙ ap (option_map entry_of_parts) (slice_get-get_or patterns m blank within)
 
-module _ (patterns : List GlobPattern) (path : List ℕ) (is_dir fold : Bool) where
-  pair_answers : (m : ℕ) → PatternAnswersAt patterns path is_dir fold m → PairAnswers (list_of patterns ∷ []) path is_dir (case_of fold) 0 m
-  pair_answers m h = record {
-    list = list_of patterns;
-    there = refl;
-    answers = record {
-      entry = entry_of_parts h.pattern;
-      there = slice_get-map entry_of_parts patterns m ∙ ap (option_map entry_of_parts) h.there;
-      answers = record { rest = path; left = refl; position = h.answers.position; basename = h.answers.start; answers = h.answers.answers };
-    };
-  }
-
-  -- an entry of the list is that of the pattern at its place
-  at_entry : (m : ℕ) (entry : Entry (Unit {0})) → IsPathOfFile path → slice_get (map entry_of_parts patterns) m ≡ Some entry
-      → AnswersUnder None entry path is_dir (case_of fold) → PatternAnswersAt patterns path is_dir fold m
-  at_entry m entry is there h =
-      let inside = slice_get-map_within entry_of_parts patterns m entry there in
-      let pattern : GlobPattern = get_or patterns m blank in
-      let got : slice_get patterns m ≡ Some pattern = slice_get-get_or patterns m blank inside in
-      let mapped : slice_get (map entry_of_parts patterns) m ≡ Some (entry_of_parts pattern) = slice_get-map entry_of_parts patterns m ∙ ap (option_map entry_of_parts) got in
-      let same : entry ≡ entry_of_parts pattern = same_Some _ _ (sym there ∙ mapped) in
-      record {
-        pattern = pattern;
-        there = got;
-        answers = under_none pattern path is_dir fold is (subst (λ (e : Entry (Unit {0})). AnswersUnder None e path is_dir (case_of fold)) same h);
-      }
-
-  at_pair : IsPathOfFile path → (i m : ℕ) → PairAnswers (list_of patterns ∷ []) path is_dir (case_of fold) i m → (i ≡ 0) × PatternAnswersAt patterns path is_dir fold m
-  at_pair is i m h =
-      let inside : i < 1 = slice_get_within (list_of patterns ∷ []) i h.list h.there in
+module _ {V : Type 0} (list : EntryList V) (path : List ℕ) (is_dir : Bool) (case : Case) where
+  -- the only list is the first
+  only_list : (i m : ℕ) → PairAnswers (list ∷ []) path is_dir case i m → (i ≡ 0) × AnswersAt list path is_dir case m
+  only_list i m h =
+      let inside : i < 1 = slice_get_within (list ∷ []) i h.list h.there in
       let first : i ≡ 0 = omega arith in
-      let there : Some (list_of patterns) ≡ Some h.list = subst (λ k. slice_get (list_of patterns ∷ []) k ≡ Some h.list) first h.there in
-      let same : h.list ≡ list_of patterns = same_Some _ _ (sym there) in
-      let answers = subst (λ (l : EntryList (Unit {0})). (entry : Entry (Unit {0})) × (slice_get l.entries m ≡ Some entry) × AnswersUnder l.base entry path is_dir (case_of fold)) same
-      (h.answers.entry, h.answers.there, h.answers.answers) in
-      (first, at_entry m answers.0 is answers.1 answers.2)
+      (first, PairAnswers-only (list ∷ []) path is_dir case i m list (subst (λ k. slice_get (list ∷ []) k ≡ Some list) (sym first) refl) h)
 
-  pub Decides-LastAnswer : (index : Option ℕ) → IsPathOfFile path → LastAnswer patterns path is_dir fold index
-      → Decides (list_of patterns ∷ []) path is_dir (case_of fold) (option_map (λ (m : ℕ). (0, m)) index)
-  Decides-LastAnswer None is none = λ i m h. none m (at_pair is i m h).1
-  Decides-LastAnswer (Some index) is last = record {
-    answers = pair_answers index last.answers;
-    last = λ i m h. (let at = at_pair is i m h in inr (at.0, last.last m at.1));
+  pub Decides-one_list : (m : ℕ) → AnswersAt list path is_dir case m → ((k : ℕ) → AnswersAt list path is_dir case k → k ≤ m) → Decides (list ∷ []) path is_dir case (Some (0, m))
+  Decides-one_list m answers last = record {
+    answers = PairAnswers-yes (list ∷ []) path is_dir case 0 m list refl answers;
+    last = λ i k h. (let only = only_list i k h in inr (only.0, last k only.1));
   }
+
+  pub Decides-no_list : ((k : ℕ) → ¬ AnswersAt list path is_dir case k) → Decides (list ∷ []) path is_dir case None
+  Decides-no_list none = λ i k h. none k (only_list i k h).1

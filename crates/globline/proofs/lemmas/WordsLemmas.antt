@@ -1,5 +1,5 @@
 -- The words of a command by their number, and what the engines do for a command.
-use Rattle.std.proofs.Common.{◌≡◌, ◌⊎◌, inl, inr, ◌<◌, ◌≤◌, ℕ, ◌-◌, List, [], ◌∷◌, length, get_or, map, take, drop, Option, Result, Ok, Err, refl, take_all, arith}
+use Rattle.std.proofs.Common.{◌≡◌, ◌⊎◌, inl, inr, ◌<◌, ◌≤◌, ℕ, ◌-◌, List, [], ◌∷◌, length, get_or, map, take, drop, Option, Result, Ok, Err, Bor, String, Global, refl, take_all, arith}
 use Rattle.std.specs.Prelude.{OnErr}
 use Rattle.std.specs.Option.{option_copied}
 use Rattle.std.specs.String.{string_bytes}
@@ -12,8 +12,8 @@ use Rattle.glob_lines.specs.Transfers.{ReadsWhole, Run}
 use Rattle.glob_lines.specs.Values.{ValuesText}
 use Rattle.glob_lines.specs.declared.fault.EngineFault.{EngineFault}
 use Rattle.glob_lines.specs.declared.fault.EngineFault.TheVariants.{Memory, Read, Write}
-use Rattle.globline.specs.Words.{AnswersWords, AnswersIgnore, AnswersList, AnswersWild, AreIgnoreLists}
-use Rattle.globline.specs.Private.Commands.{Ask, CarriesOut}
+use Rattle.globline.specs.Words.{AnswersWords, AreIgnoreLists, Ask}
+use Rattle.globline.specs.Private.Commands.{CarriesOut}
 use Rattle.globline.specs.declared.command.Command.{Command}
 use Rattle.globline.specs.declared.command.Command.TheVariants as command
 
@@ -48,22 +48,33 @@ map-of_three_and_more f (x ∷ y ∷ z ∷ xs) a b c low p q r =
 
 -- ---- the engines
 
-pub answers_wild : (mode : Mode) (pattern : List ℕ) (input_old input_new : Option (List ℕ)) (Written : List ℕ → Type 0) → Run (ReadsWhole input_old input_new) (ValuesText pattern mode) Written
-    → AnswersWild mode pattern input_old input_new Written
-answers_wild mode pattern input_old input_new Written run = record { run = run }
+-- what each engine did carries its command out
+module _ (input_old input_new : Option (List ℕ)) (Written : List ℕ → Type 0) where
+  pub carries_out_wild : (mode : Mode) (pattern : Bor (List ℕ)) → Run (ReadsWhole input_old input_new) (ValuesText pattern.now mode) Written
+      → CarriesOut (command.Wild mode pattern) input_old input_new Written
+  carries_out_wild mode pattern run = record { input = run.input; read = run.read; text = run.text; allowed = run.allowed; written = run.written }
 
-pub answers_list : (case : Case) (file : List ℕ) (root : Option (List ℕ)) (patterns_old patterns_new input_old input_new : Option (List ℕ)) (Written : List ℕ → Type 0)
-    → Run (ReadsBoth patterns_old patterns_new input_old input_new) (MappingsText file root case) Written
-    → AnswersList case file root input_old input_new Written
-answers_list case file root patterns_old patterns_new input_old input_new Written run = record {
-  patterns = run.input.patterns;
-  run = record { input = run.input.paths; read = run.read.paths; text = run.text; allowed = run.allowed; written = run.written };
-}
+  pub carries_out_list : (case : Case) (file : Bor (List ℕ)) (root : Option (Bor (List ℕ))) (patterns_old patterns_new : Option (List ℕ))
+      → Run (ReadsBoth patterns_old patterns_new input_old input_new) (MappingsText file.now (option_copied root) case) Written
+      → CarriesOut (command.List case file root) input_old input_new Written
+  carries_out_list case file root patterns_old patterns_new run = record {
+    input = run.input.paths;
+    read = run.read.paths;
+    text = run.text;
+    allowed = (run.input.patterns, run.allowed);
+    written = run.written;
+  }
 
-pub answers_ignore : (case : Case) (root : Option (List ℕ)) (files : List (List ℕ)) (lists : List (EntryList (Unit {0}))) (input_old input_new : Option (List ℕ)) (Written : List ℕ → Type 0)
-    → AreIgnoreLists root files lists → Run (ReadsWhole input_old input_new) (DecisionsText lists case) Written
-    → AnswersIgnore case root files input_old input_new Written
-answers_ignore case root files lists input_old input_new Written loaded run = record { lists = lists; loaded = loaded; run = run }
+  pub carries_out_ignore : (case : Case) (root : Option (Bor (List ℕ))) (files : Bor (List (String Global))) (lists : List (EntryList (Unit {0})))
+      → AreIgnoreLists (option_copied root) (map string_bytes files.now) lists → Run (ReadsWhole input_old input_new) (DecisionsText lists case) Written
+      → CarriesOut (command.Ignore case root files) input_old input_new Written
+  carries_out_ignore case root files lists loaded run = record {
+    input = run.input;
+    read = run.read;
+    text = run.text;
+    allowed = (lists, loaded, run.allowed);
+    written = run.written;
+  }
 
 -- what each fault leaves
 pub on_each_fault : {T P Q : Type 0} (r : Result T EngineFault) → (r ≡ Err Memory → P) → (r ≡ Err Read → P) → (r ≡ Err Write → Q) → OnErr r (P ⊎ Q)
@@ -75,12 +86,7 @@ on_each_fault (Err Write) memory read write = inr (write refl)
 -- what carries a command out answers the words that ask for it
 pub answers_words : (words : List (List ℕ)) (asked : Command) (input_old input_new : Option (List ℕ)) (Written : List ℕ → Type 0)
     → Ask words asked → CarriesOut asked input_old input_new Written → AnswersWords words input_old input_new Written
-answers_words words (command.Wild mode pattern) input_old input_new Written asks done =
-    inl (record { mode = mode; pattern = pattern.now; asked = asks; done = done })
-answers_words words (command.List case file root) input_old input_new Written asks done =
-    inr (inl (record { case = case; file = file.now; root = option_copied root; asked = asks; done = done }))
-answers_words words (command.Ignore case root files) input_old input_new Written asks done =
-    inr (inr (record { case = case; root = option_copied root; files = map string_bytes files.now; asked = asks; done = done }))
+answers_words words asked input_old input_new Written asks done = record { command = asked; asked = asks; run = done }
 
 -- the same, where it may also have stopped before
 pub or_answers_words : {P : Type 0} (words : List (List ℕ)) (asked : Command) (input_old input_new : Option (List ℕ)) (Written : List ℕ → Type 0)

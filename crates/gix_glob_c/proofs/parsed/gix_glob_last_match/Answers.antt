@@ -1,0 +1,15 @@
+-- An index is no `GIX_GLOB_NONE`.
+use Rattle.std.proofs.Common.{ℕ, [], ◌∷◌, Option, option_map, sym, subst}
+use Rattle.gix_glob.specs.Deciding.{Decides}
+use Rattle.gix_glob_c.specs.Parsed.{list_of}
+use Rattle.gix_glob_c.specs.Parts.{case_of}
+use Rattle.gix_glob_c.proofs.lemmas.Numbers.{unless_none-below}
+use Rattle.gix_glob_c.proofs.parsed.gix_glob_last_match.Goals as goal
+
+pub returns-in-Some-clause-exact : goal.returns-in-Some-clause-exact
+returns-in-Some-clause-exact c = λ lawful path.
+    subst (λ (o : Option ℕ). Decides (list_of c.args.patterns.now ∷ []) c.args.path.now c.args.is_dir (case_of c.args.fold) (option_map (λ (index : ℕ). (0, index)) o))
+    (sym (unless_none-below c.in-Some.index c.in-Some.ensures.some)) (c.in-Some.ensures.exact lawful)
+
+pub returns-in-None-clause-exact : goal.returns-in-None-clause-exact
+returns-in-None-clause-exact c = λ lawful path. c.in-None.ensures.exact lawful
