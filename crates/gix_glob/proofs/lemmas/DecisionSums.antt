@@ -25,6 +25,10 @@ module _ {X : Type 0} (f : X → ℕ) (xs : List X) where
   pub counted-all : (start total i : ℕ) → total ≤ start + sum_by f (drop i xs) → total ≤ start + sum_by f xs
   counted-all start total i from = omega (arith, sum_by-take-drop f xs i, from)
 
+  -- the same where something else was counted first
+  pub counted-all_after : (start first total i : ℕ) → total ≤ start + first + sum_by f (drop i xs) → total ≤ start + (first + sum_by f xs)
+  counted-all_after start first total i from = omega (arith, sum_by-take-drop f xs i, from)
+
 -- ---- what a base leaves is no longer than the path
 
 length-RestOf : (case : Case) (base : Option (List ℕ)) (path rest : List ℕ) → RestOf case base path rest → length rest ≤ length path

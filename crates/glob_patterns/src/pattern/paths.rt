@@ -75,13 +75,14 @@ impl Pattern {
         ensures steps { counts.new.steps ≤ counts.old.steps + step_limit (length (text_of self.now)) (length path.now) }
         ensures looks { counts.new.looks ≤ counts.old.looks + pattern_look_limit (length (text_of self.now)) (length path.now) }
     {
-        self.view().matches_repo_relative_path_with_counts(
-            path,
-            basename_start_pos,
-            is_dir,
-            case,
-            mode,
-            counts,
-        )
+        self.view()
+            .matches_repo_relative_path_with_counts(
+                path,
+                basename_start_pos,
+                is_dir,
+                case,
+                mode,
+                counts,
+            )
     }
 }

@@ -1,8 +1,8 @@
-use Rattle.std.proofs.Common.{map}
-use Rattle.gix_glob.specs.EntryLists.{entry_list_of}
-use Rattle.glob_lines.proofs.lemmas.DecidingLemmas.{NoListFrom}
+-- The counts are kept in the ledgers that the blank ones become.
 use Rattle.glob_lines.proofs.deciding.decide.Given as goal
 
--- no list from here on has a mapping that answers
-abbrev pub invariant-loop-i : goal.invariant-loop-i
-invariant-loop-i g l = NoListFrom (map (entry_list_of g.T.Pattern.seen) l.lists) l.path l.is_dir l.case l.i
+abbrev pub ghosts-decide_with_new_counts-S-Ledger : goal.ghosts-decide_with_new_counts-S-Ledger
+ghosts-decide_with_new_counts-S-Ledger g a = record { name = a.steps.name; parts = a.steps.parts }
+
+abbrev pub ghosts-decide_with_new_counts-L-Ledger : goal.ghosts-decide_with_new_counts-L-Ledger
+ghosts-decide_with_new_counts-L-Ledger g a = record { name = a.looks.name; parts = a.looks.parts }
