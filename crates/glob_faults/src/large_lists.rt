@@ -39,11 +39,17 @@ fn matches_of(
     rt: &(impl Abort + AllocGlobal),
     lists: &[List<IgnoreLines>],
 ) -> Result<Matches, Fail> {
-    assert!(rt; bases_are_folders(lists) && plain_path(b"a"));
+    let path = b"a".as_slice();
+    assert!(rt; bases_are_folders(lists));
+    assert!(rt; plain_path(path));
     let index = ListIndex::new(rt.alloc(), lists, Case::Sensitive)?;
     let mut pairs = Vec::new(rt.alloc());
-    index.matches_into(b"a", basename_start(b"a"), false, &mut pairs)?;
-    Ok((pairs.last().copied(), pairs.len(), index.decide(b"a", false)))
+    index.matches_into(path, basename_start(path), false, &mut pairs)?;
+    Ok((
+        pairs.last().copied(),
+        pairs.len(),
+        index.decide(path, false),
+    ))
 }
 
 /// What `run_ignore` answers for the path `a`.

@@ -4,9 +4,7 @@ use gix_glob::pattern::Case;
 use gix_glob::search::pattern::List;
 use gix_glob::search::{Pattern as _, Watched};
 use glob_index::{CountedDecision, ListIndex};
-use glob_lines::{
-    IgnoreLines, PlainLines, bases_are_folders, plain_path, run_ignore, run_list,
-};
+use glob_lines::{IgnoreLines, PlainLines, bases_are_folders, plain_path, run_ignore, run_list};
 use std::alloc::{AllocError, Global};
 use std::test::Fail;
 
@@ -35,7 +33,8 @@ const ROWS: [Row<'static>; 7] = [
 fn only_what_can_match_is_asked(rt: HostRuntime) -> Result<(), Fail> {
     for (text, path, pair, asked) in ROWS {
         let lists = [list_of(rt.alloc(), text.as_bytes())?];
-        assert!(rt; bases_are_folders(&lists) && plain_path(path.as_bytes()));
+        assert!(rt; bases_are_folders(&lists));
+        assert!(rt; plain_path(path.as_bytes()));
         let index = ListIndex::new(rt.alloc(), &lists, Case::Sensitive)?;
         let counted = index.decide_and_count(path.as_bytes(), false);
         let wanted = CountedDecision { pair, asked };
@@ -159,18 +158,26 @@ fn of_a_thousand_patterns_few_are_asked(rt: HostRuntime) -> Result<(), Fail> {
         let mut path = String::new(rt.alloc());
         append_path(&mut path, &mut seed)?;
         let bytes = path.as_bytes();
-        assert!(rt; plain_path(bytes) && index.pays_for(bytes));
+        assert!(rt; plain_path(bytes));
+        assert!(rt; index.pays_for(bytes));
         let counted = index.decide_and_count(bytes, false);
         let most = shown_count(&lists[0], bytes);
-        same(&rt, counted.asked.min(most), counted.asked, "asked:", path.as_str());
+        same(
+            &rt,
+            counted.asked.min(most),
+            counted.asked,
+            "asked:",
+            path.as_str(),
+        );
         asked = asked.saturating_add(counted.asked);
         if counted.pair.is_none() {
             undecided = undecided.saturating_add(1);
         }
     }
-    // where nothing decides, each of the 1,000 is asked in turn
+    // A path shows its own ending, one of 144, which some two patterns ask for, and few that ask for a part of its name. In
+    // turn each of the 1,000 would be asked where none decides.
+    assert!(rt; asked <= 1_500);
     assert!(rt; undecided >= 30);
-    assert!(rt; asked <= 3_000);
     Ok(())
 }
 
@@ -186,14 +193,14 @@ fn it_pays_where_few_can_match(rt: HostRuntime) -> Result<(), Fail> {
     Ok(())
 }
 
-/// Lines that take long to test on paths of letters `a` and a last `b`, and that the index passes over: 25 with another end,
-/// 5 that need a `c`, and 40 more.
+/// Lines that take long to test on paths of letters `a` and a last `b`, and that the index passes over, since they have another
+/// end; and 40 more.
 fn append_slow_patterns(text: &mut Vec<u8>, length: usize) -> Result<(), AllocError> {
-    for number in 0..30 {
+    for _ in 0..30 {
         text.push(b'*')?;
         let long = text.len().saturating_add(length);
         text.resize(long, b'a')?;
-        text.extend_from_slice(if number < 25 { b"c*cccccccb\n" } else { b"c*\n" })?;
+        text.extend_from_slice(b"c*cccccccb\n")?;
     }
     for _ in 0..40 {
         text.extend_from_slice(b"d\n")?;
@@ -203,7 +210,7 @@ fn append_slow_patterns(text: &mut Vec<u8>, length: usize) -> Result<(), AllocEr
 
 /// Path lines of letters `a` and a last `b`.
 fn append_slow_paths(text: &mut Vec<u8>, length: usize) -> Result<(), AllocError> {
-    for _ in 0..25 {
+    for _ in 0..30 {
         let long = text.len().saturating_add(length);
         text.resize(long, b'a')?;
         text.extend_from_slice(b"b\n")?;
@@ -211,12 +218,12 @@ fn append_slow_paths(text: &mut Vec<u8>, length: usize) -> Result<(), AllocError
     Ok(())
 }
 
-/// With the index an engine answers at once; without it each path takes seconds, and all more than a test has.
+/// With the index an engine answers in a moment; without it each path takes seconds, and all of them minutes.
 #[test]
 fn the_engines_ask_the_index(rt: HostRuntime) -> Result<(), Fail> {
     let (mut patterns, mut paths) = (Vec::new(rt.alloc()), Vec::new(rt.alloc()));
-    append_slow_patterns(&mut patterns, 16_000)?;
-    append_slow_paths(&mut paths, 32_000)?;
+    append_slow_patterns(&mut patterns, 8_000)?;
+    append_slow_paths(&mut paths, 16_000)?;
     let mut writer = Watched::new(Vec::new(rt.alloc()));
     let mut lines = Watched::new(patterns.as_slice());
     let mut reader = Watched::new(paths.as_slice());
@@ -230,14 +237,20 @@ fn the_engines_ask_the_index(rt: HostRuntime) -> Result<(), Fail> {
         &mut writer,
     )?;
     let output = writer.into_inner();
-    assert!(rt; output.as_slice() == [b'\n'; 25].as_slice());
+    assert!(rt; output.as_slice() == [b'\n'; 30].as_slice());
     let source = String::from_str(rt.alloc(), "f")?;
     let lists = [List::from_bytes(rt.alloc(), &patterns, source, None, IgnoreLines)?];
     assert!(rt; bases_are_folders(&lists));
     let mut writer = Watched::new(Vec::new(rt.alloc()));
     let mut reader = Watched::new(paths.as_slice());
-    run_ignore(rt.alloc(), &lists, Case::Sensitive, &mut reader, &mut writer)?;
+    run_ignore(
+        rt.alloc(),
+        &lists,
+        Case::Sensitive,
+        &mut reader,
+        &mut writer,
+    )?;
     let output = writer.into_inner();
-    assert!(rt; output.as_slice() == b"none\n".repeat(rt.alloc(), 25)?.as_slice());
+    assert!(rt; output.as_slice() == b"none\n".repeat(rt.alloc(), 30)?.as_slice());
     Ok(())
 }

@@ -1,7 +1,5 @@
 -- What is written for a path line, and its line feed, is the next line of the text.
-use Rattle.std.proofs.Common.{◌≡◌, ◌++◌, ◌∷◌, [], ap, map, subst, sym, ◌∙◌, append_assoc}
-use Rattle.gix_glob.specs.Deciding.{BasesAreFolders}
-use Rattle.gix_glob.specs.EntryLists.{entry_list_of}
+use Rattle.std.proofs.Common.{◌≡◌, ◌++◌, ◌∷◌, [], ap, ◌∙◌, append_assoc}
 use Rattle.glob_lines.specs.Equations.Lines.{lines_of}
 use Rattle.glob_lines.specs.Lines.{EndsInFeed}
 use Rattle.glob_lines.proofs.lemmas.IndexingLemmas.{held_index}
