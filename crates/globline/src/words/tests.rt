@@ -1,5 +1,8 @@
 //! What the program answers to its words: its status, its output and its errors.
+mod full;
+
 use super::{run_words, without_words};
+use full::Full;
 use gix_glob::search::Watched;
 use std::alloc::{AllocError, Global};
 use std::io::{ErrorKind, Read, Write};
@@ -42,16 +45,17 @@ fn words_of(alloc: Global, words: &[&str]) -> Result<Vec<String>, AllocError> {
 }
 
 /// Runs the program on these words: its status, the output with what was written to it, and its errors.
-fn run<F: AllocGlobal + Files, I: Read + Drop, O: Write + Drop>(
-    rt: &F,
+fn run<F: Files, I: Read + Drop, O: Write + Drop>(
+    files: &F,
+    alloc: Global,
     words: &[String],
     input: I,
     output: O,
 ) -> (u8, O, Vec<u8>) {
     let mut input = Watched::new(input);
     let mut output = Watched::new(output);
-    let mut errors = Vec::new(rt.alloc());
-    let status = run_words(rt, rt.alloc(), words, &mut input, &mut output, &mut errors);
+    let mut errors = Vec::new(alloc);
+    let status = run_words(files, alloc, words, &mut input, &mut output, &mut errors);
     (status, output.into_inner(), errors)
 }
 
@@ -62,7 +66,19 @@ fn check<F: Abort + AllocGlobal + Files, I: Read + Drop>(
     input: I,
     wanted: (u8, &[u8], &[u8]),
 ) {
-    let (status, output, errors) = run(rt, words, input, Vec::new(rt.alloc()));
+    check_on(rt, rt, words, input, wanted);
+}
+
+/// The same on a file system.
+fn check_on<F: Files, I: Read + Drop>(
+    rt: &(impl Abort + AllocGlobal),
+    files: &F,
+    words: &[String],
+    input: I,
+    wanted: (u8, &[u8], &[u8]),
+) {
+    let alloc = rt.alloc();
+    let (status, output, errors) = run(files, alloc, words, input, Vec::new(alloc));
     let answer = (status, output.as_slice(), errors.as_slice());
     assert_eq!(rt; answer, wanted, "{words:?}");
 }
@@ -129,7 +145,7 @@ fn a_failed_read_is_told(rt: HostRuntime) -> Result<(), AllocError> {
 #[test]
 fn a_failed_write_is_told(rt: HostRuntime) -> Result<(), AllocError> {
     let words = words_of(rt.alloc(), &["wild", "plain", "a"])?;
-    let (status, _, errors) = run(&rt, &words, b"a\n".as_slice(), Broken);
+    let (status, _, errors) = run(&rt, rt.alloc(), &words, b"a\n".as_slice(), Broken);
     assert_eq!(rt; status, 1);
     assert_eq!(rt; errors.as_slice(), b"globline: write failed\n".as_slice());
     Ok(())
@@ -199,28 +215,84 @@ fn a_file_that_cannot_be_read_is_told(rt: HostRuntime) -> Result<(), AllocError>
     Ok(())
 }
 
-/// The file that a mark stands for: one of the two, a directory, or none that is there.
-fn file_of<'a>(mark: char, first: &'a str, second: &'a str) -> &'a str {
-    match mark {
-        'a' => first,
-        'b' => second,
-        '.' => ".",
-        _ => "no/such/file",
+/// The words of `ignore`, with a mark for each FILE, and what it answers for five paths.
+type IgnoreRow = (&'static str, &'static str, &'static str, &'static [u8]);
+
+/// The root that stands for the folder of the files.
+const FOLDER: &str = "/folder";
+
+/// What is answered where no FILE gives a list that says anything.
+const NONE_OF_FIVE: &[u8] = b"none\nnone\nnone\n!\nnone\n";
+
+/// The files of a test, and the folder that they lie in.
+#[derive(Drop)]
+struct IgnoreFiles {
+    folder: String,
+    first: String,
+    second: String,
+    /// A long name of the first one.
+    long: String,
+}
+
+impl IgnoreFiles {
+    /// Writes files whose names no other test has.
+    fn new(rt: &HostRuntime, test: &str) -> Result<IgnoreFiles, Fail> {
+        let number = process::id(rt.process());
+        let folder = env::temp_dir(rt)?;
+        let at = folder.as_str();
+        let steps = "./".repeat(rt.alloc(), 1_000)?;
+        let steps = steps.as_str();
+        let first = format!(in rt.alloc(); "{at}/globline-{test}-{number}-a")?;
+        let second = format!(in rt.alloc(); "{at}/globline-{test}-{number}-b")?;
+        let long = format!(in rt.alloc(); "{at}/{steps}globline-{test}-{number}-a")?;
+        fs::write(rt, first.as_str(), "x\n*.o\n")?;
+        fs::write(rt, second.as_str(), "#\n!keep.o \r\n")?;
+        Ok(IgnoreFiles {
+            folder: String::from_str(rt.alloc(), at)?,
+            first,
+            second,
+            long,
+        })
     }
+
+    /// The file that a mark stands for: one of these, a directory, or none that is there.
+    fn named_by(&self, mark: char) -> &str {
+        match mark {
+            'a' => self.first.as_str(),
+            'b' => self.second.as_str(),
+            'l' => self.long.as_str(),
+            '.' => ".",
+            _ => "no/such/file",
+        }
+    }
+}
+
+/// Compares what `ignore` answers with each row, and removes the files.
+fn check_ignore<F: Abort + AllocGlobal + Files>(
+    rt: &F,
+    files: IgnoreFiles,
+    rows: &[IgnoreRow],
+) -> Result<(), Fail> {
+    for row in rows {
+        let (case, root, marks, text) = *row;
+        let mut words = words_of(rt.alloc(), &["ignore", case])?;
+        let folder = files.folder.as_str();
+        let root = if root == FOLDER { folder } else { root };
+        words.push(String::from_str(rt.alloc(), root)?)?;
+        for mark in marks.chars() {
+            words.push(String::from_str(rt.alloc(), files.named_by(mark))?)?;
+        }
+        let paths = b"x\nA.O\nd/keep.o\n/x\na\n".as_slice();
+        check(rt, &words, paths, (0, text, b""));
+    }
+    fs::remove_file(rt, files.first.as_str())?;
+    fs::remove_file(rt, files.second.as_str())?;
+    Ok(())
 }
 
 #[test]
 fn ignore_tells_what_decides(rt: HostRuntime) -> Result<(), Fail> {
-    let number = process::id(rt.process());
-    let folder = env::temp_dir(&rt)?;
-    let folder = folder.as_str();
-    let first = format!(in rt.alloc(); "{folder}/globline-ignore-{number}-a")?;
-    let second = format!(in rt.alloc(); "{folder}/globline-ignore-{number}-b")?;
-    let (first, second) = (first.as_str(), second.as_str());
-    fs::write(&rt, first, "x\n*.o\n")?;
-    fs::write(&rt, second, "#\n!keep.o \r\n")?;
-    let paths: &[u8] = b"x\nA.O\nd/keep.o\n/x\na\n";
-    let rows: [(&str, &str, &str, &[u8]); 5] = [
+    let rows: [IgnoreRow; 5] = [
         (
             "sensitive",
             "-",
@@ -229,7 +301,7 @@ fn ignore_tells_what_decides(rt: HostRuntime) -> Result<(), Fail> {
         ),
         (
             "sensitive",
-            folder,
+            FOLDER,
             ".ab",
             b"ignored 1:1\nnone\nkept 2:2\n!\nnone\n",
         ),
@@ -239,19 +311,82 @@ fn ignore_tells_what_decides(rt: HostRuntime) -> Result<(), Fail> {
             "b-a",
             b"ignored 2:1\nignored 2:2\nignored 2:2\n!\nnone\n",
         ),
-        ("sensitive", "", "a", b"none\nnone\nnone\n!\nnone\n"),
-        ("sensitive", "-", "-", b"none\nnone\nnone\n!\nnone\n"),
+        ("sensitive", "", "a", NONE_OF_FIVE),
+        ("sensitive", "-", "-", NONE_OF_FIVE),
     ];
-    for (case, root, marks, text) in rows {
-        let mut words = words_of(rt.alloc(), &["ignore", case, root])?;
-        for mark in marks.chars() {
-            let file = file_of(mark, first, second);
-            words.push(String::from_str(rt.alloc(), file)?)?;
-        }
-        check(&rt, &words, paths, (0, text, b""));
+    check_ignore(&rt, IgnoreFiles::new(&rt, "ignore")?, &rows)
+}
+
+/// Catches a program that reads the first eight files alone.
+#[test]
+fn files_past_the_eighth_are_passed_over(rt: HostRuntime) -> Result<(), Fail> {
+    let rows: [IgnoreRow; 2] = [
+        (
+            "sensitive",
+            "-",
+            "--------a",
+            b"ignored 1:1\nnone\nignored 1:2\n!\nnone\n",
+        ),
+        (
+            "sensitive",
+            "-",
+            "--------------------ba",
+            b"ignored 2:1\nnone\nignored 2:2\n!\nnone\n",
+        ),
+    ];
+    check_ignore(&rt, IgnoreFiles::new(&rt, "many")?, &rows)
+}
+
+/// Catches a program that passes over the second naming of a file.
+#[test]
+fn a_file_named_twice_is_read_once(rt: HostRuntime) -> Result<(), Fail> {
+    let rows: [IgnoreRow; 2] = [
+        (
+            "sensitive",
+            "-",
+            "aa",
+            b"ignored 2:1\nnone\nignored 2:2\n!\nnone\n",
+        ),
+        (
+            "sensitive",
+            "-",
+            "aba",
+            b"ignored 3:1\nnone\nignored 3:2\n!\nnone\n",
+        ),
+    ];
+    check_ignore(&rt, IgnoreFiles::new(&rt, "twice")?, &rows)
+}
+
+/// Catches a program that tells want of memory for a FILE with a long name.
+#[test]
+fn no_memory_for_a_long_name(rt: HostRuntime) -> Result<(), Fail> {
+    let rows: [IgnoreRow; 1] = [(
+        "sensitive",
+        "-",
+        "l",
+        b"ignored 1:1\nnone\nignored 1:2\n!\nnone\n",
+    )];
+    check_ignore(&rt, IgnoreFiles::new(&rt, "long")?, &rows)?;
+    let mut words = words_of(rt.alloc(), &["list", "sensitive"])?;
+    let mut name = "/".repeat(rt.alloc(), 1_000)?;
+    name.push_str("dev/null")?;
+    words.push(name)?;
+    words.push(String::from_str(rt.alloc(), "-")?)?;
+    check(&rt, &words, b"a\n".as_slice(), (0, b"\n", b""));
+    Ok(())
+}
+
+/// Catches a program that tells want of memory in opening a file as a failed read.
+#[test]
+fn want_of_memory_in_opening_is_a_failed_read(rt: HostRuntime) -> Result<(), AllocError> {
+    for words in [
+        ["list", "sensitive", "f", "-"],
+        ["ignore", "sensitive", "-", "f"],
+    ] {
+        let words = words_of(rt.alloc(), &words)?;
+        let told = b"globline: no memory\n".as_slice();
+        check_on(&rt, &Full, &words, b"a\n".as_slice(), (1, b"", told));
     }
-    fs::remove_file(&rt, first)?;
-    fs::remove_file(&rt, second)?;
     Ok(())
 }
 
