@@ -10,4 +10,5 @@ pub mod Plain
 pub mod Transfers
 pub mod Values
 pub mod Equations
+pub mod Laws
 pub mod Private

@@ -21,11 +21,8 @@ pub returns-then-pays_for : goal.returns-then-pays_for
 returns-then-pays_for c =
     let plain : IsPlainPath c.args.line.now = c.plain_path.ensures.0 c.if-not-plain_path.false in
     let base = option_map vec_items c.args.list.now.base in
-    let left : RestOf c.args.index.now.case base c.path_of-is_dir.result.0.now c.in-Some.rest.now = subst (λ case. RestOf case base c.path_of-is_dir.result.0.now c.in-Some.rest.now) c.case-case.ensures c.in-Some.ensures.0 in
     on_ok_weaker c.append_found.result
-    (λ adds. writes_numbers _ base c.args.index.now.case c.args.line.now c.path_of-is_dir.result.0.now c.in-Some.rest.now c.path_of-is_dir.result.1 _ _
-    plain c.path_of-is_dir.ensures left
-    (numbers_under _ base c.path_of-is_dir.result.0.now c.in-Some.rest.now c.in-Some.start c.path_of-is_dir.result.1 c.args.index.now.case _ _ left c.in-Some.ensures.1 adds))
+    (writes_numbers _ base c.args.index.now.case c.args.line.now c.path_of-is_dir.result.0.now c.path_of-is_dir.result.1 plain c.path_of-is_dir.ensures _ _)
     c.append_found.ensures
 
 pub returns-else-pays_for : goal.returns-else-pays_for
@@ -34,8 +31,8 @@ returns-else-pays_for c =
     let base = option_map vec_items c.args.list.now.base in
     let left : RestOf c.args.index.now.case base c.path_of-is_dir.result.0.now c.in-Some.rest.now = subst (λ case. RestOf case base c.path_of-is_dir.result.0.now c.in-Some.rest.now) c.case-case.ensures c.in-Some.ensures.0 in
     on_ok_weaker c.append_numbers.result
-    (writes_numbers _ base c.args.index.now.case c.args.line.now c.path_of-is_dir.result.0.now c.in-Some.rest.now c.path_of-is_dir.result.1 _ _
-    plain c.path_of-is_dir.ensures left)
+    (λ adds. writes_numbers _ base c.args.index.now.case c.args.line.now c.path_of-is_dir.result.0.now c.path_of-is_dir.result.1 plain c.path_of-is_dir.ensures _ _
+    (numbers_under _ base c.path_of-is_dir.result.0.now c.in-Some.rest.now c.path_of-is_dir.result.1 c.args.index.now.case _ _ left adds))
     (rw (c.deref.ensures.value, c.case-case.ensures) at c.append_numbers.ensures)
 
 pub returns-in_default : goal.returns-in_default
@@ -44,5 +41,4 @@ returns-in_default c =
     let base = option_map vec_items c.args.list.now.base in
     let none : NothingLeft c.case-case.result base c.path_of-is_dir.result.0.now = rw c.in_default.is at c.rest_of.ensures in
     let nothing : NothingLeft c.args.index.now.case base c.path_of-is_dir.result.0.now = subst (λ case. NothingLeft case base c.path_of-is_dir.result.0.now) c.case-case.ensures none in
-    writes_nothing _ base c.args.index.now.case c.args.line.now c.path_of-is_dir.result.0.now c.path_of-is_dir.result.1 _
-    plain c.path_of-is_dir.ensures nothing
+    writes_nothing _ base c.args.index.now.case c.args.line.now c.path_of-is_dir.result.0.now c.path_of-is_dir.result.1 plain c.path_of-is_dir.ensures _ nothing
