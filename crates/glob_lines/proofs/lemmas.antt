@@ -14,3 +14,4 @@ pub mod PathsLemmas
 pub mod PlainLemmas
 pub mod TransferLemmas
 pub mod TrimLemmas
+pub mod ValuesLemmas

@@ -1,13 +1,12 @@
 -- The text of decisions: what is written for path lines and a stack of lists.
-use Rattle.std.specs.Prelude.{◌≡◌, ◌⊎◌, ℕ, ◌+◌, Bool, if◌then◌else◌, List, ◌++◌, slice_get, Option, Some, MatchOption, decimal, codes}
+use Rattle.std.specs.Prelude.{◌≡◌, ℕ, ◌+◌, Bool, if◌then◌else◌, List, ◌++◌, slice_get, Option, Some, MatchOption, decimal, codes}
 use Rattle.gix_glob.specs.declared.pattern.Case.{Case}
 use Rattle.gix_glob.specs.Deciding.{Decides}
 use Rattle.gix_glob.specs.Entries.{Entry}
 use Rattle.gix_glob.specs.EntryLists.{EntryList}
-use Rattle.gix_glob.specs.Paths.{IsPlainPath}
 use Rattle.gix_glob.specs.Patterns.{is_negative}
-use Rattle.glob_lines.specs.Lines.{EndsInFeed, Lines, WritesEach}
-use Rattle.glob_lines.specs.PathLines.{MarksDirectory}
+use Rattle.glob_lines.specs.Lines.{WritesLines}
+use Rattle.glob_lines.specs.PathLines.{WritesForPath}
 
 -- what is said of an entry that decides: whether the path is kept or ignored, by which list, and by which number in it
 abbrev pub verdict : {V : Type 0} → ℕ → Entry V → List ℕ
@@ -23,21 +22,11 @@ pub record WritesVerdict {V : Type 0} (lists : List (EntryList V)) (pair : ℕ �
   pub shown : written ≡ verdict (pair.0 + 1) entry
 
 -- The line for a path: what is said of the entry that decides, and `none` where no entry does.
-pub record WritesDecision {V : Type 0} (lists : List (EntryList V)) (case : Case) (line written : List ℕ) : Type 0 where
-  pub path : List ℕ
-  pub is_dir : Bool
-  pub marked : MarksDirectory line path is_dir
+pub record WritesDecision {V : Type 0} (lists : List (EntryList V)) (case : Case) (path : List ℕ) (is_dir : Bool) (written : List ℕ) : Type 0 where
   pub pair : Option (ℕ × ℕ)
   pub decides : Decides lists path is_dir case pair
   pub shown : MatchOption pair (written ≡ codes "none") (λ p. WritesVerdict lists p written)
 
--- The line for a path line: an exclamation mark where that is no plain path, and else the line for its path.
-abbrev pub WritesDecisions : {V : Type 0} → List (EntryList V) → Case → List ℕ → List ℕ → Type 0
-WritesDecisions lists case line written =
-    (¬ IsPlainPath line × (written ≡ codes "!")) ⊎ (IsPlainPath line × WritesDecision lists case line written)
-
--- The text has a line for each path line, in order.
-pub record DecisionsText {V : Type 0} (lists : List (EntryList V)) (case : Case) (paths text : List ℕ) : Type 0 where
-  pub lines : List (List ℕ)
-  pub cut : Lines EndsInFeed paths lines
-  pub writes : WritesEach (WritesDecisions lists case) lines text
+-- The text of decisions: a line for each path line, in order.
+abbrev pub DecisionsText : {V : Type 0} → List (EntryList V) → Case → List ℕ → List ℕ → Type 0
+DecisionsText lists case paths text = WritesLines (WritesForPath (WritesDecision lists case)) paths text

@@ -3,7 +3,6 @@ use Rattle.std.specs.Prelude.{◌≡◌, ◌⊎◌, ℕ, List, [], ◌∷◌, �
 use Rattle.gix_glob.specs.Entries.{Entry}
 use Rattle.glob_lines.specs.Lines.{EndsInFeed, HasNo}
 use Rattle.glob_lines.specs.Entries.{Entries}
-use Rattle.glob_lines.specs.Plain.{PlainEntry}
 
 -- a pattern with its label, and its number
 abbrev pub LabelEntry : Type 0
@@ -23,7 +22,3 @@ pub record GivesLabel (line text value : List ℕ) : Type 0 where
 -- reading with the part after that tab, and the number.
 abbrev pub Label : List ℕ → List LabelEntry → Type 0
 Label bytes entries = Entries EndsInFeed GivesLabel bytes entries
-
--- the plain entry, with an empty label
-abbrev pub entry_with_empty_label : PlainEntry → LabelEntry
-entry_with_empty_label entry = record { text = entry.text; mode = entry.mode; place = entry.place; value = []; number = entry.number }

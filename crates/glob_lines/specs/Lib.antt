@@ -11,4 +11,5 @@ pub mod Plain
 pub mod Transfers
 pub mod Values
 pub mod Equations
+pub mod Laws
 pub mod Private

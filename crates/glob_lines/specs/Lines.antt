@@ -31,8 +31,10 @@ Lines Ends bytes (line ∷ lines) = (rest : List ℕ) × CutsLine Ends bytes lin
 abbrev pub EndsInFeed : List ℕ → List ℕ → Type 0
 EndsInFeed line ending = ending ≡ line_feed ∷ []
 
--- The text has one line for each of these lines, in order: `P line written` says what is written for a line.
-pub record WritesEach (P : List ℕ → List ℕ → Type 0) (lines : List (List ℕ)) (text : List ℕ) : Type 0 where
+-- The text has one line for each line of the input, in order: `P line written` says what is written for a line.
+pub record WritesLines (P : List ℕ → List ℕ → Type 0) (input text : List ℕ) : Type 0 where
+  pub lines : List (List ℕ)
+  pub cut : Lines EndsInFeed input lines
   pub written : List (List ℕ)
   pub each : AllZip P lines written
   pub joined : text ≡ text_of_lines written

@@ -1,6 +1,6 @@
 -- What a run does to the bytes of its readers and of its writer. `old` and `new` are what a reader has left, or what a writer
 -- holds, before and after; a real file tells neither: it is `None`, and nothing is said of it.
-use Rattle.std.specs.Prelude.{◌≡◌, List, ℕ, ◌++◌, Option}
+use Rattle.std.specs.Prelude.{List, ℕ, take, Option}
 use Rattle.std.specs.Io.KnownBytes.{Appends, Consumes, IsAtEnd}
 
 -- the reader gave these bytes, and has no more
@@ -8,12 +8,10 @@ pub record ReadsWhole (old new : Option (List ℕ)) (bytes : List ℕ) : Type 0 
   pub consumed : Consumes old new bytes
   pub ended : IsAtEnd new
 
--- the writer took a front of the text, all of it perhaps, and nothing else
+-- the writer took so many bytes of the text's front, all of them perhaps, and nothing else
 pub record AppendsFront (old new : Option (List ℕ)) (text : List ℕ) : Type 0 where
-  pub front : List ℕ
-  pub rest : List ℕ
-  pub whole : text ≡ front ++ rest
-  pub appended : Appends old new front
+  pub count : ℕ
+  pub appended : Appends old new (take count text)
 
 -- Some input was read, and a text that is allowed for it was written: `Read` says what reading an input is, `IsText` which
 -- texts are allowed for it, and `Written` what writing a text is.

@@ -7,8 +7,9 @@ ghost use Rattle.gix_glob.specs.Entries.{entry_of};
 ghost use Rattle.gix_glob.specs.EntryLists.{entry_list_of};
 ghost use Rattle.gix_glob.specs.Paths.{IsPlainPath};
 ghost use Rattle.gix_glob.specs.Watched.{has_failed, inner};
-ghost use Rattle.glob_lines.specs.Decisions.{DecisionsText, WritesDecisions, verdict};
+ghost use Rattle.glob_lines.specs.Decisions.{DecisionsText, verdict};
 ghost use Rattle.glob_lines.specs.Transfers.{AppendsFront, ReadsWhole, Run};
+ghost use Rattle.glob_lines.specs.Private.Answering.{WritesDecisions};
 ghost use Rattle.glob_lines.specs.Private.Growing.{Adds};
 
 use crate::deciding::decide;

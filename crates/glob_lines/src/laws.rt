@@ -6,10 +6,12 @@ ghost use Rattle.gix_glob.specs.Deciding.{HasFolder};
 ghost use Rattle.gix_glob.specs.Entries.{Entry};
 ghost use Rattle.gix_glob.specs.EntryLists.{EntryList};
 ghost use Rattle.gix_glob.specs.Loading.{IsLoaded};
-ghost use Rattle.glob_lines.specs.Ignore.{Ignore};
+ghost use Rattle.glob_lines.specs.Decisions.{DecisionsText};
+ghost use Rattle.glob_lines.specs.Ignore.{BeginsWithLine, Ignore};
 ghost use Rattle.glob_lines.specs.Equations.Ignore.{ignore_of};
-ghost use Rattle.glob_lines.specs.Label.{Label, LabelEntry, tab, entry_with_empty_label};
+ghost use Rattle.glob_lines.specs.Label.{Label, LabelEntry, tab};
 ghost use Rattle.glob_lines.specs.Equations.Label.{label_of};
+ghost use Rattle.glob_lines.specs.Laws.Label.{entry_with_empty_label};
 ghost use Rattle.glob_lines.specs.Lines.{EndsInFeed, HasNo, Lines};
 ghost use Rattle.glob_lines.specs.Equations.Lines.{lines_of};
 ghost use Rattle.glob_lines.specs.Mappings.{MappingsText, PatternsAndPaths};
@@ -17,12 +19,19 @@ ghost use Rattle.glob_lines.specs.Plain.{Plain, PlainEntry};
 ghost use Rattle.glob_lines.specs.Equations.Plain.{plain_of};
 ghost use Rattle.glob_lines.specs.Values.{ValuesText};
 
-use gix_glob::laws::{bases_end_in_a_slash, readings_are_these, two_answers_agree};
+use gix_glob::laws::{bases_end_in_a_slash, decides_one_pair, readings_are_these};
 use gix_glob::search;
 
 /// Bytes have one list of lines, which the equations of `lines_of` give.
 pub fn lines_are_these()
     ensures { (bytes : List ℕ) (texts : List (List ℕ)) → Lines EndsInFeed bytes texts ↔ (texts ≡ lines_of bytes) }
+{}
+
+/// The bytes of an ignore file begin with one line: what [`next_ignore_line`](crate::next_ignore_line) answers is determined by
+/// them.
+pub fn bytes_begin_with_one_line()
+    ensures { (bytes rest left : List ℕ) (text other : Option (List ℕ))
+        → BeginsWithLine bytes text rest → BeginsWithLine bytes other left → (text ≡ other) × (rest ≡ left) }
 {}
 
 /// Bytes have one list of plain entries, which the equations of `plain_of` give.
@@ -58,10 +67,7 @@ pub fn lines_without_tabs_keep_their_meaning()
 pub fn values_have_one_text()
     ensures { (pattern : List ℕ) (mode : Mode) (input text other : List ℕ)
         → ValuesText pattern mode input text → ValuesText pattern mode input other → text ≡ other }
-{
-    lines_are_these();
-    two_answers_agree();
-}
+{}
 
 /// Pattern lines and path lines have one text: what [`run_list`](crate::run_list) writes is determined by what it reads,
 /// under one source, root and case.
@@ -69,8 +75,16 @@ pub fn mappings_have_one_text()
     ensures { (source : List ℕ) (root : Option (List ℕ)) (case : Case) (input : PatternsAndPaths) (text other : List ℕ)
         → MappingsText source root case input text → MappingsText source root case input other → text ≡ other }
 {
-    lines_are_these();
     plain_entries_are_these();
+}
+
+/// Path lines and a stack of lists have one text: what [`run_ignore`](crate::run_ignore) writes is determined by what it
+/// reads, under the same lists and case.
+pub fn decisions_have_one_text<T: search::Pattern>()
+    ensures { (lists : List (EntryList T.Seen)) (case : Case) (paths text other : List ℕ)
+        → DecisionsText lists case paths text → DecisionsText lists case paths other → text ≡ other }
+{
+    decides_one_pair::<T>();
 }
 
 /// The base of a list that was loaded is that of a folder: so lists that were loaded meet

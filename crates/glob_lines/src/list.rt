@@ -8,9 +8,9 @@ ghost use Rattle.gix_glob.specs.Entries.{entry_of};
 ghost use Rattle.gix_glob.specs.Paths.{IsFolder, IsPlainPath, has_file_part};
 ghost use Rattle.gix_glob.specs.RepositoryPaths.{IsBasenameStart};
 ghost use Rattle.gix_glob.specs.Watched.{has_failed, inner};
-ghost use Rattle.glob_lines.specs.Mappings.{MappingsText, MatchesText, ReadsBoth, WritesMatches, WritesNumbers};
+ghost use Rattle.glob_lines.specs.Mappings.{MappingsText, ReadsBoth, WritesNumbers};
 ghost use Rattle.glob_lines.specs.Transfers.{AppendsFront, Run};
-ghost use Rattle.glob_lines.specs.Private.Answering.{WritesNumbersUnder};
+ghost use Rattle.glob_lines.specs.Private.Answering.{MatchesText, WritesMatches, WritesNumbersOfRest};
 ghost use Rattle.glob_lines.specs.Private.Growing.{Adds};
 
 use crate::decimal::append_decimal;
@@ -173,7 +173,7 @@ fn append_found(
     requires basename { IsBasenameStart path.bytes.now path.position }
     requires folder { ForSome (option_map vec_items list.now.base) IsFolder }
     ensures { OnOk result (Adds
-        (WritesNumbersUnder (map (entry_of (λ _. tt)) list.now.patterns.items) (option_map vec_items list.now.base) path.entry.bytes.now path.entry.is_dir index.now.case)
+        (WritesNumbers (map (entry_of (λ _. tt)) list.now.patterns.items) (option_map vec_items list.now.base) index.now.case path.entry.bytes.now path.entry.is_dir)
         text.old.items text.new.items) }
 {
     index.matches_into(path.bytes, path.position, path.is_dir, pairs)?;
@@ -196,7 +196,7 @@ fn append_numbers(
     requires relative { ¬ HasByte rest.bytes.now 0 slash }
     requires basename { IsBasenameStart rest.bytes.now rest.position }
     ensures { OnOk result (Adds
-        (WritesNumbers (map (entry_of (λ _. tt)) mappings.now) case rest.entry.is_dir rest.entry.bytes.now)
+        (WritesNumbersOfRest (map (entry_of (λ _. tt)) mappings.now) case rest.entry.is_dir rest.entry.bytes.now)
         text.old.items text.new.items) }
 {
     let mut separator: &[u8] = b"";

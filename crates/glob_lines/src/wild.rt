@@ -4,7 +4,8 @@ ghost use Rattle.std.specs.Io.KnownBytes.{Appends};
 ghost use Rattle.gix_glob.specs.Watched.{has_failed, inner};
 ghost use Rattle.glob_lines.specs.Lines.{line_feed};
 ghost use Rattle.glob_lines.specs.Transfers.{AppendsFront, ReadsWhole, Run};
-ghost use Rattle.glob_lines.specs.Values.{ValuesText, word_of};
+ghost use Rattle.glob_lines.specs.Values.{ValuesText};
+ghost use Rattle.glob_lines.specs.Private.Answering.{word_of};
 
 use crate::fault::EngineFault;
 use crate::lines::Lines;

@@ -6,8 +6,9 @@ use Rattle.gix_glob.specs.Deciding.{Decides}
 use Rattle.gix_glob.specs.Entries.{Entry}
 use Rattle.gix_glob.specs.EntryLists.{EntryList}
 use Rattle.gix_glob.specs.Paths.{IsPlainPath}
-use Rattle.glob_lines.specs.Decisions.{WritesDecisions, verdict}
+use Rattle.glob_lines.specs.Decisions.{verdict}
 use Rattle.glob_lines.specs.PathLines.{MarksDirectory}
+use Rattle.glob_lines.specs.Private.Answering.{WritesDecisions}
 use Rattle.glob_lines.specs.Private.Growing.{Adds}
 
 module _ {V : Type 0} (lists : List (EntryList V)) (case : Case) (line path : List ℕ) (is_dir : Bool) (old new : List ℕ) where
@@ -17,14 +18,10 @@ module _ {V : Type 0} (lists : List (EntryList V)) (case : Case) (line path : Li
     added = verdict (i + 1) entry;
     allowed = inr (
       plain,
-      record {
-        path = path;
-        is_dir = is_dir;
-        marked = marked;
-        pair = Some (i, m);
-        decides = decides;
-        shown = record { list = list; of_lists = of_lists; entry = entry; of_list = of_list; shown = refl };
-      },
+      path,
+      is_dir,
+      marked,
+      record { pair = Some (i, m); decides = decides; shown = record { list = list; of_lists = of_lists; entry = entry; of_list = of_list; shown = refl } },
     );
     grown = grown;
   }
@@ -32,7 +29,7 @@ module _ {V : Type 0} (lists : List (EntryList V)) (case : Case) (line path : Li
   pub writes_none : IsPlainPath line → MarksDirectory line path is_dir → Decides lists path is_dir case None → new ≡ old ++ codes "none" → Adds (WritesDecisions lists case line) old new
   writes_none plain marked decides grown = record {
     added = codes "none";
-    allowed = inr (plain, record { path = path; is_dir = is_dir; marked = marked; pair = None; decides = decides; shown = refl });
+    allowed = inr (plain, path, is_dir, marked, record { pair = None; decides = decides; shown = refl });
     grown = grown;
   }
 

@@ -118,16 +118,18 @@ module _ {V : Type 0} (Gives : List ℕ → List ℕ → V → Type 0) (content_
 
   -- ---- the entries of the lines of bytes
 
-  module _ (Ends : List ℕ → List ℕ → Type 0) (lines : List ℕ → List (List ℕ)) (are_lines : TellsLines Ends lines) where
-    pub Entries-are : (bytes : List ℕ) → Entries Ends Gives bytes (entries_from content_of 1 (lines bytes))
-    Entries-are bytes = record { lines = lines bytes; cut = Lines-are Ends lines are_lines bytes; each = entries_from-EntriesFrom 1 (lines bytes) }
+  pub Entries-are : (Ends : List ℕ → List ℕ → Type 0) (lines : List ℕ → List (List ℕ)) → TellsLines Ends lines → (bytes : List ℕ) → Entries Ends Gives bytes (entries_from content_of 1 (lines bytes))
+  Entries-are Ends lines are_lines bytes = record { lines = lines bytes; cut = Lines-are Ends lines are_lines bytes; each = entries_from-EntriesFrom 1 (lines bytes) }
 
-    pub Entries-only : (bytes : List ℕ) (entries : List (Entry V)) → Entries Ends Gives bytes entries → entries ≡ entries_from content_of 1 (lines bytes)
-    Entries-only bytes entries h = EntriesFrom-only 1 h.lines entries h.each ∙ ap (entries_from content_of 1) (Lines-only Ends lines are_lines bytes h.lines h.cut)
+  pub Entries-only : (Ends : List ℕ → List ℕ → Type 0) (lines : List ℕ → List (List ℕ)) → TellsLines Ends lines → (bytes : List ℕ) (entries : List (Entry V)) → Entries Ends Gives bytes entries
+      → entries ≡ entries_from content_of 1 (lines bytes)
+  Entries-only Ends lines are_lines bytes entries h = EntriesFrom-only 1 h.lines entries h.each ∙ ap (entries_from content_of 1) (Lines-only Ends lines are_lines bytes h.lines h.cut)
 
-    -- the relation and the equation agree
-    pub entries_are_these : (bytes : List ℕ) (entries : List (Entry V)) → Entries Ends Gives bytes entries ↔ (entries ≡ entries_from content_of 1 (lines bytes))
-    entries_are_these bytes entries = (Entries-only bytes entries, λ is. subst (Entries Ends Gives bytes) (sym is) (Entries-are bytes))
+  -- the relation and the equation agree
+  pub entries_are_these : (Ends : List ℕ → List ℕ → Type 0) (lines : List ℕ → List (List ℕ)) → TellsLines Ends lines → (bytes : List ℕ) (entries : List (Entry V))
+      → Entries Ends Gives bytes entries ↔ (entries ≡ entries_from content_of 1 (lines bytes))
+  entries_are_these Ends lines are_lines bytes entries =
+      (Entries-only Ends lines are_lines bytes entries, λ is. subst (Entries Ends Gives bytes) (sym is) (Entries-are Ends lines are_lines bytes))
 
 -- ---- one line after the other
 

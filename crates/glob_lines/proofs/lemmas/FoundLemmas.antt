@@ -7,13 +7,12 @@ use Rattle.std.proofs.lemmas.Option.{get_or_from_slice_get, same_Some, slice_get
 use Rattle.gix_glob.specs.declared.pattern.Case.{Case}
 use Rattle.gix_glob.specs.Deciding.{AnswersAt, AnswersUnder, BasesAreFolders, HasFolder}
 use Rattle.gix_glob.specs.EntryLists.{EntryList}
-use Rattle.gix_glob.specs.RepositoryPaths.{IsBasenameStart}
 use Rattle.gix_glob.specs.Stripping.{RestOf}
 use Rattle.glob_index.specs.Index.{AreMatches}
-use Rattle.glob_lines.specs.Mappings.{EntryAnswers, WritesNumbers}
+use Rattle.glob_lines.specs.Mappings.{WritesNumbers}
 use Rattle.glob_lines.specs.Numbers.{Picks}
 use Rattle.glob_lines.specs.Plain.{PlainEntry}
-use Rattle.glob_lines.specs.Private.Answering.{WritesNumbersUnder}
+use Rattle.glob_lines.specs.Private.Answering.{EntryAnswers, WritesNumbersOfRest}
 use Rattle.glob_lines.specs.Private.Growing.{Adds}
 use Rattle.gix_glob.proofs.lemmas.Answering.{AnswersUnder-only, AnswersUnder-yes}
 use Rattle.glob_lines.proofs.lemmas.MappingsLemmas.{IsListedUpTo, IsListedUpTo-more, IsListedUpTo-none, IsListedUpTo-skip}
@@ -157,17 +156,17 @@ Picks-same P Q (entry ∷ entries) chosen same (inl h) = inl ((same entry).0 h.0
 Picks-same P Q (entry ∷ entries) chosen same (inr h) = inr (λ q. h.0 ((same entry).1 q), Picks-same P Q entries chosen same h.1)
 
 -- the entries that answer for a path are those that answer for what its base leaves of it
-pub numbers_under : (entries : List PlainEntry) (base : Option (List ℕ)) (path rest : List ℕ) (position : Option ℕ) (is_dir : Bool) (case : Case) (old new : List ℕ) → RestOf case base path rest → IsBasenameStart rest position
-    → Adds (WritesNumbersUnder entries base path is_dir case) old new → Adds (WritesNumbers entries case is_dir rest) old new
-numbers_under entries base path rest position is_dir case old new left basename adds = record {
-  added = adds.added;
-  allowed = record {
-    position = position;
-    basename = basename;
-    chosen = adds.allowed.chosen;
-    picks = Picks-same (λ entry. AnswersUnder base entry path is_dir case) (EntryAnswers case is_dir rest position) entries adds.allowed.chosen
-        (λ entry. (AnswersUnder-only base path is_dir case entry rest position left basename, AnswersUnder-yes base path is_dir case entry rest position left basename)) adds.allowed.picks;
-    shown = adds.allowed.shown;
-  };
-  grown = adds.grown;
-}
+pub numbers_under : (entries : List PlainEntry) (base : Option (List ℕ)) (path rest : List ℕ) (is_dir : Bool) (case : Case) (old new : List ℕ) → RestOf case base path rest
+    → Adds (WritesNumbersOfRest entries case is_dir rest) old new → Adds (WritesNumbers entries base case path is_dir) old new
+numbers_under entries base path rest is_dir case old new left adds =
+    let position = adds.allowed.position in
+    let basename = adds.allowed.basename in record {
+      added = adds.added;
+      allowed = record {
+        chosen = adds.allowed.chosen;
+        picks = Picks-same (EntryAnswers case is_dir rest position) (λ entry. AnswersUnder base entry path is_dir case) entries adds.allowed.chosen
+            (λ entry. (AnswersUnder-yes base path is_dir case entry rest position left basename, AnswersUnder-only base path is_dir case entry rest position left basename)) adds.allowed.picks;
+        shown = adds.allowed.shown;
+      };
+      grown = adds.grown;
+    }

@@ -1,8 +1,9 @@
 -- The lines of an ignore file: endings, comments, and the entries of all lines.
-use Rattle.std.proofs.Common.{◌≡◌, ◌≢◌, inl, inr, ⊎_elim, ℕ, ◌-◌, ◌<◌, ◌≤◌, Bool, true, false, cond, ◌&&◌, List, [], ◌∷◌, ◌++◌, length, take, drop, Option, None, Some, refl, sym, ap, subst, ◌∙◌, append_assoc, append-nil, length-drop, le_refl, arith}
-use Rattle.std.specs.Prelude.{◌==◌, nat_eq}
+use Rattle.std.proofs.Common.{◌≡◌, ◌≢◌, ◌⊎◌, inl, inr, ⊎_elim, ℕ, ◌-◌, ◌<◌, ◌≤◌, Bool, true, false, cond, ◌&&◌, List, [], ◌∷◌, ◌++◌, length, take, Option, None, Some, refl, sym, ap, subst, ◌∙◌, append_assoc, append-nil, length-append, length-drop, le_refl, arith}
+use Rattle.std.specs.Prelude.{◌==◌, MatchOption, nat_eq}
 use Rattle.std.specs.List.{starts_with}
 use Rattle.std.proofs.lemmas.Bool.Decides.{Decides-eqb}
+use Rattle.std.proofs.lemmas.List.{append_cancel_left}
 use Rattle.std.proofs.lemmas.Slice.Eq.{ends_is}
 use Rattle.std.proofs.lemmas.Bool.{cases_Bool, false≢true, ne_eqb}
 use Rattle.glob_lines.specs.Lines.{CutsLine, EndsInFeed, HasNo, line_feed}
@@ -199,6 +200,50 @@ ignore_content-text line text h = Tells-ignore_content.found line text tt h
 
 pub ignore_content-comment : (line : List ℕ) → is_comment line ≡ true → ignore_content line ≡ None
 ignore_content-comment line comment = let it : LineContent (Unit {0}) = record { text = text_before_spaces line; value = tt } in ap (λ b. cond b None (Some it)) comment
+
+-- ---- one first line
+
+-- how a line of bytes ends, and what is left then
+abbrev EndsBefore : List ℕ → List ℕ → List ℕ → Type 0
+EndsBefore line ending rest = EndsIgnoreLine line ending ⊎ ((line ≢ []) × (ending ≡ []) × (rest ≡ []))
+
+no_bytes : (line ending rest : List ℕ) → EndsIgnoreLine line ending → ending ++ rest ≡ [] → ⊥
+no_bytes line ending rest ends none = let more = ending_has_bytes line ending ends in omega (arith, length-append ending rest, ap length none)
+
+one_ending : (line e rest f left : List ℕ) → EndsIgnoreLine line e → EndsIgnoreLine line f → e ++ rest ≡ f ++ left → rest ≡ left
+one_ending line e rest f left (inl a) (inl b) same = append_cancel_left (carriage_return ∷ line_feed ∷ []) rest left (sym (ap (λ l. l ++ rest) a) ∙ same ∙ ap (λ l. l ++ left) b)
+one_ending line e rest f left (inr a) (inr b) same = append_cancel_left (line_feed ∷ []) rest left (sym (ap (λ l. l ++ rest) a.0) ∙ same ∙ ap (λ l. l ++ left) b.0)
+one_ending line e rest f left (inl a) (inr b) same =
+    let bytes : carriage_return ∷ line_feed ∷ rest ≡ line_feed ∷ left = sym (ap (λ l. l ++ rest) a) ∙ same ∙ ap (λ l. l ++ left) b.0 in
+    let first : carriage_return ≡ line_feed = cc in
+    absurd (omega (arith, first))
+one_ending line e rest f left (inr a) (inl b) same =
+    let bytes : line_feed ∷ rest ≡ carriage_return ∷ line_feed ∷ left = sym (ap (λ l. l ++ rest) a.0) ∙ same ∙ ap (λ l. l ++ left) b in
+    let first : line_feed ≡ carriage_return = cc in
+    absurd (omega (arith, first))
+
+one_rest : (line e rest f left : List ℕ) → EndsBefore line e rest → EndsBefore line f left → e ++ rest ≡ f ++ left → rest ≡ left
+one_rest line e rest f left (inl x) (inl y) same = one_ending line e rest f left x y same
+one_rest line e rest f left (inl x) (inr y) same = absurd (no_bytes line e rest x (same ∙ ap (λ l. l ++ left) y.1 ∙ y.2))
+one_rest line e rest f left (inr x) (inl y) same = absurd (no_bytes line f left y (sym same ∙ ap (λ l. l ++ rest) x.1 ∙ x.2))
+one_rest line e rest f left (inr x) (inr y) same = x.2 ∙ sym y.2
+
+one_text : (line : List ℕ) (text other : Option (List ℕ)) → MatchOption text (is_comment line ≡ true) (λ t. GivesTrimmed line t tt) → MatchOption other (is_comment line ≡ true) (λ t. GivesTrimmed line t tt) → text ≡ other
+one_text line None None x y = refl
+one_text line None (Some other) x y = absurd (false≢true (sym y.no_comment ∙ x))
+one_text line (Some text) None x y = absurd (false≢true (sym x.no_comment ∙ y))
+one_text line (Some text) (Some other) x y = ap Some (Trims-only line text x.trims ∙ sym (Trims-only line other y.trims))
+
+pub first_line_once : (bytes rest left : List ℕ) (text other : Option (List ℕ)) → BeginsWithLine bytes text rest → BeginsWithLine bytes other left → (text ≡ other) × (rest ≡ left)
+first_line_once bytes rest left text other x y =
+    let both : x.line ∷ lines_of (without_returns rest) ≡ y.line ∷ lines_of (without_returns left) = sym (ignore_line_cut bytes x.line rest x.cut) ∙ ignore_line_cut bytes y.line left y.cut in
+    let line : y.line ≡ x.line = cc in
+    let joined : bytes ≡ x.line ++ (y.cut.ending ++ left) = y.cut.joined ∙ ap (λ l. l ++ (y.cut.ending ++ left)) line in
+    let behind : x.cut.ending ++ rest ≡ y.cut.ending ++ left = append_cancel_left x.line (x.cut.ending ++ rest) (y.cut.ending ++ left) (sym x.cut.joined ∙ joined) in
+    let ended : EndsBefore x.line y.cut.ending left = subst (λ l. EndsBefore l y.cut.ending left) line y.cut.ended in (
+      one_text x.line text other x.gives (subst (λ l. MatchOption other (is_comment l ≡ true) (λ t. GivesTrimmed l t tt)) line y.gives),
+      one_rest x.line x.cut.ending rest y.cut.ending left x.cut.ended ended behind,
+    )
 
 -- ---- how many
 

@@ -8,7 +8,8 @@ use Rattle.std.proofs.lemmas.List.{drop_all}
 use Rattle.memchr.specs.Find.{IsFirstByte, is_byte}
 use Rattle.gix_glob.specs.Equations.Entries.{entry_with}
 use Rattle.gix_glob.specs.Equations.Readings.{Reading, reading_of}
-use Rattle.glob_lines.specs.Label.{GivesLabel, Label, tab, entry_with_empty_label}
+use Rattle.glob_lines.specs.Label.{GivesLabel, Label, tab}
+use Rattle.glob_lines.specs.Laws.Label.{entry_with_empty_label}
 use Rattle.glob_lines.specs.Equations.Label.{is_tab, label_of, label_content}
 use Rattle.glob_lines.specs.Lines.{EndsInFeed, HasNo, line_feed}
 use Rattle.glob_lines.specs.Equations.Lines.{lines_of}

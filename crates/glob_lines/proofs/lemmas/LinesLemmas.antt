@@ -1,12 +1,12 @@
 -- The lines of bytes: the relation and the equations agree.
 use Rattle.std.proofs.Common.{◌≡◌, ◌≢◌, inl, inr, ⊎_elim, ℕ, zero, suc, ◌+◌, ◌<◌, ◌≤◌, cond, List, [], ◌∷◌, ◌++◌, length, length-append, take, drop, get_or, Some, None, refl, sym, ap, subst, ◌∙◌, append_assoc, append-nil, le_refl, take_all, take-append-drop, arith}
-use Rattle.std.specs.List.{AllByRecursion, onto_first}
+use Rattle.std.specs.List.{AllZip, onto_first}
 use Rattle.std.proofs.lemmas.Bool.{ne_eqb, eqb-true, eq-eqb}
 use Rattle.std.proofs.lemmas.Bool.Decides.{eqb_tells}
 use Rattle.std.proofs.lemmas.List.{drop_more, flat_map_more}
 use Rattle.std.proofs.lemmas.List.Elements.{AllZip-push}
 use Rattle.memchr.specs.Find.{IsFirstByte, is_byte}
-use Rattle.glob_lines.specs.Lines.{CutsLine, EndsInFeed, HasNo, Lines, WritesEach, line_feed, text_of_lines}
+use Rattle.glob_lines.specs.Lines.{CutsLine, EndsInFeed, HasNo, Lines, WritesLines, line_feed, text_of_lines}
 use Rattle.glob_lines.specs.Equations.Lines.{lines_of}
 
 -- ---- the equations, a line at a time
@@ -169,25 +169,31 @@ last_line bytes some h =
 pub record IsWrittenUpTo (P : List ℕ → List ℕ → Type 0) (all rest : List (List ℕ)) (text : List ℕ) : Type 0 where
   pub done : List (List ℕ)
   pub split : all ≡ done ++ rest
-  pub writes : WritesEach P done text
+  pub written : List (List ℕ)
+  pub each : AllZip P done written
+  pub joined : text ≡ text_of_lines written
 
 pub IsWrittenUpTo-none : (P : List ℕ → List ℕ → Type 0) (all : List (List ℕ)) (text : List ℕ) → text ≡ [] → IsWrittenUpTo P all all text
-IsWrittenUpTo-none P all text is = record { done = []; split = refl; writes = record { written = []; each = tt; joined = is } }
+IsWrittenUpTo-none P all text is = record { done = []; split = refl; written = []; each = tt; joined = is }
 
 pub IsWrittenUpTo-more : (P : List ℕ → List ℕ → Type 0) (all rest more : List (List ℕ)) (text new line written : List ℕ) → IsWrittenUpTo P all rest text → rest ≡ line ∷ more → P line written
     → new ≡ text ++ (written ++ line_feed ∷ []) → IsWrittenUpTo P all more new
 IsWrittenUpTo-more P all rest more text new line written h is p e = record {
   done = h.done ++ line ∷ [];
   split = h.split ∙ ap (λ l. h.done ++ l) is ∙ sym (append_assoc h.done (line ∷ []) more);
-  writes = record {
-    written = h.writes.written ++ written ∷ [];
-    each = AllZip-push P h.done h.writes.written line written h.writes.each p;
-    joined = e ∙ ap (λ l. l ++ (written ++ line_feed ∷ [])) h.writes.joined ∙ flat_map_more (λ text. text ++ line_feed ∷ []) [] h.writes.written written;
-  };
+  written = h.written ++ written ∷ [];
+  each = AllZip-push P h.done h.written line written h.each p;
+  joined = e ∙ ap (λ l. l ++ (written ++ line_feed ∷ [])) h.joined ∙ flat_map_more (λ text. text ++ line_feed ∷ []) [] h.written written;
 }
 
-pub IsWrittenUpTo-all : (P : List ℕ → List ℕ → Type 0) (all rest : List (List ℕ)) (text : List ℕ) → IsWrittenUpTo P all rest text → rest ≡ [] → WritesEach P all text
-IsWrittenUpTo-all P all rest text h none = subst (λ lines. WritesEach P lines text) (sym (h.split ∙ ap (λ l. h.done ++ l) none ∙ append-nil h.done)) h.writes
+pub IsWrittenUpTo-all : (P : List ℕ → List ℕ → Type 0) (input : List ℕ) (rest : List (List ℕ)) (text : List ℕ) → IsWrittenUpTo P (lines_of input) rest text → rest ≡ [] → WritesLines P input text
+IsWrittenUpTo-all P input rest text h none = record {
+  lines = lines_of input;
+  cut = Lines-are EndsInFeed lines_of TellsLines-lines_of input;
+  written = h.written;
+  each = subst (λ lines. AllZip P lines h.written) (sym (h.split ∙ ap (λ l. h.done ++ l) none ∙ append-nil h.done)) h.each;
+  joined = h.joined;
+}
 
 -- ---- how many
 

@@ -1,17 +1,19 @@
 -- The numbers of the mappings that answer, one mapping after the other, and what is made of them.
-use Rattle.std.proofs.Common.{◌≡◌, inl, inr, ℕ, Bool, List, [], ◌∷◌, ◌++◌, map, Option, refl, sym, ap, subst, ◌∙◌, append_assoc, append-nil}
+use Rattle.std.proofs.Common.{◌≡◌, inr, ℕ, Bool, List, [], ◌∷◌, ◌++◌, map, Option, refl, sym, ap, subst, ◌∙◌, append_assoc, append-nil}
 use Rattle.std.specs.Prelude.{◌↔◌, decimal}
 use Rattle.std.proofs.lemmas.List.{map_push}
 use Rattle.gix_glob.specs.declared.pattern.Case.{Case}
+use Rattle.gix_glob.specs.Deciding.{AnswersUnder}
 use Rattle.gix_glob.specs.Paths.{Base}
-use Rattle.gix_glob.specs.Stripping.{NothingLeft, RestOf}
-use Rattle.glob_lines.specs.Mappings.{MappingsText, MatchesText, WritesMatches, WritesNumbers}
+use Rattle.gix_glob.specs.Stripping.{NothingLeft}
+use Rattle.glob_lines.specs.Mappings.{MappingsText, WritesNumbers}
 use Rattle.glob_lines.specs.Numbers.{Picks, text_of_numbers}
 use Rattle.glob_lines.specs.PathLines.{IsPlainPath, MarksDirectory}
 use Rattle.glob_lines.specs.Plain.{Plain, PlainEntry}
 use Rattle.glob_lines.specs.Equations.Plain.{plain_of}
+use Rattle.glob_lines.specs.Private.Answering.{MatchesText, WritesMatches}
 use Rattle.glob_lines.specs.Private.Growing.{Adds}
-use Rattle.glob_lines.proofs.lemmas.NumbersLemmas.{Picks-more, Picks-skip, separator_after, text_of_numbers-more}
+use Rattle.glob_lines.proofs.lemmas.NumbersLemmas.{Picks-more, Picks-none, Picks-skip, separator_after, text_of_numbers-more}
 
 abbrev pub numbers_of : List PlainEntry → List ℕ
 numbers_of entries = map (λ entry. entry.number) entries
@@ -63,21 +65,23 @@ module _ (P : PlainEntry → Type 0) where
 
 -- ---- a path line
 
-pub writes_numbers : (entries : List PlainEntry) (base : Option (List ℕ)) (case : Case) (line path rest : List ℕ) (is_dir : Bool) (old new : List ℕ) → IsPlainPath line → MarksDirectory line path is_dir
-    → RestOf case base path rest → Adds (WritesNumbers entries case is_dir rest) old new → Adds (WritesMatches entries base case line) old new
-writes_numbers entries base case line path rest is_dir old new plain marked is adds = record {
-  added = adds.added;
-  allowed = inr (plain, record { path = path; is_dir = is_dir; marked = marked; shown = inr (rest, is, adds.allowed) });
-  grown = adds.grown;
-}
+module _ (entries : List PlainEntry) (base : Option (List ℕ)) (case : Case) (line path : List ℕ) (is_dir : Bool) (plain : IsPlainPath line) (marked : MarksDirectory line path is_dir) where
+  pub writes_numbers : (old new : List ℕ) → Adds (WritesNumbers entries base case path is_dir) old new → Adds (WritesMatches entries base case line) old new
+  writes_numbers old new adds = record { added = adds.added; allowed = inr (plain, path, is_dir, marked, adds.allowed); grown = adds.grown }
 
-pub writes_nothing : (entries : List PlainEntry) (base : Option (List ℕ)) (case : Case) (line path : List ℕ) (is_dir : Bool) (text : List ℕ) → IsPlainPath line → MarksDirectory line path is_dir
-    → NothingLeft case base path → Adds (WritesMatches entries base case line) text text
-writes_nothing entries base case line path is_dir text plain marked none = record {
-  added = [];
-  allowed = inr (plain, record { path = path; is_dir = is_dir; marked = marked; shown = inl (none, refl) });
-  grown = sym (append-nil text);
-}
+  -- no entry answers for a path that doesn't begin with the base
+  pub writes_nothing : (text : List ℕ) → NothingLeft case base path → Adds (WritesMatches entries base case line) text text
+  writes_nothing text none = record {
+    added = [];
+    allowed = inr (
+      plain,
+      path,
+      is_dir,
+      marked,
+      record { chosen = []; picks = Picks-none (λ (entry : PlainEntry). AnswersUnder base entry path is_dir case) entries (λ entry answers. none answers.rest answers.left); shown = refl },
+    );
+    grown = sym (append-nil text);
+  }
 
 -- ---- all path lines
 

@@ -1,19 +1,21 @@
 -- Each input has one text: what is written is determined by what was read.
-use Rattle.std.proofs.Common.{◌≡◌, ◌↔◌, ◌⊎◌, inl, inr, ℕ, Bool, IsTrue, List, [], ◌∷◌, ◌++◌, length, take, map, Option, None, Some, refl, sym, ap, subst, ◌∙◌, arith, length-append, take_at}
+use Rattle.std.proofs.Common.{◌≡◌, inl, inr, ℕ, ◌+◌, Bool, List, [], ◌∷◌, ◌++◌, map, Option, None, Some, refl, sym, ap, subst, ◌∙◌}
 use Rattle.std.specs.List.{AllZip, flat_map}
-use Rattle.std.specs.Prelude.{codes, if◌then◌else◌}
+use Rattle.std.specs.Prelude.{MatchOption, codes, if◌then◌else◌, slice_get}
 use Rattle.std.proofs.lemmas.List.{append_cancel_left, append_cancel_right}
+use Rattle.std.proofs.lemmas.Option.{same_Some}
 use Rattle.gix_glob.specs.declared.pattern.Case.{Case}
-use Rattle.gix_glob.specs.declared.wildmatch.Mode.{Mode}
-use Rattle.gix_glob.specs.Matching.{Splits}
+use Rattle.gix_glob.specs.Deciding.{AnswersUnder, Decides}
+use Rattle.gix_glob.specs.EntryLists.{EntryList}
 use Rattle.gix_glob.specs.Paths.{Base, folder, parts}
-use Rattle.gix_glob.specs.Stripping.{NothingLeft, RestOf}
-use Rattle.gix_glob.proofs.lemmas.Answering.{basename_once, rest_once}
-use Rattle.glob_lines.specs.Lines.{WritesEach, text_of_lines}
-use Rattle.glob_lines.specs.Mappings.{EntryAnswers, WritesMatches, WritesNumbers, WritesPath}
+use Rattle.glob_lines.specs.Decisions.{WritesDecision, WritesVerdict, verdict}
+use Rattle.glob_lines.specs.Equations.Lines.{lines_of}
+use Rattle.glob_lines.specs.Lines.{EndsInFeed, WritesLines, text_of_lines}
+use Rattle.glob_lines.specs.Mappings.{WritesNumbers}
 use Rattle.glob_lines.specs.Numbers.{Picks, text_of_numbers}
+use Rattle.glob_lines.specs.PathLines.{WritesForPath}
 use Rattle.glob_lines.specs.Plain.{PlainEntry}
-use Rattle.glob_lines.specs.Values.{WritesAnswer, word_of}
+use Rattle.glob_lines.proofs.lemmas.LinesLemmas.{Lines-only, TellsLines-lines_of}
 
 -- ---- lines
 
@@ -28,18 +30,26 @@ lines_once P once (line ∷ lines) (a ∷ us) [] x y = absurd y
 lines_once P once (line ∷ lines) (a ∷ us) (b ∷ vs) x y = cc (once line a b x.0 y.0, lines_once P once lines us vs x.1 y.1)
 
 pub text_once : (P : List ℕ → List ℕ → Type 0) → ((line a b : List ℕ) → P line a → P line b → a ≡ b)
-    → (lines lines' : List (List ℕ)) (a b : List ℕ) → lines ≡ lines' → WritesEach P lines a → WritesEach P lines' b → a ≡ b
-text_once P once lines lines' a b same x y =
-    let other : WritesEach P lines b = subst (λ ls. WritesEach P ls b) (sym same) y in
-    x.joined ∙ ap text_of_lines (lines_once P once lines x.written other.written x.each other.each) ∙ sym other.joined
-
--- ---- the line of a value
-
-pub answer_once : (p : List ℕ) (mode : Mode) (agree : (value : List ℕ) (first second : Bool) → IsTrue first ↔ Splits value p mode → IsTrue second ↔ Splits value p mode → first ≡ second)
-    → (value a b : List ℕ) → WritesAnswer p mode value a → WritesAnswer p mode value b → a ≡ b
-answer_once p mode agree value a b x y = x.word ∙ ap word_of (agree value x.answer y.answer x.exact y.exact) ∙ sym y.word
+    → (input a b : List ℕ) → WritesLines P input a → WritesLines P input b → a ≡ b
+text_once P once input a b x y =
+    let same : y.lines ≡ x.lines =
+    Lines-only EndsInFeed lines_of TellsLines-lines_of input y.lines y.cut ∙ sym (Lines-only EndsInFeed lines_of TellsLines-lines_of input x.lines x.cut) in
+    x.joined ∙ ap text_of_lines (lines_once P once x.lines x.written y.written x.each (subst (λ lines. AllZip P lines y.written) same y.each)) ∙ sym y.joined
 
 -- ---- the line of a path
+
+pub for_path_once : (P : List ℕ → Bool → List ℕ → Type 0) → ((path : List ℕ) (is_dir : Bool) (a b : List ℕ) → P path is_dir a → P path is_dir b → a ≡ b)
+    → (line a b : List ℕ) → WritesForPath P line a → WritesForPath P line b → a ≡ b
+for_path_once P once line a b (inl x) (inl y) = x.1 ∙ sym y.1
+for_path_once P once line a b (inl x) (inr y) = absurd (x.0 y.0)
+for_path_once P once line a b (inr x) (inl y) = absurd (y.0 x.0)
+for_path_once P once line a b (inr x) (inr y) =
+    let mark : y.2 ≡ x.2 = y.3.marked ∙ sym x.3.marked in
+    let joined : line ≡ y.1 ++ (if x.2 then codes "/" else []) = subst (λ d. line ≡ y.1 ++ (if d then codes "/" else [])) mark y.3.joined in
+    let path : y.1 ≡ x.1 = append_cancel_right y.1 x.1 (if x.2 then codes "/" else []) (sym joined ∙ x.3.joined) in
+    once x.1 x.2 a b x.4 (subst (λ p. P p x.2 b) path (subst (λ d. P y.1 d b) mark y.4))
+
+-- ---- the numbers of the entries that answer
 
 picks_once : {X : Type 0} (P : X → Type 0) (xs us vs : List X) → Picks P xs us → Picks P xs vs → us ≡ vs
 picks_once P [] us vs x y = x ∙ sym y
@@ -48,44 +58,31 @@ picks_once P (z ∷ zs) us vs (inl x) (inr y) = absurd (y.0 x.0)
 picks_once P (z ∷ zs) us vs (inr x) (inl y) = absurd (x.0 y.0)
 picks_once P (z ∷ zs) us vs (inr x) (inr y) = picks_once P zs us vs x.1 y.1
 
-numbers_once : (entries : List PlainEntry) (case : Case) (is_dir : Bool) (rest a b : List ℕ)
-    → WritesNumbers entries case is_dir rest a → WritesNumbers entries case is_dir rest b → a ≡ b
-numbers_once entries case is_dir rest a b x y =
-    let start : y.position ≡ x.position = basename_once rest y.position x.position y.basename x.basename in
-    let chosen : x.chosen ≡ y.chosen =
-    picks_once (EntryAnswers case is_dir rest x.position) entries x.chosen y.chosen x.picks
-    (subst (λ position. Picks (EntryAnswers case is_dir rest position) entries y.chosen) start y.picks) in
+pub numbers_once : (entries : List PlainEntry) (base : Option (List ℕ)) (case : Case) (path : List ℕ) (is_dir : Bool) (a b : List ℕ)
+    → WritesNumbers entries base case path is_dir a → WritesNumbers entries base case path is_dir b → a ≡ b
+numbers_once entries base case path is_dir a b x y =
+    let chosen : x.chosen ≡ y.chosen = picks_once (λ entry. AnswersUnder base entry path is_dir case) entries x.chosen y.chosen x.picks y.picks in
     x.shown ∙ ap (λ entries. text_of_numbers (map (λ entry. entry.number) entries)) chosen ∙ sym y.shown
 
-marked_path_once : (path other : List ℕ) (d : Bool) → path ++ (if d then codes "/" else []) ≡ other ++ (if d then codes "/" else []) → path ≡ other
-marked_path_once path other d same = append_cancel_right path other _ same
+-- ---- what decides
 
-path_once : (entries : List PlainEntry) (base : Option (List ℕ)) (case : Case) (line a b : List ℕ)
-    → WritesPath entries base case line a → WritesPath entries base case line b → a ≡ b
-path_once entries base case line a b x y =
-    let mark : y.is_dir ≡ x.is_dir = y.marked.marked ∙ sym x.marked.marked in
-    let joined : line ≡ y.path ++ (if x.is_dir then codes "/" else []) =
-    subst (λ d. line ≡ y.path ++ (if d then codes "/" else [])) mark y.marked.joined in
-    let same : y.path ≡ x.path = marked_path_once y.path x.path x.is_dir (sym joined ∙ x.marked.joined) in
-    by x.shown y.shown mark same
-  where
-    by : (NothingLeft case base x.path × (a ≡ [])) ⊎ ((rest : List ℕ) × RestOf case base x.path rest × WritesNumbers entries case x.is_dir rest a)
-        → (NothingLeft case base y.path × (b ≡ [])) ⊎ ((rest : List ℕ) × RestOf case base y.path rest × WritesNumbers entries case y.is_dir rest b)
-        → y.is_dir ≡ x.is_dir → y.path ≡ x.path → a ≡ b
-    by (inl p) (inl q) mark same = p.1 ∙ sym q.1
-    by (inl p) (inr q) mark same = absurd (p.0 q.0 (subst (λ path. RestOf case base path q.0) same q.1))
-    by (inr p) (inl q) mark same = absurd (q.0 p.0 (subst (λ path. RestOf case base path p.0) (sym same) p.1))
-    by (inr p) (inr q) mark same =
-        let rests : q.0 ≡ p.0 = rest_once case base x.path q.0 p.0 (subst (λ path. RestOf case base path q.0) same q.1) p.1 in
-        numbers_once entries case x.is_dir p.0 a b p.2
-        (subst (λ rest. WritesNumbers entries case x.is_dir rest b) rests (subst (λ d. WritesNumbers entries case d q.0 b) mark q.2))
+module _ {V : Type 0} (lists : List (EntryList V)) where
+  verdict_once : (pair : ℕ × ℕ) (a b : List ℕ) → WritesVerdict lists pair a → WritesVerdict lists pair b → a ≡ b
+  verdict_once pair a b x y =
+      let list : y.list ≡ x.list = same_Some y.list x.list (sym y.of_lists ∙ x.of_lists) in
+      let there : slice_get x.list.entries pair.1 ≡ Some y.entry = subst (λ (l : EntryList V). slice_get l.entries pair.1 ≡ Some y.entry) list y.of_list in
+      let entry : y.entry ≡ x.entry = same_Some y.entry x.entry (sym there ∙ x.of_list) in
+      x.shown ∙ sym (y.shown ∙ ap (verdict (pair.0 + 1)) entry)
 
-pub matches_once : (entries : List PlainEntry) (base : Option (List ℕ)) (case : Case) (line a b : List ℕ)
-    → WritesMatches entries base case line a → WritesMatches entries base case line b → a ≡ b
-matches_once entries base case line a b (inl x) (inl y) = x.1 ∙ sym y.1
-matches_once entries base case line a b (inl x) (inr y) = absurd (x.0 y.0)
-matches_once entries base case line a b (inr x) (inl y) = absurd (y.0 x.0)
-matches_once entries base case line a b (inr x) (inr y) = path_once entries base case line a b x.1 y.1
+  shown_once : (pair : Option (ℕ × ℕ)) (a b : List ℕ) → MatchOption pair (a ≡ codes "none") (λ p. WritesVerdict lists p a) → MatchOption pair (b ≡ codes "none") (λ p. WritesVerdict lists p b) → a ≡ b
+  shown_once None a b x y = x ∙ sym y
+  shown_once (Some pair) a b x y = verdict_once pair a b x y
+
+  pub decision_once : (case : Case) → ((path : List ℕ) (is_dir : Bool) (pair other : Option (ℕ × ℕ)) → Decides lists path is_dir case pair → Decides lists path is_dir case other → pair ≡ other)
+      → (path : List ℕ) (is_dir : Bool) (a b : List ℕ) → WritesDecision lists case path is_dir a → WritesDecision lists case path is_dir b → a ≡ b
+  decision_once case one_pair path is_dir a b x y =
+      let same : y.pair ≡ x.pair = one_pair path is_dir y.pair x.pair y.decides x.decides in
+      shown_once x.pair a b x.shown (subst (λ (pair : Option (ℕ × ℕ)). MatchOption pair (b ≡ codes "none") (λ p. WritesVerdict lists p b)) same y.shown)
 
 -- ---- the base
 

@@ -1,5 +1,5 @@
 -- What the writes so far have appended.
-use Rattle.std.proofs.Common.{ℕ, ◌+◌, ◌-◌, List, [], Option, Some, None, length, take, drop, length-drop, take-append-drop, append-nil, sym, ◌∙◌}
+use Rattle.std.proofs.Common.{ℕ, ◌+◌, ◌-◌, List, [], Option, Some, None, length, take, drop, length-drop, append-nil, ◌∙◌}
 use Rattle.std.proofs.KnownBytes.{Appends-kept, Appends-trans}
 use Rattle.std.proofs.Math.Seq.{take-add, take-length}
 use Rattle.std.specs.Io.KnownBytes.{Appends, Keeps}
@@ -15,9 +15,7 @@ Appends-more a b c text at count so_far more =
 -- the text was written up to the place, and then nothing
 pub AppendsFront-at : (a b c : Option (List ℕ)) (text : List ℕ) (at : ℕ) → Appends a b (take at text) → Keeps b c → AppendsFront a c text
 AppendsFront-at a b c text at so_far kept = record {
-  front = take at text;
-  rest = drop at text;
-  whole = sym (take-append-drop at text);
+  count = at;
   appended = Appends-kept a b c (take at text) so_far kept;
 }
 

@@ -1,9 +1,8 @@
 -- What is written for a path line, and its line feed, is the next line of the text.
 use Rattle.std.proofs.Common.{◌≡◌, ◌++◌, ◌∷◌, [], ap, ◌∙◌, append_assoc}
 use Rattle.glob_lines.specs.Equations.Lines.{lines_of}
-use Rattle.glob_lines.specs.Lines.{EndsInFeed}
 use Rattle.glob_lines.proofs.lemmas.IndexingLemmas.{held_index}
-use Rattle.glob_lines.proofs.lemmas.LinesLemmas.{IsWrittenUpTo-all, IsWrittenUpTo-more, IsWrittenUpTo-none, Lines-are, TellsLines-lines_of}
+use Rattle.glob_lines.proofs.lemmas.LinesLemmas.{IsWrittenUpTo-all, IsWrittenUpTo-more, IsWrittenUpTo-none}
 use Rattle.glob_lines.proofs.decisions.decisions_of.Goals as goal
 
 pub loop-line-init : goal.loop-line-init
@@ -18,11 +17,7 @@ loop-line-preserved g c =
     (c.in_ok-push.ensures.items ∙ ap (λ l. l ++ 10 ∷ []) adds.grown ∙ append_assoc c.loop-line.text.items adds.added (10 ∷ []))
 
 pub returns : goal.returns
-returns g c = record {
-  lines = _;
-  cut = Lines-are EndsInFeed lines_of TellsLines-lines_of c.args.paths.now;
-  writes = IsWrittenUpTo-all _ _ _ _ c.loop-line.invariant c.in-None.ensures.steps.0;
-}
+returns g c = IsWrittenUpTo-all _ _ _ _ c.loop-line.invariant c.in-None.ensures.steps.0
 
 pub append_decision-requires-clause-index : goal.append_decision-requires-clause-index
 append_decision-requires-clause-index g c = λ x some.

@@ -1,6 +1,6 @@
 use Rattle.std.proofs.Common.{map}
 use Rattle.gix_glob.specs.EntryLists.{entry_list_of}
-use Rattle.glob_lines.specs.Decisions.{WritesDecisions}
+use Rattle.glob_lines.specs.Private.Answering.{WritesDecisions}
 use Rattle.glob_lines.specs.Equations.Lines.{lines_of}
 use Rattle.glob_lines.proofs.lemmas.LinesLemmas.{IsWrittenUpTo}
 use Rattle.glob_lines.proofs.decisions.decisions_of.Given as goal

@@ -23,9 +23,7 @@ returns-then-pays_for c =
     let base = option_map vec_items c.args.list.now.base in
     let of = c.requires.index _ c.in-Some-index.is in
     on_ok_weaker c.append_found.result
-    (λ adds. writes_numbers _ base c.args.case c.args.line.now c.path_of-is_dir.result.0.now c.in-Some.rest.now c.path_of-is_dir.result.1 _ _
-    plain c.path_of-is_dir.ensures c.in-Some.ensures.0
-    (numbers_under _ base c.path_of-is_dir.result.0.now c.in-Some.rest.now c.in-Some.start c.path_of-is_dir.result.1 c.args.case _ _ c.in-Some.ensures.0 c.in-Some.ensures.1 adds))
+    (writes_numbers _ base c.args.case c.args.line.now c.path_of-is_dir.result.0.now c.path_of-is_dir.result.1 plain c.path_of-is_dir.ensures _ _)
     (rw of.1 at c.append_found.ensures)
 
 pub returns-in_default-2 : goal.returns-in_default-2
@@ -33,8 +31,8 @@ returns-in_default-2 c =
     let plain : IsPlainPath c.args.line.now = c.plain_path.ensures.0 c.if-not-plain_path.false in
     let base = option_map vec_items c.args.list.now.base in
     on_ok_weaker c.append_numbers.result
-    (writes_numbers _ base c.args.case c.args.line.now c.path_of-is_dir.result.0.now c.in-Some.rest.now c.path_of-is_dir.result.1 _ _
-    plain c.path_of-is_dir.ensures c.in-Some.ensures.0)
+    (λ adds. writes_numbers _ base c.args.case c.args.line.now c.path_of-is_dir.result.0.now c.path_of-is_dir.result.1 plain c.path_of-is_dir.ensures _ _
+    (numbers_under _ base c.path_of-is_dir.result.0.now c.in-Some.rest.now c.path_of-is_dir.result.1 c.args.case _ _ c.in-Some.ensures.0 adds))
     (rw c.deref.ensures.value at c.append_numbers.ensures)
 
 pub returns-in_default : goal.returns-in_default
@@ -42,5 +40,4 @@ returns-in_default c =
     let plain : IsPlainPath c.args.line.now = c.plain_path.ensures.0 c.if-not-plain_path.false in
     let base = option_map vec_items c.args.list.now.base in
     let nothing : NothingLeft c.args.case base c.path_of-is_dir.result.0.now = rw c.in_default.is at c.rest_of.ensures in
-    writes_nothing _ base c.args.case c.args.line.now c.path_of-is_dir.result.0.now c.path_of-is_dir.result.1 _
-    plain c.path_of-is_dir.ensures nothing
+    writes_nothing _ base c.args.case c.args.line.now c.path_of-is_dir.result.0.now c.path_of-is_dir.result.1 plain c.path_of-is_dir.ensures _ nothing

@@ -3,7 +3,7 @@ use Rattle.std.proofs.Common.{◌≡◌, ◌↔◌, ◌+◌, ◌++◌, [], ◌�
 use Rattle.std.proofs.lemmas.Bool.{false≢true}
 use Rattle.std.proofs.lemmas.List.{map_more}
 use Rattle.gix_glob.specs.Entries.{entry_of}
-use Rattle.glob_lines.specs.Mappings.{EntryAnswers}
+use Rattle.glob_lines.specs.Private.Answering.{EntryAnswers}
 use Rattle.glob_lines.specs.Numbers.{Picks, text_of_numbers}
 use Rattle.glob_lines.specs.Plain.{PlainEntry}
 use Rattle.glob_lines.proofs.lemmas.MappingsLemmas.{IsListedUpTo-more, IsListedUpTo-none, IsListedUpTo-skip, numbers_of}

@@ -1,6 +1,6 @@
 use Rattle.std.proofs.Common.{map, take}
 use Rattle.gix_glob.specs.Entries.{entry_of}
-use Rattle.glob_lines.specs.Mappings.{EntryAnswers}
+use Rattle.glob_lines.specs.Private.Answering.{EntryAnswers}
 use Rattle.glob_lines.proofs.lemmas.MappingsLemmas.{IsListedUpTo}
 use Rattle.glob_lines.proofs.list.append_numbers.Given as goal
 

@@ -1,10 +1,14 @@
 -- What is written for a path line, and its line feed, is the next line of the text.
 use Rattle.std.proofs.Common.{◌≡◌, ◌++◌, ◌∷◌, [], ap, ◌∙◌, append_assoc}
 use Rattle.glob_lines.specs.Equations.Lines.{lines_of}
-use Rattle.glob_lines.specs.Lines.{EndsInFeed}
 use Rattle.glob_lines.proofs.lemmas.IndexingLemmas.{held_index}
-use Rattle.glob_lines.proofs.lemmas.LinesLemmas.{IsWrittenUpTo-all, IsWrittenUpTo-more, Lines-are, TellsLines-lines_of}
+use Rattle.glob_lines.proofs.lemmas.LinesLemmas.{IsWrittenUpTo-all, IsWrittenUpTo-more, IsWrittenUpTo-none}
 use Rattle.glob_lines.proofs.list.matches_of.Goals as goal
+
+pub loop-line-init : goal.loop-line-init
+loop-line-init c =
+    let same : lines_of c.into_iter-line-iterator.result.rest.now ≡ lines_of c.args.paths.now = cc in
+    rw same (IsWrittenUpTo-none _ _ _ c.new-text.ensures.items)
 
 pub loop-line-preserved : goal.loop-line-preserved
 loop-line-preserved c =
@@ -13,11 +17,7 @@ loop-line-preserved c =
     (c.in_ok-push.ensures.items ∙ ap (λ l. l ++ 10 ∷ []) adds.grown ∙ append_assoc c.loop-line.text.items adds.added (10 ∷ []))
 
 pub returns : goal.returns
-returns c = record {
-  lines = _;
-  cut = Lines-are EndsInFeed lines_of TellsLines-lines_of c.args.paths.now;
-  writes = IsWrittenUpTo-all _ _ _ _ c.loop-line.invariant c.in-None.ensures.steps.0;
-}
+returns c = IsWrittenUpTo-all _ _ _ _ c.loop-line.invariant c.in-None.ensures.steps.0
 
 pub append_matches-requires-clause-index : goal.append_matches-requires-clause-index
 append_matches-requires-clause-index c = λ x some.

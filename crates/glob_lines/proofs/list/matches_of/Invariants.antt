@@ -2,7 +2,7 @@ use Rattle.std.proofs.Common.{map, option_map}
 use Rattle.std.specs.Vec.{vec_items}
 use Rattle.gix_glob.specs.Entries.{entry_of}
 use Rattle.glob_lines.specs.Equations.Lines.{lines_of}
-use Rattle.glob_lines.specs.Mappings.{WritesMatches}
+use Rattle.glob_lines.specs.Private.Answering.{WritesMatches}
 use Rattle.glob_lines.proofs.lemmas.LinesLemmas.{IsWrittenUpTo}
 use Rattle.glob_lines.proofs.list.matches_of.Given as goal
 
