@@ -22,8 +22,7 @@ Lang mode Nothing bytes = ⊥
 -- The value is a concatenation of pieces, one from the language of each token.
 abbrev pub IsCut : Mode → List Token → List ℕ → Type 0
 IsCut mode [] value = value ≡ []
-IsCut mode (t ∷ ts) value =
-    (piece rest : List ℕ) × (value ≡ piece ++ rest) × Lang mode t piece × IsCut mode ts rest
+IsCut mode (t ∷ ts) value = (piece rest : List ℕ) × (value ≡ piece ++ rest) × Lang mode t piece × IsCut mode ts rest
 
 -- The value's bytes from place k on are cut so, by the tokens from place i of the pattern on.
 pub record SplitsFrom (value : List ℕ) (k : ℕ) (pattern : List ℕ) (i : ℕ) (mode : Mode) : Type 0 where

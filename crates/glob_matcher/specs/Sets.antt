@@ -95,16 +95,13 @@ pub record IsBare (text : List ℕ) (low : Option ℕ) (i b : ℕ) : Type 0 wher
 
 -- the upper end of a range, at place i
 abbrev pub IsUpperEnd : List ℕ → ℕ → ℕ → ℕ → Type 0
-IsUpperEnd text i high j =
-    (HasByte text i high × (high ≢ backslash) × (j ≡ i + 1)) ⊎ (IsEscaped text i high × (j ≡ i + 2))
+IsUpperEnd text i high j = (HasByte text i high × (high ≢ backslash) × (j ≡ i + 1)) ⊎ (IsEscaped text i high × (j ≡ i + 2))
 
 -- The item lies from place i up to place j. `low` is the member directly before it, or none.
 abbrev pub ItemAt : List ℕ → Option ℕ → ℕ → Item → ℕ → Type 0
-ItemAt text low i (item.Member b) j =
-    (IsEscaped text i b × (j ≡ i + 2)) ⊎ (IsBare text low i b × (j ≡ i + 1))
+ItemAt text low i (item.Member b) j = (IsEscaped text i b × (j ≡ i + 2)) ⊎ (IsBare text low i b × (j ≡ i + 1))
 ItemAt text low i (item.Range from to) j = BeginsRange text low i × (low ≡ Some from) × IsUpperEnd text (i + 1) to j
-ItemAt text low i (item.Class c) j =
-    (m : ℕ) × NamesClass text i m × (slice_range text (i + 2) (m - 1) ≡ name_of c) × (j ≡ m + 1)
+ItemAt text low i (item.Class c) j = (m : ℕ) × NamesClass text i m × (slice_range text (i + 2) (m - 1) ≡ name_of c) × (j ≡ m + 1)
 
 -- the member that an item leaves for a range after it
 abbrev pub member_of : Item → Option ℕ
