@@ -5,7 +5,7 @@ use gix_glob::search::pattern::List;
 use gix_glob::search::{Pattern as _, Watched};
 use gix_glob::wildmatch::Mode;
 use gix_glob::{Pattern, parse};
-use glob_lines::{EngineFault, PlainLines, run_list, run_wild};
+use glob_lines::{EngineFault, LabelLines, PlainLines, run_list, run_wild};
 use std::alloc::{AllocError, Global};
 use std::test::Fail;
 
@@ -112,5 +112,19 @@ fn numbers_past_99_are_listed(rt: HostRuntime) -> Result<(), Fail> {
     }
     let output = listed(rt.alloc(), &lines, b"a")?;
     assert_eq!(rt; output.as_slice(), b"9 99 100 101 1000\n".as_slice());
+    Ok(())
+}
+
+/// Catches a parser that answers want of memory for a long label.
+#[test]
+fn no_memory_for_a_long_label(rt: HostRuntime) -> Result<(), Fail> {
+    let label = letters(rt.alloc(), LONG)?;
+    let mut line = Vec::from_slice(rt.alloc(), b"*.rs\t")?;
+    line.extend_from_slice(&label)?;
+    let mappings = LabelLines.bytes_to_patterns(rt.alloc(), &line, "labels")?;
+    let [mapping] = mappings.as_slice() else {
+        return Err(Fail::new("not one pattern"));
+    };
+    assert!(rt; mapping.value == label);
     Ok(())
 }

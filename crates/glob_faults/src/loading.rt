@@ -61,6 +61,18 @@ fn list_of<F: Files>(
     Ok((answer, buf))
 }
 
+/// The list of the file of this name, as it is added to no others.
+fn added_list<F: Files>(
+    files: &F,
+    alloc: Global,
+    name: &str,
+) -> Result<Result<Option<List<PlainLines>>, LoadFault>, AllocError> {
+    let (mut lists, mut buf) = (Vec::new(alloc), Vec::new(alloc));
+    let source = String::from_str(alloc, name)?;
+    let is_added = add_patterns_file(files, alloc, &mut lists, source, None, &mut buf, PlainLines);
+    Ok(is_added.map(|_| lists.pop()))
+}
+
 #[test]
 fn openings_that_fail(rt: HostRuntime) -> Result<(), Fail> {
     let rows = [
@@ -85,6 +97,17 @@ fn openings_that_fail(rt: HostRuntime) -> Result<(), Fail> {
         same(&rt, buf.len(), 0, "bytes left at", kind);
     }
     Ok(())
+}
+
+/// Catches a call that tells want of memory in opening a file as a failed read.
+#[test]
+fn want_of_memory_in_opening_is_a_failed_read(rt: HostRuntime) -> Result<(), Fail> {
+    let files = OneFile::new(&rt, "d/ig", Opening::Fails(ErrorKind::OutOfMemory));
+    let (answer, _) = list_of(&files, rt.alloc(), "d/ig")?;
+    let text = "out of memory while loading patterns";
+    same_words(&rt, answer, text, "a list of its own")?;
+    let added = added_list(&files, rt.alloc(), "d/ig")?;
+    Ok(same_words(&rt, added, text, "a list that is added")?)
 }
 
 /// A reader on which each read fails, with a text of its own.
@@ -146,6 +169,24 @@ fn a_file_over_64_kib_is_read_whole(rt: HostRuntime) -> Result<(), Fail> {
     assert_eq!(rt; long.pattern.text(), line.as_slice());
     assert_eq!(rt; short.pattern.text(), b"b".as_slice());
     assert_eq!(rt; buf.as_slice(), text.as_slice());
+    Ok(())
+}
+
+/// Catches a call that answers want of memory for a file with a long name.
+#[test]
+fn no_memory_for_a_long_name(rt: HostRuntime) -> Result<(), Fail> {
+    let name = "a".repeat(rt.alloc(), 1_200_000)?;
+    let name = name.as_str();
+    let files = OneFile::new(&rt, name, Opening::Opens("/dev/null"));
+    let (answer, _) = list_of(&files, rt.alloc(), name)?;
+    let list = answer?.ok_or("no list")?;
+    assert!(rt;
+        list.source
+            .as_ref()
+            .is_some_and(|source| source.as_str() == name)
+    );
+    let added = added_list(&files, rt.alloc(), name)?;
+    assert!(rt; added?.is_some_and(|added| added == list));
     Ok(())
 }
 

@@ -5,19 +5,23 @@ use glob_lines::{IgnoreLines, LabelLines};
 use std::alloc::AllocError;
 use std::test::Fail;
 
-const LABELS: &[u8] = b"*.rs\trust\n\n!src/\ta\tb\n";
+/// A pattern with a label, a negative one without, one whose label has a tab itself, and a label without a pattern.
+const LABELS: &[u8] = b"*.rs\trust\n!x\nfoo\ta\tb\n\tq\n";
 
 /// Whether the mappings are those of the labels.
 fn are_read(mappings: &[Mapping<Vec<u8>>]) -> bool {
-    let [first, second] = mappings else {
+    let [first, second, third] = mappings else {
         return false;
     };
     first.sequence_number == 1
         && first.pattern.text() == b"*.rs".as_slice()
         && first.value.as_slice() == b"rust".as_slice()
-        && second.sequence_number == 3
+        && second.sequence_number == 2
         && second.pattern.is_negative()
-        && second.value.as_slice() == b"a\tb".as_slice()
+        && second.value.is_empty()
+        && third.sequence_number == 3
+        && third.pattern.text() == b"foo".as_slice()
+        && third.value.as_slice() == b"a\tb".as_slice()
 }
 
 #[test]
@@ -34,8 +38,8 @@ fn copy_of(list: &List<LabelLines>) -> Result<List<LabelLines>, AllocError> {
 
 #[test]
 fn copies_of_labels_are_equal(rt: HostRuntime) -> Result<(), Fail> {
-    let source = String::from_str(rt.alloc(), "d/labels")?;
-    let list = List::from_bytes(rt.alloc(), LABELS, source, Some(""), LabelLines)?;
+    let source = String::from_str(rt.alloc(), "labels")?;
+    let list = List::from_bytes(rt.alloc(), LABELS, source, None, LabelLines)?;
     assert!(rt; are_read(&list.patterns));
     assert!(rt; copy_of(&list)? == list);
     Ok(())
