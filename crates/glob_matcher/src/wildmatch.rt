@@ -5,6 +5,7 @@ ghost use Rattle.glob_matcher.specs.Steps.{IsBlankOf};
 
 mod backtrack;
 mod barrier;
+mod counted_texts;
 mod counts;
 mod engine;
 mod items;
@@ -19,6 +20,7 @@ pub(crate) mod slices;
 mod state;
 #[cfg(test)]
 mod tests;
+mod texts;
 mod tokens;
 mod turns;
 mod two_marks;

@@ -9,10 +9,11 @@ ghost use Rattle.glob_matcher.specs.Private.Budget.{AllowsLeft, AllowsMiss};
 ghost use Rattle.glob_matcher.specs.Private.Turns.{IsBacktrack, IsBacktrackLocal};
 
 use super::barrier::{Barrier, NoBarrier, Slash};
-use super::engine::{Engine, Mark, Texts};
+use super::engine::{Engine, Mark};
 use super::needle::{ExactByte, FoldedByte, Follow, NoByte};
 use super::scan::Scan;
 use super::state::{Crossing, State};
+use super::texts::Texts;
 use std::sync::ledger::Ledger;
 
 impl<'c, 'a, S: Ledger, L: Ledger, M: Texts> Engine<'c, 'a, S, L, M> {

@@ -1,73 +1,33 @@
-//! One match as the engine with two marks sees it: its pattern, its value, its mode and the counts of what it takes, as one
-//! value.
+//! One match as the engine with two marks sees it: its texts, its mode and the counts of what it takes, as one value.
 //!
-//! The bytes of both texts are read by the methods of this module alone: each counts a look where it may read a byte and, for
-//! one of the value, a step. So no other module can read a byte without a count, or count in another place. `has_left` reads
-//! no byte, and counts nothing.
-ghost use Rattle.std.specs.Prelude.{◌≡◌, ◌≢◌, ◌↔◌, ◌⊎◌, ℕ, ◌+◌, ◌-◌, ◌^◌, ◌<◌, ◌≤◌, IsTrue, IfSome, IfNone, MatchOption, [], length, slice_index, slice_range, take};
+//! Each method that tests a token at a place of the value counts one step. What reads a byte is `counted_texts`, which counts
+//! a look for it.
+ghost use Rattle.std.specs.Prelude.{◌≡◌, ◌≢◌, ◌↔◌, ◌⊎◌, ℕ, ◌+◌, ◌-◌, ◌^◌, ◌<◌, ◌≤◌, IsTrue, IfSome, IfNone, MatchOption, length, slice_index, slice_range, take};
 ghost use Rattle.glob_matcher.specs.declared.wildmatch.items.Class.{Class};
 ghost use Rattle.glob_matcher.specs.Bytes.{HasByte, folds, is_path, open_bracket, slash};
 ghost use Rattle.glob_matcher.specs.Sets.{Set, SetAt, name_of};
 ghost use Rattle.glob_matcher.specs.Tokens.{Token, Byte};
-ghost use Rattle.glob_matcher.specs.Private.Reader.{kind_of, IsSetRead, IsToken};
+ghost use Rattle.glob_matcher.specs.Private.Reader.{kind_of, IsSetRead};
 ghost use Rattle.glob_matcher.specs.Private.Fitting.{Fits, IsSetTested};
-ghost use Rattle.glob_matcher.specs.Matching.{Splits};
 ghost use Rattle.glob_matcher.specs.Private.Looks.{LookedAtEach, LookedOver, IsSetPaid, read_end};
 ghost use Rattle.glob_matcher.specs.Private.Takes.{TakesExactly, looks_at};
-ghost use Rattle.glob_matcher.specs.Steps.{NeverFall, look_limit, step_limit};
 
+use super::counted_texts::CountedTexts;
 use super::counts::Counts;
 use super::items::Class;
 use super::mode::Mode;
 use super::needle::Needle;
 use super::sets::SetRead;
-use super::tokens::{TokenKind, TokenRead};
-use std::marker::{Brand, Model, PhantomData};
+use super::texts::Texts;
+use super::tokens::TokenKind;
+use std::marker::Model;
 use std::sync::ledger::Ledger;
-
-/// One match, which contracts alone name: its texts, its mode, and the reference to its counts.
-pub trait Texts {
-    ghost use Rattle.std.specs.Prelude.{ℕ, ◌<◌, ◌^◌, List, length};
-    ghost use Rattle.glob_matcher.specs.declared.wildmatch.mode.Mode.{Mode};
-
-    ghost pattern: { List ℕ };
-
-    ghost value: { List ℕ };
-
-    ghost mode: { Mode };
-
-    ghost counts: { ℕ };
-
-    ghost short_pattern: { length pattern < 2 ^ 64 };
-
-    ghost short_value: { length value < 2 ^ 64 };
-}
-
-impl Texts for Brand {
-    ghost use Rattle.std.specs.Prelude.{[]};
-    ghost use Rattle.std.proofs.Common.{arith};
-
-    ghost pattern = { [] };
-
-    ghost value = { [] };
-
-    ghost mode = { record { 0 = 0 } };
-
-    ghost counts = { 0 };
-
-    ghost short_pattern = { Prim.omega arith };
-
-    ghost short_value = { Prim.omega arith };
-}
 
 /// A match and its counts. Contracts see the counts alone, and the match by its type.
 #[derive(Drop)]
 pub struct Engine<'c, 'a, S: Ledger, L: Ledger, M: Texts> {
-    pattern: &'a [u8],
-    value: &'a [u8],
+    texts: CountedTexts<'c, 'a, S, L, M>,
     mode: Mode,
-    counts: &'c mut Counts<S, L>,
-    of: PhantomData<M>,
 }
 
 impl<'c, 'a, S: Ledger, L: Ledger, M: Texts> Model for Engine<'c, 'a, S, L, M> {
@@ -76,9 +36,9 @@ impl<'c, 'a, S: Ledger, L: Ledger, M: Texts> Model for Engine<'c, 'a, S, L, M> {
 
     ghost Value = { Counts };
 
-    ghost view = { λ e. e.counts.now };
+    ghost view = { λ e. e.texts };
 
-    ghost invariant = { λ e. (e.pattern.now ≡ M.pattern) × (e.value.now ≡ M.value) × (e.mode ≡ M.mode) × (e.counts.ghost_name ≡ M.counts) };
+    ghost invariant = { λ e. e.mode ≡ M.mode };
 }
 
 /// The mark of a star token: where the pattern goes on after the token, and the place of the value up to which it takes
@@ -108,27 +68,22 @@ impl Mark {
 }
 
 impl<'c, 'a, S: Ledger, L: Ledger, M: Texts> Engine<'c, 'a, S, L, M> {
-    /// The engine of a match, over the counts of what it takes.
+    /// The engine of a match.
     #[inline(always)]
-    fn new(
-        pattern: &'a [u8],
-        value: &'a [u8],
-        mode: Mode,
-        counts: &'c mut Counts<S, L>,
-    ) -> Engine<'c, 'a, S, L, M>
-        requires pattern { pattern.now ≡ M.pattern }
-        requires value { value.now ≡ M.value }
-        requires mode { mode ≡ M.mode }
-        requires counts { counts.ghost_name ≡ M.counts }
-        ensures { result ≡ counts.old }
+    pub fn new(texts: CountedTexts<'c, 'a, S, L, M>, mode: Mode) -> Self
+        requires { mode ≡ M.mode }
+        ensures { result ≡ texts.entry }
     {
-        Engine {
-            pattern,
-            value,
-            mode,
-            counts,
-            of: PhantomData,
-        }
+        Engine { texts, mode }
+    }
+
+    /// The counts, by the reference that they came by.
+    #[inline(always)]
+    pub fn into_counts(self) -> &'c mut Counts<S, L>
+        ensures same { result.ghost_name ≡ M.counts }
+        ensures counts { result.now ≡ self.entry }
+    {
+        self.texts.into_counts()
     }
 
     /// How many bytes the pattern has.
@@ -136,7 +91,7 @@ impl<'c, 'a, S: Ledger, L: Ledger, M: Texts> Engine<'c, 'a, S, L, M> {
     pub fn pattern_len(&self) -> usize
         ensures { result ≡ length M.pattern }
     {
-        self.pattern.len()
+        self.texts.pattern_len()
     }
 
     /// How bytes are compared.
@@ -169,11 +124,7 @@ impl<'c, 'a, S: Ledger, L: Ledger, M: Texts> Engine<'c, 'a, S, L, M> {
         ensures byte { MatchOption result (length M.pattern ≤ place) (HasByte M.pattern place) }
         ensures count { TakesExactly self.old self.new 0 (looks_at result) }
     {
-        if place >= self.pattern.len() {
-            return None;
-        }
-        self.counts.look();
-        Some(self.pattern[place])
+        self.texts.pattern_at(place)
     }
 
     /// Looks at the byte at a place inside the pattern.
@@ -183,11 +134,11 @@ impl<'c, 'a, S: Ledger, L: Ledger, M: Texts> Engine<'c, 'a, S, L, M> {
         ensures here { result ≡ slice_index M.pattern place }
         ensures count { TakesExactly self.old self.new 0 1 }
     {
-        self.counts.look();
-        self.pattern[place]
+        self.texts.pattern_byte(place)
     }
 
     /// Looks at each byte from one place of the pattern up to another: the class that they name.
+    #[inline(always)]
     pub fn class_named(&mut self, from: usize, to: usize) -> Option<Class>
         requires order { from ≤ to }
         requires inside { to ≤ length M.pattern }
@@ -195,8 +146,7 @@ impl<'c, 'a, S: Ledger, L: Ledger, M: Texts> Engine<'c, 'a, S, L, M> {
             (λ class. slice_range M.pattern from to ≡ name_of class) }
         ensures count { LookedAtEach self.old self.new from to }
     {
-        self.counts.looks(to - from);
-        Class::named(&self.pattern[from..to])
+        self.texts.class_named(from, to)
     }
 
     /// Tests the pattern's end: whether the value ends at this place, too.
@@ -205,8 +155,8 @@ impl<'c, 'a, S: Ledger, L: Ledger, M: Texts> Engine<'c, 'a, S, L, M> {
         ensures answer { IsTrue result ↔ (length M.value ≤ at) }
         ensures count { TakesExactly self.old self.new 1 0 }
     {
-        self.counts.step();
-        at >= self.value.len()
+        self.texts.step();
+        at >= self.texts.value_len()
     }
 
     /// Tests a token of one byte that is this byte.
@@ -215,8 +165,10 @@ impl<'c, 'a, S: Ledger, L: Ledger, M: Texts> Engine<'c, 'a, S, L, M> {
         ensures answer { IsTrue result ↔ ((at < length M.value) × Fits M.mode (Byte wanted) (slice_index M.value at)) }
         ensures count { TakesExactly self.old self.new 1 1 }
     {
-        self.counts.step_with_look();
-        at < self.value.len() && self.mode.alike(self.value[at], wanted)
+        match self.value_at(at) {
+            Some(byte) => self.mode.alike(byte, wanted),
+            None => false,
+        }
     }
 
     /// Tests the pattern's last token, where it is this byte: whether it fits the value's last byte.
@@ -225,10 +177,16 @@ impl<'c, 'a, S: Ledger, L: Ledger, M: Texts> Engine<'c, 'a, S, L, M> {
         ensures answer { IsTrue result ↔ ((0 < length M.value) × Fits M.mode (Byte wanted) (slice_index M.value (length M.value - 1))) }
         ensures count { TakesExactly self.old self.new 1 1 }
     {
-        self.counts.step_with_look();
-        let len = self.value.len();
-        // Most values end in another byte: `alike`, which tests first whether two bytes are equal, would only add a test.
-        len > 0 && self.mode.fold(self.value[len - 1]) == self.mode.fold(wanted)
+        let len = self.texts.value_len();
+        if len == 0 {
+            let _ = self.value_at(0);
+            return false;
+        }
+        match self.value_at(len - 1) {
+            // Most values end in another byte: `alike`, which tests first whether two bytes are equal, would only add a test.
+            Some(byte) => self.mode.fold(byte) == self.mode.fold(wanted),
+            None => false,
+        }
     }
 
     /// Tests a token of this kind, which is no set.
@@ -239,8 +197,10 @@ impl<'c, 'a, S: Ledger, L: Ledger, M: Texts> Engine<'c, 'a, S, L, M> {
             → IsTrue result ↔ ((at < length M.value) × Fits M.mode token (slice_index M.value at)) }
         ensures count { TakesExactly self.old self.new 1 1 }
     {
-        self.counts.step_with_look();
-        at < self.value.len() && kind.fits(self.value[at], self.mode)
+        match self.value_at(at) {
+            Some(byte) => kind.fits(byte, self.mode),
+            None => false,
+        }
     }
 
     /// Takes the byte at a place of the value, in a step of its own; `None` where the value ends.
@@ -249,15 +209,11 @@ impl<'c, 'a, S: Ledger, L: Ledger, M: Texts> Engine<'c, 'a, S, L, M> {
         ensures byte { MatchOption result (length M.value ≤ at) (HasByte M.value at) }
         ensures count { TakesExactly self.old self.new 1 1 }
     {
-        self.counts.step_with_look();
-        if at >= self.value.len() {
-            return None;
-        }
-        Some(self.value[at])
+        self.texts.step();
+        self.texts.value_at(at)
     }
 
-    /// Reads the set whose bracket stands at a place of the pattern by an engine of its own, so that this one may stay in
-    /// registers, and the reader of sets has one copy; `None` where no set begins.
+    /// Reads the set whose bracket stands at a place of the pattern, apart from this engine; `None` where no set begins.
     #[inline(always)]
     pub fn set_apart(&mut self, place: usize, byte: u8) -> Option<SetRead>
         requires { HasByte M.pattern place open_bracket }
@@ -265,7 +221,7 @@ impl<'c, 'a, S: Ledger, L: Ledger, M: Texts> Engine<'c, 'a, S, L, M> {
         ensures count { LookedOver 4 self.old self.new place (read_end M.pattern result) }
         ensures looked { IfSome result (λ set. self.old.looks < self.new.looks) }
     {
-        read_set::<S, L, Brand>(self.pattern, place, byte, self.mode, &mut *self.counts).0
+        self.texts.set_apart(place, byte, self.mode)
     }
 
     /// Tests the set whose bracket stands at a place of the pattern: whether it holds the byte of the value. Where the value
@@ -293,7 +249,7 @@ impl<'c, 'a, S: Ledger, L: Ledger, M: Texts> Engine<'c, 'a, S, L, M> {
     pub fn fits_nothing(&mut self)
         ensures { TakesExactly self.old self.new 1 0 }
     {
-        self.counts.step();
+        self.texts.step();
     }
 
     /// Sets a mark.
@@ -303,7 +259,7 @@ impl<'c, 'a, S: Ledger, L: Ledger, M: Texts> Engine<'c, 'a, S, L, M> {
         ensures at { result.at ≡ at }
         ensures count { TakesExactly self.old self.new 1 0 }
     {
-        self.counts.step();
+        self.texts.step();
         Mark { place, at }
     }
 
@@ -314,15 +270,14 @@ impl<'c, 'a, S: Ledger, L: Ledger, M: Texts> Engine<'c, 'a, S, L, M> {
         ensures unable { IfNone result (length M.value ≤ mark.at) }
         ensures count { TakesExactly self.old self.new 1 1 }
     {
-        self.counts.step_with_look();
-        if mark.at >= self.value.len() {
+        let Some(byte) = self.value_at(mark.at) else {
             return None;
-        }
+        };
         let moved = Mark {
             place: mark.place,
             at: mark.at + 1,
         };
-        Some((moved, self.value[mark.at]))
+        Some((moved, byte))
     }
 
     /// Moves a mark inside the value by one byte.
@@ -333,7 +288,7 @@ impl<'c, 'a, S: Ledger, L: Ledger, M: Texts> Engine<'c, 'a, S, L, M> {
         ensures at { result.at ≡ mark.at + 1 }
         ensures count { TakesExactly self.old self.new 1 0 }
     {
-        self.counts.step();
+        self.texts.step();
         Mark {
             place: mark.place,
             at: mark.at + 1,
@@ -348,8 +303,8 @@ impl<'c, 'a, S: Ledger, L: Ledger, M: Texts> Engine<'c, 'a, S, L, M> {
         ensures unable { IfNone result (slice_index M.value mark.at ≡ slash) }
         ensures count { TakesExactly self.old self.new 1 1 }
     {
-        self.counts.step_with_look();
-        if self.value[mark.at] == b'/' {
+        self.texts.step();
+        if self.texts.value_byte(mark.at) == b'/' {
             return None;
         }
         Some(Mark {
@@ -365,8 +320,8 @@ impl<'c, 'a, S: Ledger, L: Ledger, M: Texts> Engine<'c, 'a, S, L, M> {
         ensures unable { IfNone result ((length M.value ≤ mark.at) ⊎ (slice_index M.value mark.at ≡ slash)) }
         ensures count { TakesExactly self.old self.new 1 1 }
     {
-        if mark.at >= self.value.len() {
-            self.counts.step_with_look();
+        if mark.at >= self.texts.value_len() {
+            let _ = self.value_at(mark.at);
             return None;
         }
         self.pass_within(mark)
@@ -378,7 +333,7 @@ impl<'c, 'a, S: Ledger, L: Ledger, M: Texts> Engine<'c, 'a, S, L, M> {
         requires { mark.at ≤ length M.value }
         ensures { IsTrue result ↔ (mark.at + count ≤ length M.value) }
     {
-        self.value.len() - mark.at >= count
+        self.texts.value_len() - mark.at >= count
     }
 
     /// Tests what is looked for at the place of a mark, which is inside the value.
@@ -388,133 +343,9 @@ impl<'c, 'a, S: Ledger, L: Ledger, M: Texts> Engine<'c, 'a, S, L, M> {
         ensures answer { IsTrue result ↔ N.suits needle (slice_index M.value mark.at) }
         ensures count { TakesExactly self.old self.new 1 1 }
     {
-        self.counts.step_with_look();
-        needle.suits(self.value[mark.at])
+        self.texts.step();
+        needle.suits(self.texts.value_byte(mark.at))
     }
-}
-
-/// Whether the pattern matches the value, where their ends alone show it, and the counts of what it took.
-#[inline(always)]
-fn decide_by_ends<'c, 'a, S: Ledger, L: Ledger, M: Texts>(
-    pattern: &'a [u8],
-    value: &'a [u8],
-    mode: Mode,
-    counts: &'c mut Counts<S, L>,
-) -> (Option<bool>, &'c mut Counts<S, L>)
-    requires pattern { pattern.now ≡ M.pattern }
-    requires value { value.now ≡ M.value }
-    requires mode { mode ≡ M.mode }
-    requires counts { counts.ghost_name ≡ M.counts }
-    ensures meaning { IfSome result.0 (λ answer. IsTrue answer ↔ Splits value.now pattern.now mode) }
-    ensures same { result.1.ghost_name ≡ counts.entry.ghost_name }
-    ensures steps { result.1.now.steps ≤ counts.old.steps + 1 }
-    ensures looks { result.1.now.looks ≤ counts.old.looks + 2 }
-    ensures grows { NeverFall counts.old result.1.now }
-{
-    let mut ends = Engine::<'c, 'a, S, L, M>::new(pattern, value, mode, counts);
-    let answer = ends.ends_decide();
-    let Engine { counts, .. } = ends;
-    (answer, counts)
-}
-
-/// Whether the search says that the pattern matches the value, and the counts of what it took. It is not inlined, so that a
-/// match that the ends decide doesn't pay for the registers of the search.
-#[inline(never)]
-fn search_whole<'c, 'a, S: Ledger, L: Ledger, M: Texts>(
-    pattern: &'a [u8],
-    value: &'a [u8],
-    mode: Mode,
-    counts: &'c mut Counts<S, L>,
-) -> (bool, &'c mut Counts<S, L>)
-    requires pattern { pattern.now ≡ M.pattern }
-    requires value { value.now ≡ M.value }
-    requires mode { mode ≡ M.mode }
-    requires counts { counts.ghost_name ≡ M.counts }
-    ensures exact { IsTrue result.0 ↔ Splits value.now pattern.now mode }
-    ensures same { result.1.ghost_name ≡ counts.entry.ghost_name }
-    ensures steps { result.1.now.steps + 1 ≤ counts.old.steps + step_limit (length pattern.now) (length value.now) }
-    ensures looks { result.1.now.looks + 2 ≤ counts.old.looks + look_limit (length pattern.now) (length value.now) }
-    ensures grows { NeverFall counts.old result.1.now }
-{
-    let mut engine = Engine::<'c, 'a, S, L, M>::new(pattern, value, mode, counts);
-    let answer = engine.search();
-    let Engine { counts, .. } = engine;
-    (answer, counts)
-}
-
-/// Whether the pattern matches the value, and the counts of what it took.
-#[inline(always)]
-pub fn decide<'c, 'a, S: Ledger, L: Ledger, M: Texts>(
-    pattern: &'a [u8],
-    value: &'a [u8],
-    mode: Mode,
-    counts: &'c mut Counts<S, L>,
-) -> (bool, &'c mut Counts<S, L>)
-    requires pattern { pattern.now ≡ M.pattern }
-    requires value { value.now ≡ M.value }
-    requires mode { mode ≡ M.mode }
-    requires counts { counts.ghost_name ≡ M.counts }
-    ensures exact { IsTrue result.0 ↔ Splits value.now pattern.now mode }
-    ensures same { result.1.ghost_name ≡ counts.entry.ghost_name }
-    ensures steps { result.1.now.steps ≤ counts.old.steps + step_limit (length pattern.now) (length value.now) }
-    ensures looks { result.1.now.looks ≤ counts.old.looks + look_limit (length pattern.now) (length value.now) }
-    ensures grows { NeverFall counts.old result.1.now }
-{
-    let (decision, counts) = decide_by_ends::<S, L, M>(pattern, value, mode, counts);
-    // Each arm names its answer: a bit that is handed on costs every call an instruction.
-    match decision {
-        Some(true) => (true, counts),
-        Some(false) => (false, counts),
-        None => search_whole::<S, L, M>(pattern, value, mode, counts),
-    }
-}
-
-/// The token at a place of the pattern, and the place after it, by an engine that reads no value; and the counts.
-#[inline(always)]
-pub fn read_token<'c, 'a, S: Ledger, L: Ledger, M: Texts>(
-    pattern: &'a [u8],
-    place: usize,
-    mode: Mode,
-    counts: &'c mut Counts<S, L>,
-) -> (TokenRead, &'c mut Counts<S, L>)
-    requires pattern { pattern.now ≡ M.pattern }
-    requires value { M.value ≡ [] }
-    requires mode { mode ≡ M.mode }
-    requires counts { counts.ghost_name ≡ M.counts }
-    requires inside { place < length pattern.now }
-    ensures { IsToken mode pattern.now place result.0.kind result.0.end }
-{
-    let mut engine = Engine::<'c, 'a, S, L, M>::new(pattern, &[], mode, counts);
-    let answer = engine.token_at(place);
-    let Engine { counts, .. } = engine;
-    (answer, counts)
-}
-
-/// The set whose bracket stands at a place of the pattern, read for a byte by an engine that reads no value, `None` where no
-/// set begins; and the counts. It is not inlined, and takes the parts of an engine, not one by
-/// reference, so that a search keeps its own in registers.
-#[inline(never)]
-pub fn read_set<'c, 'a, S: Ledger, L: Ledger, M: Texts>(
-    pattern: &'a [u8],
-    place: usize,
-    byte: u8,
-    mode: Mode,
-    counts: &'c mut Counts<S, L>,
-) -> (Option<SetRead>, &'c mut Counts<S, L>)
-    requires pattern { pattern.now ≡ M.pattern }
-    requires value { M.value ≡ [] }
-    requires mode { mode ≡ M.mode }
-    requires counts { counts.ghost_name ≡ M.counts }
-    requires bracket { HasByte pattern.now place open_bracket }
-    ensures read { IsSetRead mode pattern.now place byte result.0 }
-    ensures same { result.1.ghost_name ≡ counts.entry.ghost_name }
-    ensures count { LookedOver 4 counts.old result.1.now place (read_end pattern.now result.0) }
-    ensures looked { IfSome result.0 (λ set. counts.old.looks < result.1.now.looks) }
-{
-    let mut engine = Engine::<'c, 'a, S, L, M>::new(pattern, &[], mode, counts);
-    let answer = engine.set_at(place, byte);
-    let Engine { counts, .. } = engine;
-    (answer, counts)
 }
 
 /// A text has no more bytes than a place can count.

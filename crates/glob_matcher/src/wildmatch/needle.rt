@@ -5,7 +5,8 @@ ghost use Rattle.glob_matcher.specs.Bytes.{StandsForItself};
 ghost use Rattle.glob_matcher.specs.Private.Scans.{Follows};
 ghost use Rattle.glob_matcher.specs.Private.Takes.{Takes};
 
-use super::engine::{Engine, Texts};
+use super::engine::Engine;
+use super::texts::Texts;
 use std::sync::ledger::Ledger;
 
 /// What follows a star: a byte that is a token by itself, or the pattern's end.

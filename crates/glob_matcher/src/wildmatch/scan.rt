@@ -3,8 +3,9 @@ ghost use Rattle.std.specs.Prelude.{◌+◌, ◌<◌, ◌≤◌, length};
 ghost use Rattle.glob_matcher.specs.Private.Scans.{IsScan, MovesBy};
 
 use super::barrier::Barrier;
-use super::engine::{Engine, Mark, Texts};
+use super::engine::{Engine, Mark};
 use super::needle::Needle;
+use super::texts::Texts;
 use std::sync::ledger::Ledger;
 
 /// How many places are tried before the value's end is tested again.

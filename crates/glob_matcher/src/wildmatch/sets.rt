@@ -10,9 +10,10 @@ ghost use Rattle.glob_matcher.specs.Private.Takes.{Takes, TakesExactly, looks_at
 ghost use Rattle.glob_matcher.specs.Private.Looks.{LookedAtEach, LookedOver, IsItemRead, IsKnown, IsPaidFor, read_end, search_front};
 ghost use Rattle.glob_matcher.specs.Private.Reader.{IsEntry, IsSetRead, after_item, at_first, first_item};
 
-use super::engine::{Engine, Texts};
+use super::engine::Engine;
 use super::items::Item;
 use super::mode::Mode;
+use super::texts::Texts;
 use std::sync::ledger::Ledger;
 
 /// An item as it is spelled.

@@ -1,15 +1,17 @@
 //! The readers of tokens over slices, for what counts nothing: each asks an engine with new counts that no one looks at.
-ghost use Rattle.std.specs.Prelude.{◌≡◌, ◌↔◌, ℕ, ◌<◌, IsTrue, length};
+ghost use Rattle.std.specs.Prelude.{◌≡◌, ◌↔◌, ℕ, ◌<◌, IsTrue, [], length};
 ghost use Rattle.glob_matcher.specs.Bytes.{HasByte, open_bracket};
 ghost use Rattle.glob_matcher.specs.Tokens.{Token, TokenAt};
 ghost use Rattle.glob_matcher.specs.Private.Reader.{IsSetRead, IsToken, kind_of};
 ghost use Rattle.glob_matcher.specs.Private.Fitting.{Fits};
 ghost use Rattle.glob_matcher.specs.Steps.{IsBlankOf};
 
+use super::counted_texts::CountedTexts;
 use super::counts::Counts;
-use super::engine::{read_set, read_token, text_is_short};
+use super::engine::{Engine, text_is_short};
 use super::mode::Mode;
 use super::sets::SetRead;
+use super::texts::Texts;
 use super::tokens::{TokenKind, TokenRead};
 use std::marker::Brand;
 use std::sync::ledger::{Blank, Ledger};
@@ -37,7 +39,28 @@ fn token_with_counts<S: Ledger, L: Ledger>(
     ensures { IsToken mode pattern.now place result.kind result.end }
 {
     text_is_short(pattern);
-    read_token::<S, L, Brand>(pattern, place, mode, &mut Counts::new(steps, looks)).0
+    token_over::<S, L, Brand>(pattern, place, mode, &mut Counts::new(steps, looks)).0
+}
+
+/// The same, of the pattern in counted looks; and the counts.
+#[inline(always)]
+fn token_over<'c, 'a, S: Ledger, L: Ledger, M: Texts>(
+    pattern: &'a [u8],
+    place: usize,
+    mode: Mode,
+    counts: &'c mut Counts<S, L>,
+) -> (TokenRead, &'c mut Counts<S, L>)
+    requires pattern { pattern.now ≡ M.pattern }
+    requires value { M.value ≡ [] }
+    requires mode { mode ≡ M.mode }
+    requires counts { counts.ghost_name ≡ M.counts }
+    requires inside { place < length pattern.now }
+    ensures { IsToken mode pattern.now place result.0.kind result.0.end }
+{
+    let texts = CountedTexts::<'c, 'a, S, L, M>::new(pattern, &[], counts);
+    let mut engine = Engine::new(texts, mode);
+    let token = engine.token_at(place);
+    (token, engine.into_counts())
 }
 
 /// The set whose bracket stands at this place, read for this byte; `None` where no set begins.
@@ -64,7 +87,27 @@ fn set_with_counts<S: Ledger, L: Ledger>(
     ensures { IsSetRead mode pattern.now place byte result }
 {
     text_is_short(pattern);
-    read_set::<S, L, Brand>(pattern, place, byte, mode, &mut Counts::new(steps, looks)).0
+    set_over::<S, L, Brand>(pattern, place, byte, mode, &mut Counts::new(steps, looks)).0
+}
+
+/// The same, of the pattern in counted looks; and the counts.
+#[inline(always)]
+fn set_over<'c, 'a, S: Ledger, L: Ledger, M: Texts>(
+    pattern: &'a [u8],
+    place: usize,
+    byte: u8,
+    mode: Mode,
+    counts: &'c mut Counts<S, L>,
+) -> (Option<SetRead>, &'c mut Counts<S, L>)
+    requires pattern { pattern.now ≡ M.pattern }
+    requires value { M.value ≡ [] }
+    requires counts { counts.ghost_name ≡ M.counts }
+    requires bracket { HasByte pattern.now place open_bracket }
+    ensures { IsSetRead mode pattern.now place byte result.0 }
+{
+    let mut texts = CountedTexts::<'c, 'a, S, L, M>::new(pattern, &[], counts);
+    let set = texts.set_apart(place, byte, mode);
+    (set, texts.into_counts())
 }
 
 impl TokenKind {

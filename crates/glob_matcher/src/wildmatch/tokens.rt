@@ -9,8 +9,9 @@ ghost use Rattle.glob_matcher.specs.Private.Looks.{LookedOver};
 ghost use Rattle.glob_matcher.specs.Private.Reader.{IsToken, IsTokenRead, IsRunRead, is_star, kind_of};
 ghost use Rattle.glob_matcher.specs.Private.Fitting.{Fits};
 
-use super::engine::{Engine, Texts};
+use super::engine::Engine;
 use super::mode::Mode;
+use super::texts::Texts;
 use std::sync::ledger::Ledger;
 
 /// What kind of token stands at a place.

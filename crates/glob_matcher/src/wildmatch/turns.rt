@@ -7,9 +7,10 @@ ghost use Rattle.glob_matcher.specs.Private.Reader.{IsToken, is_star};
 ghost use Rattle.glob_matcher.specs.Private.States.{StandsAt};
 ghost use Rattle.glob_matcher.specs.Private.Turns.{IsTurn};
 
-use super::engine::{Engine, Texts};
+use super::engine::Engine;
 use super::needle::stands_for_itself;
 use super::state::{Crossing, State, Turn};
+use super::texts::Texts;
 use super::tokens::TokenKind;
 use std::sync::ledger::Ledger;
 

@@ -6,7 +6,7 @@
 //!
 //! Its turns are in `turns`, the ways back to a mark in `backtrack`, and the scans from one in `scan`. All of them read the
 //! two texts through `engine`.
-ghost use Rattle.std.specs.Prelude.{◌≢◌, ◌↔◌, ◌+◌, ◌≤◌, true, IsTrue, IfSome, length};
+ghost use Rattle.std.specs.Prelude.{◌≡◌, ◌≢◌, ◌↔◌, ◌+◌, ◌≤◌, true, IsTrue, IfSome, length};
 ghost use Rattle.glob_matcher.specs.Bytes.{slash, star};
 ghost use Rattle.glob_matcher.specs.Private.Spelling.{close_bracket, question_mark};
 ghost use Rattle.glob_matcher.specs.Matching.{Splits};
@@ -14,10 +14,12 @@ ghost use Rattle.glob_matcher.specs.Private.Takes.{Takes};
 ghost use Rattle.glob_matcher.specs.Steps.{NeverFall, look_limit, step_limit};
 ghost use Rattle.glob_matcher.specs.Private.Budget.{IsWithinLimits};
 
+use super::counted_texts::CountedTexts;
 use super::counts::Counts;
-use super::engine::{Engine, Texts, decide, text_is_short};
+use super::engine::{Engine, text_is_short};
 use super::mode::Mode;
 use super::state::{Crossing, State, Turn};
+use super::texts::Texts;
 use std::marker::Brand;
 use std::sync::ledger::Ledger;
 
@@ -95,6 +97,82 @@ impl<'c, 'a, S: Ledger, L: Ledger, M: Texts> Engine<'c, 'a, S, L, M> {
                 },
             }
         }
+    }
+}
+
+/// Whether the pattern matches the value, where their ends alone show it, and the counts of what it took.
+#[inline(always)]
+fn decide_by_ends<'c, 'a, S: Ledger, L: Ledger, M: Texts>(
+    pattern: &'a [u8],
+    value: &'a [u8],
+    mode: Mode,
+    counts: &'c mut Counts<S, L>,
+) -> (Option<bool>, &'c mut Counts<S, L>)
+    requires pattern { pattern.now ≡ M.pattern }
+    requires value { value.now ≡ M.value }
+    requires mode { mode ≡ M.mode }
+    requires counts { counts.ghost_name ≡ M.counts }
+    ensures meaning { IfSome result.0 (λ answer. IsTrue answer ↔ Splits value.now pattern.now mode) }
+    ensures same { result.1.ghost_name ≡ counts.entry.ghost_name }
+    ensures steps { result.1.now.steps ≤ counts.old.steps + 1 }
+    ensures looks { result.1.now.looks ≤ counts.old.looks + 2 }
+    ensures grows { NeverFall counts.old result.1.now }
+{
+    let texts = CountedTexts::<'c, 'a, S, L, M>::new(pattern, value, counts);
+    let mut ends = Engine::new(texts, mode);
+    let answer = ends.ends_decide();
+    (answer, ends.into_counts())
+}
+
+/// Whether the search says that the pattern matches the value, and the counts of what it took. It is not inlined, so that a
+/// match that the ends decide doesn't pay for the registers of the search.
+#[inline(never)]
+fn search_whole<'c, 'a, S: Ledger, L: Ledger, M: Texts>(
+    pattern: &'a [u8],
+    value: &'a [u8],
+    mode: Mode,
+    counts: &'c mut Counts<S, L>,
+) -> (bool, &'c mut Counts<S, L>)
+    requires pattern { pattern.now ≡ M.pattern }
+    requires value { value.now ≡ M.value }
+    requires mode { mode ≡ M.mode }
+    requires counts { counts.ghost_name ≡ M.counts }
+    ensures exact { IsTrue result.0 ↔ Splits value.now pattern.now mode }
+    ensures same { result.1.ghost_name ≡ counts.entry.ghost_name }
+    ensures steps { result.1.now.steps + 1 ≤ counts.old.steps + step_limit (length pattern.now) (length value.now) }
+    ensures looks { result.1.now.looks + 2 ≤ counts.old.looks + look_limit (length pattern.now) (length value.now) }
+    ensures grows { NeverFall counts.old result.1.now }
+{
+    let texts = CountedTexts::<'c, 'a, S, L, M>::new(pattern, value, counts);
+    let mut engine = Engine::new(texts, mode);
+    let answer = engine.search();
+    (answer, engine.into_counts())
+}
+
+/// Whether the pattern matches the value, and the counts of what it took.
+#[inline(always)]
+fn decide<'c, 'a, S: Ledger, L: Ledger, M: Texts>(
+    pattern: &'a [u8],
+    value: &'a [u8],
+    mode: Mode,
+    counts: &'c mut Counts<S, L>,
+) -> (bool, &'c mut Counts<S, L>)
+    requires pattern { pattern.now ≡ M.pattern }
+    requires value { value.now ≡ M.value }
+    requires mode { mode ≡ M.mode }
+    requires counts { counts.ghost_name ≡ M.counts }
+    ensures exact { IsTrue result.0 ↔ Splits value.now pattern.now mode }
+    ensures same { result.1.ghost_name ≡ counts.entry.ghost_name }
+    ensures steps { result.1.now.steps ≤ counts.old.steps + step_limit (length pattern.now) (length value.now) }
+    ensures looks { result.1.now.looks ≤ counts.old.looks + look_limit (length pattern.now) (length value.now) }
+    ensures grows { NeverFall counts.old result.1.now }
+{
+    let (decision, counts) = decide_by_ends::<S, L, M>(pattern, value, mode, counts);
+    // Each arm names its answer: a bit that is handed on costs every call an instruction.
+    match decision {
+        Some(true) => (true, counts),
+        Some(false) => (false, counts),
+        None => search_whole::<S, L, M>(pattern, value, mode, counts),
     }
 }
 

@@ -3,8 +3,8 @@ use Rattle.std.proofs.Common.{◌-◌, ◌^◌, [], take, arith}
 use Rattle.glob_matcher.proofs.lemmas.two_marks.Texts.{short}
 use Rattle.glob_matcher.proofs.wildmatch.slices.set_with_counts.Given as goal
 
-abbrev pub ghosts-read_set : goal.ghosts-read_set
-ghosts-read_set g a = record {
+abbrev pub ghosts-set_over : goal.ghosts-set_over
+ghosts-set_over g a = record {
   pattern = take (2 ^ 64 - 1) a.pattern.now;
   value = [];
   mode = a.mode;

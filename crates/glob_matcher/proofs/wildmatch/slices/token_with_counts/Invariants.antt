@@ -3,8 +3,8 @@ use Rattle.std.proofs.Common.{◌-◌, ◌^◌, [], take, arith}
 use Rattle.glob_matcher.proofs.lemmas.two_marks.Texts.{short}
 use Rattle.glob_matcher.proofs.wildmatch.slices.token_with_counts.Given as goal
 
-abbrev pub ghosts-read_token : goal.ghosts-read_token
-ghosts-read_token g a = record {
+abbrev pub ghosts-token_over : goal.ghosts-token_over
+ghosts-token_over g a = record {
   pattern = take (2 ^ 64 - 1) a.pattern.now;
   value = [];
   mode = a.mode;

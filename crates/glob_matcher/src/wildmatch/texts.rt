@@ -1,0 +1,38 @@
+//! Which match it is, in words that contracts alone have: its texts, its mode, and the reference to its counts.
+
+use std::marker::Brand;
+
+/// One match, which contracts alone name: its texts, its mode, and the reference to its counts.
+pub trait Texts {
+    ghost use Rattle.std.specs.Prelude.{ℕ, ◌<◌, ◌^◌, List, length};
+    ghost use Rattle.glob_matcher.specs.declared.wildmatch.mode.Mode.{Mode};
+
+    ghost pattern: { List ℕ };
+
+    ghost value: { List ℕ };
+
+    ghost mode: { Mode };
+
+    ghost counts: { ℕ };
+
+    ghost short_pattern: { length pattern < 2 ^ 64 };
+
+    ghost short_value: { length value < 2 ^ 64 };
+}
+
+impl Texts for Brand {
+    ghost use Rattle.std.specs.Prelude.{[]};
+    ghost use Rattle.std.proofs.Common.{arith};
+
+    ghost pattern = { [] };
+
+    ghost value = { [] };
+
+    ghost mode = { record { 0 = 0 } };
+
+    ghost counts = { 0 };
+
+    ghost short_pattern = { Prim.omega arith };
+
+    ghost short_value = { Prim.omega arith };
+}
