@@ -73,7 +73,7 @@ fn decide_with_new_counts<T: search::Pattern, S: Ledger, L: Ledger>(
 /// With `v` the length of the path in bytes, and `p` that of a pattern's text, the count of steps rises by at most the sum of
 /// `2 * (p + 1) * (v + 1)` over all patterns of all lists. That of looks rises by at most the sum of `10 * (p + 1) * (v + 1)`, and
 /// for each list twice the length of its base, or of the path where that is shorter, and `v` once, for where the path's last
-/// part begins. Neither falls.
+/// part begins.
 pub fn decide_with_counts<T: search::Pattern, S: Ledger, L: Ledger>(
     lists: &[List<T>],
     path: &[u8],

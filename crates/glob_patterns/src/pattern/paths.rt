@@ -59,7 +59,7 @@ impl Pattern {
     /// looks counted.
     ///
     /// The count of steps rises by at most `2 * (p + 1) * (v + 1)`, and that of looks by at most `10 * (p + 1) * (v + 1)`, `p` and
-    /// `v` being the lengths in bytes of text and path. Neither falls.
+    /// `v` being the lengths in bytes of text and path.
     pub fn matches_repo_relative_path_with_counts<S: Ledger, L: Ledger>(
         &self,
         path: &[u8],

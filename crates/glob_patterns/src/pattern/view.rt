@@ -185,7 +185,7 @@ impl<'a> PatternView<'a> {
     /// Whether a path of a repository matches, as [`PatternView::matches_repo_relative_path`] answers it, with its steps and
     /// looks counted.
     ///
-    /// The counts rise by no more than those of [`PatternView::matches_with_counts`] for the whole path may, and never fall.
+    /// The counts rise by no more than those of [`PatternView::matches_with_counts`] for the whole path may.
     #[inline(always)]
     pub fn matches_repo_relative_path_with_counts<S: Ledger, L: Ledger>(
         self,
