@@ -1,5 +1,5 @@
 -- A carriage return before the line feed is cut off.
-use Rattle.std.proofs.Common.{◌≡◌, ◌+◌, ◌<◌, [], length, take, drop, ap, arith}
+use Rattle.std.proofs.Common.{◌≡◌, ◌+◌, [], length, take, drop, ap, arith}
 use Rattle.std.proofs.lemmas.List.{take_rest}
 use Rattle.glob_lines.specs.Lines.{line_feed}
 use Rattle.glob_lines.proofs.lemmas.IgnoreLemmas.{CutsLine-before_feed, CutsLine-last}
