@@ -49,7 +49,7 @@ pub fn next_ignore_line(bytes: &[u8]) -> Option<IgnoreLine<'_>>
     } else {
         Some(without_trailing_spaces(line))
     };
-    Some(IgnoreLine { text, rest: match rest.strip_prefix(b"\r") { Some(left @ [b'\n', ..]) => left, _ => rest } })
+    Some(IgnoreLine { text, rest })
 }
 
 /// Whether a line is a comment.

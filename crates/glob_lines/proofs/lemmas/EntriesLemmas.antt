@@ -65,8 +65,8 @@ module _ {V : Type 0} (Gives : List ℕ → List ℕ → V → Type 0) (content_
           let both : Some this ≡ Some it = sym (tells.found line text value gives) ∙ is in
           let equal : this ≡ it = cc in
           let same : text ≡ it.text = ap (λ (x : LineContent V). x.text) equal in
-          let reading : Reading = record { text = has.text; mode = has.mode; place = has.place } in
-          let read : None ≡ Some reading = sym blank ∙ sym (ap (reading_of true) same) ∙ (readings text true has.text has.mode has.place).0 has.read in
+          let reading : Reading = record { text = has.0; mode = has.1; place = has.2 } in
+          let read : None ≡ Some reading = sym blank ∙ sym (ap (reading_of true) same) ∙ (readings text true has.0 has.1 has.2).0 has.3 in
           absurd (cc);
     };
   }
@@ -110,7 +110,7 @@ module _ {V : Type 0} (Gives : List ℕ → List ℕ → V → Type 0) (content_
       ⊎_elim
       (λ none. EntriesFrom-only (number + 1) lines entries h.1 ∙ sym (ap (λ o. cons_option o (entries_from content_of (number + 1) lines)) none.is))
       (λ some. let e = some.1.entry_is in
-      absurd (h.0.none e.text some.0.value e.given (record { text = some.0.text; mode = some.0.mode; place = some.0.place; read = e.reads })))
+      absurd (h.0.none e.text some.0.value e.given (some.0.text, some.0.mode, some.0.place, e.reads)))
       (entry_cases number line)
   EntriesFrom-only number (line ∷ lines) entries (inr h) =
       h.2 ∙ ap (λ l. h.0 ∷ l) (EntriesFrom-only (number + 1) lines h.1 h.4)

@@ -1,5 +1,5 @@
 -- Each input has one text: what is written is determined by what was read.
-use Rattle.std.proofs.Common.{◌≡◌, inl, inr, ℕ, ◌+◌, Bool, List, [], ◌∷◌, ◌++◌, map, Option, None, Some, refl, sym, ap, subst, ◌∙◌}
+use Rattle.std.proofs.Common.{◌≡◌, inl, inr, ℕ, ◌+◌, Bool, List, [], ◌∷◌, ◌++◌, length, take, map, Option, None, Some, refl, sym, ap, subst, ◌∙◌, arith, length-append, take_at}
 use Rattle.std.specs.List.{AllZip, flat_map}
 use Rattle.std.specs.Prelude.{MatchOption, codes, if◌then◌else◌, slice_get}
 use Rattle.std.proofs.lemmas.List.{append_cancel_left, append_cancel_right}
