@@ -16,4 +16,4 @@ pub returns-in-None-clause-cut : goal.returns-in-None-clause-cut
 returns-in-None-clause-cut c =
     let bytes = c.args.bytes.now in
     rw (take_rest, drop_all (length bytes) bytes (le_refl _))
-        (CutsLine-last bytes (λ (empty : bytes ≡ []). let none = ap length empty in absurd (omega arith)) (HasNo-not_found line_feed bytes c.in-None.ensures))
+    (CutsLine-last bytes (λ (empty : bytes ≡ []). let none = ap length empty in absurd (omega arith)) (HasNo-not_found line_feed bytes c.in-None.ensures))
