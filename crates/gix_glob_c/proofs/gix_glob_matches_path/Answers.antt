@@ -19,8 +19,8 @@ returns-clause-answers c = λ entry read relative.
     let told = subst (λ (case : Case). IsTrue c.matches_repo_relative_path.result ↔ Answers view.text.now view.mode path position (Some is_dir) case path_mode)
     c.case_of.ensures (c.matches_repo_relative_path.ensures c.in-Some.ensures.lawful) in
     let as_read : IsTrue c.matches_repo_relative_path.result ↔ Answers entry.text entry.mode path position (Some is_dir) case path_mode =
-    subst (λ m. IsTrue c.matches_repo_relative_path.result ↔ Answers entry.text m path position (Some is_dir) case path_mode) same.mode
-    (subst (λ t. IsTrue c.matches_repo_relative_path.result ↔ Answers t view.mode path position (Some is_dir) case path_mode) same.text told) in (
+    subst (λ m. IsTrue c.matches_repo_relative_path.result ↔ Answers entry.text m path position (Some is_dir) case path_mode) same.1
+    (subst (λ t. IsTrue c.matches_repo_relative_path.result ↔ Answers t view.mode path position (Some is_dir) case path_mode) same.0 told) in (
       λ yes. AnswersUnder-yes None path is_dir case entry path position refl start (as_read.0 yes),
       λ h. as_read.1 (AnswersUnder-only None path is_dir case entry path position refl start h),
     )
