@@ -25,11 +25,13 @@ mod tokens;
 mod turns;
 mod two_marks;
 
+pub use counted_texts::CountedTexts;
 pub use counts::Counts;
 pub use mode::Mode;
 pub use pruned::{Answer, attempt, is_start, recursive};
 use std::marker::Brand;
 use std::sync::ledger::{Blank, Ledger};
+pub use texts::Texts;
 pub use two_marks::marked;
 
 /// Whether `pattern` matches the whole of `value`, both as bytes of any kind, in `mode`.

@@ -19,7 +19,8 @@ use super::texts::Texts;
 use std::marker::{Brand, Model, PhantomData};
 use std::sync::ledger::Ledger;
 
-/// The pattern and the value of a match, read in counted looks alone. Contracts see the counts, and the texts by the type.
+/// The pattern and the value of a match, which can be read in counted looks alone. Contracts see the counts as its value, and
+/// the two texts by `M`.
 #[derive(Drop)]
 pub struct CountedTexts<'c, 'a, S: Ledger, L: Ledger, M: Texts> {
     pattern: &'a [u8],
