@@ -2,17 +2,14 @@
 //!
 //! This module alone sees the two slices, and it hands out none: whoever has the texts reads a byte in a counted look, or
 //! not at all.
-ghost use Rattle.std.specs.Prelude.{◌≡◌, ◌<◌, ◌≤◌, IfSome, MatchOption, [], length, slice_index, slice_range};
-ghost use Rattle.glob_matcher.specs.declared.wildmatch.items.Class.{Class};
+ghost use Rattle.std.specs.Prelude.{◌≡◌, ◌<◌, ◌≤◌, IfSome, MatchOption, [], length, slice_index};
 ghost use Rattle.glob_matcher.specs.Bytes.{HasByte, open_bracket};
-ghost use Rattle.glob_matcher.specs.Sets.{name_of};
-ghost use Rattle.glob_matcher.specs.Private.Looks.{LookedAtEach, LookedOver, read_end};
+ghost use Rattle.glob_matcher.specs.Private.Looks.{LookedOver, read_end};
 ghost use Rattle.glob_matcher.specs.Private.Reader.{IsSetRead};
 ghost use Rattle.glob_matcher.specs.Private.Takes.{TakesExactly, looks_at};
 
 use super::counts::Counts;
 use super::engine::Engine;
-use super::items::Class;
 use super::mode::Mode;
 use super::sets::SetRead;
 use super::texts::Texts;
@@ -136,18 +133,6 @@ impl<'c, 'a, S: Ledger, L: Ledger, M: Texts> CountedTexts<'c, 'a, S, L, M> {
     {
         self.counts.look();
         self.value[at]
-    }
-
-    /// The class that the bytes from one place of the pattern up to another name, in a look at each of them.
-    pub fn class_named(&mut self, from: usize, to: usize) -> Option<Class>
-        requires order { from ≤ to }
-        requires inside { to ≤ length M.pattern }
-        ensures class { MatchOption result ((class : Class) → ¬ (slice_range M.pattern from to ≡ name_of class))
-            (λ class. slice_range M.pattern from to ≡ name_of class) }
-        ensures count { LookedAtEach self.old self.new from to }
-    {
-        self.counts.looks(to - from);
-        Class::named(&self.pattern[from..to])
     }
 
     /// The set whose bracket stands at a place of the pattern, read for a byte by texts of its own, so that these may stay in

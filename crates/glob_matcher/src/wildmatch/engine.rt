@@ -2,19 +2,17 @@
 //!
 //! Each method that tests a token at a place of the value counts one step. What reads a byte is `counted_texts`, which counts
 //! a look for it.
-ghost use Rattle.std.specs.Prelude.{◌≡◌, ◌≢◌, ◌↔◌, ◌⊎◌, ℕ, ◌+◌, ◌-◌, ◌^◌, ◌<◌, ◌≤◌, IsTrue, IfSome, IfNone, MatchOption, length, slice_index, slice_range, take};
-ghost use Rattle.glob_matcher.specs.declared.wildmatch.items.Class.{Class};
+ghost use Rattle.std.specs.Prelude.{◌≡◌, ◌≢◌, ◌↔◌, ◌⊎◌, ℕ, ◌+◌, ◌-◌, ◌^◌, ◌<◌, ◌≤◌, IsTrue, IfSome, IfNone, MatchOption, length, slice_index, take};
 ghost use Rattle.glob_matcher.specs.Bytes.{HasByte, folds, is_path, open_bracket, slash};
-ghost use Rattle.glob_matcher.specs.Sets.{Set, SetAt, name_of};
+ghost use Rattle.glob_matcher.specs.Sets.{Set, SetAt};
 ghost use Rattle.glob_matcher.specs.Tokens.{Token, Byte};
 ghost use Rattle.glob_matcher.specs.Private.Reader.{kind_of, IsSetRead};
 ghost use Rattle.glob_matcher.specs.Private.Fitting.{Fits, IsSetTested};
-ghost use Rattle.glob_matcher.specs.Private.Looks.{LookedAtEach, LookedOver, IsSetPaid, read_end};
+ghost use Rattle.glob_matcher.specs.Private.Looks.{LookedOver, IsSetPaid, read_end};
 ghost use Rattle.glob_matcher.specs.Private.Takes.{TakesExactly, looks_at};
 
 use super::counted_texts::CountedTexts;
 use super::counts::Counts;
-use super::items::Class;
 use super::mode::Mode;
 use super::needle::Needle;
 use super::sets::SetRead;
@@ -135,18 +133,6 @@ impl<'c, 'a, S: Ledger, L: Ledger, M: Texts> Engine<'c, 'a, S, L, M> {
         ensures count { TakesExactly self.old self.new 0 1 }
     {
         self.texts.pattern_byte(place)
-    }
-
-    /// Looks at each byte from one place of the pattern up to another: the class that they name.
-    #[inline(always)]
-    pub fn class_named(&mut self, from: usize, to: usize) -> Option<Class>
-        requires order { from ≤ to }
-        requires inside { to ≤ length M.pattern }
-        ensures class { MatchOption result ((class : Class) → ¬ (slice_range M.pattern from to ≡ name_of class))
-            (λ class. slice_range M.pattern from to ≡ name_of class) }
-        ensures count { LookedAtEach self.old self.new from to }
-    {
-        self.texts.class_named(from, to)
     }
 
     /// Tests the pattern's end: whether the value ends at this place, too.
