@@ -5,6 +5,7 @@ ghost use Rattle.glob_matcher.specs.Steps.{IsBlankOf};
 
 mod backtrack;
 mod barrier;
+mod counted_text;
 mod counted_texts;
 mod counts;
 mod engine;
@@ -15,6 +16,7 @@ mod needle;
 mod plain;
 mod pruned;
 mod scan;
+mod set_apart;
 mod sets;
 pub(crate) mod slices;
 mod state;

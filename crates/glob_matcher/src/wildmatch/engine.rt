@@ -6,9 +6,9 @@ ghost use Rattle.std.specs.Prelude.{◌≡◌, ◌≢◌, ◌↔◌, ◌⊎◌, 
 ghost use Rattle.glob_matcher.specs.Bytes.{HasByte, folds, is_path, open_bracket, slash};
 ghost use Rattle.glob_matcher.specs.Sets.{Set, SetAt};
 ghost use Rattle.glob_matcher.specs.Tokens.{Token, Byte};
-ghost use Rattle.glob_matcher.specs.Private.Reader.{kind_of, IsSetRead};
+ghost use Rattle.glob_matcher.specs.Private.Reader.{kind_of};
 ghost use Rattle.glob_matcher.specs.Private.Fitting.{Fits, IsSetTested};
-ghost use Rattle.glob_matcher.specs.Private.Looks.{LookedOver, IsSetPaid, read_end};
+ghost use Rattle.glob_matcher.specs.Private.Looks.{IsSetPaid, read_end};
 ghost use Rattle.glob_matcher.specs.Private.Takes.{TakesExactly, looks_at};
 
 use super::counted_texts::CountedTexts;
@@ -24,7 +24,7 @@ use std::sync::ledger::Ledger;
 /// A match and its counts. Contracts see the counts alone, and the match by its type.
 #[derive(Drop)]
 pub struct Engine<'c, 'a, S: Ledger, L: Ledger, M: Texts> {
-    texts: CountedTexts<'c, 'a, S, L, M>,
+    pub(super) texts: CountedTexts<'c, 'a, S, L, M>,
     mode: Mode,
 }
 
@@ -197,17 +197,6 @@ impl<'c, 'a, S: Ledger, L: Ledger, M: Texts> Engine<'c, 'a, S, L, M> {
     {
         self.texts.step();
         self.texts.value_at(at)
-    }
-
-    /// Reads the set whose bracket stands at a place of the pattern, apart from this engine; `None` where no set begins.
-    #[inline(always)]
-    pub fn set_apart(&mut self, place: usize, byte: u8) -> Option<SetRead>
-        requires { HasByte M.pattern place open_bracket }
-        ensures read { IsSetRead M.mode M.pattern place byte result }
-        ensures count { LookedOver 4 self.old self.new place (read_end M.pattern result) }
-        ensures looked { IfSome result (λ set. self.old.looks < self.new.looks) }
-    {
-        self.texts.set_apart(place, byte, self.mode)
     }
 
     /// Tests the set whose bracket stands at a place of the pattern: whether it holds the byte of the value. Where the value
