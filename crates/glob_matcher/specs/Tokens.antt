@@ -34,17 +34,6 @@ pub record IsBounded (pattern : List ℕ) (i j : ℕ) : Type 0 where
   pub before : (i ≡ 0) ⊎ HasByte pattern (i - 1) slash
   pub after : (j ≡ length pattern) ⊎ (HasByte pattern j slash ⊎ IsEscaped pattern j slash)
 
--- a run that crosses slashes: any in plain mode, and in path mode a bounded one with no bare slash after it
-pub record FreeAt (mode : Mode) (pattern : List ℕ) (i j : ℕ) : Type 0 where
-  pub run : IsRun pattern i j
-  pub bounded : IsTrue (is_path mode) → IsBounded pattern i j × ¬ HasByte pattern j slash
-
--- a run within a component: in path mode, one that isn't bounded
-pub record LocalAt (mode : Mode) (pattern : List ℕ) (i j : ℕ) : Type 0 where
-  pub path : IsTrue (is_path mode)
-  pub run : IsRun pattern i j
-  pub unbounded : ¬ IsBounded pattern i j
-
 -- a run with its slash: in path mode, a bounded run, and the bare slash after it
 pub record DirsAt (mode : Mode) (pattern : List ℕ) (i j : ℕ) : Type 0 where
   pub path : IsTrue (is_path mode)
@@ -60,13 +49,14 @@ IsBroken pattern i =
     (HasByte pattern i backslash × (i + 1 ≡ length pattern))
     ⊎ (HasByte pattern i open_bracket × ((set : Set) (j : ℕ) → ¬ SetAt pattern i set j))
 
--- The token is spelled from place i up to place j. A byte is escaped, or bare where it stands for itself.
+-- The token is spelled from place i up to place j. A byte is escaped, or bare where it stands for itself. In plain mode each run
+-- crosses slashes; in path mode a bounded one does, unless a bare slash follows it, and one that isn't bounded stays within a component.
 abbrev pub TokenAt : Mode → List ℕ → ℕ → Token → ℕ → Type 0
 TokenAt mode pattern i (Byte b) j = (IsEscaped pattern i b × (j ≡ i + 2)) ⊎ (HasByte pattern i b × StandsForItself b × (j ≡ i + 1))
 TokenAt mode pattern i Any j = HasByte pattern i (byte "?") × (j ≡ i + 1)
 TokenAt mode pattern i (OneOf set) j = SetAt pattern i set j
-TokenAt mode pattern i Free j = FreeAt mode pattern i j
-TokenAt mode pattern i Local j = LocalAt mode pattern i j
+TokenAt mode pattern i Free j = IsRun pattern i j × (IsTrue (is_path mode) → IsBounded pattern i j × ¬ HasByte pattern j slash)
+TokenAt mode pattern i Local j = IsRun pattern i j × IsTrue (is_path mode) × ¬ IsBounded pattern i j
 TokenAt mode pattern i Dirs j = DirsAt mode pattern i j
 TokenAt mode pattern i Nothing j = IsBroken pattern i × (j ≡ length pattern)
 

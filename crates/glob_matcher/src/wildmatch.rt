@@ -5,6 +5,7 @@ ghost use Rattle.glob_matcher.specs.Steps.{IsBlankOf};
 
 mod backtrack;
 mod barrier;
+mod counted_text;
 mod counted_texts;
 mod counts;
 mod engine;
@@ -15,6 +16,7 @@ mod needle;
 mod plain;
 mod pruned;
 mod scan;
+mod set_apart;
 mod sets;
 pub(crate) mod slices;
 mod state;
@@ -25,11 +27,13 @@ mod tokens;
 mod turns;
 mod two_marks;
 
+pub use counted_texts::CountedTexts;
 pub use counts::Counts;
 pub use mode::Mode;
 pub use pruned::{Answer, attempt, is_start, recursive};
 use std::marker::Brand;
 use std::sync::ledger::{Blank, Ledger};
+pub use texts::Texts;
 pub use two_marks::marked;
 
 /// Whether `pattern` matches the whole of `value`, both as bytes of any kind, in `mode`.

@@ -2,19 +2,17 @@
 //!
 //! Each method that tests a token at a place of the value counts one step. What reads a byte is `counted_texts`, which counts
 //! a look for it.
-ghost use Rattle.std.specs.Prelude.{◌≡◌, ◌≢◌, ◌↔◌, ◌⊎◌, ℕ, ◌+◌, ◌-◌, ◌^◌, ◌<◌, ◌≤◌, IsTrue, IfSome, IfNone, MatchOption, length, slice_index, slice_range, take};
-ghost use Rattle.glob_matcher.specs.declared.wildmatch.items.Class.{Class};
+ghost use Rattle.std.specs.Prelude.{◌≡◌, ◌≢◌, ◌↔◌, ◌⊎◌, ℕ, ◌+◌, ◌-◌, ◌^◌, ◌<◌, ◌≤◌, IsTrue, IfSome, IfNone, MatchOption, length, slice_index, take};
 ghost use Rattle.glob_matcher.specs.Bytes.{HasByte, folds, is_path, open_bracket, slash};
-ghost use Rattle.glob_matcher.specs.Sets.{Set, SetAt, name_of};
+ghost use Rattle.glob_matcher.specs.Sets.{Set, SetAt};
 ghost use Rattle.glob_matcher.specs.Tokens.{Token, Byte};
-ghost use Rattle.glob_matcher.specs.Private.Reader.{kind_of, IsSetRead};
+ghost use Rattle.glob_matcher.specs.Private.Reader.{kind_of};
 ghost use Rattle.glob_matcher.specs.Private.Fitting.{Fits, IsSetTested};
-ghost use Rattle.glob_matcher.specs.Private.Looks.{LookedAtEach, LookedOver, IsSetPaid, read_end};
+ghost use Rattle.glob_matcher.specs.Private.Looks.{IsSetPaid, read_end};
 ghost use Rattle.glob_matcher.specs.Private.Takes.{TakesExactly, looks_at};
 
 use super::counted_texts::CountedTexts;
 use super::counts::Counts;
-use super::items::Class;
 use super::mode::Mode;
 use super::needle::Needle;
 use super::sets::SetRead;
@@ -26,7 +24,7 @@ use std::sync::ledger::Ledger;
 /// A match and its counts. Contracts see the counts alone, and the match by its type.
 #[derive(Drop)]
 pub struct Engine<'c, 'a, S: Ledger, L: Ledger, M: Texts> {
-    texts: CountedTexts<'c, 'a, S, L, M>,
+    pub(super) texts: CountedTexts<'c, 'a, S, L, M>,
     mode: Mode,
 }
 
@@ -137,18 +135,6 @@ impl<'c, 'a, S: Ledger, L: Ledger, M: Texts> Engine<'c, 'a, S, L, M> {
         self.texts.pattern_byte(place)
     }
 
-    /// Looks at each byte from one place of the pattern up to another: the class that they name.
-    #[inline(always)]
-    pub fn class_named(&mut self, from: usize, to: usize) -> Option<Class>
-        requires order { from ≤ to }
-        requires inside { to ≤ length M.pattern }
-        ensures class { MatchOption result ((class : Class) → ¬ (slice_range M.pattern from to ≡ name_of class))
-            (λ class. slice_range M.pattern from to ≡ name_of class) }
-        ensures count { LookedAtEach self.old self.new from to }
-    {
-        self.texts.class_named(from, to)
-    }
-
     /// Tests the pattern's end: whether the value ends at this place, too.
     #[inline(always)]
     pub fn ends_at(&mut self, at: usize) -> bool
@@ -211,17 +197,6 @@ impl<'c, 'a, S: Ledger, L: Ledger, M: Texts> Engine<'c, 'a, S, L, M> {
     {
         self.texts.step();
         self.texts.value_at(at)
-    }
-
-    /// Reads the set whose bracket stands at a place of the pattern, apart from this engine; `None` where no set begins.
-    #[inline(always)]
-    pub fn set_apart(&mut self, place: usize, byte: u8) -> Option<SetRead>
-        requires { HasByte M.pattern place open_bracket }
-        ensures read { IsSetRead M.mode M.pattern place byte result }
-        ensures count { LookedOver 4 self.old self.new place (read_end M.pattern result) }
-        ensures looked { IfSome result (λ set. self.old.looks < self.new.looks) }
-    {
-        self.texts.set_apart(place, byte, self.mode)
     }
 
     /// Tests the set whose bracket stands at a place of the pattern: whether it holds the byte of the value. Where the value

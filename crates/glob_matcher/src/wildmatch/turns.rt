@@ -2,7 +2,7 @@
 //! literal byte the ones that follow it, up to a slash.
 ghost use Rattle.std.specs.Prelude.{◌≡◌, ◌≢◌, ◌-◌, ◌*◌, ◌<◌, ◌≤◌, false, length, slice_index};
 ghost use Rattle.glob_matcher.specs.Bytes.{HasByte, StandsForItself, open_bracket, slash};
-ghost use Rattle.glob_matcher.specs.Tokens.{FreeAt, LocalAt, DirsAt};
+ghost use Rattle.glob_matcher.specs.Tokens.{DirsAt, Free, Local, TokenAt};
 ghost use Rattle.glob_matcher.specs.Private.Reader.{IsToken, is_star};
 ghost use Rattle.glob_matcher.specs.Private.States.{StandsAt};
 ghost use Rattle.glob_matcher.specs.Private.Turns.{IsTurn};
@@ -67,7 +67,7 @@ impl<'c, 'a, S: Ledger, L: Ledger, M: Texts> Engine<'c, 'a, S, L, M> {
     #[inline(always)]
     fn free_turn(&mut self, state: State, after: usize) -> Turn
         requires stands { StandsAt M.mode M.pattern M.value state }
-        requires token { FreeAt M.mode M.pattern state.place after }
+        requires token { TokenAt M.mode M.pattern state.place Free after }
         requires inside { after ≤ length M.pattern }
         ensures { IsTurn M.mode M.pattern M.value state (8 * (after - state.place) - 4) result self.old self.new }
     {
@@ -104,7 +104,7 @@ impl<'c, 'a, S: Ledger, L: Ledger, M: Texts> Engine<'c, 'a, S, L, M> {
     #[inline(always)]
     fn local_turn(&mut self, state: State, after: usize) -> Turn
         requires stands { StandsAt M.mode M.pattern M.value state }
-        requires token { LocalAt M.mode M.pattern state.place after }
+        requires token { TokenAt M.mode M.pattern state.place Local after }
         requires inside { after ≤ length M.pattern }
         ensures { IsTurn M.mode M.pattern M.value state (8 * (after - state.place) - 4) result self.old self.new }
     {

@@ -145,17 +145,17 @@ read_over mode p q (t ∷ ts) x i y j e f rest (u ∷ us) read =
 module _ (mode : Mode) (p : List ℕ) (ts : List Token) (i j : ℕ) (plain : is_path mode ≡ false) (spelled : Spells mode p 0 ts i)
     (free : TokenAt mode p i Free j) where
   lead : HasByte p i star
-  lead = run_lead p i j free.run
+  lead = run_lead p i j free.0
 
   low : i ≤ j
-  low = let some : i < j = free.run.some in omega arith
+  low = let some : i < j = free.0.some in omega arith
 
   spelled_too : Spells mode (insert p i star) 0 ts i
   spelled_too =
       spells_alike p (insert p i star) (i + 1) (alike_before p i lead) mode 0 ts i plain (omega arith) lead.inside spelled
 
   free_too : TokenAt mode (insert p i star) i Free (j + 1)
-  free_too = record { run = longer_run p i lead j free.run; bounded = λ path. cc }
+  free_too = (longer_run p i lead j free.0, λ path. cc)
 
   pub reads_there : (us : List Token) → Tokens mode p us → Tokens mode (insert p i star) us
   reads_there =
@@ -182,7 +182,7 @@ plain_reading : (m mode : Mode) (p : List ℕ) (i : ℕ) (ts : List Token) → i
 plain_reading m mode p i [] plain e = record { tokens = []; read = e; counted = refl }
 plain_reading m mode p i (t ∷ ts) plain e = by (plain_reading m mode p e.0 ts plain e.2) (star_or_other m p i t e.0 e.1) where
   free : (stop : ℕ) → IsRun p i stop → TokenAt mode p i Free stop
-  free stop run = record { run = run; bounded = λ path. cc }
+  free stop run = (run, λ path. cc)
 
   star : PlainReading mode p e.0 (star_count ts) → (x : IsStarToken p i t e.0)
       → (e.0 ≡ x.stop) ⊎ (HasByte p x.stop slash × (e.0 ≡ x.stop + 1)) → PlainReading mode p i (star_count (t ∷ ts))

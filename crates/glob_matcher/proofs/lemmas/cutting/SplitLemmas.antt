@@ -76,8 +76,8 @@ star_or_other mode p i Any j e =
     inr (record { alike = λ m. e; counts = λ ts. refl; no_star = λ h. two_bytes p i question_mark star e.0 h (λ is. omega arith) })
 star_or_other mode p i (OneOf s) j e =
     inr (record { alike = λ m. e; counts = λ ts. refl; no_star = λ h. two_bytes p i open_bracket star e.bracket h (λ is. omega arith) })
-star_or_other mode p i Free j e = inl (record { stop = j; run = e.run; after = inl refl; counts = λ ts. refl })
-star_or_other mode p i Local j e = inl (record { stop = j; run = e.run; after = inl refl; counts = λ ts. refl })
+star_or_other mode p i Free j e = inl (record { stop = j; run = e.0; after = inl refl; counts = λ ts. refl })
+star_or_other mode p i Local j e = inl (record { stop = j; run = e.0; after = inl refl; counts = λ ts. refl })
 star_or_other mode p i Dirs j e = inl (record { stop = e.run_end; run = e.run; after = inr (e.slash, e.after); counts = λ ts. refl })
 star_or_other mode p i Nothing j e =
     inr (record { alike = λ m. e; counts = λ ts. refl; no_star = broken_no_star p i e.0 })

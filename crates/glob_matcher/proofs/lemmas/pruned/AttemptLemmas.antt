@@ -72,7 +72,7 @@ in_room {mode = mode} {p = p} {v = v} {i = i} {k = k} {depth = depth} excludes a
 crossing_star : (mode : Mode) (p : List ℕ) (i : ℕ) → BeginsCrossingAt p i mode → HasByte p i star
 crossing_star mode p i x = by x.token where
   by : TokenAt mode p i Free x.after ⊎ TokenAt mode p i Dirs x.after → HasByte p i star
-  by (inl so) = run_lead p i x.after so.run
+  by (inl so) = run_lead p i x.after so.0
   by (inr so) = run_lead p i so.run_end so.run
 
 module _ {mode : Mode} {p v : List ℕ} {i k j e : ℕ} (x : Aligned mode p v i k j e) where

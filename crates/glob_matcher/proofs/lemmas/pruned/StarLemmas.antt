@@ -61,8 +61,8 @@ first_token_by mode p i wanted Any j bare here is =
     record { token = Any; after = j; here = here; one_or_nothing = inl tt; asks = λ c so. let same : None ≡ Some c = sym is ∙ so in cc }
 first_token_by mode p i wanted (OneOf s) j bare here is =
     record { token = OneOf s; after = j; here = here; one_or_nothing = inl tt; asks = λ c so. let same : None ≡ Some c = sym is ∙ so in cc }
-first_token_by mode p i wanted Free j bare here is = absurd (bare (run_lead p i j here.run))
-first_token_by mode p i wanted Local j bare here is = absurd (bare (run_lead p i j here.run))
+first_token_by mode p i wanted Free j bare here is = absurd (bare (run_lead p i j here.0))
+first_token_by mode p i wanted Local j bare here is = absurd (bare (run_lead p i j here.0))
 first_token_by mode p i wanted Dirs j bare here is = absurd (bare (run_lead p i here.run_end here.run))
 first_token_by mode p i wanted Nothing j bare here is =
     record { token = Nothing; after = j; here = here; one_or_nothing = inr refl; asks = λ c so. let same : None ≡ Some c = sym is ∙ so in cc }
@@ -308,7 +308,7 @@ module _ {mode : Mode} {p v : List ℕ} {i j k depth : ℕ} {answer : Answer} wh
   pub free_star : TokenAt mode p i Free j → k ≤ length v
       → IsTriedEverywhere answer p j v k mode depth → AtStar answer p i v k mode depth
   free_star here inside x =
-      let is_star : IsStarToken p i Free j = record { stop = j; run = here.run; after = inl refl; counts = λ ts. refl } in record {
+      let is_star : IsStarToken p i Free j = record { stop = j; run = here.0; after = inl refl; counts = λ ts. refl } in record {
         token = Free;
         after = j;
         here = here;
@@ -330,13 +330,13 @@ module _ {mode : Mode} {p v : List ℕ} {i j k depth : ℕ} {answer : Answer} wh
   pub local_star : TokenAt mode p i Local j → k ≤ length v
       → IsTriedInComponent answer p j v k mode depth → AtStar answer p i v k mode depth
   local_star here inside x =
-      let is_star : IsStarToken p i Local j = record { stop = j; run = here.run; after = inl refl; counts = λ ts. refl } in record {
+      let is_star : IsStarToken p i Local j = record { stop = j; run = here.0; after = inl refl; counts = λ ts. refl } in record {
         token = Local;
         after = j;
         here = here;
         is_star = is_star;
         found = λ so. let there = x.found so in local_in mode p v i j k there.0 here there.1 there.2 there.3 there.4;
-        path = λ so. here.path;
+        path = λ so. here.1;
         lost = λ room ne s.
             let out = local_out mode p v i j k here inside s in
             x.lost (room_after here is_star room) ne out.0 out.1 out.2 out.3 out.4;

@@ -58,8 +58,8 @@ TokenAt-past mode p i (Byte b) j (inl e) = omega (arith, e.1)
 TokenAt-past mode p i (Byte b) j (inr e) = omega (arith, e.2)
 TokenAt-past mode p i Any j e = omega (arith, e.1)
 TokenAt-past mode p i (OneOf s) j e = set_past p i s j e
-TokenAt-past mode p i Free j e = e.run.some
-TokenAt-past mode p i Local j e = e.run.some
+TokenAt-past mode p i Free j e = e.0.some
+TokenAt-past mode p i Local j e = e.0.some
 TokenAt-past mode p i Dirs j e = let some : i < e.run_end = e.run.some in let after : j ≡ e.run_end + 1 = e.after in omega arith
 TokenAt-past mode p i Nothing j e =
     let inside : i < length p = TokenAt-inside mode p i Nothing j e in let at_end : j ≡ length p = e.1 in omega arith
@@ -103,20 +103,20 @@ star_token mode p i j run inside none = by_mode (is_path mode) refl where
   bounded : is_path mode ≡ true → IsBounded p i j → ⊥
   bounded path both =
       none Free j
-      (record {
-        run = run;
-        bounded = λ path'. (
+      (
+        run,
+        λ path'. (
           both,
           λ h.
               let before : j < length p = h.inside in
               none Dirs (j + 1) (record { path = path; run_end = j; run = run; bounded = both; slash = h; after = refl }) (omega arith),
-        );
-      })
+        ),
+      )
       inside
 
   by_mode : (path : Bool) → is_path mode ≡ path → ⊥
-  by_mode true path = none Local j (record { path = path; run = run; unbounded = bounded path }) inside
-  by_mode false plain = none Free j (record { run = run; bounded = λ path. let wrong : true ≡ false = sym path ∙ plain in cc }) inside
+  by_mode true path = none Local j (run, path, bounded path) inside
+  by_mode false plain = none Free j (run, λ path. let wrong : true ≡ false = sym path ∙ plain in cc) inside
 
 some_token : (mode : Mode) (p : List ℕ) (i : ℕ) → i < length p
     → ((t : Token) (j : ℕ) → TokenAt mode p i t j → j ≤ length p → ⊥) → ⊥

@@ -252,8 +252,8 @@ module _ (p : List ℕ) (a : ℕ) (q : List ℕ) (b n : ℕ) where
       (l.there x y question_mark f e.0, omega arith)
   token_alike l mode x y (OneOf s) j m plain f inside sum broken e = set_alike l x y s j m f (omega arith) sum e
   token_alike l mode x y Free j m plain f inside sum broken e =
-      record { run = run_alike p a q b n l x y j m f sum inside e.run; bounded = λ path. cc }
-  token_alike l mode x y Local j m plain f inside sum broken e = let path = e.path in cc
+      (run_alike p a q b n l x y j m f sum inside e.0, λ path. cc)
+  token_alike l mode x y Local j m plain f inside sum broken e = let path = e.1 in cc
   token_alike l mode x y Dirs j m plain f inside sum broken e = let path = e.path in cc
   token_alike l mode x y Nothing j m plain f inside sum broken e = broken refl
 

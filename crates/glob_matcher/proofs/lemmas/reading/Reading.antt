@@ -50,19 +50,19 @@ pub plain_run : (mode : Mode) (p : List ℕ) (i j : ℕ) → is_path mode ≡ fa
     → IsToken mode p i kind.Free j
 plain_run mode p i j plain run inside =
     let some : i < j = run.some in
-    record { token = Free; here = record { run = run; bounded = λ path. cc }; same_kind = refl; past = some; inside = inside }
+    record { token = Free; here = (run, λ path. cc); same_kind = refl; past = some; inside = inside }
 
 pub free_run : (mode : Mode) (p : List ℕ) (i j : ℕ) → IsRun p i j → IsBounded p i j → ¬ HasByte p j slash → j ≤ length p
     → IsToken mode p i kind.Free j
 free_run mode p i j run bounded bare inside =
     let some : i < j = run.some in
-    record { token = Free; here = record { run = run; bounded = λ path. (bounded, bare) }; same_kind = refl; past = some; inside = inside }
+    record { token = Free; here = (run, λ path. (bounded, bare)); same_kind = refl; past = some; inside = inside }
 
 pub local_run : (mode : Mode) (p : List ℕ) (i j : ℕ) → IsTrue (is_path mode) → IsRun p i j → ¬ IsBounded p i j → j ≤ length p
     → IsToken mode p i kind.Local j
 local_run mode p i j path run unbounded inside =
     let some : i < j = run.some in
-    record { token = Local; here = record { path = path; run = run; unbounded = unbounded }; same_kind = refl; past = some; inside = inside }
+    record { token = Local; here = (run, path, unbounded); same_kind = refl; past = some; inside = inside }
 
 pub dirs_run : (mode : Mode) (p : List ℕ) (i j : ℕ) → IsTrue (is_path mode) → IsRun p i j → IsBounded p i j → HasByte p j slash
     → IsToken mode p i kind.Dirs (j + 1)

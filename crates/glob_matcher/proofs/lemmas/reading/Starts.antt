@@ -26,8 +26,8 @@ module _ (mode : Mode) (p : List ℕ) where
   token_end i (Byte b) j (inr e) = let inside : i < length p = e.0.inside in let after : j ≡ i + 1 = e.2 in omega arith
   token_end i Any j e = let inside : i < length p = e.0.inside in let after : j ≡ i + 1 = e.1 in omega arith
   token_end i (OneOf s) j e = set_inside p i s j e
-  token_end i Free j e = run_inside p i j e.run
-  token_end i Local j e = run_inside p i j e.run
+  token_end i Free j e = run_inside p i j e.0
+  token_end i Local j e = run_inside p i j e.0
   token_end i Dirs j e =
       let inside : e.run_end < length p = e.slash.inside in
       let after : j ≡ e.run_end + 1 = e.after in

@@ -5,7 +5,7 @@ use Rattle.glob_matcher.specs.declared.wildmatch.mode.Mode.{Mode}
 use Rattle.glob_matcher.specs.Bytes.{HasByte, IsEscaped, StandsForItself, is_special, star, open_bracket, backslash, slash}
 use Rattle.glob_matcher.specs.Private.Spelling.{question_mark}
 use Rattle.glob_matcher.specs.Sets.{Set, SetAt}
-use Rattle.glob_matcher.specs.Tokens.{Token, Byte, Any, OneOf, Free, Local, Dirs, Nothing, TokenAt, FreeAt, LocalAt, DirsAt, IsRun, IsBounded, IsBroken, From}
+use Rattle.glob_matcher.specs.Tokens.{Token, Byte, Any, OneOf, Free, Local, Dirs, Nothing, TokenAt, DirsAt, IsRun, IsBounded, IsBroken, From}
 use Rattle.glob_matcher.proofs.lemmas.reading.SetLemmas.{HasByte-unique, IsEscaped-unique, two_bytes, SetAt-unique}
 
 -- the byte b is spelled from place i up to place j
@@ -74,20 +74,20 @@ bytes_unique p i a b j m (inl e) (inr f) = absurd (not_special b backslash f.1 r
 bytes_unique p i a b j m (inr e) (inl f) = absurd (not_special a backslash e.1 refl (HasByte-unique p i a backslash e.0 f.0.escape))
 bytes_unique p i a b j m (inr e) (inr f) = (HasByte-unique p i a b e.0 f.0, e.2 ∙ sym f.2)
 
-free_or_local : (mode : Mode) (p : List ℕ) (i j m : ℕ) → FreeAt mode p i j → LocalAt mode p i m → ⊥
+free_or_local : (mode : Mode) (p : List ℕ) (i j m : ℕ) → TokenAt mode p i Free j → TokenAt mode p i Local m → ⊥
 free_or_local mode p i j m e f =
-    let same : j ≡ m = IsRun-unique p i j m e.run f.run in
-    f.unbounded (subst (λ (n : ℕ). IsBounded p i n) same (e.bounded f.path).0)
+    let same : j ≡ m = IsRun-unique p i j m e.0 f.0 in
+    f.2 (subst (λ (n : ℕ). IsBounded p i n) same (e.1 f.1).0)
 
-free_or_dirs : (mode : Mode) (p : List ℕ) (i j m : ℕ) → FreeAt mode p i j → DirsAt mode p i m → ⊥
+free_or_dirs : (mode : Mode) (p : List ℕ) (i j m : ℕ) → TokenAt mode p i Free j → DirsAt mode p i m → ⊥
 free_or_dirs mode p i j m e f =
-    let same : f.run_end ≡ j = IsRun-unique p i f.run_end j f.run e.run in
-    (e.bounded f.path).1 (subst (λ (n : ℕ). HasByte p n slash) same f.slash)
+    let same : f.run_end ≡ j = IsRun-unique p i f.run_end j f.run e.0 in
+    (e.1 f.path).1 (subst (λ (n : ℕ). HasByte p n slash) same f.slash)
 
-local_or_dirs : (mode : Mode) (p : List ℕ) (i j m : ℕ) → LocalAt mode p i j → DirsAt mode p i m → ⊥
+local_or_dirs : (mode : Mode) (p : List ℕ) (i j m : ℕ) → TokenAt mode p i Local j → DirsAt mode p i m → ⊥
 local_or_dirs mode p i j m e f =
-    let same : f.run_end ≡ j = IsRun-unique p i f.run_end j f.run e.run in
-    e.unbounded (subst (λ (n : ℕ). IsBounded p i n) same f.bounded)
+    let same : f.run_end ≡ j = IsRun-unique p i f.run_end j f.run e.0 in
+    e.2 (subst (λ (n : ℕ). IsBounded p i n) same f.bounded)
 
 -- A place decides its token, and where that ends.
 pub TokenAt-unique : (mode : Mode) (p : List ℕ) (i : ℕ) (t u : Token) (j m : ℕ)
@@ -95,38 +95,38 @@ pub TokenAt-unique : (mode : Mode) (p : List ℕ) (i : ℕ) (t u : Token) (j m :
 TokenAt-unique mode p i (Byte b) (Byte c) j m e f = let same = bytes_unique p i b c j m e f in (ap Byte same.0, same.1)
 TokenAt-unique mode p i (Byte b) Any j m e f = absurd (byte_lead p i b j question_mark e f.0 (inr (inl refl)))
 TokenAt-unique mode p i (Byte b) (OneOf t) j m e f = absurd (byte_lead p i b j open_bracket e f.bracket (inr (inr refl)))
-TokenAt-unique mode p i (Byte b) Free j m e f = absurd (byte_lead p i b j star e (run_lead p i m f.run) (inl refl))
-TokenAt-unique mode p i (Byte b) Local j m e f = absurd (byte_lead p i b j star e (run_lead p i m f.run) (inl refl))
+TokenAt-unique mode p i (Byte b) Free j m e f = absurd (byte_lead p i b j star e (run_lead p i m f.0) (inl refl))
+TokenAt-unique mode p i (Byte b) Local j m e f = absurd (byte_lead p i b j star e (run_lead p i m f.0) (inl refl))
 TokenAt-unique mode p i (Byte b) Dirs j m e f = absurd (byte_lead p i b j star e (run_lead p i f.run_end f.run) (inl refl))
 TokenAt-unique mode p i (Byte b) Nothing j m e f = absurd (byte_or_broken p i b j e f.0)
 TokenAt-unique mode p i Any (Byte c) j m e f = absurd (byte_lead p i c m question_mark f e.0 (inr (inl refl)))
 TokenAt-unique mode p i Any Any j m e f = (refl, e.1 ∙ sym f.1)
 TokenAt-unique mode p i Any (OneOf t) j m e f = absurd (two_bytes p i question_mark open_bracket e.0 f.bracket (λ h. omega arith))
-TokenAt-unique mode p i Any Free j m e f = absurd (two_bytes p i question_mark star e.0 (run_lead p i m f.run) (λ h. omega arith))
-TokenAt-unique mode p i Any Local j m e f = absurd (two_bytes p i question_mark star e.0 (run_lead p i m f.run) (λ h. omega arith))
+TokenAt-unique mode p i Any Free j m e f = absurd (two_bytes p i question_mark star e.0 (run_lead p i m f.0) (λ h. omega arith))
+TokenAt-unique mode p i Any Local j m e f = absurd (two_bytes p i question_mark star e.0 (run_lead p i m f.0) (λ h. omega arith))
 TokenAt-unique mode p i Any Dirs j m e f = absurd (two_bytes p i question_mark star e.0 (run_lead p i f.run_end f.run) (λ h. omega arith))
 TokenAt-unique mode p i Any Nothing j m e f = absurd (broken_lead p i question_mark f.0 e.0 (inr refl))
 TokenAt-unique mode p i (OneOf s) (Byte c) j m e f = absurd (byte_lead p i c m open_bracket f e.bracket (inr (inr refl)))
 TokenAt-unique mode p i (OneOf s) Any j m e f = absurd (two_bytes p i open_bracket question_mark e.bracket f.0 (λ h. omega arith))
 TokenAt-unique mode p i (OneOf s) (OneOf t) j m e f = let same = SetAt-unique p i s t j m e f in (ap OneOf same.0, same.1)
-TokenAt-unique mode p i (OneOf s) Free j m e f = absurd (two_bytes p i open_bracket star e.bracket (run_lead p i m f.run) (λ h. omega arith))
-TokenAt-unique mode p i (OneOf s) Local j m e f = absurd (two_bytes p i open_bracket star e.bracket (run_lead p i m f.run) (λ h. omega arith))
+TokenAt-unique mode p i (OneOf s) Free j m e f = absurd (two_bytes p i open_bracket star e.bracket (run_lead p i m f.0) (λ h. omega arith))
+TokenAt-unique mode p i (OneOf s) Local j m e f = absurd (two_bytes p i open_bracket star e.bracket (run_lead p i m f.0) (λ h. omega arith))
 TokenAt-unique mode p i (OneOf s) Dirs j m e f = absurd (two_bytes p i open_bracket star e.bracket (run_lead p i f.run_end f.run) (λ h. omega arith))
 TokenAt-unique mode p i (OneOf s) Nothing j m e f = absurd (set_or_broken p i s j e f.0)
-TokenAt-unique mode p i Free (Byte c) j m e f = absurd (byte_lead p i c m star f (run_lead p i j e.run) (inl refl))
-TokenAt-unique mode p i Free Any j m e f = absurd (two_bytes p i star question_mark (run_lead p i j e.run) f.0 (λ h. omega arith))
-TokenAt-unique mode p i Free (OneOf t) j m e f = absurd (two_bytes p i star open_bracket (run_lead p i j e.run) f.bracket (λ h. omega arith))
-TokenAt-unique mode p i Free Free j m e f = (refl, IsRun-unique p i j m e.run f.run)
+TokenAt-unique mode p i Free (Byte c) j m e f = absurd (byte_lead p i c m star f (run_lead p i j e.0) (inl refl))
+TokenAt-unique mode p i Free Any j m e f = absurd (two_bytes p i star question_mark (run_lead p i j e.0) f.0 (λ h. omega arith))
+TokenAt-unique mode p i Free (OneOf t) j m e f = absurd (two_bytes p i star open_bracket (run_lead p i j e.0) f.bracket (λ h. omega arith))
+TokenAt-unique mode p i Free Free j m e f = (refl, IsRun-unique p i j m e.0 f.0)
 TokenAt-unique mode p i Free Local j m e f = absurd (free_or_local mode p i j m e f)
 TokenAt-unique mode p i Free Dirs j m e f = absurd (free_or_dirs mode p i j m e f)
-TokenAt-unique mode p i Free Nothing j m e f = absurd (broken_lead p i star f.0 (run_lead p i j e.run) (inl refl))
-TokenAt-unique mode p i Local (Byte c) j m e f = absurd (byte_lead p i c m star f (run_lead p i j e.run) (inl refl))
-TokenAt-unique mode p i Local Any j m e f = absurd (two_bytes p i star question_mark (run_lead p i j e.run) f.0 (λ h. omega arith))
-TokenAt-unique mode p i Local (OneOf t) j m e f = absurd (two_bytes p i star open_bracket (run_lead p i j e.run) f.bracket (λ h. omega arith))
+TokenAt-unique mode p i Free Nothing j m e f = absurd (broken_lead p i star f.0 (run_lead p i j e.0) (inl refl))
+TokenAt-unique mode p i Local (Byte c) j m e f = absurd (byte_lead p i c m star f (run_lead p i j e.0) (inl refl))
+TokenAt-unique mode p i Local Any j m e f = absurd (two_bytes p i star question_mark (run_lead p i j e.0) f.0 (λ h. omega arith))
+TokenAt-unique mode p i Local (OneOf t) j m e f = absurd (two_bytes p i star open_bracket (run_lead p i j e.0) f.bracket (λ h. omega arith))
 TokenAt-unique mode p i Local Free j m e f = absurd (free_or_local mode p i m j f e)
-TokenAt-unique mode p i Local Local j m e f = (refl, IsRun-unique p i j m e.run f.run)
+TokenAt-unique mode p i Local Local j m e f = (refl, IsRun-unique p i j m e.0 f.0)
 TokenAt-unique mode p i Local Dirs j m e f = absurd (local_or_dirs mode p i j m e f)
-TokenAt-unique mode p i Local Nothing j m e f = absurd (broken_lead p i star f.0 (run_lead p i j e.run) (inl refl))
+TokenAt-unique mode p i Local Nothing j m e f = absurd (broken_lead p i star f.0 (run_lead p i j e.0) (inl refl))
 TokenAt-unique mode p i Dirs (Byte c) j m e f = absurd (byte_lead p i c m star f (run_lead p i e.run_end e.run) (inl refl))
 TokenAt-unique mode p i Dirs Any j m e f = absurd (two_bytes p i star question_mark (run_lead p i e.run_end e.run) f.0 (λ h. omega arith))
 TokenAt-unique mode p i Dirs (OneOf t) j m e f = absurd (two_bytes p i star open_bracket (run_lead p i e.run_end e.run) f.bracket (λ h. omega arith))
@@ -137,8 +137,8 @@ TokenAt-unique mode p i Dirs Nothing j m e f = absurd (broken_lead p i star f.0 
 TokenAt-unique mode p i Nothing (Byte c) j m e f = absurd (byte_or_broken p i c m f e.0)
 TokenAt-unique mode p i Nothing Any j m e f = absurd (broken_lead p i question_mark e.0 f.0 (inr refl))
 TokenAt-unique mode p i Nothing (OneOf t) j m e f = absurd (set_or_broken p i t m f e.0)
-TokenAt-unique mode p i Nothing Free j m e f = absurd (broken_lead p i star e.0 (run_lead p i m f.run) (inl refl))
-TokenAt-unique mode p i Nothing Local j m e f = absurd (broken_lead p i star e.0 (run_lead p i m f.run) (inl refl))
+TokenAt-unique mode p i Nothing Free j m e f = absurd (broken_lead p i star e.0 (run_lead p i m f.0) (inl refl))
+TokenAt-unique mode p i Nothing Local j m e f = absurd (broken_lead p i star e.0 (run_lead p i m f.0) (inl refl))
 TokenAt-unique mode p i Nothing Dirs j m e f = absurd (broken_lead p i star e.0 (run_lead p i f.run_end f.run) (inl refl))
 TokenAt-unique mode p i Nothing Nothing j m e f = (refl, e.1 ∙ sym f.1)
 
@@ -148,8 +148,8 @@ TokenAt-inside mode p i (Byte b) j (inl e) = e.0.escape.inside
 TokenAt-inside mode p i (Byte b) j (inr e) = e.0.inside
 TokenAt-inside mode p i Any j e = e.0.inside
 TokenAt-inside mode p i (OneOf s) j e = e.bracket.inside
-TokenAt-inside mode p i Free j e = (run_lead p i j e.run).inside
-TokenAt-inside mode p i Local j e = (run_lead p i j e.run).inside
+TokenAt-inside mode p i Free j e = (run_lead p i j e.0).inside
+TokenAt-inside mode p i Local j e = (run_lead p i j e.0).inside
 TokenAt-inside mode p i Dirs j e = (run_lead p i e.run_end e.run).inside
 TokenAt-inside mode p i Nothing j (inl e, after) = e.0.inside
 TokenAt-inside mode p i Nothing j (inr e, after) = e.0.inside

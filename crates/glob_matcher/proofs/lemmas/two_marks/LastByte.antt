@@ -33,8 +33,8 @@ last_token mode p i (Byte b) j (inr e) end alone = inl (ap Byte (sym (last_is p 
 last_token mode p i Any j e end alone = absurd (alone.1 (last_is p i question_mark (omega (arith, e.1)) e.0))
 last_token mode p i (OneOf s) j e end alone =
     absurd (alone.2 (last_is p e.close close_bracket (omega (arith, e.after)) (items_close p _ _ _ _ _ e.items)))
-last_token mode p i Free j e end alone = absurd (alone.0 (run_last p i j e.run end))
-last_token mode p i Local j e end alone = absurd (alone.0 (run_last p i j e.run end))
+last_token mode p i Free j e end alone = absurd (alone.0 (run_last p i j e.0 end))
+last_token mode p i Local j e end alone = absurd (alone.0 (run_last p i j e.0 end))
 last_token mode p i Dirs j e end alone = absurd (alone.3 (last_is p e.run_end slash (omega (arith, e.after)) e.slash))
 last_token mode p i Nothing j e end alone = inr refl
 
@@ -86,5 +86,5 @@ lone_star mode p v plain one here =
       stars = λ k low high. subst (λ (n : ℕ). HasByte p n star) (omega arith) here;
       whole = λ more. let inside = more.inside in absurd (omega arith);
     } in
-    free_in mode p v 0 1 0 (length v) (record { run = run; bounded = λ path. cc }) (omega arith) (omega arith)
+    free_in mode p v 0 1 0 (length v) (run, λ path. cc) (omega arith) (omega arith)
     (end_in mode p v 1 (length v) (omega arith) (omega arith))

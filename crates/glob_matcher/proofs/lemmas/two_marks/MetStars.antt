@@ -38,12 +38,12 @@ pub free_known : {mode : Mode} {p : List ℕ} (v : List ℕ) {i j : ℕ} → Tok
     → FreeKnown mode p v j
 free_known {mode} {p} v {j} here j_low more = record {
   low = j_low;
-  start = run_end_not_after here.run;
+  start = run_end_not_after here.0;
   far = λ k e past t n token apart. far (is_path mode) refl k e past t n token apart;
 } where
   slash_follows : IsTrue (is_path mode) → IsBeforeSlash p j → (t : Token) (n : ℕ) → TokenAt mode p j t n → separates mode t ≡ true
   slash_follows path (inl last) t n token = absurd (more last)
-  slash_follows path (inr (inl bare)) t n token = absurd ((here.bounded path).1 bare)
+  slash_follows path (inr (inl bare)) t n token = absurd ((here.1 path).1 bare)
   slash_follows path (inr (inr escaped)) t n token =
       let same = TokenAt-unique mode p j t (Byte slash) n (j + 2) token (inl (escaped, refl)) in
       subst (λ (u : Token). separates mode u ≡ true) (sym same.0) (ends-at_slash mode slash refl)
@@ -51,7 +51,7 @@ free_known {mode} {p} v {j} here j_low more = record {
   far : (path : Bool) → is_path mode ≡ path → (k e : ℕ) → k < e → (t : Token) (n : ℕ) → TokenAt mode p j t n
       → separates mode t ≡ false → next_component mode v k ≤ e
   far true path k e past t n token apart =
-      let yes : separates mode t ≡ true = slash_follows path ((here.bounded path).0.after) t n token in
+      let yes : separates mode t ≡ true = slash_follows path ((here.1 path).0.after) t n token in
       let wrong : true ≡ false = sym yes ∙ apart in cc
   far false plain k e past t n token apart =
       let one : next_component mode v k ≡ k + 1 = next-plain mode v k plain in omega arith
@@ -165,7 +165,7 @@ module _ {mode : Mode} {p v : List ℕ} where
             record { e = out.0; far = omega (arith, out.1); inside = out.2; splits = out.4 }
 
         start : ¬ IsAfterSlash p j
-        start = run_end_not_after here.run
+        start = run_end_not_after here.0
 
         made : StandsAt mode p v (record state { place = j; local = Some (mark_of j state.at) })
         made = record {
@@ -184,7 +184,7 @@ module _ {mode : Mode} {p v : List ℕ} where
           ahead = λ later. far_ahead start (far later);
           crossing = st.crossing;
           local = record {
-            path = here.path;
+            path = here.1;
             low = j_low;
             here = start;
             start = start;

@@ -122,7 +122,7 @@ attempt-try_everywhere-requires t c =
     let s = c.token_at-token in
     let here : TokenAt c.args.self.now.mode p c.tokens.place Free s.result.end = is_free s.ensures c.in-Free.is in
     let start : IsStart p s.result.end c.args.self.now.mode = record { place = inl (start_next Free s.result.end c.tokens.invariant.start here) } in
-    (search rules, (start, (here.run.whole, (c.tokens.invariant.value_high, omega arith))))
+    (search rules, (start, (here.0.whole, (c.tokens.invariant.value_high, omega arith))))
 
 pub attempt-try_component-requires : goal.attempt-try_component-requires
 attempt-try_component-requires t c =
@@ -130,7 +130,7 @@ attempt-try_component-requires t c =
     let s = c.token_at-token in
     let here : TokenAt c.args.self.now.mode p c.tokens.place Local s.result.end = is_local s.ensures c.in-Local.is in
     let start : IsStart p s.result.end c.args.self.now.mode = record { place = inl (start_next Local s.result.end c.tokens.invariant.start here) } in
-    (search rules, (start, (here.run.whole, (c.tokens.invariant.value_high, omega arith))))
+    (search rules, (start, (here.0.whole, (c.tokens.invariant.value_high, omega arith))))
 
 pub attempt-try_directories-requires : goal.attempt-try_directories-requires
 attempt-try_directories-requires t c =
