@@ -8,14 +8,18 @@ mod barrier;
 mod counted_text;
 mod counted_texts;
 mod counts;
+mod ends;
 mod engine;
+mod fitting;
 mod items;
+mod marks;
 mod mode;
 mod needle;
 #[cfg(test)]
 mod plain;
 mod pruned;
 mod scan;
+mod search;
 mod set_apart;
 mod sets;
 pub(crate) mod slices;
