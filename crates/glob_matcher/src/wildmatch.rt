@@ -31,13 +31,14 @@ mod tokens;
 mod turns;
 mod two_marks;
 
+pub use counted_text::CountedText;
 pub use counted_texts::CountedTexts;
 pub use counts::Counts;
 pub use mode::Mode;
 pub use pruned::{Answer, attempt, is_start, recursive};
 use std::marker::Brand;
 use std::sync::ledger::{Blank, Ledger};
-pub use texts::Texts;
+pub use texts::{Texts, text_is_short};
 pub use two_marks::marked;
 
 /// Whether `pattern` matches the whole of `value`, both as bytes of any kind, in `mode`.

@@ -44,7 +44,7 @@ impl<'c, 'a, S: Ledger, L: Ledger, M: Texts> CountedTexts<'c, 'a, S, L, M> {
 
     /// The same, of texts that are counted already.
     #[inline(always)]
-    pub(super) fn of(
+    pub fn of(
         pattern: CountedText<'a, S, L>,
         value: CountedText<'a, S, L>,
         counts: &'c mut Counts<S, L>,
