@@ -8,14 +8,18 @@ mod barrier;
 mod counted_text;
 mod counted_texts;
 mod counts;
+mod ends;
 mod engine;
+mod fitting;
 mod items;
+mod marks;
 mod mode;
 mod needle;
 #[cfg(test)]
 mod plain;
 mod pruned;
 mod scan;
+mod search;
 mod set_apart;
 mod sets;
 pub(crate) mod slices;
@@ -27,13 +31,14 @@ mod tokens;
 mod turns;
 mod two_marks;
 
+pub use counted_text::CountedText;
 pub use counted_texts::CountedTexts;
 pub use counts::Counts;
 pub use mode::Mode;
 pub use pruned::{Answer, attempt, is_start, recursive};
 use std::marker::Brand;
 use std::sync::ledger::{Blank, Ledger};
-pub use texts::Texts;
+pub use texts::{Texts, text_is_short};
 pub use two_marks::marked;
 
 /// Whether `pattern` matches the whole of `value`, both as bytes of any kind, in `mode`.

@@ -1,5 +1,5 @@
 //! The texts of a match and its counts as one value. What reads a byte of one is `counted_text`.
-ghost use Rattle.std.specs.Prelude.{◌≡◌, ◌<◌, ◌≤◌, MatchOption, [], length, slice_index};
+ghost use Rattle.std.specs.Prelude.{◌≡◌, ◌<◌, ◌≤◌, MatchOption, length, slice_index};
 ghost use Rattle.glob_matcher.specs.Bytes.{HasByte};
 ghost use Rattle.glob_matcher.specs.Private.Takes.{TakesExactly, looks_at};
 
@@ -39,25 +39,24 @@ impl<'c, 'a, S: Ledger, L: Ledger, M: Texts> CountedTexts<'c, 'a, S, L, M> {
         requires counts { counts.ghost_name ≡ M.counts }
         ensures { result ≡ counts.old }
     {
-        CountedTexts {
-            pattern: CountedText::new(pattern),
-            value: CountedText::new(value),
-            counts,
-            of: PhantomData,
-        }
+        CountedTexts::of(CountedText::new(pattern), CountedText::new(value), counts)
     }
 
-    /// The same of a pattern alone, and no value.
+    /// The same, of texts that are counted already.
     #[inline(always)]
-    pub(super) fn of_pattern(pattern: CountedText<'a, S, L>, counts: &'c mut Counts<S, L>) -> Self
+    pub fn of(
+        pattern: CountedText<'a, S, L>,
+        value: CountedText<'a, S, L>,
+        counts: &'c mut Counts<S, L>,
+    ) -> Self
         requires pattern { pattern ≡ M.pattern }
-        requires value { M.value ≡ [] }
+        requires value { value ≡ M.value }
         requires counts { counts.ghost_name ≡ M.counts }
         ensures { result ≡ counts.old }
     {
         CountedTexts {
             pattern,
-            value: CountedText::new(&[]),
+            value,
             counts,
             of: PhantomData,
         }

@@ -49,7 +49,7 @@ fn read_set<'c, 'a, S: Ledger, L: Ledger, M: Texts>(
     ensures count { LookedOver 4 counts.old result.1.now place (read_end M.pattern result.0) }
     ensures looked { IfSome result.0 (λ set. counts.old.looks < result.1.now.looks) }
 {
-    let texts = CountedTexts::<'c, 'a, S, L, M>::of_pattern(pattern, counts);
+    let texts = CountedTexts::<'c, 'a, S, L, M>::of(pattern, CountedText::new(&[]), counts);
     let mut engine = Engine::new(texts, mode);
     let set = engine.set_at(place, byte);
     (set, engine.into_counts())

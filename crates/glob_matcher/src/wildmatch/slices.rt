@@ -8,10 +8,10 @@ ghost use Rattle.glob_matcher.specs.Steps.{IsBlankOf};
 
 use super::counted_texts::CountedTexts;
 use super::counts::Counts;
-use super::engine::{Engine, text_is_short};
+use super::engine::Engine;
 use super::mode::Mode;
 use super::sets::SetRead;
-use super::texts::Texts;
+use super::texts::{Texts, text_is_short};
 use super::tokens::{TokenKind, TokenRead};
 use std::marker::Brand;
 use std::sync::ledger::{Blank, Ledger};
