@@ -27,6 +27,7 @@ mod two_marks;
 
 pub use counted_texts::CountedTexts;
 pub use counts::Counts;
+pub use engine::text_is_short;
 pub use mode::Mode;
 pub use pruned::{Answer, attempt, is_start, recursive};
 use std::marker::Brand;

@@ -30,7 +30,7 @@ impl Pattern {
     ghost use Rattle.std.specs.Prelude.{◌+◌, ◌≤◌, length};
     ghost use Rattle.std.specs.Option.{ForSome};
     ghost use Rattle.glob_matcher.specs.Bytes.{HasByte, slash};
-    ghost use Rattle.glob_matcher.specs.Steps.{pattern_look_limit, step_limit};
+    ghost use Rattle.glob_matcher.specs.Steps.{NeverFall, pattern_look_limit, step_limit};
     ghost use Rattle.glob_patterns.specs.PatternParts.{text_of, mode_of};
     ghost use Rattle.glob_patterns.specs.RepositoryPaths.{IsAfterLastSlash, Answers};
 
@@ -59,7 +59,7 @@ impl Pattern {
     /// looks counted.
     ///
     /// The count of steps rises by at most `2 * (p + 1) * (v + 1)`, and that of looks by at most `10 * (p + 1) * (v + 1)`, `p` and
-    /// `v` being the lengths in bytes of text and path.
+    /// `v` being the lengths in bytes of text and path. No count falls.
     pub fn matches_repo_relative_path_with_counts<S: Ledger, L: Ledger>(
         &self,
         path: &[u8],
@@ -74,6 +74,7 @@ impl Pattern {
         ensures exact { IsTrue result ↔ Answers (text_of self.now) (mode_of self.now) path.now basename_start_pos is_dir case mode }
         ensures steps { counts.new.steps ≤ counts.old.steps + step_limit (length (text_of self.now)) (length path.now) }
         ensures looks { counts.new.looks ≤ counts.old.looks + pattern_look_limit (length (text_of self.now)) (length path.now) }
+        ensures grows { NeverFall counts.old counts.new }
     {
         self.view()
             .matches_repo_relative_path_with_counts(
