@@ -2,7 +2,7 @@
 ghost use Rattle.std.specs.Prelude.{◌≡◌, ◌↔◌, IsTrue};
 ghost use Rattle.glob_patterns.specs.RepositoryPaths.{IsBasenameStart, with_case};
 
-use super::{Case, Pattern};
+use super::{Case, Mode, Pattern};
 use bitflags::Flags;
 use glob_matcher::wildmatch;
 use glob_matcher::wildmatch::Counts;
@@ -23,6 +23,32 @@ pub(super) fn with_case(mode: wildmatch::Mode, case: Case) -> wildmatch::Mode
     match case {
         Case::Sensitive => mode,
         Case::Fold => mode.union(wildmatch::Mode::IGNORE_CASE),
+    }
+}
+
+/// What is asked of a pattern: whether it matches this path of a repository.
+#[derive(Copy, Clone)]
+pub(super) struct Asked<'p> {
+    pub(super) path: &'p [u8],
+    pub(super) basename_start_pos: Option<usize>,
+    pub(super) is_dir: Option<bool>,
+    pub(super) case: Case,
+    pub(super) mode: wildmatch::Mode,
+}
+
+impl<'p> Asked<'p> {
+    ghost use Rattle.std.specs.Option.{ForSome};
+    ghost use Rattle.glob_patterns.specs.RepositoryPaths.{IsAfterLastSlash, subject};
+
+    /// The bytes of the path that a pattern of this mode looks at.
+    pub(super) fn subject(self, pattern_mode: Mode) -> &'p [u8]
+        requires { ForSome self.basename_start_pos (IsAfterLastSlash self.path.now) }
+        ensures { result.now ≡ subject pattern_mode self.entry.path.now self.entry.basename_start_pos }
+    {
+        match self.basename_start_pos {
+            Some(start) if pattern_mode.looks_at_name() => &self.path[start..],
+            _ => self.path,
+        }
     }
 }
 

@@ -6,10 +6,11 @@ ghost use Rattle.glob_matcher.specs.Matching.{Splits};
 ghost use Rattle.glob_matcher.specs.Private.Takes.{Takes};
 ghost use Rattle.glob_matcher.specs.Steps.{IsBlankOf, NeverFall, pattern_look_limit, step_limit};
 ghost use Rattle.glob_patterns.specs.Patterns.{HasReading, IsPattern, Reads, is_blank, without_negation};
-ghost use Rattle.glob_patterns.specs.RepositoryPaths.{Answers, IsAfterLastSlash, subject};
+ghost use Rattle.glob_patterns.specs.RepositoryPaths.{Answers, IsAfterLastSlash};
+ghost use Rattle.glob_patterns.specs.Private.Asked.{IsAnswered};
 
 use super::comparisons::Comparison;
-use super::paths::with_case;
+use super::paths::{Asked, with_case};
 use super::{Case, Mode};
 use crate::parse;
 use bitflags::Flags;
@@ -56,7 +57,7 @@ impl<'a> PatternView<'a> {
         ensures { IsPattern self.entry.text.now self.entry.mode self.entry.first_wildcard_pos →
             IsTrue result ↔ Splits value.now self.entry.text.now mode }
     {
-        self.matches_with_new_counts::<Brand, Brand>(value, mode, Blank::new(1), Blank::new(1))
+        self.matches_with_new_counts::<Brand, Brand>(value, mode, (Blank::new(1), Blank::new(1)))
     }
 
     /// Whether the text matches the value, with new counts that no one asks for.
@@ -65,15 +66,14 @@ impl<'a> PatternView<'a> {
         self,
         value: &[u8],
         mode: wildmatch::Mode,
-        steps: Blank,
-        looks: Blank,
+        blanks: (Blank, Blank),
     ) -> bool
-        requires steps { IsBlankOf S.name S.parts steps }
-        requires looks { IsBlankOf L.name L.parts looks }
+        requires steps { IsBlankOf S.name S.parts blanks.0 }
+        requires looks { IsBlankOf L.name L.parts blanks.1 }
         ensures { IsPattern self.entry.text.now self.entry.mode self.entry.first_wildcard_pos →
             IsTrue result ↔ Splits value.now self.entry.text.now mode }
     {
-        self.matches_with_counts(value, mode, &mut Counts::<S, L>::new(steps, looks))
+        self.matches_with_counts(value, mode, &mut Counts::<S, L>::new(blanks.0, blanks.1))
     }
 
     /// Whether the text matches the value, as [`PatternView::matches`] answers it, with its steps and looks counted.
@@ -143,44 +143,30 @@ impl<'a> PatternView<'a> {
         ensures { IsPattern self.entry.text.now self.entry.mode self.entry.first_wildcard_pos →
             IsTrue result ↔ Answers self.entry.text.now self.entry.mode path.now basename_start_pos is_dir case mode }
     {
-        let blanks = (Blank::new(1), Blank::new(1));
-        self.matches_path_with_new_counts::<Brand, Brand>(
+        let asked = Asked {
             path,
             basename_start_pos,
             is_dir,
             case,
             mode,
-            blanks,
-        )
+        };
+        self.answers_with_new_counts::<Brand, Brand>(asked, (Blank::new(1), Blank::new(1)))
     }
 
     /// Whether a path of a repository matches, with new counts that no one asks for.
     #[inline(always)]
-    fn matches_path_with_new_counts<S: Ledger, L: Ledger>(
+    fn answers_with_new_counts<S: Ledger, L: Ledger>(
         self,
-        path: &[u8],
-        basename_start_pos: Option<usize>,
-        is_dir: Option<bool>,
-        case: Case,
-        mode: wildmatch::Mode,
+        asked: Asked<'_>,
         blanks: (Blank, Blank),
     ) -> bool
-        requires relative { ¬ HasByte path.now 0 slash }
-        requires basename { ForSome basename_start_pos (IsAfterLastSlash path.now) }
+        requires basename { ForSome asked.basename_start_pos (IsAfterLastSlash asked.path.now) }
         requires steps { IsBlankOf S.name S.parts blanks.0 }
         requires looks { IsBlankOf L.name L.parts blanks.1 }
         ensures { IsPattern self.entry.text.now self.entry.mode self.entry.first_wildcard_pos →
-            IsTrue result ↔ Answers self.entry.text.now self.entry.mode path.now basename_start_pos is_dir case mode }
+            IsTrue result ↔ IsAnswered self.entry.text.now self.entry.mode asked.entry }
     {
-        let mut counts = Counts::<S, L>::new(blanks.0, blanks.1);
-        self.matches_repo_relative_path_with_counts(
-            path,
-            basename_start_pos,
-            is_dir,
-            case,
-            mode,
-            &mut counts,
-        )
+        self.answers(asked, &mut Counts::<S, L>::new(blanks.0, blanks.1))
     }
 
     /// Whether a path of a repository matches, as [`PatternView::matches_repo_relative_path`] answers it, with its steps and
@@ -206,23 +192,31 @@ impl<'a> PatternView<'a> {
             ≤ counts.old.looks + pattern_look_limit (length self.entry.text.now) (length path.now) }
         ensures grows { NeverFall counts.old counts.new }
     {
-        if self.mode.contains(Mode::MUST_BE_DIR) && is_dir != Some(true) {
-            return false;
-        }
-        let subject = self.subject(path, basename_start_pos);
-        self.matches_with_counts(subject, with_case(mode, case), counts)
+        let asked = Asked {
+            path,
+            basename_start_pos,
+            is_dir,
+            case,
+            mode,
+        };
+        self.answers(asked, counts)
     }
 
-    /// The bytes of a path that the pattern looks at.
-    fn subject<'p>(self, path: &'p [u8], basename_start_pos: Option<usize>) -> &'p [u8]
-        requires { ForSome basename_start_pos (IsAfterLastSlash path.now) }
-        ensures { result.now ≡ subject self.entry.mode path.now basename_start_pos }
+    /// Whether a path of a repository matches, with its steps and looks counted.
+    #[inline(always)]
+    fn answers<S: Ledger, L: Ledger>(self, asked: Asked<'_>, counts: &mut Counts<S, L>) -> bool
+        requires { ForSome asked.basename_start_pos (IsAfterLastSlash asked.path.now) }
+        ensures exact { IsPattern self.entry.text.now self.entry.mode self.entry.first_wildcard_pos →
+            IsTrue result ↔ IsAnswered self.entry.text.now self.entry.mode asked.entry }
+        ensures steps { counts.new.steps ≤ counts.old.steps + step_limit (length self.entry.text.now) (length asked.entry.path.now) }
+        ensures looks { counts.new.looks
+            ≤ counts.old.looks + pattern_look_limit (length self.entry.text.now) (length asked.entry.path.now) }
+        ensures grows { NeverFall counts.old counts.new }
     {
-        match basename_start_pos {
-            Some(start)
-                if self.mode.contains(Mode::NO_SUB_DIR) && !self.mode.contains(Mode::ABSOLUTE) =>
-                &path[start..],
-            _ => path,
+        if self.mode.contains(Mode::MUST_BE_DIR) && asked.is_dir != Some(true) {
+            return false;
         }
+        let subject = asked.subject(self.mode);
+        self.matches_with_counts(subject, with_case(asked.mode, asked.case), counts)
     }
 }

@@ -1,5 +1,5 @@
 -- Texts of one length that agree byte by byte are alike.
-use Rattle.std.proofs.Common.{rules, sym, ◌∙◌}
+use Rattle.std.proofs.Common.{rules, sym}
 use Rattle.glob_patterns.proofs.lemmas.Agreement.{alike_whole}
 use Rattle.glob_patterns.proofs.pattern.comparisons.Comparison.are_alike.Goals as goal
 
