@@ -1,7 +1,7 @@
 -- How many steps and looks a match takes at most, p and v being the lengths of the pattern and of the value. A step is one
--- token, or the pattern's end, tested at one place of the value; one mark set; or one mark moved by one byte or found unable to
--- move. A look reads at most one byte of the pattern or of the value: it is counted also where the value has none there, and a
--- comparison counts each byte that it may read.
+-- token, or the pattern's end, tested at one place of the value, also where the value has ended, and where the token matches
+-- nothing; one mark set; or one mark moved by one byte or found unable to move. A look reads at most one byte of the pattern or
+-- of the value: it is counted also where the value has none there, and a comparison counts each byte that it may read.
 use Rattle.std.specs.Prelude.{◌≡◌, ℕ, ◌+◌, ◌*◌, ◌<◌, ◌≤◌}
 use Rattle.std.specs.declared.sync.ledger.Blank.{Blank}
 

@@ -5,16 +5,22 @@ ghost use Rattle.glob_matcher.specs.Steps.{IsBlankOf};
 
 mod backtrack;
 mod barrier;
+mod counted_text;
 mod counted_texts;
 mod counts;
+mod ends;
 mod engine;
+mod fitting;
 mod items;
+mod marks;
 mod mode;
 mod needle;
 #[cfg(test)]
 mod plain;
 mod pruned;
 mod scan;
+mod search;
+mod set_apart;
 mod sets;
 pub(crate) mod slices;
 mod state;
@@ -25,6 +31,7 @@ mod tokens;
 mod turns;
 mod two_marks;
 
+pub use counted_text::CountedText;
 pub use counted_texts::CountedTexts;
 pub use counts::Counts;
 pub use engine::text_is_short;
@@ -32,7 +39,7 @@ pub use mode::Mode;
 pub use pruned::{Answer, attempt, is_start, recursive};
 use std::marker::Brand;
 use std::sync::ledger::{Blank, Ledger};
-pub use texts::Texts;
+pub use texts::{Texts, text_is_short};
 pub use two_marks::marked;
 
 /// Whether `pattern` matches the whole of `value`, both as bytes of any kind, in `mode`.

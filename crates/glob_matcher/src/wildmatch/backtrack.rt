@@ -9,7 +9,8 @@ ghost use Rattle.glob_matcher.specs.Private.Budget.{AllowsLeft, AllowsMiss};
 ghost use Rattle.glob_matcher.specs.Private.Turns.{IsBacktrack, IsBacktrackLocal};
 
 use super::barrier::{Barrier, NoBarrier, Slash};
-use super::engine::{Engine, Mark};
+use super::engine::Engine;
+use super::marks::Mark;
 use super::needle::{ExactByte, FoldedByte, Follow, NoByte};
 use super::scan::Scan;
 use super::state::{Crossing, State};

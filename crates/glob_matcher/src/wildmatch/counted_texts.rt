@@ -1,31 +1,21 @@
-//! What can read a byte of a match: its pattern, its value and its counts as one value.
-//!
-//! This module alone sees the two slices, and it hands out none: whoever has the texts reads a byte in a counted look, or
-//! not at all.
-ghost use Rattle.std.specs.Prelude.{◌≡◌, ◌<◌, ◌≤◌, IfSome, MatchOption, [], length, slice_index, slice_range};
-ghost use Rattle.glob_matcher.specs.declared.wildmatch.items.Class.{Class};
-ghost use Rattle.glob_matcher.specs.Bytes.{HasByte, open_bracket};
-ghost use Rattle.glob_matcher.specs.Sets.{name_of};
-ghost use Rattle.glob_matcher.specs.Private.Looks.{LookedAtEach, LookedOver, read_end};
-ghost use Rattle.glob_matcher.specs.Private.Reader.{IsSetRead};
+//! The texts of a match and its counts as one value. What reads a byte of one is `counted_text`.
+ghost use Rattle.std.specs.Prelude.{◌≡◌, ◌<◌, ◌≤◌, MatchOption, length, slice_index};
+ghost use Rattle.glob_matcher.specs.Bytes.{HasByte};
 ghost use Rattle.glob_matcher.specs.Private.Takes.{TakesExactly, looks_at};
 
+use super::counted_text::CountedText;
 use super::counts::Counts;
-use super::engine::Engine;
-use super::items::Class;
-use super::mode::Mode;
-use super::sets::SetRead;
 use super::texts::Texts;
-use std::marker::{Brand, Model, PhantomData};
+use std::marker::{Model, PhantomData};
 use std::sync::ledger::Ledger;
 
 /// The pattern and the value of a match, which can be read in counted looks alone. Contracts see the counts as its value, and
 /// the two texts by `M`.
 #[derive(Drop)]
 pub struct CountedTexts<'c, 'a, S: Ledger, L: Ledger, M: Texts> {
-    pattern: &'a [u8],
-    value: &'a [u8],
-    counts: &'c mut Counts<S, L>,
+    pub(super) pattern: CountedText<'a, S, L>,
+    value: CountedText<'a, S, L>,
+    pub(super) counts: &'c mut Counts<S, L>,
     of: PhantomData<M>,
 }
 
@@ -37,7 +27,7 @@ impl<'c, 'a, S: Ledger, L: Ledger, M: Texts> Model for CountedTexts<'c, 'a, S, L
 
     ghost view = { λ t. t.counts.now };
 
-    ghost invariant = { λ t. (t.pattern.now ≡ M.pattern) × (t.value.now ≡ M.value) × (t.counts.ghost_name ≡ M.counts) };
+    ghost invariant = { λ t. (t.pattern ≡ M.pattern) × (t.value ≡ M.value) × (t.counts.ghost_name ≡ M.counts) };
 }
 
 impl<'c, 'a, S: Ledger, L: Ledger, M: Texts> CountedTexts<'c, 'a, S, L, M> {
@@ -46,6 +36,21 @@ impl<'c, 'a, S: Ledger, L: Ledger, M: Texts> CountedTexts<'c, 'a, S, L, M> {
     pub fn new(pattern: &'a [u8], value: &'a [u8], counts: &'c mut Counts<S, L>) -> Self
         requires pattern { pattern.now ≡ M.pattern }
         requires value { value.now ≡ M.value }
+        requires counts { counts.ghost_name ≡ M.counts }
+        ensures { result ≡ counts.old }
+    {
+        CountedTexts::of(CountedText::new(pattern), CountedText::new(value), counts)
+    }
+
+    /// The same, of texts that are counted already.
+    #[inline(always)]
+    pub fn of(
+        pattern: CountedText<'a, S, L>,
+        value: CountedText<'a, S, L>,
+        counts: &'c mut Counts<S, L>,
+    ) -> Self
+        requires pattern { pattern ≡ M.pattern }
+        requires value { value ≡ M.value }
         requires counts { counts.ghost_name ≡ M.counts }
         ensures { result ≡ counts.old }
     {
@@ -99,8 +104,7 @@ impl<'c, 'a, S: Ledger, L: Ledger, M: Texts> CountedTexts<'c, 'a, S, L, M> {
         if place >= self.pattern.len() {
             return None;
         }
-        self.counts.look();
-        Some(self.pattern[place])
+        self.pattern.at(place, self.counts)
     }
 
     /// The byte at a place inside the pattern, in one look.
@@ -110,8 +114,7 @@ impl<'c, 'a, S: Ledger, L: Ledger, M: Texts> CountedTexts<'c, 'a, S, L, M> {
         ensures here { result ≡ slice_index M.pattern place }
         ensures count { TakesExactly self.old self.new 0 1 }
     {
-        self.counts.look();
-        self.pattern[place]
+        self.pattern.byte(place, self.counts)
     }
 
     /// The byte at a place of the value, in one look, which counts also past its end.
@@ -120,11 +123,7 @@ impl<'c, 'a, S: Ledger, L: Ledger, M: Texts> CountedTexts<'c, 'a, S, L, M> {
         ensures byte { MatchOption result (length M.value ≤ at) (HasByte M.value at) }
         ensures count { TakesExactly self.old self.new 0 1 }
     {
-        self.counts.look();
-        if at >= self.value.len() {
-            return None;
-        }
-        Some(self.value[at])
+        self.value.at(at, self.counts)
     }
 
     /// The byte at a place inside the value, in one look.
@@ -134,56 +133,6 @@ impl<'c, 'a, S: Ledger, L: Ledger, M: Texts> CountedTexts<'c, 'a, S, L, M> {
         ensures here { result ≡ slice_index M.value at }
         ensures count { TakesExactly self.old self.new 0 1 }
     {
-        self.counts.look();
-        self.value[at]
+        self.value.byte(at, self.counts)
     }
-
-    /// The class that the bytes from one place of the pattern up to another name, in a look at each of them.
-    pub fn class_named(&mut self, from: usize, to: usize) -> Option<Class>
-        requires order { from ≤ to }
-        requires inside { to ≤ length M.pattern }
-        ensures class { MatchOption result ((class : Class) → ¬ (slice_range M.pattern from to ≡ name_of class))
-            (λ class. slice_range M.pattern from to ≡ name_of class) }
-        ensures count { LookedAtEach self.old self.new from to }
-    {
-        self.counts.looks(to - from);
-        Class::named(&self.pattern[from..to])
-    }
-
-    /// The set whose bracket stands at a place of the pattern, read for a byte by texts of its own, so that these may stay in
-    /// registers; `None` where no set begins.
-    #[inline(always)]
-    pub fn set_apart(&mut self, place: usize, byte: u8, mode: Mode) -> Option<SetRead>
-        requires { HasByte M.pattern place open_bracket }
-        ensures read { IsSetRead mode M.pattern place byte result }
-        ensures count { LookedOver 4 self.old self.new place (read_end M.pattern result) }
-        ensures looked { IfSome result (λ set. self.old.looks < self.new.looks) }
-    {
-        read_set::<S, L, Brand>(self.pattern, place, byte, mode, &mut *self.counts).0
-    }
-}
-
-/// Reads a set by texts without a value, and hands the counts back.
-#[inline(never)]
-fn read_set<'c, 'a, S: Ledger, L: Ledger, M: Texts>(
-    pattern: &'a [u8],
-    place: usize,
-    byte: u8,
-    mode: Mode,
-    counts: &'c mut Counts<S, L>,
-) -> (Option<SetRead>, &'c mut Counts<S, L>)
-    requires pattern { pattern.now ≡ M.pattern }
-    requires value { M.value ≡ [] }
-    requires mode { mode ≡ M.mode }
-    requires counts { counts.ghost_name ≡ M.counts }
-    requires bracket { HasByte pattern.now place open_bracket }
-    ensures read { IsSetRead mode pattern.now place byte result.0 }
-    ensures same { result.1.ghost_name ≡ counts.entry.ghost_name }
-    ensures count { LookedOver 4 counts.old result.1.now place (read_end pattern.now result.0) }
-    ensures looked { IfSome result.0 (λ set. counts.old.looks < result.1.now.looks) }
-{
-    let texts = CountedTexts::<'c, 'a, S, L, M>::new(pattern, &[], counts);
-    let mut engine = Engine::new(texts, mode);
-    let set = engine.set_at(place, byte);
-    (set, engine.into_counts())
 }

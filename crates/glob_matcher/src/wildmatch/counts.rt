@@ -44,9 +44,9 @@ impl<L: Ledger> Count<L> {
 
 /// How many steps and how many looks were taken, each in a ledger of its own.
 ///
-/// A step is one token, or the pattern's end, tested at one place of the value; one mark set; or one mark moved by one byte
-/// or found unable to move. A look reads at most one byte of the pattern or of the value: it is counted also where the
-/// value has none there. The bounds are in `docs/ENGINES.md`.
+/// A step is one token, or the pattern's end, tested at one place of the value, also where the value has ended, and where the
+/// token matches nothing; one mark set; or one mark moved by one byte or found unable to move. A look reads at most one byte of
+/// the pattern or of the value: it is counted also where the value has none there. The bounds are in `docs/ENGINES.md`.
 #[derive(Drop)]
 pub struct Counts<S: Ledger, L: Ledger> {
     steps: Count<S>,
@@ -100,7 +100,7 @@ impl<S: Ledger, L: Ledger> Counts<S, L> {
         self.looks.add(1);
     }
 
-    /// Counts looks at so many bytes. A caller that decides a match without the matcher counts in this way what it reads.
+    /// Counts looks at so many bytes. A caller that answers without the matcher counts in this way what it reads.
     #[inline(always)]
     pub fn looks(&mut self, count: usize)
         ensures steps { self.new.steps ≡ self.old.steps }

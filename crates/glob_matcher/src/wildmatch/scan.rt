@@ -3,7 +3,8 @@ ghost use Rattle.std.specs.Prelude.{◌+◌, ◌<◌, ◌≤◌, length};
 ghost use Rattle.glob_matcher.specs.Private.Scans.{IsScan, MovesBy};
 
 use super::barrier::Barrier;
-use super::engine::{Engine, Mark};
+use super::engine::Engine;
+use super::marks::Mark;
 use super::needle::Needle;
 use super::texts::Texts;
 use std::sync::ledger::Ledger;

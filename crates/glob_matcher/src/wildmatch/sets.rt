@@ -2,16 +2,17 @@
 //!
 //! Each `[:` wants to know where the first `]` after it is. That one stays the first for each later `[:` before it, so it is
 //! looked for only where it isn't known.
-ghost use Rattle.std.specs.Prelude.{◌↔◌, ℕ, ◌+◌, ◌-◌, ◌<◌, ◌≤◌, IsTrue, IfSome, MatchOption, Option, Some, length, not, ◌&&◌, ◌==◌, ◌≡◌, if◌then◌else◌};
+ghost use Rattle.std.specs.Prelude.{◌↔◌, ℕ, ◌+◌, ◌-◌, ◌<◌, ◌≤◌, IsTrue, IfSome, MatchOption, Option, Some, length, slice_range, not, ◌&&◌, ◌==◌, ◌≡◌, if◌then◌else◌};
 ghost use Rattle.glob_matcher.specs.Bytes.{HasByte, IsEscaped, is_path, open_bracket, backslash, slash};
 ghost use Rattle.glob_matcher.specs.Private.Spelling.{close_bracket, colon, dash, IsSign};
-ghost use Rattle.glob_matcher.specs.Sets.{BeginsRange, BeginsClass, IsFirstFrom, IsUpperEnd};
+ghost use Rattle.glob_matcher.specs.declared.wildmatch.items.Class.{Class};
+ghost use Rattle.glob_matcher.specs.Sets.{BeginsRange, BeginsClass, IsFirstFrom, IsUpperEnd, name_of};
 ghost use Rattle.glob_matcher.specs.Private.Takes.{Takes, TakesExactly, looks_at};
 ghost use Rattle.glob_matcher.specs.Private.Looks.{LookedAtEach, LookedOver, IsItemRead, IsKnown, IsPaidFor, read_end, search_front};
 ghost use Rattle.glob_matcher.specs.Private.Reader.{IsEntry, IsSetRead, after_item, at_first, first_item};
 
 use super::engine::Engine;
-use super::items::Item;
+use super::items::{Class, ClassName, Item};
 use super::mode::Mode;
 use super::texts::Texts;
 use std::sync::ledger::Ledger;
@@ -178,6 +179,28 @@ impl<'c, 'a, S: Ledger, L: Ledger, M: Texts> Engine<'c, 'a, S, L, M> {
             return false;
         }
         self.pattern_byte(end - 1) == b':'
+    }
+
+    /// The class that the bytes from one place up to another name, in a look at each. No class has a name longer than six bytes,
+    /// so of a longer one none is looked at.
+    fn class_named(&mut self, from: usize, to: usize) -> Option<Class>
+        requires order { from ≤ to }
+        requires inside { to ≤ length M.pattern }
+        ensures class { MatchOption result ((class : Class) → ¬ (slice_range M.pattern from to ≡ name_of class))
+            (λ class. slice_range M.pattern from to ≡ name_of class) }
+        ensures count { Takes self.old self.new 0 (to - from) }
+        ensures each { to ≤ from + 6 → LookedAtEach self.old self.new from to }
+    {
+        if to - from > 6 {
+            return None;
+        }
+        let mut name = ClassName::new();
+        let mut place = from;
+        'bytes: while place < to {
+            name.push(self.pattern_byte(place));
+            place += 1;
+        }
+        Class::named(name)
     }
 
     /// The class that begins with the `[:` at this place, or a lone `[` where the first `]` ends no class. `None` where there

@@ -8,10 +8,10 @@ ghost use Rattle.glob_matcher.specs.Steps.{IsBlankOf};
 
 use super::counted_texts::CountedTexts;
 use super::counts::Counts;
-use super::engine::{Engine, text_is_short};
+use super::engine::Engine;
 use super::mode::Mode;
 use super::sets::SetRead;
-use super::texts::Texts;
+use super::texts::{Texts, text_is_short};
 use super::tokens::{TokenKind, TokenRead};
 use std::marker::Brand;
 use std::sync::ledger::{Blank, Ledger};
@@ -101,13 +101,15 @@ fn set_over<'c, 'a, S: Ledger, L: Ledger, M: Texts>(
 ) -> (Option<SetRead>, &'c mut Counts<S, L>)
     requires pattern { pattern.now ≡ M.pattern }
     requires value { M.value ≡ [] }
+    requires mode { mode ≡ M.mode }
     requires counts { counts.ghost_name ≡ M.counts }
     requires bracket { HasByte pattern.now place open_bracket }
     ensures { IsSetRead mode pattern.now place byte result.0 }
 {
-    let mut texts = CountedTexts::<'c, 'a, S, L, M>::new(pattern, &[], counts);
-    let set = texts.set_apart(place, byte, mode);
-    (set, texts.into_counts())
+    let texts = CountedTexts::<'c, 'a, S, L, M>::new(pattern, &[], counts);
+    let mut engine = Engine::new(texts, mode);
+    let set = engine.set_apart(place, byte);
+    (set, engine.into_counts())
 }
 
 impl TokenKind {

@@ -1,6 +1,6 @@
 //! Where the engine with two marks stands, and what one turn of it comes to.
 
-use super::engine::Mark;
+use super::marks::Mark;
 
 /// The mark of the last token met that crosses slashes.
 #[derive(Copy, Clone)]

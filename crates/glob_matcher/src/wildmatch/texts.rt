@@ -1,4 +1,5 @@
 //! Which match it is, in words that contracts alone have: its texts, its mode, and the reference to its counts.
+ghost use Rattle.std.specs.Prelude.{◌≡◌, ◌-◌, ◌^◌, take};
 
 use std::marker::Brand;
 
@@ -35,4 +36,12 @@ impl Texts for Brand {
     ghost short_pattern = { Prim.omega arith };
 
     ghost short_value = { Prim.omega arith };
+}
+
+/// A text has no more bytes than a place can count.
+#[inline(always)]
+pub fn text_is_short(text: &[u8])
+    ensures { text.now ≡ take (2 ^ 64 - 1) text.now }
+{
+    let _ = text.len();
 }

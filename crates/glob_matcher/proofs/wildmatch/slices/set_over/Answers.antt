@@ -1,7 +1,10 @@
 use Rattle.std.proofs.Common.{ℕ, List, subst, sym}
+use Rattle.glob_matcher.specs.declared.wildmatch.mode.Mode.{Mode}
 use Rattle.glob_matcher.specs.Private.Reader.{IsSetRead}
 use Rattle.glob_matcher.proofs.wildmatch.slices.set_over.Goals as goal
 
 pub returns : goal.returns
 returns g c =
-    subst (λ (p : List ℕ). IsSetRead c.args.mode p c.args.place c.args.byte c.set_apart-set.result) (sym c.requires.pattern) c.set_apart-set.ensures.read
+    let answer = c.set_apart-set in
+    subst (λ (x : Mode). IsSetRead x c.args.pattern.now c.args.place c.args.byte answer.result) (sym c.requires.mode)
+    (subst (λ (p : List ℕ). IsSetRead g.M.Texts.mode p c.args.place c.args.byte answer.result) (sym c.requires.pattern) answer.ensures.read)

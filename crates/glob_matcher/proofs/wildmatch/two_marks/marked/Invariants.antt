@@ -3,12 +3,12 @@ use Rattle.std.proofs.Common.{◌-◌, ◌^◌, take}
 use Rattle.glob_matcher.proofs.lemmas.two_marks.Texts.{short}
 use Rattle.glob_matcher.proofs.wildmatch.two_marks.marked.Given as goal
 
-abbrev pub ghosts-decide : goal.ghosts-decide
-ghosts-decide g a = record {
-  pattern = take (2 ^ 64 - 1) a.pattern.now;
-  value = take (2 ^ 64 - 1) a.value.now;
+abbrev pub ghosts-ends_then_search : goal.ghosts-ends_then_search
+ghosts-ends_then_search g a = record {
+  pattern = take (2 ^ 64 - 1) a.pattern;
+  value = take (2 ^ 64 - 1) a.value;
   mode = a.mode;
   counts = a.counts.ghost_name;
-  short_pattern = short a.pattern.now;
-  short_value = short a.value.now;
+  short_pattern = short a.pattern;
+  short_value = short a.value;
 }

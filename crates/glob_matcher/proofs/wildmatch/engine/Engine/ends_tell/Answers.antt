@@ -2,7 +2,7 @@ use Rattle.std.proofs.Common.{◌≡◌, ◌∙◌, ◌-◌, ℕ, true, false, l
 use Rattle.glob_matcher.specs.Tokens.{Byte}
 use Rattle.glob_matcher.specs.Private.Fitting.{Fits}
 use Rattle.glob_matcher.proofs.lemmas.two_marks.LastByte.{IsAlone, EndsInLast, last, ends_in_last}
-use Rattle.glob_matcher.proofs.wildmatch.engine.Engine.ends_decide.Goals as goal
+use Rattle.glob_matcher.proofs.wildmatch.engine.Engine.ends_tell.Goals as goal
 
 pub returns-then-is_alone-clause-meaning : goal.returns-then-is_alone-clause-meaning
 returns-then-is_alone-clause-meaning g c = (

@@ -1,0 +1,110 @@
+//! Whether a token fits at a place of the value. Each test is exactly one step, also where the value has ended and where the
+//! token matches nothing.
+ghost use Rattle.std.specs.Prelude.{◌≡◌, ◌≢◌, ◌↔◌, ℕ, ◌+◌, ◌-◌, ◌<◌, ◌≤◌, IsTrue, IfSome, IfNone, MatchOption, length, slice_index};
+ghost use Rattle.glob_matcher.specs.Bytes.{HasByte, open_bracket};
+ghost use Rattle.glob_matcher.specs.Sets.{Set, SetAt};
+ghost use Rattle.glob_matcher.specs.Tokens.{Token, Byte};
+ghost use Rattle.glob_matcher.specs.Private.Reader.{kind_of};
+ghost use Rattle.glob_matcher.specs.Private.Fitting.{Fits, IsSetTested};
+ghost use Rattle.glob_matcher.specs.Private.Looks.{IsSetPaid, read_end};
+ghost use Rattle.glob_matcher.specs.Private.Takes.{TakesExactly};
+
+use super::engine::Engine;
+use super::sets::SetRead;
+use super::texts::Texts;
+use super::tokens::TokenKind;
+use std::sync::ledger::Ledger;
+
+impl<'c, 'a, S: Ledger, L: Ledger, M: Texts> Engine<'c, 'a, S, L, M> {
+    /// Tests the pattern's end: whether the value ends at this place, too.
+    #[inline(always)]
+    pub fn ends_at(&mut self, at: usize) -> bool
+        ensures answer { IsTrue result ↔ (length M.value ≤ at) }
+        ensures count { TakesExactly self.old self.new 1 0 }
+    {
+        self.texts.step();
+        at >= self.texts.value_len()
+    }
+
+    /// Tests a token of one byte that is this byte.
+    #[inline(always)]
+    pub fn fits_byte(&mut self, at: usize, wanted: u8) -> bool
+        ensures answer { IsTrue result ↔ ((at < length M.value) × Fits M.mode (Byte wanted) (slice_index M.value at)) }
+        ensures count { TakesExactly self.old self.new 1 1 }
+    {
+        match self.value_at(at) {
+            Some(byte) => self.mode().alike(byte, wanted),
+            None => false,
+        }
+    }
+
+    /// Tests the pattern's last token, where it is this byte: whether it fits the value's last byte.
+    #[inline(always)]
+    pub fn ends_in(&mut self, wanted: u8) -> bool
+        ensures answer { IsTrue result ↔ ((0 < length M.value) × Fits M.mode (Byte wanted) (slice_index M.value (length M.value - 1))) }
+        ensures count { TakesExactly self.old self.new 1 1 }
+    {
+        let len = self.texts.value_len();
+        if len == 0 {
+            let _ = self.value_at(0);
+            return false;
+        }
+        match self.value_at(len - 1) {
+            // Most values end in another byte: `alike`, which tests first whether two bytes are equal, would only add a test.
+            Some(byte) => self.mode().fold(byte) == self.mode().fold(wanted),
+            None => false,
+        }
+    }
+
+    /// Tests a token of this kind, which is no set.
+    #[inline(always)]
+    pub fn fits(&mut self, kind: TokenKind, at: usize) -> bool
+        requires { kind ≢ TokenKind.Set }
+        ensures answer { (token : Token) → kind ≡ kind_of token
+            → IsTrue result ↔ ((at < length M.value) × Fits M.mode token (slice_index M.value at)) }
+        ensures count { TakesExactly self.old self.new 1 1 }
+    {
+        match self.value_at(at) {
+            Some(byte) => kind.fits(byte, self.mode()),
+            None => false,
+        }
+    }
+
+    /// Takes the byte at a place of the value, in a step of its own; `None` where the value ends.
+    #[inline(always)]
+    pub(super) fn value_at(&mut self, at: usize) -> Option<u8>
+        ensures byte { MatchOption result (length M.value ≤ at) (HasByte M.value at) }
+        ensures count { TakesExactly self.old self.new 1 1 }
+    {
+        self.texts.step();
+        self.texts.value_at(at)
+    }
+
+    /// Tests the set whose bracket stands at a place of the pattern: whether it holds the byte of the value. Where the value
+    /// ends, it is read for any byte, and holds none. `None` where no set begins.
+    #[inline(always)]
+    pub fn fits_set(&mut self, place: usize, at: usize) -> Option<SetRead>
+        requires { HasByte M.pattern place open_bracket }
+        ensures found { IfSome result (λ set. IsSetTested M.mode M.pattern M.value place at set.end set.holds) }
+        ensures none { IfNone result ((set : Set) (end : ℕ) → ¬ SetAt M.pattern place set end) }
+        ensures count { IsSetPaid self.old self.new place (read_end M.pattern result) }
+        ensures looked { IfSome result (λ set. self.old.looks + 1 < self.new.looks) }
+    {
+        let byte = self.value_at(at);
+        let Some(SetRead { end, holds }) = self.set_apart(place, byte.unwrap_or(0)) else {
+            return None;
+        };
+        Some(SetRead {
+            end,
+            holds: byte.is_some() && holds,
+        })
+    }
+
+    /// Tests a token that matches nothing: it fits no byte, and none is read.
+    #[inline(always)]
+    pub fn fits_nothing(&mut self)
+        ensures { TakesExactly self.old self.new 1 0 }
+    {
+        self.texts.step();
+    }
+}
