@@ -34,7 +34,6 @@ mod two_marks;
 pub use counted_text::CountedText;
 pub use counted_texts::CountedTexts;
 pub use counts::Counts;
-pub use engine::text_is_short;
 pub use mode::Mode;
 pub use pruned::{Answer, attempt, is_start, recursive};
 use std::marker::Brand;
