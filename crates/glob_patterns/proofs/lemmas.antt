@@ -1,3 +1,4 @@
+pub mod Agreement
 pub mod ByteSearches
 pub mod LiteralLemmas
 pub mod LiteralBytes

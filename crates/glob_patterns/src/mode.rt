@@ -45,3 +45,15 @@ impl Flags for Mode {
         Mode(bits)
     }
 }
+
+impl Mode {
+    ghost use Rattle.std.specs.Prelude.{◌≡◌, ◌&&◌, not};
+    ghost use Rattle.glob_patterns.specs.Patterns.{is_absolute, is_without_sub_dir};
+
+    /// Whether a pattern of this mode looks at the last part of a path alone, where it is known where that begins.
+    pub fn looks_at_name(self) -> bool
+        ensures { result ≡ (is_without_sub_dir self && not (is_absolute self)) }
+    {
+        self.contains(Mode::NO_SUB_DIR) && !self.contains(Mode::ABSOLUTE)
+    }
+}

@@ -1,27 +1,14 @@
 -- What may be answered without the matcher.
-use Rattle.std.proofs.Common.{◌≡◌, ◌↔◌, ◌⊎◌, inl, inr, ⊎_elim, ℕ, Bool, true, false, not, ◌||◌, IsTrue, List, [], ◌∷◌, length, take, drop, map, None, Some, refl, sym, ◌∙◌, ap, subst, arith}
+use Rattle.std.proofs.Common.{◌≡◌, ◌↔◌, ◌⊎◌, inl, inr, ⊎_elim, ℕ, Bool, true, false, not, ◌||◌, IsTrue, List, length, take, drop, None, Some, sym, ◌∙◌, subst, arith}
 use Rattle.std.proofs.lemmas.List.{length-take-le}
 use Rattle.std.proofs.lemmas.Bool.{false≢true, not-true, or_cases}
 use Rattle.glob_matcher.specs.declared.wildmatch.mode.Mode.{Mode}
-use Rattle.glob_matcher.specs.Bytes.{fold, folds, has_slash, is_path}
+use Rattle.glob_matcher.specs.Bytes.{has_slash, is_path}
 use Rattle.glob_patterns.specs.Laws.LiteralBytes.{AreAlike, EndsAlike}
 use Rattle.glob_patterns.specs.Private.Fronts.{BeginsAlike}
 use Rattle.glob_matcher.specs.Matching.{Splits}
 use Rattle.glob_patterns.specs.Patterns.{first_special, is_star_and_literal}
 use Rattle.glob_patterns.proofs.lemmas.LiteralLemmas.{literal_splits, literal_front, literal_from_place, literal_up_to_place, star_literal_out, star_literal_in}
-
--- a map that changes no element
-map-same : (f : ℕ → ℕ) → ((b : ℕ) → f b ≡ b) → (xs : List ℕ) → map f xs ≡ xs
-map-same f each [] = refl
-map-same f each (x ∷ xs) = cc (each x, map-same f each xs)
-
--- where the mode doesn't fold, being alike is being equal
-pub AreAlike-unfolded : (mode : Mode) (xs ys : List ℕ) → folds mode ≡ false → AreAlike mode xs ys ↔ (xs ≡ ys)
-AreAlike-unfolded mode xs ys plain =
-    let each : (b : ℕ) → fold mode b ≡ b = λ b. rw plain in (
-      λ same. (sym (map-same (fold mode) each xs) ∙ same ∙ map-same (fold mode) each ys),
-      λ same. ap (map (fold mode)) same,
-    )
 
 -- a text without special bytes is compared whole
 pub whole_exact : (answer : Bool) (p v : List ℕ) (mode : Mode) → first_special p ≡ None → IsTrue answer ↔ AreAlike mode p v → IsTrue answer ↔ Splits v p mode

@@ -1,84 +1,185 @@
-//! The comparisons that decide without the matcher whether a value matches.
-ghost use Rattle.std.specs.Prelude.{◌≡◌, ◌↔◌, ◌||◌, ◌+◌, ◌*◌, ◌≤◌, not, IsTrue, length};
-ghost use Rattle.glob_matcher.specs.Bytes.{has_slash, is_path};
+//! The comparisons that decide without the matcher whether a value matches. They read both texts in counted looks alone.
+ghost use Rattle.std.specs.Prelude.{◌≡◌, ◌↔◌, ◌||◌, ◌+◌, ◌*◌, ◌<◌, ◌≤◌, not, IsTrue, IfSome, length, slice_index, take, drop};
+ghost use Rattle.glob_matcher.specs.Bytes.{fold, has_slash, is_path, slash};
+ghost use Rattle.glob_matcher.specs.Matching.{Splits};
+ghost use Rattle.glob_matcher.specs.Private.Takes.{Takes};
 ghost use Rattle.glob_patterns.specs.Laws.LiteralBytes.{AreAlike, EndsAlike};
-ghost use Rattle.glob_patterns.specs.Private.Fronts.{BeginsAlike};
+ghost use Rattle.glob_patterns.specs.Patterns.{IsPattern};
+ghost use Rattle.glob_patterns.specs.Private.Fronts.{AgreeFrom, BeginsAlike};
 
-use crate::byte_tests::has_slash;
+use crate::mode::Mode;
 use bitflags::Flags;
 use glob_matcher::wildmatch;
-use glob_matcher::wildmatch::Counts;
+use glob_matcher::wildmatch::{CountedTexts, Counts, Texts};
+use std::marker::Model;
 use std::sync::ledger::Ledger;
 
-/// Whether a star may take all bytes of the value: in plain mode, and where the value has no slash. Each byte of the value
-/// counts as a look.
-#[inline(always)]
-pub(super) fn is_one_component<S: Ledger, L: Ledger>(
-    value: &[u8],
+/// The text of a pattern beside a value. Contracts see the counts, and the two texts by `M`.
+#[derive(Drop)]
+pub(super) struct Comparison<'c, 'a, S: Ledger, L: Ledger, M: Texts> {
+    texts: CountedTexts<'c, 'a, S, L, M>,
     mode: wildmatch::Mode,
-    counts: &mut Counts<S, L>,
-) -> bool
-    ensures exact { result ≡ (not (is_path mode) || not (has_slash value.now)) }
-    ensures steps { counts.new.steps ≡ counts.old.steps }
-    ensures looks { counts.new.looks ≡ counts.old.looks + length value.now }
-{
-    counts.looks(value.len());
-    !mode.contains(wildmatch::Mode::NO_MATCH_SLASH_LITERAL) || !has_slash(value)
 }
 
-/// Whether the two texts are equal, up to case where the mode folds. Each byte of both counts as a look.
-#[inline(always)]
-pub(super) fn are_alike<S: Ledger, L: Ledger>(
-    a: &[u8],
-    b: &[u8],
-    mode: wildmatch::Mode,
-    counts: &mut Counts<S, L>,
-) -> bool
-    ensures exact { IsTrue result ↔ AreAlike mode a.now b.now }
-    ensures steps { counts.new.steps ≡ counts.old.steps }
-    ensures looks { counts.new.looks ≡ counts.old.looks + length a.now + length b.now }
-{
-    counts.looks(a.len());
-    counts.looks(b.len());
-    if mode.contains(wildmatch::Mode::IGNORE_CASE) {
-        a.eq_ignore_ascii_case(b)
-    } else {
-        a == b
-    }
+impl<'c, 'a, S: Ledger, L: Ledger, M: Texts> Model for Comparison<'c, 'a, S, L, M> {
+    ghost use Rattle.std.specs.Prelude.{◌≡◌};
+    ghost use Rattle.glob_matcher.specs.Steps.{Counts};
+
+    ghost Value = { Counts };
+
+    ghost view = { λ c. c.texts };
+
+    ghost invariant = { λ c. c.mode ≡ M.mode };
 }
 
-/// Whether the value begins with the text, up to case where the mode folds.
-#[inline(always)]
-pub(super) fn begins_alike<S: Ledger, L: Ledger>(
-    front: &[u8],
-    value: &[u8],
-    mode: wildmatch::Mode,
-    counts: &mut Counts<S, L>,
-) -> bool
-    ensures exact { IsTrue result ↔ BeginsAlike mode value.now front.now }
-    ensures steps { counts.new.steps ≡ counts.old.steps }
-    ensures looks { counts.new.looks ≤ counts.old.looks + 2 * length front.now }
-{
-    if value.len() < front.len() {
-        return false;
+impl<'c, 'a, S: Ledger, L: Ledger, M: Texts> Comparison<'c, 'a, S, L, M> {
+    /// Two texts that are to be compared.
+    #[inline(always)]
+    pub(super) fn new(texts: CountedTexts<'c, 'a, S, L, M>, mode: wildmatch::Mode) -> Self
+        requires { mode ≡ M.mode }
+        ensures { result ≡ texts.entry }
+    {
+        Comparison { texts, mode }
     }
-    are_alike(front, &value[..front.len()], mode, counts)
-}
 
-/// Whether the value ends in the text, up to case where the mode folds.
-#[inline(always)]
-pub(super) fn ends_alike<S: Ledger, L: Ledger>(
-    end: &[u8],
-    value: &[u8],
-    mode: wildmatch::Mode,
-    counts: &mut Counts<S, L>,
-) -> bool
-    ensures exact { IsTrue result ↔ EndsAlike mode value.now end.now }
-    ensures steps { counts.new.steps ≡ counts.old.steps }
-    ensures looks { counts.new.looks ≤ counts.old.looks + 2 * length end.now }
-{
-    if value.len() < end.len() {
-        return false;
+    /// The counts, by the reference that they came by.
+    #[inline(always)]
+    pub(super) fn into_counts(self) -> &'c mut Counts<S, L>
+        ensures same { result.ghost_name ≡ M.counts }
+        ensures counts { result.now ≡ self.entry }
+    {
+        self.texts.into_counts()
     }
-    are_alike(end, &value[value.len() - end.len()..], mode, counts)
+
+    /// The answer, where a comparison alone shows it: of a text without special bytes, of a star and a literal, and of a value
+    /// that doesn't begin with the literal front.
+    #[inline(always)]
+    pub(super) fn answer(
+        &mut self,
+        pattern_mode: Mode,
+        first_wildcard_pos: Option<usize>,
+    ) -> Option<bool>
+        ensures meaning { IsPattern M.pattern pattern_mode first_wildcard_pos →
+            IfSome result (λ answer. IsTrue answer ↔ Splits M.value M.pattern M.mode) }
+        ensures count { Takes self.old self.new 0 (2 * length M.pattern + length M.value) }
+    {
+        let Some(pos) = first_wildcard_pos else {
+            return Some(self.are_alike());
+        };
+        if !pattern_mode.contains(Mode::ENDS_WITH) {
+            if self.begins_alike(pos) {
+                return None;
+            }
+            return Some(false);
+        }
+        if !self.ends_alike() {
+            return Some(false);
+        }
+        if self.is_one_component() {
+            return Some(true);
+        }
+        None
+    }
+
+    /// Whether the two texts are equal, up to case where the mode folds.
+    #[inline(always)]
+    fn are_alike(&mut self) -> bool
+        ensures exact { IsTrue result ↔ AreAlike M.mode M.pattern M.value }
+        ensures count { Takes self.old self.new 0 (2 * length M.pattern) }
+    {
+        let len = self.texts.pattern_len();
+        if self.texts.value_len() != len {
+            return false;
+        }
+        self.agree_from(0, 0, len)
+    }
+
+    /// Whether the value begins with the bytes of the text before a place, up to case where the mode folds.
+    #[inline(always)]
+    fn begins_alike(&mut self, place: usize) -> bool
+        ensures exact { IsTrue result ↔ BeginsAlike M.mode M.value (take place M.pattern) }
+        ensures count { Takes self.old self.new 0 (2 * length M.pattern) }
+    {
+        let len = place.min(self.texts.pattern_len());
+        if self.texts.value_len() < len {
+            return false;
+        }
+        self.agree_from(0, 0, len)
+    }
+
+    /// Whether the value ends in what follows the first byte of the text, up to case where the mode folds.
+    #[inline(always)]
+    fn ends_alike(&mut self) -> bool
+        ensures exact { IsTrue result ↔ EndsAlike M.mode M.value (drop 1 M.pattern) }
+        ensures count { Takes self.old self.new 0 (2 * length M.pattern) }
+    {
+        let from = self.texts.pattern_len().min(1);
+        let len = self.texts.pattern_len() - from;
+        let value_len = self.texts.value_len();
+        if value_len < len {
+            return false;
+        }
+        self.agree_from(from, value_len - len, len)
+    }
+
+    /// Whether the text has from a place on the bytes that the value has from another on, so many, up to case where the mode
+    /// folds.
+    #[inline(always)]
+    fn agree_from(&mut self, place: usize, at: usize, count: usize) -> bool
+        requires pattern { place + count ≤ length M.pattern }
+        requires value { at + count ≤ length M.value }
+        ensures exact { IsTrue result ↔ AgreeFrom M.mode M.pattern M.value place at count }
+        ensures count { Takes self.old self.new 0 (2 * count) }
+    {
+        'bytes: for i in 0..count {
+            if !self.agree_at(place + i, at + i) {
+                return false;
+            }
+        }
+        true
+    }
+
+    /// Whether the text has at a place the byte that the value has at another, up to case where the mode folds.
+    #[inline(always)]
+    fn agree_at(&mut self, place: usize, at: usize) -> bool
+        requires pattern { place < length M.pattern }
+        requires value { at < length M.value }
+        ensures exact { IsTrue result ↔ (fold M.mode (slice_index M.pattern place) ≡ fold M.mode (slice_index M.value at)) }
+        ensures count { Takes self.old self.new 0 2 }
+    {
+        let one = self.texts.pattern_byte(place);
+        let other = self.texts.value_byte(at);
+        if one == other {
+            return true;
+        }
+        self.mode.contains(wildmatch::Mode::IGNORE_CASE) && one.eq_ignore_ascii_case(&other)
+    }
+
+    /// Whether a star may take all bytes of the value: in plain mode, and where the value has no slash.
+    #[inline(always)]
+    fn is_one_component(&mut self) -> bool
+        ensures exact { result ≡ (not (is_path M.mode) || not (has_slash M.value)) }
+        ensures count { Takes self.old self.new 0 (length M.value) }
+    {
+        if !self.mode.contains(wildmatch::Mode::NO_MATCH_SLASH_LITERAL) {
+            return true;
+        }
+        let len = self.texts.value_len();
+        'bytes: for at in 0..len {
+            if self.is_slash(at) {
+                return false;
+            }
+        }
+        true
+    }
+
+    /// Whether the value has a slash at a place.
+    #[inline(always)]
+    fn is_slash(&mut self, at: usize) -> bool
+        requires { at < length M.value }
+        ensures exact { IsTrue result ↔ (slice_index M.value at ≡ slash) }
+        ensures count { Takes self.old self.new 0 1 }
+    {
+        self.texts.value_byte(at) == b'/'
+    }
 }

@@ -2,7 +2,7 @@
 ghost use Rattle.std.specs.Prelude.{◌≡◌, ◌↔◌, IsTrue};
 ghost use Rattle.glob_patterns.specs.RepositoryPaths.{IsBasenameStart, with_case};
 
-use super::{Case, Pattern};
+use super::{Case, Mode, Pattern};
 use bitflags::Flags;
 use glob_matcher::wildmatch;
 use glob_matcher::wildmatch::Counts;
@@ -26,11 +26,37 @@ pub(super) fn with_case(mode: wildmatch::Mode, case: Case) -> wildmatch::Mode
     }
 }
 
+/// What is asked of a pattern: whether it matches this path of a repository.
+#[derive(Copy, Clone)]
+pub(super) struct Asked<'p> {
+    pub(super) path: &'p [u8],
+    pub(super) basename_start_pos: Option<usize>,
+    pub(super) is_dir: Option<bool>,
+    pub(super) case: Case,
+    pub(super) mode: wildmatch::Mode,
+}
+
+impl<'p> Asked<'p> {
+    ghost use Rattle.std.specs.Option.{ForSome};
+    ghost use Rattle.glob_patterns.specs.RepositoryPaths.{IsAfterLastSlash, subject};
+
+    /// The bytes of the path that a pattern of this mode looks at.
+    pub(super) fn subject(self, pattern_mode: Mode) -> &'p [u8]
+        requires { ForSome self.basename_start_pos (IsAfterLastSlash self.path.now) }
+        ensures { result.now ≡ subject pattern_mode self.entry.path.now self.entry.basename_start_pos }
+    {
+        match self.basename_start_pos {
+            Some(start) if pattern_mode.looks_at_name() => &self.path[start..],
+            _ => self.path,
+        }
+    }
+}
+
 impl Pattern {
     ghost use Rattle.std.specs.Prelude.{◌+◌, ◌≤◌, length};
     ghost use Rattle.std.specs.Option.{ForSome};
     ghost use Rattle.glob_matcher.specs.Bytes.{HasByte, slash};
-    ghost use Rattle.glob_matcher.specs.Steps.{pattern_look_limit, step_limit};
+    ghost use Rattle.glob_matcher.specs.Steps.{NeverFall, pattern_look_limit, step_limit};
     ghost use Rattle.glob_patterns.specs.PatternParts.{text_of, mode_of};
     ghost use Rattle.glob_patterns.specs.RepositoryPaths.{IsAfterLastSlash, Answers};
 
@@ -59,7 +85,7 @@ impl Pattern {
     /// looks counted.
     ///
     /// The count of steps rises by at most `2 * (p + 1) * (v + 1)`, and that of looks by at most `10 * (p + 1) * (v + 1)`, `p` and
-    /// `v` being the lengths in bytes of text and path.
+    /// `v` being the lengths in bytes of text and path. No count falls.
     pub fn matches_repo_relative_path_with_counts<S: Ledger, L: Ledger>(
         &self,
         path: &[u8],
@@ -74,6 +100,7 @@ impl Pattern {
         ensures exact { IsTrue result ↔ Answers (text_of self.now) (mode_of self.now) path.now basename_start_pos is_dir case mode }
         ensures steps { counts.new.steps ≤ counts.old.steps + step_limit (length (text_of self.now)) (length path.now) }
         ensures looks { counts.new.looks ≤ counts.old.looks + pattern_look_limit (length (text_of self.now)) (length path.now) }
+        ensures grows { NeverFall counts.old counts.new }
     {
         self.view()
             .matches_repo_relative_path_with_counts(

@@ -1,19 +1,21 @@
 //! A pattern whose text is borrowed: the parts of a line that was read, without a copy of its text.
-ghost use Rattle.std.specs.Prelude.{◌≡◌, ◌↔◌, ◌+◌, ◌≤◌, drop, length, take, true, IsNone, IsTrue, MatchOption, IfSome};
+ghost use Rattle.std.specs.Prelude.{◌≡◌, ◌↔◌, ◌+◌, ◌*◌, ◌≤◌, length, true, IsNone, IsTrue, MatchOption, IfSome};
 ghost use Rattle.std.specs.Option.{ForSome};
 ghost use Rattle.glob_matcher.specs.Bytes.{HasByte, slash};
 ghost use Rattle.glob_matcher.specs.Matching.{Splits};
-ghost use Rattle.glob_matcher.specs.Steps.{IsBlankOf, pattern_look_limit, step_limit};
+ghost use Rattle.glob_matcher.specs.Private.Takes.{Takes};
+ghost use Rattle.glob_matcher.specs.Steps.{IsBlankOf, NeverFall, pattern_look_limit, step_limit};
 ghost use Rattle.glob_patterns.specs.Patterns.{HasReading, IsPattern, Reads, is_blank, without_negation};
-ghost use Rattle.glob_patterns.specs.RepositoryPaths.{Answers, IsAfterLastSlash, subject};
+ghost use Rattle.glob_patterns.specs.RepositoryPaths.{Answers, IsAfterLastSlash};
+ghost use Rattle.glob_patterns.specs.Private.Asked.{IsAnswered};
 
-use super::comparisons::{are_alike, begins_alike, ends_alike, is_one_component};
-use super::paths::with_case;
+use super::comparisons::Comparison;
+use super::paths::{Asked, with_case};
 use super::{Case, Mode};
 use crate::parse;
 use bitflags::Flags;
 use glob_matcher::wildmatch;
-use glob_matcher::wildmatch::Counts;
+use glob_matcher::wildmatch::{CountedTexts, Counts, Texts, text_is_short};
 use std::marker::Brand;
 use std::sync::ledger::{Blank, Ledger};
 
@@ -28,25 +30,6 @@ pub struct PatternView<'a> {
     pub mode: Mode,
     /// The place of the first `*`, `?`, `[` or `\` of the text, counted in bytes from 0; `None` where there is none.
     pub first_wildcard_pos: Option<usize>,
-}
-
-/// What follows the first byte of a text.
-#[inline(always)]
-fn past_star(text: &[u8]) -> &[u8]
-    ensures { result.now ≡ drop 1 text.now }
-{
-    match text {
-        [_, rest @ ..] => rest,
-        [] => text,
-    }
-}
-
-/// The bytes of a text before a place, or all of them where the place is past the end.
-#[inline(always)]
-fn front(text: &[u8], pos: usize) -> &[u8]
-    ensures { result.now ≡ take pos text.now }
-{
-    if pos < text.len() { &text[..pos] } else { text }
 }
 
 impl<'a> PatternView<'a> {
@@ -74,7 +57,7 @@ impl<'a> PatternView<'a> {
         ensures { IsPattern self.entry.text.now self.entry.mode self.entry.first_wildcard_pos →
             IsTrue result ↔ Splits value.now self.entry.text.now mode }
     {
-        self.matches_with_new_counts::<Brand, Brand>(value, mode, Blank::new(1), Blank::new(1))
+        self.matches_with_new_counts::<Brand, Brand>(value, mode, (Blank::new(1), Blank::new(1)))
     }
 
     /// Whether the text matches the value, with new counts that no one asks for.
@@ -83,21 +66,20 @@ impl<'a> PatternView<'a> {
         self,
         value: &[u8],
         mode: wildmatch::Mode,
-        steps: Blank,
-        looks: Blank,
+        blanks: (Blank, Blank),
     ) -> bool
-        requires steps { IsBlankOf S.name S.parts steps }
-        requires looks { IsBlankOf L.name L.parts looks }
+        requires steps { IsBlankOf S.name S.parts blanks.0 }
+        requires looks { IsBlankOf L.name L.parts blanks.1 }
         ensures { IsPattern self.entry.text.now self.entry.mode self.entry.first_wildcard_pos →
             IsTrue result ↔ Splits value.now self.entry.text.now mode }
     {
-        self.matches_with_counts(value, mode, &mut Counts::<S, L>::new(steps, looks))
+        self.matches_with_counts(value, mode, &mut Counts::<S, L>::new(blanks.0, blanks.1))
     }
 
     /// Whether the text matches the value, as [`PatternView::matches`] answers it, with its steps and looks counted.
     ///
     /// The count of steps rises by at most `2 * (p + 1) * (v + 1)`, and that of looks by at most `10 * (p + 1) * (v + 1)`, `p` and
-    /// `v` being the lengths in bytes of text and value. What a shortcut compares counts whole, also where it stops sooner.
+    /// `v` being the lengths in bytes of text and value. No count falls.
     #[inline(always)]
     pub fn matches_with_counts<S: Ledger, L: Ledger>(
         self,
@@ -110,21 +92,40 @@ impl<'a> PatternView<'a> {
         ensures steps { counts.new.steps ≤ counts.old.steps + step_limit (length self.entry.text.now) (length value.now) }
         ensures looks { counts.new.looks
             ≤ counts.old.looks + pattern_look_limit (length self.entry.text.now) (length value.now) }
+        ensures grows { NeverFall counts.old counts.new }
     {
-        let Some(pos) = self.first_wildcard_pos else {
-            return are_alike(self.text, value, mode, counts);
-        };
-        if self.mode.contains(Mode::ENDS_WITH) {
-            if !ends_alike(past_star(self.text), value, mode, counts) {
-                return false;
-            }
-            if is_one_component(value, mode, counts) {
-                return true;
-            }
-        } else if !begins_alike(front(self.text, pos), value, mode, counts) {
-            return false;
+        text_is_short(self.text);
+        text_is_short(value);
+        let (answer, counts) = self.compared::<S, L, Brand>(value, mode, counts);
+        // Each arm names its answer: a bit that is handed on costs every call an instruction.
+        match answer {
+            Some(true) => true,
+            Some(false) => false,
+            None => wildmatch::marked(self.text, value, mode, counts),
         }
-        wildmatch::marked(self.text, value, mode, counts)
+    }
+
+    /// What a comparison of text and value answers, and the counts of what it took.
+    #[inline(always)]
+    fn compared<'c, S: Ledger, L: Ledger, M: Texts>(
+        self,
+        value: &'a [u8],
+        mode: wildmatch::Mode,
+        counts: &'c mut Counts<S, L>,
+    ) -> (Option<bool>, &'c mut Counts<S, L>)
+        requires pattern { self.text.now ≡ M.pattern }
+        requires value { value.now ≡ M.value }
+        requires mode { mode ≡ M.mode }
+        requires counts { counts.ghost_name ≡ M.counts }
+        ensures meaning { IsPattern self.entry.text.now self.entry.mode self.entry.first_wildcard_pos →
+            IfSome result.0 (λ answer. IsTrue answer ↔ Splits value.now self.entry.text.now mode) }
+        ensures same { result.1.ghost_name ≡ counts.entry.ghost_name }
+        ensures count { Takes counts.old result.1.now 0 (2 * length self.entry.text.now + length value.now) }
+    {
+        let texts = CountedTexts::<'c, 'a, S, L, M>::new(self.text, value, counts);
+        let mut comparison = Comparison::new(texts, mode);
+        let answer = comparison.answer(self.mode, self.first_wildcard_pos);
+        (answer, comparison.into_counts())
     }
 
     /// Whether a path of a repository matches, as [`super::Pattern::matches_repo_relative_path`] answers, and
@@ -142,50 +143,36 @@ impl<'a> PatternView<'a> {
         ensures { IsPattern self.entry.text.now self.entry.mode self.entry.first_wildcard_pos →
             IsTrue result ↔ Answers self.entry.text.now self.entry.mode path.now basename_start_pos is_dir case mode }
     {
-        let blanks = (Blank::new(1), Blank::new(1));
-        self.matches_path_with_new_counts::<Brand, Brand>(
+        let asked = Asked {
             path,
             basename_start_pos,
             is_dir,
             case,
             mode,
-            blanks,
-        )
+        };
+        self.answers_with_new_counts::<Brand, Brand>(asked, (Blank::new(1), Blank::new(1)))
     }
 
     /// Whether a path of a repository matches, with new counts that no one asks for.
     #[inline(always)]
-    fn matches_path_with_new_counts<S: Ledger, L: Ledger>(
+    fn answers_with_new_counts<S: Ledger, L: Ledger>(
         self,
-        path: &[u8],
-        basename_start_pos: Option<usize>,
-        is_dir: Option<bool>,
-        case: Case,
-        mode: wildmatch::Mode,
+        asked: Asked<'_>,
         blanks: (Blank, Blank),
     ) -> bool
-        requires relative { ¬ HasByte path.now 0 slash }
-        requires basename { ForSome basename_start_pos (IsAfterLastSlash path.now) }
+        requires basename { ForSome asked.basename_start_pos (IsAfterLastSlash asked.path.now) }
         requires steps { IsBlankOf S.name S.parts blanks.0 }
         requires looks { IsBlankOf L.name L.parts blanks.1 }
         ensures { IsPattern self.entry.text.now self.entry.mode self.entry.first_wildcard_pos →
-            IsTrue result ↔ Answers self.entry.text.now self.entry.mode path.now basename_start_pos is_dir case mode }
+            IsTrue result ↔ IsAnswered self.entry.text.now self.entry.mode asked.entry }
     {
-        let mut counts = Counts::<S, L>::new(blanks.0, blanks.1);
-        self.matches_repo_relative_path_with_counts(
-            path,
-            basename_start_pos,
-            is_dir,
-            case,
-            mode,
-            &mut counts,
-        )
+        self.answers(asked, &mut Counts::<S, L>::new(blanks.0, blanks.1))
     }
 
     /// Whether a path of a repository matches, as [`PatternView::matches_repo_relative_path`] answers it, with its steps and
     /// looks counted.
     ///
-    /// The counts rise by no more than those of [`PatternView::matches_with_counts`] for the whole path may.
+    /// The counts rise by no more than those of [`PatternView::matches_with_counts`] for the whole path may. No count falls.
     #[inline(always)]
     pub fn matches_repo_relative_path_with_counts<S: Ledger, L: Ledger>(
         self,
@@ -203,24 +190,33 @@ impl<'a> PatternView<'a> {
         ensures steps { counts.new.steps ≤ counts.old.steps + step_limit (length self.entry.text.now) (length path.now) }
         ensures looks { counts.new.looks
             ≤ counts.old.looks + pattern_look_limit (length self.entry.text.now) (length path.now) }
+        ensures grows { NeverFall counts.old counts.new }
     {
-        if self.mode.contains(Mode::MUST_BE_DIR) && is_dir != Some(true) {
-            return false;
-        }
-        let subject = self.subject(path, basename_start_pos);
-        self.matches_with_counts(subject, with_case(mode, case), counts)
+        let asked = Asked {
+            path,
+            basename_start_pos,
+            is_dir,
+            case,
+            mode,
+        };
+        self.answers(asked, counts)
     }
 
-    /// The bytes of a path that the pattern looks at.
-    fn subject<'p>(self, path: &'p [u8], basename_start_pos: Option<usize>) -> &'p [u8]
-        requires { ForSome basename_start_pos (IsAfterLastSlash path.now) }
-        ensures { result.now ≡ subject self.entry.mode path.now basename_start_pos }
+    /// Whether a path of a repository matches, with its steps and looks counted.
+    #[inline(always)]
+    fn answers<S: Ledger, L: Ledger>(self, asked: Asked<'_>, counts: &mut Counts<S, L>) -> bool
+        requires { ForSome asked.basename_start_pos (IsAfterLastSlash asked.path.now) }
+        ensures exact { IsPattern self.entry.text.now self.entry.mode self.entry.first_wildcard_pos →
+            IsTrue result ↔ IsAnswered self.entry.text.now self.entry.mode asked.entry }
+        ensures steps { counts.new.steps ≤ counts.old.steps + step_limit (length self.entry.text.now) (length asked.entry.path.now) }
+        ensures looks { counts.new.looks
+            ≤ counts.old.looks + pattern_look_limit (length self.entry.text.now) (length asked.entry.path.now) }
+        ensures grows { NeverFall counts.old counts.new }
     {
-        match basename_start_pos {
-            Some(start)
-                if self.mode.contains(Mode::NO_SUB_DIR) && !self.mode.contains(Mode::ABSOLUTE) =>
-                &path[start..],
-            _ => path,
+        if self.mode.contains(Mode::MUST_BE_DIR) && asked.is_dir != Some(true) {
+            return false;
         }
+        let subject = asked.subject(self.mode);
+        self.matches_with_counts(subject, with_case(asked.mode, asked.case), counts)
     }
 }

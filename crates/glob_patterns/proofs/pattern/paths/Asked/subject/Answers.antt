@@ -1,6 +1,6 @@
 -- Where the last part of a path begins lies within the path.
 use Rattle.std.proofs.Common.{arith, rules}
-use Rattle.glob_patterns.proofs.pattern.view.PatternView.subject.Goals as goal
+use Rattle.glob_patterns.proofs.pattern.paths.Asked.subject.Goals as goal
 
 pub slice_bounds-result-count : goal.slice_bounds-result-count
 slice_bounds-result-count c =
