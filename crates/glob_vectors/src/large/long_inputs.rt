@@ -3,9 +3,9 @@ use crate::lines::{TOP, answered, listed};
 use gix_glob::parse;
 use gix_glob::pattern::Pattern;
 use gix_glob::search::pattern::List;
-use gix_glob::search::{Pattern as _, Watched};
+use gix_glob::search::{Pattern as _, Watched, has_file_part};
 use gix_glob::wildmatch::Mode;
-use glob_lines::{LabelLines, PlainLines};
+use glob_lines::{IgnoreLines, LabelLines, PlainLines};
 use std::alloc::{AllocError, Global};
 use std::test::Fail;
 
@@ -93,6 +93,32 @@ fn numbers_past_99_are_listed(rt: HostRuntime) -> Result<(), Fail> {
     }
     let output = listed(&rt, TOP, &lines, b"a")?;
     assert_eq!(rt; output.as_slice(), b"9 99 100 101 1000\n".as_slice());
+    Ok(())
+}
+
+/// Catches a call that answers want of memory for a long source: of 256 bytes, and of more than 1 MiB.
+#[test]
+fn no_memory_for_a_long_source(rt: HostRuntime) -> Result<(), Fail> {
+    let alloc = rt.alloc();
+    for folders in [127, LONG] {
+        let mut name = "a/".repeat(alloc, folders)?;
+        name.push_str("ig")?;
+        assert!(rt; has_file_part(&name));
+        let root = Some("");
+        let list = List::from_bytes(alloc, b"*.rs", name.clone()?, root, PlainLines)?;
+        let source = list.source.as_ref().ok_or("no source")?;
+        assert!(rt; source.as_str() == name.as_str());
+        let base = list.base.as_ref().ok_or("no base")?;
+        assert_eq!(rt; base.len(), 2 * folders);
+        let mut buf = Vec::new(alloc);
+        let mut reader = Watched::new(b"*.rs".as_slice());
+        let source = name.clone()?;
+        let read = List::from_reader(alloc, &mut reader, source, root, &mut buf, PlainLines)?;
+        assert!(rt; read.ok_or("no list")? == list);
+        let ignored = IgnoreLines.bytes_to_patterns(alloc, b"a", &name)?;
+        let labelled = LabelLines.bytes_to_patterns(alloc, b"a\tb", &name)?;
+        assert_eq!(rt; (ignored.len(), labelled.len()), (1, 1));
+    }
     Ok(())
 }
 
