@@ -1,10 +1,11 @@
-//! Readers, writers, files and memory that fail, each call in turn: what is told then, and what is left. Tests alone.
+//! What comes from outside: readers, writers, memory and files, each call of them failing in turn, and every real file. Tests
+//! alone; what only answers to bytes in memory, with nothing that fails, is in `glob_vectors`.
 #![tactic(auto)]
 
 #[cfg(test)]
-mod ample_memory;
-#[cfg(test)]
 mod compare;
+#[cfg(test)]
+mod engine_runs;
 #[cfg(test)]
 mod failing_reads;
 #[cfg(test)]
@@ -12,12 +13,12 @@ mod failing_writes;
 #[cfg(test)]
 mod fakes;
 #[cfg(test)]
-mod large_lists;
+mod files;
 #[cfg(test)]
-mod loading;
-#[cfg(test)]
-mod one_file;
+mod lists_from_readers;
 #[cfg(test)]
 mod refused_memory;
+#[cfg(test)]
+mod told;
 #[cfg(test)]
 mod watched;

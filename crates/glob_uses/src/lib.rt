@@ -1,4 +1,5 @@
-//! Short callers of `gix_glob` and `glob_lines`, as a stranger would write them: their contracts follow from the public ones alone.
+//! Short callers of `gix_glob` and `glob_lines`, and a parser, as a stranger would write them: their contracts follow from the
+//! public ones alone. A test calls each once; rows are in `glob_vectors`, and files in `glob_faults`.
 #![tactic(auto)]
 
 ghost use Rattle.std.specs.Prelude.{◌≡◌, true, false, map, IfOk};
@@ -12,8 +13,6 @@ ghost use Rattle.gix_glob.specs.Patterns.{HasReading};
 ghost use Rattle.glob_lines.specs.Ignore.{Ignore};
 ghost use Rattle.glob_uses.specs.Uses.{LineAnswers};
 
-#[cfg(test)]
-mod compare;
 mod own_parser;
 
 use gix_glob::pattern::{Case, PatternView, basename_start};
@@ -65,6 +64,7 @@ pub fn last_rule(lists: &[List<IgnoreLines>], path: &[u8], is_dir: bool) -> Opti
 #[cfg(test)]
 mod tests {
     use super::*;
+    use gix_glob::search::Pattern as _;
 
     #[test]
     fn uses(rt: HostRuntime) {
@@ -81,5 +81,10 @@ mod tests {
         assert_eq!(rt; last_rule(&lists, b"src/lib.rs", false), Some((0, 0)));
         assert_eq!(rt; last_rule(&lists, b"x", false), Some((0, 1)));
         assert_eq!(rt; last_rule(&lists, b"y", false), None);
+        let Ok(mappings) = Whole.bytes_to_patterns(rt.alloc(), b"!a\nb\n", "f") else {
+            return assert!(rt; false, "no memory");
+        };
+        assert_eq!(rt; mappings.len(), 1);
+        assert!(rt; mappings[0].pattern.is_negative());
     }
 }

@@ -4,9 +4,6 @@ ghost use Rattle.gix_glob.specs.declared.pattern.Mode.{Mode};
 ghost use Rattle.gix_glob.specs.Patterns.{HasReading, Reads};
 ghost use Rattle.glob_uses.specs.Equations.Whole.{whole_of};
 
-#[cfg(test)]
-mod tests;
-
 use gix_glob::search::pattern::Mapping;
 use gix_glob::{Pattern, laws, search};
 use std::alloc::{AllocError, Global};

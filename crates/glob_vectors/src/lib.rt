@@ -1,55 +1,22 @@
-//! Worked rows of matching, reading and listing. Tests alone.
+//! Rows: what the public calls answer to bytes in memory, short and long, where nothing fails. Tests alone; what comes from
+//! outside, readers, writers, memory and files, is in `glob_faults`.
 #![tactic(auto)]
 
 #[cfg(test)]
-mod asked;
-#[cfg(test)]
-mod base_rows;
-#[cfg(test)]
 mod compare;
 #[cfg(test)]
-mod deciding;
+mod index;
 #[cfg(test)]
-mod decision_rows;
+mod large;
 #[cfg(test)]
-mod engines;
+mod lines;
 #[cfg(test)]
-mod file_rows;
+mod lists;
 #[cfg(test)]
-mod folding;
+mod matching;
 #[cfg(test)]
-mod hostile_lines;
-#[cfg(test)]
-mod hostile_rows;
-#[cfg(test)]
-mod ignore_rows;
-#[cfg(test)]
-mod indexed;
-#[cfg(test)]
-mod label_rows;
-#[cfg(test)]
-mod line_rows;
-#[cfg(test)]
-mod list_rows;
-#[cfg(test)]
-mod modes;
-#[cfg(test)]
-mod orders;
-#[cfg(test)]
-mod pattern_rows;
-#[cfg(test)]
-mod rows;
-#[cfg(test)]
-mod sets;
+mod patterns;
 #[cfg(test)]
 mod shown;
 #[cfg(test)]
-mod stars;
-#[cfg(test)]
 mod texts;
-#[cfg(test)]
-mod tokens;
-#[cfg(test)]
-mod value_rows;
-#[cfg(test)]
-mod wild_rows;

@@ -38,26 +38,22 @@ fn debugged<T: Debug>(
 
 #[test]
 fn lines_are_shown_again(rt: HostRuntime) -> Result<(), Fail> {
-    let rows = [
-        ("!/*.o/", "!/*.o/"),
-        ("//", "//"),
-        ("foo", "foo"),
-        ("\\!foo", "!foo"),
-        ("\\#x", "#x"),
-        ("!a", "!a"),
-        ("a/", "a/"),
+    let rows: [(&[u8], &str); 8] = [
+        (b"!/*.o/", "!/*.o/"),
+        (b"//", "//"),
+        (b"foo", "foo"),
+        (b"\\!foo", "!foo"),
+        (b"\\#x", "#x"),
+        (b"!a", "!a"),
+        (b"a/", "a/"),
+        // a byte that is no text is shown by a replacement
+        (b"a\xff", "a\u{FFFD}"),
     ];
     for (line, text) in rows {
-        let pattern = Pattern::from_bytes(rt.alloc(), line.as_bytes())?.ok_or("a pattern")?;
+        let pattern = Pattern::from_bytes(rt.alloc(), line)?.ok_or("a pattern")?;
         displayed(&rt, &pattern, text, line)?;
     }
     Ok(())
-}
-
-#[test]
-fn bytes_that_are_no_text_are_shown_by_a_replacement(rt: HostRuntime) -> Result<(), Fail> {
-    let pattern = Pattern::from_bytes(rt.alloc(), &[97, 255])?.ok_or("a pattern")?;
-    Ok(displayed(&rt, &pattern, "a\u{FFFD}", "a byte that is no text")?)
 }
 
 #[test]
@@ -91,16 +87,11 @@ fn texts_of_faults(rt: HostRuntime) -> Result<(), Fail> {
 }
 
 #[test]
-fn modes_cases_and_answers(rt: HostRuntime) -> Result<(), Fail> {
+fn texts_for_debugging(rt: HostRuntime) -> Result<(), Fail> {
     debugged(&rt, &wildmatch::Mode::from_bits_retain(3), "Mode(3)")?;
     debugged(&rt, &Mode::from_bits_retain(31), "Mode(31)")?;
     debugged(&rt, &Case::Fold, "Fold")?;
     debugged(&rt, &Answer::AbortToStarStar, "AbortToStarStar")?;
-    Ok(())
-}
-
-#[test]
-fn patterns_and_lists(rt: HostRuntime) -> Result<(), Fail> {
     let pattern = Pattern::from_bytes(rt.alloc(), b"!a*")?.ok_or("a pattern")?;
     debugged(
         &rt,

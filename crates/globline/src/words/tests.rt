@@ -1,5 +1,6 @@
 //! What the program answers to its words: its status, its output and its errors.
 mod full;
+mod ignored;
 
 use super::{run_words, without_words};
 use full::Full;
@@ -198,181 +199,28 @@ fn list_answers_each_path(rt: HostRuntime) -> Result<(), Fail> {
         check(&rt, &words, lines, (0, text, b""));
     }
     fs::remove_file(&rt, file)?;
+    // a FILE with a long name is read too
+    let mut name = "/".repeat(rt.alloc(), 1_000)?;
+    name.push_str("dev/null")?;
+    let words = words_of(rt.alloc(), &["list", "sensitive", name.as_str(), "-"])?;
+    check(&rt, &words, b"a\n".as_slice(), (0, b"\n", b""));
     Ok(())
 }
 
 #[test]
 fn a_file_that_cannot_be_read_is_told(rt: HostRuntime) -> Result<(), AllocError> {
-    for file in ["no/such/file", ".", "/dev/null/f"] {
-        let words = words_of(rt.alloc(), &["list", "sensitive", file, "-"])?;
-        check(
-            &rt,
-            &words,
-            b"a\n".as_slice(),
-            (1, b"", b"globline: read failed\n"),
-        );
-    }
-    Ok(())
-}
-
-/// The words of `ignore`, with a mark for each FILE, and what it answers for five paths.
-type IgnoreRow = (&'static str, &'static str, &'static str, &'static [u8]);
-
-/// The root that stands for the folder of the files.
-const FOLDER: &str = "/folder";
-
-/// What is answered where no FILE gives a list that says anything.
-const NONE_OF_FIVE: &[u8] = b"none\nnone\nnone\n!\nnone\n";
-
-/// The files of a test, and the folder that they lie in.
-#[derive(Drop)]
-struct IgnoreFiles {
-    folder: String,
-    first: String,
-    second: String,
-    /// A long name of the first one.
-    long: String,
-}
-
-impl IgnoreFiles {
-    /// Writes files whose names no other test has.
-    fn new(rt: &HostRuntime, test: &str) -> Result<IgnoreFiles, Fail> {
-        let number = process::id(rt.process());
-        let folder = env::temp_dir(rt)?;
-        let at = folder.as_str();
-        let steps = "./".repeat(rt.alloc(), 1_000)?;
-        let steps = steps.as_str();
-        let first = format!(in rt.alloc(); "{at}/globline-{test}-{number}-a")?;
-        let second = format!(in rt.alloc(); "{at}/globline-{test}-{number}-b")?;
-        let long = format!(in rt.alloc(); "{at}/{steps}globline-{test}-{number}-a")?;
-        fs::write(rt, first.as_str(), "x\n*.o\n")?;
-        fs::write(rt, second.as_str(), "#\n!keep.o \r\n")?;
-        Ok(IgnoreFiles {
-            folder: String::from_str(rt.alloc(), at)?,
-            first,
-            second,
-            long,
-        })
-    }
-
-    /// The file that a mark stands for: one of these, a directory, or none that is there.
-    fn named_by(&self, mark: char) -> &str {
-        match mark {
-            'a' => self.first.as_str(),
-            'b' => self.second.as_str(),
-            'l' => self.long.as_str(),
-            '.' => ".",
-            _ => "no/such/file",
-        }
-    }
-}
-
-/// Compares what `ignore` answers with each row, and removes the files.
-fn check_ignore<F: Abort + AllocGlobal + Files>(
-    rt: &F,
-    files: IgnoreFiles,
-    rows: &[IgnoreRow],
-) -> Result<(), Fail> {
-    for row in rows {
-        let (case, root, marks, text) = *row;
-        let mut words = words_of(rt.alloc(), &["ignore", case])?;
-        let folder = files.folder.as_str();
-        let root = if root == FOLDER { folder } else { root };
-        words.push(String::from_str(rt.alloc(), root)?)?;
-        for mark in marks.chars() {
-            words.push(String::from_str(rt.alloc(), files.named_by(mark))?)?;
-        }
-        let paths = b"x\nA.O\nd/keep.o\n/x\na\n".as_slice();
-        check(rt, &words, paths, (0, text, b""));
-    }
-    fs::remove_file(rt, files.first.as_str())?;
-    fs::remove_file(rt, files.second.as_str())?;
-    Ok(())
-}
-
-#[test]
-fn ignore_tells_what_decides(rt: HostRuntime) -> Result<(), Fail> {
-    let rows: [IgnoreRow; 5] = [
-        (
-            "sensitive",
-            "-",
-            "-a",
-            b"ignored 1:1\nnone\nignored 1:2\n!\nnone\n",
-        ),
-        (
-            "sensitive",
-            FOLDER,
-            ".ab",
-            b"ignored 1:1\nnone\nkept 2:2\n!\nnone\n",
-        ),
-        (
-            "fold",
-            "-",
-            "b-a",
-            b"ignored 2:1\nignored 2:2\nignored 2:2\n!\nnone\n",
-        ),
-        ("sensitive", "", "a", NONE_OF_FIVE),
-        ("sensitive", "-", "-", NONE_OF_FIVE),
+    let long = "a".repeat(rt.alloc(), 300)?;
+    let rows = [
+        ["list", "sensitive", "no/such/file", "-"],
+        ["list", "sensitive", ".", "-"],
+        ["list", "sensitive", "/dev/null/f", "-"],
+        ["ignore", "sensitive", "-", long.as_str()],
     ];
-    check_ignore(&rt, IgnoreFiles::new(&rt, "ignore")?, &rows)
-}
-
-/// Catches a program that reads the first eight files alone.
-#[test]
-fn files_past_the_eighth_are_passed_over(rt: HostRuntime) -> Result<(), Fail> {
-    let rows: [IgnoreRow; 2] = [
-        (
-            "sensitive",
-            "-",
-            "--------a",
-            b"ignored 1:1\nnone\nignored 1:2\n!\nnone\n",
-        ),
-        (
-            "sensitive",
-            "-",
-            "--------------------ba",
-            b"ignored 2:1\nnone\nignored 2:2\n!\nnone\n",
-        ),
-    ];
-    check_ignore(&rt, IgnoreFiles::new(&rt, "many")?, &rows)
-}
-
-/// Catches a program that passes over the second naming of a file.
-#[test]
-fn a_file_named_twice_is_read_once(rt: HostRuntime) -> Result<(), Fail> {
-    let rows: [IgnoreRow; 2] = [
-        (
-            "sensitive",
-            "-",
-            "aa",
-            b"ignored 2:1\nnone\nignored 2:2\n!\nnone\n",
-        ),
-        (
-            "sensitive",
-            "-",
-            "aba",
-            b"ignored 3:1\nnone\nignored 3:2\n!\nnone\n",
-        ),
-    ];
-    check_ignore(&rt, IgnoreFiles::new(&rt, "twice")?, &rows)
-}
-
-/// Catches a program that tells want of memory for a FILE with a long name.
-#[test]
-fn no_memory_for_a_long_name(rt: HostRuntime) -> Result<(), Fail> {
-    let rows: [IgnoreRow; 1] = [(
-        "sensitive",
-        "-",
-        "l",
-        b"ignored 1:1\nnone\nignored 1:2\n!\nnone\n",
-    )];
-    check_ignore(&rt, IgnoreFiles::new(&rt, "long")?, &rows)?;
-    let mut words = words_of(rt.alloc(), &["list", "sensitive"])?;
-    let mut name = "/".repeat(rt.alloc(), 1_000)?;
-    name.push_str("dev/null")?;
-    words.push(name)?;
-    words.push(String::from_str(rt.alloc(), "-")?)?;
-    check(&rt, &words, b"a\n".as_slice(), (0, b"\n", b""));
+    for words in rows {
+        let words = words_of(rt.alloc(), &words)?;
+        let told = b"globline: read failed\n".as_slice();
+        check(&rt, &words, b"a\n".as_slice(), (1, b"", told));
+    }
     Ok(())
 }
 
@@ -387,23 +235,6 @@ fn want_of_memory_in_opening_is_a_failed_read(rt: HostRuntime) -> Result<(), All
         let told = b"globline: no memory\n".as_slice();
         check_on(&rt, &Full, &words, b"a\n".as_slice(), (1, b"", told));
     }
-    Ok(())
-}
-
-#[test]
-fn an_ignore_file_that_cannot_be_read_is_told(rt: HostRuntime) -> Result<(), AllocError> {
-    let mut name = String::new(rt.alloc());
-    for _ in 0..300 {
-        name.push('a')?;
-    }
-    let mut words = words_of(rt.alloc(), &["ignore", "sensitive", "-"])?;
-    words.push(name)?;
-    check(
-        &rt,
-        &words,
-        b"a\n".as_slice(),
-        (1, b"", b"globline: read failed\n"),
-    );
     Ok(())
 }
 

@@ -1,6 +1,7 @@
 //! Rows of tokens, in plain mode and in path mode.
-use crate::engines::check;
-use crate::modes::{path, plain};
+use super::engines::check;
+use super::modes::{path, plain};
+use std::test::Fail;
 
 /// Pattern, value, and the answers in plain mode and in path mode.
 const ROWS: [(&str, &str, bool, bool); 22] = [
@@ -29,9 +30,10 @@ const ROWS: [(&str, &str, bool, bool); 22] = [
 ];
 
 #[test]
-fn tokens_in_both_modes(rt: HostRuntime) {
+fn tokens_in_both_modes(rt: HostRuntime) -> Result<(), Fail> {
     for (pattern, value, in_plain, in_path) in ROWS {
-        check(&rt, pattern, value, plain(), in_plain);
-        check(&rt, pattern, value, path(), in_path);
+        check(&rt, pattern, value, plain(), in_plain)?;
+        check(&rt, pattern, value, path(), in_path)?;
     }
+    Ok(())
 }

@@ -1,12 +1,11 @@
 //! Path lines against a stack of ignore files: which line of which file decides.
+use super::decided;
 use crate::compare::same;
-use crate::deciding::last_match;
+use crate::lists::{last_match, list_of};
 use gix_glob::pattern::Case;
 use gix_glob::search::pattern::List;
-use gix_glob::search::{Pattern, Watched};
-use glob_lines::{EngineFault, IgnoreLines, bases_are_folders, run_ignore};
+use glob_lines::{IgnoreLines, bases_are_folders};
 use std::alloc::AllocError;
-use std::process::Abort;
 use std::test::Fail;
 
 /// The bytes of an ignore file, and the base of its list.
@@ -33,27 +32,9 @@ fn lists_of(
 ) -> Result<Vec<List<IgnoreLines>>, AllocError> {
     let mut lists = Vec::new(rt.alloc());
     for file in files {
-        let mut list = List::empty(rt.alloc());
-        list.patterns = IgnoreLines.bytes_to_patterns(rt.alloc(), file.bytes, "")?;
-        if let Some(base) = file.base {
-            list.base = Some(Vec::from_slice(rt.alloc(), base)?);
-        }
-        lists.push(list)?;
+        lists.push(list_of(rt.alloc(), IgnoreLines, file.bytes, file.base)?)?;
     }
     Ok(lists)
-}
-
-/// What a run over a reader and a writer in memory wrote.
-fn decided(
-    rt: &(impl Abort + AllocGlobal),
-    lists: &[List<IgnoreLines>],
-    case: Case,
-    paths: &[u8],
-) -> Result<Vec<u8>, EngineFault> {
-    let (mut paths, mut writer) = (Watched::new(paths), Watched::new(Vec::new(rt.alloc())));
-    assert!(rt; bases_are_folders(lists));
-    run_ignore(rt.alloc(), lists, case, &mut paths, &mut writer)?;
-    Ok(writer.into_inner())
 }
 
 #[test]

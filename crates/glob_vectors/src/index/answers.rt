@@ -1,7 +1,8 @@
 //! An index beside the plain way: all short lists over a small alphabet, and a realistic mixture of patterns.
+use super::next;
 use crate::compare::same;
+use crate::lists::list_of;
 use gix_glob::pattern::Case;
-use gix_glob::search::Pattern;
 use gix_glob::search::pattern::List;
 use glob_index::ListIndex;
 use glob_lines::{PlainLines, bases_are_folders, decide, plain_path};
@@ -18,17 +19,13 @@ const LINES: [&str; 12] = [
 const PATHS: [&str; 6] = ["a", "b", "ab", "a/b", "b/a", "a/b/a"];
 
 /// A list of pattern lines, under a base or none.
-fn list_of(
+fn lines_of(
     rt: &impl AllocGlobal,
     text: &str,
     base: Option<&str>,
 ) -> Result<List<PlainLines>, AllocError> {
-    let mut list = List::empty(rt.alloc());
-    list.patterns = PlainLines.bytes_to_patterns(rt.alloc(), text.as_bytes(), "")?;
-    if let Some(base) = base {
-        list.base = Some(Vec::from_slice(rt.alloc(), base.as_bytes())?);
-    }
-    Ok(list)
+    let base = base.map(|base| base.as_bytes());
+    list_of(rt.alloc(), PlainLines, text.as_bytes(), base)
 }
 
 /// The index of the lists answers for a path as the plain way does; what decides is the last of all that match.
@@ -64,16 +61,16 @@ fn short_lists_over_few_letters(rt: HostRuntime) -> Result<(), Fail> {
     for first in LINES {
         for second in LINES {
             let text = format!(in rt.alloc(); "{first}\n{second}\n")?;
-            let one = [list_of(&rt, &text, None)?];
+            let one = [lines_of(&rt, &text, None)?];
             let two = [
-                list_of(&rt, first, None)?,
-                list_of(&rt, second, Some("a/"))?,
+                lines_of(&rt, first, None)?,
+                lines_of(&rt, second, Some("a/"))?,
             ];
             for path in PATHS {
                 for case in [Case::Sensitive, Case::Fold] {
                     let both = compare(&rt, &one, path, case)?;
                     let alone = compare(&rt, &two[..1], path, case)?;
-                    let other = [list_of(&rt, second, None)?];
+                    let other = [lines_of(&rt, second, None)?];
                     let rest = compare(&rt, &other, path, case)?;
                     let row = (first, second, path);
                     same(
@@ -98,12 +95,6 @@ const WORDS: [&str; 10] = [
 
 /// Endings of names.
 const ENDINGS: [&str; 5] = ["rs", "c", "o", "log", "md"];
-
-/// The next number of a fixed row of numbers.
-fn next(seed: &mut u32) -> usize {
-    *seed = seed.wrapping_mul(1_664_525).wrapping_add(1_013_904_223);
-    (*seed / 65_536) as usize
-}
 
 /// A pattern line of the mixture.
 fn append_pattern(rt: &impl AllocGlobal, text: &mut String, seed: &mut u32) -> Result<(), Fail> {
@@ -131,8 +122,8 @@ fn a_realistic_mixture(rt: HostRuntime) -> Result<(), Fail> {
         append_pattern(&rt, &mut texts, &mut seed)?;
     }
     let lists = [
-        list_of(&rt, &texts, None)?,
-        list_of(&rt, "*.rs\n!lib.rs\n", Some("src/"))?,
+        lines_of(&rt, &texts, None)?,
+        lines_of(&rt, "*.rs\n!lib.rs\n", Some("src/"))?,
     ];
     for _ in 0..60 {
         let folder = WORDS[next(&mut seed) % 10];

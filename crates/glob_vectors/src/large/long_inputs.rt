@@ -1,11 +1,11 @@
-//! With ample memory no call answers that there is none, not for a long text, a long input or a large number either. No
-//! contract can say so.
-use gix_glob::pattern::Case;
+//! Long texts, long inputs, long names and large numbers.
+use crate::lines::{TOP, answered, listed};
+use gix_glob::parse;
+use gix_glob::pattern::Pattern;
 use gix_glob::search::pattern::List;
-use gix_glob::search::{Pattern as _, Watched};
+use gix_glob::search::{Pattern as _, Watched, has_file_part};
 use gix_glob::wildmatch::Mode;
-use gix_glob::{Pattern, parse};
-use glob_lines::{EngineFault, LabelLines, PlainLines, run_list, run_wild};
+use glob_lines::{IgnoreLines, LabelLines, PlainLines};
 use std::alloc::{AllocError, Global};
 use std::test::Fail;
 
@@ -70,33 +70,14 @@ fn a_long_input_is_listed(rt: HostRuntime) -> Result<(), Fail> {
     Ok(())
 }
 
-/// What `run_list` answers for pattern lines and paths.
-fn listed(alloc: Global, patterns: &[u8], paths: &[u8]) -> Result<Vec<u8>, EngineFault> {
-    let (mut patterns, mut paths) = (Watched::new(patterns), Watched::new(paths));
-    let mut writer = Watched::new(Vec::new(alloc));
-    run_list(
-        alloc,
-        &mut patterns,
-        "f",
-        Some(""),
-        Case::Sensitive,
-        &mut paths,
-        &mut writer,
-    )?;
-    Ok(writer.into_inner())
-}
-
 #[test]
 fn a_long_input_is_answered(rt: HostRuntime) -> Result<(), Fail> {
     let mut text = letters(rt.alloc(), LONG)?;
     text.extend_from_slice(b"\na\n")?;
-    let plain = Mode::NO_MATCH_SLASH_LITERAL;
-    let mut reader = Watched::new(text.as_slice());
-    let mut writer = Watched::new(Vec::new(rt.alloc()));
-    run_wild(rt.alloc(), b"b*", plain, &mut reader, &mut writer)?;
-    let output = writer.into_inner();
+    let mode = Mode::NO_MATCH_SLASH_LITERAL;
+    let output = answered(rt.alloc(), b"b*", mode, &text)?;
     assert_eq!(rt; output.as_slice(), b"yes\nno\n".as_slice());
-    let output = listed(rt.alloc(), &text, &text)?;
+    let output = listed(&rt, TOP, &text, &text)?;
     assert_eq!(rt; output.as_slice(), b"1\n2\n".as_slice());
     Ok(())
 }
@@ -110,8 +91,34 @@ fn numbers_past_99_are_listed(rt: HostRuntime) -> Result<(), Fail> {
         }
         lines.push(b'\n')?;
     }
-    let output = listed(rt.alloc(), &lines, b"a")?;
+    let output = listed(&rt, TOP, &lines, b"a")?;
     assert_eq!(rt; output.as_slice(), b"9 99 100 101 1000\n".as_slice());
+    Ok(())
+}
+
+/// Catches a call that answers want of memory for a long source: of 256 bytes, and of more than 1 MiB.
+#[test]
+fn no_memory_for_a_long_source(rt: HostRuntime) -> Result<(), Fail> {
+    let alloc = rt.alloc();
+    for folders in [127, LONG] {
+        let mut name = "a/".repeat(alloc, folders)?;
+        name.push_str("ig")?;
+        assert!(rt; has_file_part(&name));
+        let root = Some("");
+        let list = List::from_bytes(alloc, b"*.rs", name.clone()?, root, PlainLines)?;
+        let source = list.source.as_ref().ok_or("no source")?;
+        assert!(rt; source.as_str() == name.as_str());
+        let base = list.base.as_ref().ok_or("no base")?;
+        assert_eq!(rt; base.len(), 2 * folders);
+        let mut buf = Vec::new(alloc);
+        let mut reader = Watched::new(b"*.rs".as_slice());
+        let source = name.clone()?;
+        let read = List::from_reader(alloc, &mut reader, source, root, &mut buf, PlainLines)?;
+        assert!(rt; read.ok_or("no list")? == list);
+        let ignored = IgnoreLines.bytes_to_patterns(alloc, b"a", &name)?;
+        let labelled = LabelLines.bytes_to_patterns(alloc, b"a\tb", &name)?;
+        assert_eq!(rt; (ignored.len(), labelled.len()), (1, 1));
+    }
     Ok(())
 }
 

@@ -3,7 +3,7 @@ use crate::compare::same;
 use gix_glob::pattern::Case;
 use gix_glob::search::has_file_part;
 use gix_glob::search::pattern::{List, strip_base_handle_recompute_basename_pos as strip};
-use glob_lines::PlainLines;
+use glob_uses::Whole;
 use std::process::Abort;
 use std::test::Fail;
 
@@ -23,30 +23,61 @@ fn file_parts(rt: HostRuntime) {
 }
 
 /// The base as text, a bar where there is none.
-fn base_of(list: &List<PlainLines>) -> &[u8] {
+fn base_of(list: &List<Whole>) -> &[u8] {
     match &list.base {
         Some(base) => base,
         None => b"|",
     }
 }
 
-/// Compares the base of a source under a root with a row's, and the rest of a list that has one line.
-fn check_base(
-    rt: &(impl Abort + AllocGlobal),
-    source: &str,
-    root: Option<&str>,
-    base: &str,
-) -> Result<(), Fail> {
+/// A source, a root, and the base of the source under it.
+type Row = (&'static str, Option<&'static str>, &'static str);
+
+const SOURCES: [Row; 15] = [
+    ("src/ig", Some(""), "src/"),
+    ("src/ig", None, "|"),
+    ("a//b/./f", Some(""), "a/b/"),
+    ("a/b", Some(""), "a/"),
+    ("a/b", Some("a"), "|"),
+    ("/r/f", Some("/r"), "|"),
+    ("/x", Some(""), "/"),
+    ("f", Some("/r"), "|"),
+    ("x/y", None, "|"),
+    ("x/y", Some(""), "x/"),
+    ("/r/s/t/f", Some("/r/"), "s/t/"),
+    ("/a/x", Some(""), "/a/"),
+    ("./x", Some(""), "./"),
+    ("./x", Some("."), "|"),
+    ("rs/f", Some("r"), "|"),
+];
+
+/// Each text as the folder of a file, whose base has its parts; and as a root, under which the folder `e` is left.
+const PARTS: [Row; 16] = [
+    ("f", Some(""), "|"),
+    ("e/f", Some(""), "e/"),
+    ("//f", Some(""), "/"),
+    ("/e/f", Some("/"), "e/"),
+    ("///f", Some(""), "/"),
+    ("/e/f", Some("//"), "e/"),
+    ("/./f", Some(""), "/"),
+    ("/e/f", Some("/."), "e/"),
+    ("./a/f", Some(""), "./a/"),
+    ("./a/e/f", Some("./a"), "e/"),
+    ("/./a/f", Some(""), "/a/"),
+    ("/a/e/f", Some("/./a"), "e/"),
+    ("a/./b/./f", Some(""), "a/b/"),
+    ("a/b/e/f", Some("a/./b/."), "e/"),
+    ("a/../b/f", Some(""), "a/../b/"),
+    ("a/../b/e/f", Some("a/../b"), "e/"),
+];
+
+/// Compares the base of a row's source, and the rest of the list of one line.
+fn check_row(rt: &(impl Abort + AllocGlobal), row: Row) -> Result<(), Fail> {
+    let (source, root, base) = row;
     assert!(rt; has_file_part(source));
     let named = String::from_str(rt.alloc(), source)?;
-    let list = List::from_bytes(rt.alloc(), b"*.rs", named, root, PlainLines)?;
-    same(
-        rt,
-        base_of(&list),
-        base.as_bytes(),
-        "the base of",
-        (source, root),
-    );
+    let list = List::from_bytes(rt.alloc(), b"*.rs", named, root, Whole)?;
+    same(rt, base_of(&list), base.as_bytes(), "the base of", row);
     let named = list.source.as_ref().ok_or("no source")?;
     assert_eq!(rt; named.as_bytes(), source.as_bytes());
     let [mapping] = list.patterns.as_slice() else {
@@ -61,52 +92,16 @@ fn check_base(
 
 #[test]
 fn bases_of_sources(rt: HostRuntime) -> Result<(), Fail> {
-    let rows = [
-        ("src/ig", Some(""), "src/"),
-        ("src/ig", None, "|"),
-        ("a//b/./f", Some(""), "a/b/"),
-        ("a/b", Some(""), "a/"),
-        ("a/b", Some("a"), "|"),
-        ("/r/f", Some("/r"), "|"),
-        ("/x", Some(""), "/"),
-        ("f", Some("/r"), "|"),
-        ("x/y", None, "|"),
-        ("x/y", Some(""), "x/"),
-        ("/r/s/t/f", Some("/r/"), "s/t/"),
-        ("/a/x", Some(""), "/a/"),
-        ("./x", Some(""), "./"),
-        ("./x", Some("."), "|"),
-        ("rs/f", Some("r"), "|"),
-    ];
-    for (source, root, base) in rows {
-        check_base(&rt, source, root, base)?;
+    for row in SOURCES {
+        check_row(&rt, row)?;
     }
     Ok(())
 }
 
-/// Each text as the folder of a file, whose base has its parts; and as a root, under which the folder `e` is left.
 #[test]
 fn parts_of_texts(rt: HostRuntime) -> Result<(), Fail> {
-    let rows = [
-        ("f", "", "|"),
-        ("e/f", "", "e/"),
-        ("//f", "", "/"),
-        ("/e/f", "/", "e/"),
-        ("///f", "", "/"),
-        ("/e/f", "//", "e/"),
-        ("/./f", "", "/"),
-        ("/e/f", "/.", "e/"),
-        ("./a/f", "", "./a/"),
-        ("./a/e/f", "./a", "e/"),
-        ("/./a/f", "", "/a/"),
-        ("/a/e/f", "/./a", "e/"),
-        ("a/./b/./f", "", "a/b/"),
-        ("a/b/e/f", "a/./b/.", "e/"),
-        ("a/../b/f", "", "a/../b/"),
-        ("a/../b/e/f", "a/../b", "e/"),
-    ];
-    for (source, root, base) in rows {
-        check_base(&rt, source, Some(root), base)?;
+    for row in PARTS {
+        check_row(&rt, row)?;
     }
     Ok(())
 }
@@ -147,7 +142,7 @@ fn bases_are_stripped(rt: HostRuntime) {
 
 #[test]
 fn empty_lists_strip_nothing(rt: HostRuntime) {
-    let list: List<PlainLines> = List::empty(rt.alloc());
+    let list: List<Whole> = List::empty(rt.alloc());
     assert!(rt; list.patterns.is_empty() && list.source.is_none() && list.base.is_none());
     let left = list.strip_base_handle_recompute_basename_pos(b"a", Some(0), Case::Sensitive);
     assert_eq!(rt; left, Some((b"a".as_slice(), Some(0))));

@@ -1,6 +1,6 @@
 //! Patterns with a label behind a tab.
 use crate::compare::same;
-use crate::deciding::last_match;
+use crate::lists::last_match;
 use bitflags::Flags;
 use gix_glob::Pattern;
 use gix_glob::pattern::Case;

@@ -1,6 +1,6 @@
 //! Lines of values against one pattern.
 use crate::compare::same;
-use crate::modes::{path, plain};
+use crate::matching::modes::{path, plain};
 use gix_glob::search::Watched;
 use gix_glob::wildmatch::Mode;
 use glob_lines::run_wild;

@@ -3,7 +3,7 @@ ghost use Rattle.std.specs.Prelude.{◌↔◌, IsTrue};
 ghost use Rattle.gix_glob.specs.Bytes.{HasByte, slash};
 
 use crate::compare::same;
-use crate::modes::{fold, path, path_fold, plain};
+use crate::matching::modes::{fold, path, path_fold, plain};
 use bitflags::Flags;
 use gix_glob::pattern::{Case, Mode, Pattern, PatternView, basename_start};
 use gix_glob::wildmatch;

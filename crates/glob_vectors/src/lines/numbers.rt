@@ -1,25 +1,8 @@
 //! Path lines against the lines of a pattern file.
+use super::{Question, TOP, listed};
 use crate::compare::same;
 use gix_glob::pattern::Case;
-use gix_glob::search::{Watched, has_file_part};
-use glob_lines::{EngineFault, run_list};
-use std::process::Abort;
 use std::test::Fail;
-
-/// What a run with the pattern lines of a file was asked.
-#[derive(Clone, Copy)]
-struct Question<'a> {
-    source: &'a str,
-    root: Option<&'a str>,
-    case: Case,
-}
-
-/// A file at the top of a repository.
-const TOP: Question<'static> = Question {
-    source: "f",
-    root: Some(""),
-    case: Case::Sensitive,
-};
 
 /// A file in the folder `a`.
 const IN_A: Question<'static> = Question {
@@ -48,29 +31,6 @@ const WITHOUT_ROOT: Question<'static> = Question {
     root: None,
     case: Case::Sensitive,
 };
-
-/// What a run over readers and a writer in memory wrote.
-fn list_output(
-    rt: &(impl Abort + AllocGlobal),
-    question: Question<'_>,
-    patterns: &[u8],
-    paths: &[u8],
-) -> Result<Vec<u8>, EngineFault> {
-    let (mut patterns, mut paths) = (Watched::new(patterns), Watched::new(paths));
-    let mut writer = Watched::new(Vec::new(rt.alloc()));
-    let Question { source, root, case } = question;
-    assert!(rt; has_file_part(source), "{source}");
-    run_list(
-        rt.alloc(),
-        &mut patterns,
-        source,
-        root,
-        case,
-        &mut paths,
-        &mut writer,
-    )?;
-    Ok(writer.into_inner())
-}
 
 #[test]
 fn the_numbers_of_matching_lines_are_listed(rt: HostRuntime) -> Result<(), Fail> {
@@ -103,7 +63,7 @@ fn the_numbers_of_matching_lines_are_listed(rt: HostRuntime) -> Result<(), Fail>
         ),
     ];
     for (question, patterns, paths, text) in rows {
-        let output = list_output(&rt, question, patterns, paths)?;
+        let output = listed(&rt, question, patterns, paths)?;
         same(
             &rt,
             output.as_slice(),

@@ -5,7 +5,6 @@ use gix_glob::search::pattern::Mapping;
 use gix_glob::wildmatch::Mode;
 use glob_lines::{IgnoreLine, IgnoreLines, next_ignore_line, without_byte_order_mark};
 use std::alloc::{AllocError, Global};
-use std::process::Abort;
 use std::test::Fail;
 
 /// The patterns of the bytes as they are shown, each after the number of its line and before a line feed.
@@ -64,23 +63,16 @@ const FILES: [Row<'static>; 14] = [
     ("\u{feff}*.o\r\n!keep.o \n#c\n", "1:*.o\n2:!keep.o\n"),
 ];
 
-fn assert_rows(rt: &(impl Abort + AllocGlobal), rows: &[Row]) -> Result<(), AllocError> {
-    for (bytes, want) in rows {
-        let mappings = IgnoreLines.bytes_to_patterns(rt.alloc(), bytes.as_bytes(), "ig")?;
-        let shown = shown(rt.alloc(), &mappings)?;
-        same(rt, shown.as_str(), *want, "the patterns of", *bytes);
+#[test]
+fn patterns_of_lines(rt: HostRuntime) -> Result<(), AllocError> {
+    for rows in [LINES.as_slice(), &FILES] {
+        for (bytes, want) in rows {
+            let mappings = IgnoreLines.bytes_to_patterns(rt.alloc(), bytes.as_bytes(), "ig")?;
+            let shown = shown(rt.alloc(), &mappings)?;
+            same(&rt, shown.as_str(), *want, "the patterns of", *bytes);
+        }
     }
     Ok(())
-}
-
-#[test]
-fn one_line(rt: HostRuntime) -> Result<(), AllocError> {
-    assert_rows(&rt, &LINES)
-}
-
-#[test]
-fn several_lines(rt: HostRuntime) -> Result<(), AllocError> {
-    assert_rows(&rt, &FILES)
 }
 
 #[test]

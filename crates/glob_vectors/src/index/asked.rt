@@ -1,19 +1,14 @@
 //! How many patterns an index asks: those alone that can match by what a path shows. And the engines ask it.
+use super::next;
 use crate::compare::same;
+use crate::lines::{TOP, decided, listed};
+use crate::lists::list_of;
 use gix_glob::pattern::Case;
 use gix_glob::search::pattern::List;
-use gix_glob::search::{Pattern as _, Watched};
 use glob_index::{CountedDecision, ListIndex};
-use glob_lines::{IgnoreLines, PlainLines, bases_are_folders, plain_path, run_ignore, run_list};
-use std::alloc::{AllocError, Global};
+use glob_lines::{IgnoreLines, PlainLines, bases_are_folders, plain_path};
+use std::alloc::AllocError;
 use std::test::Fail;
-
-/// A list of pattern lines without a base.
-fn list_of(alloc: Global, text: &[u8]) -> Result<List<PlainLines>, AllocError> {
-    let mut list = List::empty(alloc);
-    list.patterns = PlainLines.bytes_to_patterns(alloc, text, "")?;
-    Ok(list)
-}
 
 /// Pattern lines, a path, and what an index of the lines answers for it.
 type Row<'a> = (&'a str, &'a str, Option<(usize, usize)>, usize);
@@ -32,7 +27,7 @@ const ROWS: [Row<'static>; 7] = [
 #[test]
 fn only_what_can_match_is_asked(rt: HostRuntime) -> Result<(), Fail> {
     for (text, path, pair, asked) in ROWS {
-        let lists = [list_of(rt.alloc(), text.as_bytes())?];
+        let lists = [list_of(rt.alloc(), PlainLines, text.as_bytes(), None)?];
         assert!(rt; bases_are_folders(&lists));
         assert!(rt; plain_path(path.as_bytes()));
         let index = ListIndex::new(rt.alloc(), &lists, Case::Sensitive)?;
@@ -47,12 +42,6 @@ fn only_what_can_match_is_asked(rt: HostRuntime) -> Result<(), Fail> {
 const SYLLABLES: [&str; 12] = [
     "ba", "ce", "di", "fu", "ga", "hi", "ju", "ke", "la", "mi", "re", "su",
 ];
-
-/// The next number of a fixed row of numbers.
-fn next(seed: &mut u32) -> usize {
-    *seed = seed.wrapping_mul(1_664_525).wrapping_add(1_013_904_223);
-    (*seed / 65_536) as usize
-}
 
 /// The next syllable.
 fn syllable(seed: &mut u32) -> &'static str {
@@ -150,7 +139,7 @@ fn of_a_thousand_patterns_few_are_asked(rt: HostRuntime) -> Result<(), Fail> {
     for _ in 0..1_000 {
         append_pattern(&mut lines, &mut seed)?;
     }
-    let lists = [list_of(rt.alloc(), lines.as_bytes())?];
+    let lists = [list_of(rt.alloc(), PlainLines, lines.as_bytes(), None)?];
     assert!(rt; bases_are_folders(&lists));
     let index = ListIndex::new(rt.alloc(), &lists, Case::Sensitive)?;
     let (mut asked, mut undecided): (usize, usize) = (0, 0);
@@ -183,12 +172,15 @@ fn of_a_thousand_patterns_few_are_asked(rt: HostRuntime) -> Result<(), Fail> {
 
 #[test]
 fn it_pays_where_few_can_match(rt: HostRuntime) -> Result<(), Fail> {
-    let many = [list_of(rt.alloc(), b"a\nb\nc\nd\ne\nf\ng\nh\n")?];
-    let few = [list_of(rt.alloc(), b"a\nb\nc\nd\ne\nf\ng\n")?];
-    let one_end = [list_of(rt.alloc(), b"*a\n*b\n*ca\n*da\n*ea\n*fa\n*ga\n*ha\n")?];
-    for (lists, is_worth) in [(&many, true), (&few, false), (&one_end, false)] {
-        let index = ListIndex::new(rt.alloc(), lists, Case::Sensitive)?;
-        assert_eq!(rt; index.pays_for(b"a"), is_worth);
+    let rows = [
+        ("a\nb\nc\nd\ne\nf\ng\nh\n", true),
+        ("a\nb\nc\nd\ne\nf\ng\n", false),
+        ("*a\n*b\n*ca\n*da\n*ea\n*fa\n*ga\n*ha\n", false),
+    ];
+    for (text, is_worth) in rows {
+        let lists = [list_of(rt.alloc(), PlainLines, text.as_bytes(), None)?];
+        let index = ListIndex::new(rt.alloc(), &lists, Case::Sensitive)?;
+        same(&rt, index.pays_for(b"a"), is_worth, "it pays for", text);
     }
     Ok(())
 }
@@ -224,33 +216,10 @@ fn the_engines_ask_the_index(rt: HostRuntime) -> Result<(), Fail> {
     let (mut patterns, mut paths) = (Vec::new(rt.alloc()), Vec::new(rt.alloc()));
     append_slow_patterns(&mut patterns, 8_000)?;
     append_slow_paths(&mut paths, 16_000)?;
-    let mut writer = Watched::new(Vec::new(rt.alloc()));
-    let mut lines = Watched::new(patterns.as_slice());
-    let mut reader = Watched::new(paths.as_slice());
-    run_list(
-        rt.alloc(),
-        &mut lines,
-        "f",
-        None,
-        Case::Sensitive,
-        &mut reader,
-        &mut writer,
-    )?;
-    let output = writer.into_inner();
+    let output = listed(&rt, TOP, &patterns, &paths)?;
     assert!(rt; output.as_slice() == [b'\n'; 30].as_slice());
-    let source = String::from_str(rt.alloc(), "f")?;
-    let lists = [List::from_bytes(rt.alloc(), &patterns, source, None, IgnoreLines)?];
-    assert!(rt; bases_are_folders(&lists));
-    let mut writer = Watched::new(Vec::new(rt.alloc()));
-    let mut reader = Watched::new(paths.as_slice());
-    run_ignore(
-        rt.alloc(),
-        &lists,
-        Case::Sensitive,
-        &mut reader,
-        &mut writer,
-    )?;
-    let output = writer.into_inner();
+    let lists = [list_of(rt.alloc(), IgnoreLines, &patterns, None)?];
+    let output = decided(&rt, &lists, Case::Sensitive, &paths)?;
     assert!(rt; output.as_slice() == b"none\n".repeat(rt.alloc(), 30)?.as_slice());
     Ok(())
 }

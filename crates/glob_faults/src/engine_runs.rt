@@ -1,0 +1,112 @@
+//! The line engines over readers and a writer that may fail: what each is asked, and what a run comes to.
+use crate::compare::same;
+use crate::fakes::{Sink, Source};
+use gix_glob::pattern::Case;
+use gix_glob::search::Watched;
+use gix_glob::search::pattern::List;
+use gix_glob::wildmatch::Mode;
+use glob_lines::{EngineFault, IgnoreLines, bases_are_folders, run_ignore, run_list, run_wild};
+use std::io::ErrorKind;
+use std::process::Abort;
+use std::test::Fail;
+
+/// A piece that is never too short, and a number of calls after which none is left.
+pub(crate) const WHOLE: usize = usize::MAX;
+
+/// What a failed call may say. One that was interrupted isn't tried again either.
+pub(crate) const KINDS: [ErrorKind; 2] = [ErrorKind::Interrupted, ErrorKind::Other];
+
+/// The pattern lines that `run_list` reads.
+pub(crate) const PATTERNS: &[u8] = b"a*\n*\n";
+
+/// An engine, with what it is asked.
+#[derive(Clone, Copy, PartialEq, Debug)]
+pub(crate) enum Engine {
+    /// `run_wild` with the pattern `a*`.
+    Wild,
+    /// `run_list` with the pattern lines.
+    List,
+    /// `run_ignore` with one list of the line `!a*`.
+    Ignore,
+}
+
+pub(crate) const ENGINES: [Engine; 3] = [Engine::Wild, Engine::List, Engine::Ignore];
+
+impl Engine {
+    /// The value lines or path lines that it answers.
+    pub(crate) fn lines(self) -> &'static [u8] {
+        match self {
+            Engine::Wild => b"ab\nb\n",
+            Engine::List | Engine::Ignore => b"ab\nb\n/\n",
+        }
+    }
+
+    /// What it answers.
+    pub(crate) fn text(self) -> &'static [u8] {
+        match self {
+            Engine::Wild => b"yes\nno\n",
+            Engine::List => b"1 2\n2\n!\n",
+            Engine::Ignore => b"kept 1:1\nnone\n!\n",
+        }
+    }
+}
+
+/// What a run reads and writes. The patterns are read by `run_list` alone.
+#[derive(Drop)]
+pub(crate) struct Devices<'a> {
+    pub(crate) patterns: Source<'a>,
+    pub(crate) lines: Source<'a>,
+    pub(crate) sink: Sink,
+}
+
+/// What a run comes to.
+#[derive(Clone, Copy, PartialEq, Debug)]
+pub(crate) struct Outcome<'a> {
+    pub(crate) fault: Option<EngineFault>,
+    /// Whether the reader of patterns, the reader of lines, and the writer have failed.
+    pub(crate) failed: (bool, bool, bool),
+    pub(crate) written: &'a [u8],
+}
+
+/// Runs an engine, and compares what it comes to. The row is the error of the call that fails, and how many calls succeed
+/// before it.
+pub(crate) fn check_run(
+    rt: &(impl Abort + AllocGlobal),
+    engine: Engine,
+    devices: Devices<'_>,
+    wanted: Outcome<'_>,
+    row: (ErrorKind, usize),
+) -> Result<(), Fail> {
+    let case = Case::Sensitive;
+    let mut patterns = Watched::new(devices.patterns);
+    let mut lines = Watched::new(devices.lines);
+    let mut writer = Watched::new(devices.sink);
+    let source = String::from_str(rt.alloc(), "ig")?;
+    let lists = [List::from_bytes(rt.alloc(), b"!a*\n", source, None, IgnoreLines)?];
+    assert!(rt; bases_are_folders(&lists));
+    let answer = match engine {
+        Engine::Wild => {
+            let mode = Mode::NO_MATCH_SLASH_LITERAL;
+            run_wild(rt.alloc(), b"a*", mode, &mut lines, &mut writer)
+        }
+        Engine::List => run_list(
+            rt.alloc(),
+            &mut patterns,
+            "f",
+            None,
+            case,
+            &mut lines,
+            &mut writer,
+        ),
+        Engine::Ignore => run_ignore(rt.alloc(), &lists, case, &mut lines, &mut writer),
+    };
+    let failed = (patterns.failed(), lines.failed(), writer.failed());
+    let sink = writer.into_inner();
+    let outcome = Outcome {
+        fault: answer.err(),
+        failed,
+        written: sink.taken(),
+    };
+    same(rt, outcome, wanted, "the run:", (engine, row));
+    Ok(())
+}

@@ -1,0 +1,7 @@
+//! Rows of matching: patterns and values, in each mode.
+mod engines;
+mod hostile_patterns;
+pub(crate) mod modes;
+mod rules;
+mod sets;
+mod tokens;
