@@ -1,6 +1,6 @@
 //! Patterns that are read once and matched often: `struct gix_glob_pattern` of the header, and what is asked of it.
 ghost use Rattle.std.specs.Prelude.{◌≡◌, ◌<◌, ◌⊎◌, ◌↔◌, ℕ, [], ◌∷◌, length, All, IsTrue, IfSome, None, option_map, true, false};
-ghost use Rattle.gix_glob.specs.Deciding.{AnswersUnder, Decides};
+ghost use Rattle.glob_lists.specs.Deciding.{AnswersUnder, Decides};
 ghost use Rattle.gix_glob.specs.Patterns.{HasReading, IsPattern, is_blank, without_negation};
 ghost use Rattle.gix_glob.specs.RepositoryPaths.{IsBasenameStart};
 ghost use Rattle.gix_glob_c.specs.Parsed.{IsLawful, IsPathOfFile, IsRead, entry_of_parts, first_of, list_of, mode_of};

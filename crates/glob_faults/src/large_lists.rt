@@ -3,7 +3,7 @@
 use gix_glob::pattern::{Case, basename_start};
 use gix_glob::search::pattern::List;
 use gix_glob::search::{Pattern as _, Watched};
-use glob_index::ListIndex;
+use glob_lists::ListIndex;
 use glob_lines::{EngineFault, IgnoreLines, bases_are_folders, plain_path, run_ignore, run_list};
 use std::alloc::{AllocError, Global};
 use std::process::Abort;

@@ -1,4 +1,3 @@
-pub mod DecidingLemmas
 pub mod DecisionsLemmas
 pub mod EntriesLemmas
 pub mod FoundLemmas
@@ -10,7 +9,6 @@ pub mod ListLemmas
 pub mod MappingsLemmas
 pub mod NumbersLemmas
 pub mod OneText
-pub mod PathsLemmas
 pub mod PlainLemmas
 pub mod TransferLemmas
 pub mod TrimLemmas

@@ -2,10 +2,10 @@
 ghost use Rattle.std.specs.Prelude.{◌≡◌, ◌↔◌, ◌++◌, false, map, IsTrue, IfOk, OnOk, IsErrOf};
 ghost use Rattle.std.specs.Option.{ForSome};
 ghost use Rattle.std.specs.Io.KnownBytes.{Appends};
-ghost use Rattle.gix_glob.specs.Deciding.{BasesAreFolders, Decides};
+ghost use Rattle.glob_lists.specs.Deciding.{BasesAreFolders, Decides};
 ghost use Rattle.gix_glob.specs.Entries.{entry_of};
 ghost use Rattle.gix_glob.specs.EntryLists.{entry_list_of};
-ghost use Rattle.gix_glob.specs.Paths.{IsPlainPath};
+ghost use Rattle.glob_lists.specs.Paths.{IsPlainPath};
 ghost use Rattle.gix_glob.specs.Watched.{has_failed, inner};
 ghost use Rattle.glob_lines.specs.Decisions.{DecisionsText, verdict};
 ghost use Rattle.glob_lines.specs.Transfers.{AppendsFront, ReadsWhole, Run};
@@ -24,7 +24,7 @@ use gix_glob::pattern::Case;
 use gix_glob::search;
 use gix_glob::search::Watched;
 use gix_glob::search::pattern::{List, Mapping};
-use glob_index::ListIndex;
+use glob_lists::ListIndex;
 use std::alloc::{AllocError, Global};
 use std::io::{Read, Write};
 

@@ -1,7 +1,7 @@
 //! The index of an engine's lists, where there can be one.
 ghost use Rattle.std.specs.Prelude.{◌≡◌, IfOk, IsErr, IsErrOf};
 
-use glob_index::IndexError;
+use glob_lists::IndexError;
 use std::alloc::AllocError;
 
 /// The index that was made, or `None` where there are too many patterns for one: each of them is then asked in turn.

@@ -2,7 +2,7 @@
 ghost use Rattle.std.specs.Prelude.{◌≡◌, ◌↔◌, ℕ, List, Option, map};
 ghost use Rattle.gix_glob.specs.declared.pattern.Case.{Case};
 ghost use Rattle.gix_glob.specs.declared.wildmatch.Mode.{Mode};
-ghost use Rattle.gix_glob.specs.Deciding.{HasFolder};
+ghost use Rattle.glob_lists.specs.Deciding.{HasFolder};
 ghost use Rattle.gix_glob.specs.Entries.{Entry};
 ghost use Rattle.gix_glob.specs.EntryLists.{EntryList};
 ghost use Rattle.gix_glob.specs.Loading.{IsLoaded};

@@ -3,7 +3,7 @@ use crate::compare::same;
 use gix_glob::pattern::Case;
 use gix_glob::search::pattern::List;
 use gix_glob::search::{Pattern as _, Watched};
-use glob_index::{CountedDecision, ListIndex};
+use glob_lists::{CountedDecision, ListIndex};
 use glob_lines::{IgnoreLines, PlainLines, bases_are_folders, plain_path, run_ignore, run_list};
 use std::alloc::{AllocError, Global};
 use std::test::Fail;

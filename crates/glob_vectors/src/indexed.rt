@@ -3,7 +3,7 @@ use crate::compare::same;
 use gix_glob::pattern::Case;
 use gix_glob::search::Pattern;
 use gix_glob::search::pattern::List;
-use glob_index::ListIndex;
+use glob_lists::ListIndex;
 use glob_lines::{PlainLines, bases_are_folders, decide, plain_path};
 use std::alloc::AllocError;
 use std::process::Abort;

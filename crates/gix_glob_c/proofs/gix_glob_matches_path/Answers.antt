@@ -1,9 +1,9 @@
 -- The line was read, and has no other reading; the path was looked at from its last slash on.
 use Rattle.std.proofs.Common.{◌↔◌, IsTrue, None, Some, refl, subst}
 use Rattle.gix_glob.specs.declared.pattern.Case.{Case}
-use Rattle.gix_glob.specs.Deciding.{path_mode}
+use Rattle.glob_lists.specs.Deciding.{path_mode}
 use Rattle.gix_glob.specs.RepositoryPaths.{Answers}
-use Rattle.gix_glob.proofs.lemmas.Answering.{AnswersUnder-only, AnswersUnder-yes}
+use Rattle.glob_lists.proofs.lemmas.Answering.{AnswersUnder-only, AnswersUnder-yes}
 use Rattle.gix_glob_c.specs.Parts.{case_of}
 use Rattle.gix_glob_c.proofs.gix_glob_matches_path.Goals as goal
 

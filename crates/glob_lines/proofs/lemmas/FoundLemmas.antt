@@ -5,16 +5,16 @@ use Rattle.std.proofs.lemmas.Bool.{cases_eq, cases_lt}
 use Rattle.std.proofs.lemmas.List.{take_more}
 use Rattle.std.proofs.lemmas.Option.{get_or_from_slice_get, same_Some, slice_get_within}
 use Rattle.gix_glob.specs.declared.pattern.Case.{Case}
-use Rattle.gix_glob.specs.Deciding.{AnswersAt, AnswersUnder, BasesAreFolders, HasFolder}
+use Rattle.glob_lists.specs.Deciding.{AnswersAt, AnswersUnder, BasesAreFolders, HasFolder}
 use Rattle.gix_glob.specs.EntryLists.{EntryList}
 use Rattle.gix_glob.specs.Stripping.{RestOf}
-use Rattle.glob_index.specs.Index.{AreMatches}
+use Rattle.glob_lists.specs.Index.{AreMatches}
 use Rattle.glob_lines.specs.Mappings.{WritesNumbers}
 use Rattle.glob_lines.specs.Numbers.{Picks}
 use Rattle.glob_lines.specs.Plain.{PlainEntry}
 use Rattle.glob_lines.specs.Private.Answering.{EntryAnswers, WritesNumbersOfRest}
 use Rattle.glob_lines.specs.Private.Growing.{Adds}
-use Rattle.gix_glob.proofs.lemmas.Answering.{AnswersUnder-only, AnswersUnder-yes}
+use Rattle.glob_lists.proofs.lemmas.Answering.{AnswersUnder-only, AnswersUnder-yes}
 use Rattle.glob_lines.proofs.lemmas.MappingsLemmas.{IsListedUpTo, IsListedUpTo-more, IsListedUpTo-none, IsListedUpTo-skip}
 
 -- ---- the places of the entries of which P holds

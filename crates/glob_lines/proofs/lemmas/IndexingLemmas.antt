@@ -2,8 +2,8 @@
 use Rattle.std.proofs.Common.{◌≡◌, true, ap, subst, Option, None, Some, Result, Ok, Err, Bor, refl}
 use Rattle.std.specs.Prelude.{IfOk, IsErr, IsErrOf, is_err}
 use Rattle.std.specs.Option.{option_copied}
-use Rattle.glob_index.specs.declared.fault.IndexError.{IndexError}
-use Rattle.glob_index.specs.declared.fault.IndexError.TheVariants.{Memory, TooMany}
+use Rattle.glob_lists.specs.declared.fault.IndexError.{IndexError}
+use Rattle.glob_lists.specs.declared.fault.IndexError.TheVariants.{Memory, TooMany}
 
 -- what holds of the index that was made holds of the one that is there
 pub held_index : {I E : Type 0} (P : I → Type 0) (made : Result I IndexError) (kept : Result (Option I) E) (index : Option I) (there : Option (Bor I)) (x : Bor I)

@@ -3,7 +3,7 @@ use Rattle.std.proofs.Common.{◌≡◌, inr, ℕ, Bool, List, [], ◌∷◌, �
 use Rattle.std.specs.Prelude.{◌↔◌, decimal}
 use Rattle.std.proofs.lemmas.List.{map_push}
 use Rattle.gix_glob.specs.declared.pattern.Case.{Case}
-use Rattle.gix_glob.specs.Deciding.{AnswersUnder}
+use Rattle.glob_lists.specs.Deciding.{AnswersUnder}
 use Rattle.gix_glob.specs.Paths.{Base}
 use Rattle.gix_glob.specs.Stripping.{NothingLeft}
 use Rattle.glob_lines.specs.Mappings.{MappingsText, WritesNumbers}

@@ -1,7 +1,7 @@
 -- What is written of the entries that answer for a path.
 use Rattle.std.specs.Prelude.{◌≡◌, ℕ, Bool, if◌then◌else◌, List, map, Option, Some, codes}
 use Rattle.gix_glob.specs.declared.pattern.Case.{Case}
-use Rattle.gix_glob.specs.Deciding.{path_mode}
+use Rattle.glob_lists.specs.Deciding.{path_mode}
 use Rattle.gix_glob.specs.EntryLists.{EntryList}
 use Rattle.gix_glob.specs.RepositoryPaths.{Answers, IsBasenameStart}
 use Rattle.glob_lines.specs.Decisions.{WritesDecision}

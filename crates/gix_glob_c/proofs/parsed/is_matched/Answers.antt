@@ -2,10 +2,10 @@
 use Rattle.std.proofs.Common.{◌↔◌, ℕ, Option, IsTrue, None, Some, refl, sym, subst}
 use Rattle.gix_glob.specs.declared.pattern.Case.{Case}
 use Rattle.gix_glob.specs.declared.pattern.Mode as pattern
-use Rattle.gix_glob.specs.Deciding.{path_mode}
+use Rattle.glob_lists.specs.Deciding.{path_mode}
 use Rattle.gix_glob.specs.Patterns.{IsPattern}
 use Rattle.gix_glob.specs.RepositoryPaths.{Answers}
-use Rattle.gix_glob.proofs.lemmas.Answering.{AnswersUnder-only, AnswersUnder-yes}
+use Rattle.glob_lists.proofs.lemmas.Answering.{AnswersUnder-only, AnswersUnder-yes}
 use Rattle.gix_glob_c.proofs.lemmas.Bits.{pattern_mode_of}
 use Rattle.gix_glob_c.specs.Parts.{case_of}
 use Rattle.gix_glob_c.specs.Parsed.{entry_of_parts, mode_of}

@@ -2,7 +2,7 @@
 use Rattle.std.proofs.Common.{◌<◌, ℕ, get_or, length, map, option_map, ap, refl, rules, subst, sym, arith}
 use Rattle.std.proofs.lemmas.Option.{slice_get-get_or}
 use Rattle.std.specs.Vec.{vec_items}
-use Rattle.gix_glob.specs.Deciding.{AnswersUnder, BasesAreFolders}
+use Rattle.glob_lists.specs.Deciding.{AnswersUnder, BasesAreFolders}
 use Rattle.gix_glob.specs.Entries.{entry_of}
 use Rattle.gix_glob.specs.EntryLists.{entry_list_of}
 use Rattle.glob_lines.specs.Numbers.{text_of_numbers}

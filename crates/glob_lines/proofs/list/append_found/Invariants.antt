@@ -1,6 +1,6 @@
 use Rattle.std.proofs.Common.{map, option_map}
 use Rattle.std.specs.Vec.{vec_items}
-use Rattle.gix_glob.specs.Deciding.{AnswersUnder}
+use Rattle.glob_lists.specs.Deciding.{AnswersUnder}
 use Rattle.gix_glob.specs.Entries.{entry_of}
 use Rattle.glob_lines.proofs.lemmas.FoundLemmas.{IsListedThrough}
 use Rattle.glob_lines.proofs.list.append_found.Given as goal

@@ -2,11 +2,11 @@
 use Rattle.std.proofs.Common.{option_map}
 use Rattle.std.proofs.lemmas.Result.{on_ok_weaker}
 use Rattle.std.specs.Vec.{vec_items}
-use Rattle.gix_glob.specs.Paths.{IsPlainPath}
+use Rattle.glob_lists.specs.Paths.{IsPlainPath}
 use Rattle.gix_glob.specs.Stripping.{NothingLeft}
 use Rattle.glob_lines.proofs.lemmas.FoundLemmas.{numbers_under}
 use Rattle.glob_lines.proofs.lemmas.MappingsLemmas.{writes_nothing, writes_numbers}
-use Rattle.glob_lines.proofs.lemmas.PathsLemmas.{IsPlainPath-marked}
+use Rattle.glob_lists.proofs.lemmas.PathsLemmas.{IsPlainPath-marked}
 use Rattle.glob_lines.proofs.list.append_matches.Goals as goal
 
 pub rest_of-requires-clause-plain : goal.rest_of-requires-clause-plain

@@ -1,0 +1,215 @@
+//! Lists of patterns with an index: which of their patterns match a path, and which one decides.
+ghost use Rattle.std.specs.Prelude.{◌≡◌, ◌↔◌, ◌⊎◌, ◌+◌, ◌^◌, ◌<◌, ◌≤◌, IfOk, IsErrOf, IsSome, IsTrue, OnOk, length, map, min};
+ghost use Rattle.glob_lists.specs.Deciding.{BasesAreFolders, Decides, PairAnswers};
+ghost use Rattle.gix_glob.specs.EntryLists.{entry_list_of};
+ghost use Rattle.glob_lists.specs.Index.{AreMatches, AreTooMany, entry_count};
+ghost use Rattle.glob_lists.specs.Private.Tables.{AreChained, AreRowsUpTo, HasEntryAt};
+
+use crate::fault::IndexError;
+use crate::laws;
+use crate::path::RepositoryPath;
+use crate::row::Row;
+use crate::table::Table;
+use gix_glob::pattern::{Case, basename_start};
+use gix_glob::search;
+use gix_glob::search::pattern::List;
+use gix_glob::wildmatch::Mode;
+use std::alloc::{AllocError, Global};
+use std::marker::Model;
+
+/// Lists of patterns, and an index of them by what each pattern asks of a path. It is made once, and then tests only the few
+/// patterns that can match a path. Contracts see its lists, and whether the case of letters counts.
+#[derive(Debug, Drop)]
+pub struct ListIndex<'a, T: search::Pattern> {
+    lists: &'a [List<T>],
+    case: Case,
+    table: Table,
+}
+
+impl<'a, T: search::Pattern> Model for ListIndex<'a, T> {
+    ghost use Rattle.std.specs.Prelude.{map};
+    ghost use Rattle.gix_glob.specs.EntryLists.{entry_list_of};
+    ghost use Rattle.glob_lists.specs.Index.{IndexedLists};
+    ghost use Rattle.glob_lists.specs.Private.Tables.{IsTableOf};
+
+    ghost Value = { IndexedLists T T.Value };
+
+    ghost view = { λ index. record { lists = index.lists.now; case = index.case } };
+
+    ghost invariant = { λ index. IsTableOf (map (entry_list_of T.seen) index.lists.now) index.table };
+}
+
+/// What decides about a path, and what it took to find it.
+#[derive(Debug, Clone, Copy, PartialEq, Eq)]
+pub struct CountedDecision {
+    /// The place of the list and of the mapping that decides, both from 0; `None` where no pattern matches.
+    pub pair: Option<(usize, usize)>,
+    /// How many patterns were asked whether they match.
+    pub asked: usize,
+}
+
+impl<'a, T: search::Pattern> ListIndex<'a, T> {
+    /// The index of the lists, whose bases have to be those of folders: [`bases_are_folders`](crate::bases_are_folders). It
+    /// takes 24 bytes for each pattern, and some 2 KB once.
+    ///
+    /// # Errors
+    /// [`IndexError::TooMany`] where there are 2^32 patterns or more, or more than 2^32 lists, and there alone;
+    /// [`decide`](crate::decide) then answers the same. [`IndexError::Memory`] where memory was refused.
+    pub fn new(
+        alloc: Global,
+        lists: &'a [List<T>],
+        case: Case,
+    ) -> Result<ListIndex<'a, T>, IndexError>
+        requires folders { BasesAreFolders (map (entry_list_of T.seen) lists.now) }
+        ensures index { IfOk result (λ index. (index.lists ≡ lists.entry.now) × (index.case ≡ case)) }
+        ensures too_many { IsErrOf result IndexError.TooMany ↔ AreTooMany (map (entry_list_of T.seen) lists.entry.now) }
+    {
+        let patterns = pattern_count(lists);
+        if are_too_many(patterns, lists.len()) {
+            return Err(IndexError::TooMany);
+        }
+        let mut table = Table::with_capacity(alloc, patterns)?;
+        'lists: for i in 0..lists.len() {
+            add_list(&mut table, lists, i)?;
+        }
+        Ok(ListIndex { lists, case, table })
+    }
+
+    /// The lists that the index is of.
+    pub fn lists(&self) -> &'a [List<T>]
+        ensures { result.now ≡ self.now.lists }
+    {
+        self.lists
+    }
+
+    /// Whether the case of letters counts.
+    pub fn case(&self) -> Case
+        ensures { result ≡ self.now.case }
+    {
+        self.case
+    }
+
+    /// Which pattern decides about a path, as [`decide`](crate::decide) answers it for the lists. No memory is taken.
+    pub fn decide(&self, path: RepositoryPath<'_>) -> Option<(usize, usize)>
+        ensures { Decides (map (entry_list_of T.seen) self.now.lists) path.entry.bytes path.entry.is_dir self.now.case result }
+    {
+        self.decide_and_count(path).pair
+    }
+
+    /// Which pattern decides about a path, as [`ListIndex::decide`] answers it, and how many patterns were asked to find it:
+    /// the fewer, the more the index saves. No memory is taken.
+    #[inline(always)]
+    pub fn decide_and_count(&self, path: RepositoryPath<'_>) -> CountedDecision
+        ensures decides { Decides (map (entry_list_of T.seen) self.now.lists) path.entry.bytes path.entry.is_dir self.now.case result.pair }
+        ensures each_once { result.asked ≤ entry_count (map (entry_list_of T.seen) self.now.lists) }
+        ensures some { IsSome result.pair → 0 < result.asked }
+    {
+        // a law does nothing: it is called for what it ensures
+        laws::answering_patterns_pass();
+        let probe = self.table.probe(path);
+        let mut walk = self.table.walk(probe.last());
+        let mut asked = 0;
+        'candidates: while let Some((list, mapping)) = self.table.next_pair(&probe, &mut walk) {
+            asked += 1;
+            if self.matches_at(list, mapping, path) {
+                let pair = Some((list, mapping));
+                return CountedDecision { pair, asked };
+            }
+        }
+        CountedDecision { pair: None, asked }
+    }
+
+    /// All patterns that match a path, in order: the places of the list and of the mapping in it, lists first.
+    ///
+    /// # Errors
+    /// Only where memory was refused.
+    pub fn matches(
+        &self,
+        alloc: Global,
+        path: RepositoryPath<'_>,
+    ) -> Result<Vec<(usize, usize)>, AllocError>
+        ensures { IfOk result (λ found. AreMatches (map (entry_list_of T.seen) self.now.lists) path.entry.bytes path.entry.is_dir self.now.case found.items) }
+    {
+        let mut pairs = Vec::new(alloc);
+        self.matches_into(path, &mut pairs)?;
+        Ok(pairs)
+    }
+
+    /// Puts into `pairs` all patterns that match a path, as [`ListIndex::matches`] answers them, in place of what it held. So
+    /// one list of pairs serves many paths, and memory is taken only where it has to grow.
+    ///
+    /// # Errors
+    /// Only where memory was refused. What `pairs` holds then is not said.
+    pub fn matches_into(
+        &self,
+        path: RepositoryPath<'_>,
+        pairs: &mut Vec<(usize, usize)>,
+    ) -> Result<(), AllocError>
+        ensures { OnOk result (AreMatches (map (entry_list_of T.seen) self.now.lists) path.entry.bytes path.entry.is_dir self.now.case pairs.new.items) }
+    {
+        // a law does nothing: it is called for what it ensures
+        laws::answering_patterns_pass();
+        let probe = self.table.probe(path);
+        let mut walk = self.table.walk(probe.last());
+        pairs.clear();
+        'candidates: while let Some((list, mapping)) = self.table.next_pair(&probe, &mut walk) {
+            if self.matches_at(list, mapping, path) {
+                pairs.push((list, mapping))?;
+            }
+        }
+        pairs.reverse();
+        Ok(())
+    }
+
+    /// Whether the pattern of one mapping matches what the base of its list leaves of a path.
+    fn matches_at(&self, list: usize, mapping: usize, path: RepositoryPath<'_>) -> bool
+        requires there { HasEntryAt (map (entry_list_of T.seen) self.now.lists) list mapping }
+        ensures { IsTrue result ↔ PairAnswers (map (entry_list_of T.seen) self.now.lists) path.entry.bytes path.entry.is_dir self.now.case list mapping }
+    {
+        let lists = self.lists;
+        let list = &lists[list];
+        let Some(rest) = path.under(list, self.case) else {
+            return false;
+        };
+        rest.is_matched_by(list.patterns[mapping].pattern.view(), self.case)
+    }
+}
+
+/// How many patterns the lists have, or the greatest number where they have more.
+fn pattern_count<T: search::Pattern>(lists: &[List<T>]) -> usize
+    ensures { result ≡ min (entry_count (map (entry_list_of T.seen) lists.now)) usize.MAX }
+{
+    let mut count: usize = 0;
+    for list in lists {
+        count = count.saturating_add(list.patterns.len());
+    }
+    count
+}
+
+/// Whether so many patterns and lists are too many for an index.
+fn are_too_many(patterns: usize, lists: usize) -> bool
+    ensures { IsTrue result ↔ (2 ^ 32 ≤ patterns) ⊎ (2 ^ 32 < lists) }
+{
+    const PLACES: usize = 1 << 32;
+    patterns >= PLACES || lists > PLACES
+}
+
+/// Adds the rows of the list at place `i`.
+fn add_list<T: search::Pattern>(
+    table: &mut Table,
+    lists: &[List<T>],
+    i: usize,
+) -> Result<(), AllocError>
+    requires inside { i < length lists.now }
+    requires fits { ¬ AreTooMany (map (entry_list_of T.seen) lists.now) }
+    requires rows { AreRowsUpTo (map (entry_list_of T.seen) lists.now) i 0 table.old.rows.items }
+    requires chained { AreChained table.old }
+    ensures rows { OnOk result (AreRowsUpTo (map (entry_list_of T.seen) lists.now) (i + 1) 0 table.new.rows.items) }
+    ensures chained { OnOk result (AreChained table.new) }
+{
+    let mappings = lists[i].patterns.as_slice();
+    'mappings: for m in 0..mappings.len() {
+        table.push(Row::new(&mappings[m].pattern, i as u32, m as u32))?;
+    }
+    Ok(())
+}
