@@ -23,11 +23,11 @@ use std::sync::ledger::{Blank, Ledger};
 /// lists have to meet [`bases_are_folders`]. No memory is taken. The rule is in `docs/LINES.md`, "Which line decides".
 pub fn decide<T: search::Pattern>(
     lists: &[List<T>],
-    path: RepositoryPath<'_>,
+    path: &RepositoryPath<'_>,
     case: Case,
 ) -> Option<(usize, usize)>
     requires folders { BasesAreFolders (map (entry_list_of T.seen) lists.now) }
-    ensures { Decides (map (entry_list_of T.seen) lists.now) path.entry.bytes path.entry.is_dir case result }
+    ensures { Decides (map (entry_list_of T.seen) lists.now) path.now.bytes path.now.is_dir case result }
 {
     decide_with_new_counts::<T, Brand, Brand>(lists, path, case, Blank::new(1), Blank::new(1))
 }
@@ -36,7 +36,7 @@ pub fn decide<T: search::Pattern>(
 #[inline(always)]
 fn decide_with_new_counts<T: search::Pattern, S: Ledger, L: Ledger>(
     lists: &[List<T>],
-    path: RepositoryPath<'_>,
+    path: &RepositoryPath<'_>,
     case: Case,
     steps: Blank,
     looks: Blank,
@@ -44,7 +44,7 @@ fn decide_with_new_counts<T: search::Pattern, S: Ledger, L: Ledger>(
     requires folders { BasesAreFolders (map (entry_list_of T.seen) lists.now) }
     requires steps { IsBlankOf S.name S.parts steps }
     requires looks { IsBlankOf L.name L.parts looks }
-    ensures { Decides (map (entry_list_of T.seen) lists.now) path.entry.bytes path.entry.is_dir case result }
+    ensures { Decides (map (entry_list_of T.seen) lists.now) path.now.bytes path.now.is_dir case result }
 {
     decide_with_counts(lists, path, case, &mut Counts::<S, L>::new(steps, looks))
 }
@@ -56,16 +56,16 @@ fn decide_with_new_counts<T: search::Pattern, S: Ledger, L: Ledger>(
 /// for each list twice the length of its base, or of the path where that is shorter.
 pub fn decide_with_counts<T: search::Pattern, S: Ledger, L: Ledger>(
     lists: &[List<T>],
-    path: RepositoryPath<'_>,
+    path: &RepositoryPath<'_>,
     case: Case,
     counts: &mut Counts<S, L>,
 ) -> Option<(usize, usize)>
     requires folders { BasesAreFolders (map (entry_list_of T.seen) lists.now) }
-    ensures exact { Decides (map (entry_list_of T.seen) lists.now) path.entry.bytes path.entry.is_dir case result }
+    ensures exact { Decides (map (entry_list_of T.seen) lists.now) path.now.bytes path.now.is_dir case result }
     ensures steps { counts.new.steps
-        ≤ counts.old.steps + decision_step_limit (map (entry_list_of T.seen) lists.now) (length path.entry.bytes) }
+        ≤ counts.old.steps + decision_step_limit (map (entry_list_of T.seen) lists.now) (length path.now.bytes) }
     ensures looks { counts.new.looks
-        ≤ counts.old.looks + decision_look_limit (map (entry_list_of T.seen) lists.now) (length path.entry.bytes) }
+        ≤ counts.old.looks + decision_look_limit (map (entry_list_of T.seen) lists.now) (length path.now.bytes) }
 {
     for i in (0..lists.len()).rev() {
         if let Some(m) = last_match(&lists[i], path, case, counts) {
@@ -78,17 +78,17 @@ pub fn decide_with_counts<T: search::Pattern, S: Ledger, L: Ledger>(
 /// The place of the last mapping of a list that matches what the base of the list leaves of a path.
 fn last_match<T: search::Pattern, S: Ledger, L: Ledger>(
     list: &List<T>,
-    path: RepositoryPath<'_>,
+    path: &RepositoryPath<'_>,
     case: Case,
     counts: &mut Counts<S, L>,
 ) -> Option<usize>
     requires folder { HasFolder (entry_list_of T.seen list.now) }
     ensures last { MatchOption result
-        ((m : ℕ) → ¬ AnswersAt (entry_list_of T.seen list.now) path.entry.bytes path.entry.is_dir case m)
-        (λ last. AnswersAt (entry_list_of T.seen list.now) path.entry.bytes path.entry.is_dir case last
-        × ((m : ℕ) → AnswersAt (entry_list_of T.seen list.now) path.entry.bytes path.entry.is_dir case m → m ≤ last)) }
-    ensures steps { counts.new.steps ≤ counts.old.steps + list_step_limit (entry_list_of T.seen list.now) (length path.entry.bytes) }
-    ensures looks { counts.new.looks ≤ counts.old.looks + list_look_limit (entry_list_of T.seen list.now) (length path.entry.bytes) }
+        ((m : ℕ) → ¬ AnswersAt (entry_list_of T.seen list.now) path.now.bytes path.now.is_dir case m)
+        (λ last. AnswersAt (entry_list_of T.seen list.now) path.now.bytes path.now.is_dir case last
+        × ((m : ℕ) → AnswersAt (entry_list_of T.seen list.now) path.now.bytes path.now.is_dir case m → m ≤ last)) }
+    ensures steps { counts.new.steps ≤ counts.old.steps + list_step_limit (entry_list_of T.seen list.now) (length path.now.bytes) }
+    ensures looks { counts.new.looks ≤ counts.old.looks + list_look_limit (entry_list_of T.seen list.now) (length path.now.bytes) }
 {
     let rest = path.under_with_counts(list, case, counts)?;
     let mappings = list.patterns.as_slice();

@@ -90,8 +90,8 @@ impl<'a, T: search::Pattern> ListIndex<'a, T> {
     }
 
     /// Which pattern decides about a path, as [`decide`](crate::decide) answers it for the lists. No memory is taken.
-    pub fn decide(&self, path: RepositoryPath<'_>) -> Option<(usize, usize)>
-        ensures { Decides (map (entry_list_of T.seen) self.now.lists) path.entry.bytes path.entry.is_dir self.now.case result }
+    pub fn decide(&self, path: &RepositoryPath<'_>) -> Option<(usize, usize)>
+        ensures { Decides (map (entry_list_of T.seen) self.now.lists) path.now.bytes path.now.is_dir self.now.case result }
     {
         self.decide_and_count(path).pair
     }
@@ -99,14 +99,14 @@ impl<'a, T: search::Pattern> ListIndex<'a, T> {
     /// Which pattern decides about a path, as [`ListIndex::decide`] answers it, and how many patterns were asked to find it:
     /// the fewer, the more the index saves. No memory is taken.
     #[inline(always)]
-    pub fn decide_and_count(&self, path: RepositoryPath<'_>) -> CountedDecision
-        ensures decides { Decides (map (entry_list_of T.seen) self.now.lists) path.entry.bytes path.entry.is_dir self.now.case result.pair }
+    pub fn decide_and_count(&self, path: &RepositoryPath<'_>) -> CountedDecision
+        ensures decides { Decides (map (entry_list_of T.seen) self.now.lists) path.now.bytes path.now.is_dir self.now.case result.pair }
         ensures each_once { result.asked ≤ entry_count (map (entry_list_of T.seen) self.now.lists) }
         ensures some { IsSome result.pair → 0 < result.asked }
     {
         // a law does nothing: it is called for what it ensures
         laws::answering_patterns_pass();
-        let probe = self.table.probe(path);
+        let probe = self.table.probe(path.bytes(), basename_start(path.bytes()));
         let mut walk = self.table.walk(probe.last());
         let mut asked = 0;
         'candidates: while let Some((list, mapping)) = self.table.next_pair(&probe, &mut walk) {
@@ -126,9 +126,9 @@ impl<'a, T: search::Pattern> ListIndex<'a, T> {
     pub fn matches(
         &self,
         alloc: Global,
-        path: RepositoryPath<'_>,
+        path: &RepositoryPath<'_>,
     ) -> Result<Vec<(usize, usize)>, AllocError>
-        ensures { IfOk result (λ found. AreMatches (map (entry_list_of T.seen) self.now.lists) path.entry.bytes path.entry.is_dir self.now.case found.items) }
+        ensures { IfOk result (λ found. AreMatches (map (entry_list_of T.seen) self.now.lists) path.now.bytes path.now.is_dir self.now.case found.items) }
     {
         let mut pairs = Vec::new(alloc);
         self.matches_into(path, &mut pairs)?;
@@ -142,14 +142,14 @@ impl<'a, T: search::Pattern> ListIndex<'a, T> {
     /// Only where memory was refused. What `pairs` holds then is not said.
     pub fn matches_into(
         &self,
-        path: RepositoryPath<'_>,
+        path: &RepositoryPath<'_>,
         pairs: &mut Vec<(usize, usize)>,
     ) -> Result<(), AllocError>
-        ensures { OnOk result (AreMatches (map (entry_list_of T.seen) self.now.lists) path.entry.bytes path.entry.is_dir self.now.case pairs.new.items) }
+        ensures { OnOk result (AreMatches (map (entry_list_of T.seen) self.now.lists) path.now.bytes path.now.is_dir self.now.case pairs.new.items) }
     {
         // a law does nothing: it is called for what it ensures
         laws::answering_patterns_pass();
-        let probe = self.table.probe(path);
+        let probe = self.table.probe(path.bytes(), basename_start(path.bytes()));
         let mut walk = self.table.walk(probe.last());
         pairs.clear();
         'candidates: while let Some((list, mapping)) = self.table.next_pair(&probe, &mut walk) {
@@ -162,9 +162,9 @@ impl<'a, T: search::Pattern> ListIndex<'a, T> {
     }
 
     /// Whether the pattern of one mapping matches what the base of its list leaves of a path.
-    fn matches_at(&self, list: usize, mapping: usize, path: RepositoryPath<'_>) -> bool
+    fn matches_at(&self, list: usize, mapping: usize, path: &RepositoryPath<'_>) -> bool
         requires there { HasEntryAt (map (entry_list_of T.seen) self.now.lists) list mapping }
-        ensures { IsTrue result ↔ PairAnswers (map (entry_list_of T.seen) self.now.lists) path.entry.bytes path.entry.is_dir self.now.case list mapping }
+        ensures { IsTrue result ↔ PairAnswers (map (entry_list_of T.seen) self.now.lists) path.now.bytes path.now.is_dir self.now.case list mapping }
     {
         let lists = self.lists;
         let list = &lists[list];

@@ -20,7 +20,7 @@ use std::sync::ledger::Ledger;
 ///
 /// The bytes begin with no slash and have no two slashes in a row. They are empty only where a base was all of a path.
 /// Contracts see the bytes, and whether it is a directory's.
-#[derive(Debug, Copy, Clone)]
+#[derive(Debug, Drop)]
 pub struct RepositoryPath<'a> {
     bytes: &'a [u8],
     /// What [`basename_start`] answers for the bytes.
@@ -84,16 +84,16 @@ impl<'a> RepositoryPath<'a> {
 
     /// The bytes of the path.
     #[inline(always)]
-    pub fn bytes(self) -> &'a [u8]
-        ensures { result.now ≡ self.entry.bytes }
+    pub fn bytes(&self) -> &'a [u8]
+        ensures { result.now ≡ self.now.bytes }
     {
         self.bytes
     }
 
     /// Whether the path is a directory's.
     #[inline(always)]
-    pub fn is_dir(self) -> bool
-        ensures { result ≡ self.entry.is_dir }
+    pub fn is_dir(&self) -> bool
+        ensures { result ≡ self.now.is_dir }
     {
         self.is_dir
     }
@@ -103,11 +103,11 @@ impl<'a> RepositoryPath<'a> {
     ///
     /// The base is empty or ends in a slash.
     #[inline(always)]
-    pub fn below(self, base: &[u8], case: Case) -> Option<RepositoryPath<'a>>
+    pub fn below(&self, base: &[u8], case: Case) -> Option<RepositoryPath<'a>>
         requires { IsFolder base.now }
         ensures { MatchOption result
-            (NothingLeft case (Some base.now) self.entry.bytes)
-            (λ rest. Rest case base.now self.entry.bytes rest.bytes × (rest.is_dir ≡ self.entry.is_dir)) }
+            (NothingLeft case (Some base.now) self.now.bytes)
+            (λ rest. Rest case base.now self.now.bytes rest.bytes × (rest.is_dir ≡ self.now.is_dir)) }
     {
         // laws do nothing: they are called for what they ensure
         laws::positions_lie_past_the_base();
@@ -121,27 +121,54 @@ impl<'a> RepositoryPath<'a> {
         Some(RepositoryPath {
             bytes,
             basename_start,
-            ..self
+            is_dir: self.is_dir,
         })
     }
 
     /// What the base of a list leaves of the path, as [`RepositoryPath::below`] answers it: all of it, where the list has no
-    /// base. Looks are counted at each byte that may be read: those of the base as far as the path goes, and those of the path
-    /// beside them. No step is counted.
+    /// base.
+    #[inline(always)]
+    pub(crate) fn under<T: search::Pattern>(
+        &self,
+        list: &List<T>,
+        case: Case,
+    ) -> Option<RepositoryPath<'a>>
+        requires { ForSome (option_map vec_items list.now.base) IsFolder }
+        ensures { MatchOption result
+            (NothingLeft case (option_map vec_items list.now.base) self.now.bytes)
+            (λ rest. RestOf case (option_map vec_items list.now.base) self.now.bytes rest.bytes × (rest.is_dir ≡ self.now.is_dir)) }
+    {
+        // laws do nothing: they are called for what they ensure
+        laws::positions_lie_past_the_base();
+        laws::stripped_positions_are_the_rests_own();
+        let (bytes, basename_start) = list.strip_base_handle_recompute_basename_pos(
+            self.bytes,
+            self.basename_start,
+            case,
+        )?;
+        Some(RepositoryPath {
+            bytes,
+            basename_start,
+            is_dir: self.is_dir,
+        })
+    }
+
+    /// What [`RepositoryPath::under`] answers, with looks counted at each byte that may be read: those of the base as far as the
+    /// path goes, and those of the path beside them. No step is counted.
     #[inline(always)]
     pub(crate) fn under_with_counts<T: search::Pattern, S: Ledger, L: Ledger>(
-        self,
+        &self,
         list: &List<T>,
         case: Case,
         counts: &mut Counts<S, L>,
     ) -> Option<RepositoryPath<'a>>
         requires { ForSome (option_map vec_items list.now.base) IsFolder }
         ensures rest { MatchOption result
-            (NothingLeft case (option_map vec_items list.now.base) self.entry.bytes)
-            (λ rest. RestOf case (option_map vec_items list.now.base) self.entry.bytes rest.bytes × (rest.is_dir ≡ self.entry.is_dir)) }
+            (NothingLeft case (option_map vec_items list.now.base) self.now.bytes)
+            (λ rest. RestOf case (option_map vec_items list.now.base) self.now.bytes rest.bytes × (rest.is_dir ≡ self.now.is_dir)) }
         ensures steps { counts.new.steps ≡ counts.old.steps }
         ensures looks { counts.new.looks
-            ≡ counts.old.looks + strip_looks (option_map vec_items list.now.base) (length self.entry.bytes) }
+            ≡ counts.old.looks + strip_looks (option_map vec_items list.now.base) (length self.now.bytes) }
     {
         // laws do nothing: they are called for what they ensure
         laws::positions_lie_past_the_base();
@@ -151,16 +178,16 @@ impl<'a> RepositoryPath<'a> {
         Some(RepositoryPath {
             bytes,
             basename_start,
-            ..self
+            is_dir: self.is_dir,
         })
     }
 
     /// Whether a pattern matches the path, where no wildcard matches a slash. It looks at the whole path, whatever stands
     /// before it in the repository.
     #[inline(always)]
-    pub fn is_matched_by(self, pattern: PatternView<'_>, case: Case) -> bool
+    pub fn is_matched_by(&self, pattern: PatternView<'_>, case: Case) -> bool
         ensures { IsPattern pattern.entry.text.now pattern.entry.mode pattern.entry.first_wildcard_pos →
-            IsTrue result ↔ AnswersFor pattern.entry.text.now pattern.entry.mode self.entry.bytes self.entry.is_dir case }
+            IsTrue result ↔ AnswersFor pattern.entry.text.now pattern.entry.mode self.now.bytes self.now.is_dir case }
     {
         pattern.matches_repo_relative_path(
             self.bytes,
@@ -177,16 +204,16 @@ impl<'a> RepositoryPath<'a> {
     /// `v` being the lengths in bytes of the pattern's text and of the path.
     #[inline(always)]
     pub fn is_matched_with_counts<S: Ledger, L: Ledger>(
-        self,
+        &self,
         pattern: PatternView<'_>,
         case: Case,
         counts: &mut Counts<S, L>,
     ) -> bool
         ensures exact { IsPattern pattern.entry.text.now pattern.entry.mode pattern.entry.first_wildcard_pos →
-            IsTrue result ↔ AnswersFor pattern.entry.text.now pattern.entry.mode self.entry.bytes self.entry.is_dir case }
-        ensures steps { counts.new.steps ≤ counts.old.steps + step_limit (length pattern.entry.text.now) (length self.entry.bytes) }
+            IsTrue result ↔ AnswersFor pattern.entry.text.now pattern.entry.mode self.now.bytes self.now.is_dir case }
+        ensures steps { counts.new.steps ≤ counts.old.steps + step_limit (length pattern.entry.text.now) (length self.now.bytes) }
         ensures looks { counts.new.looks
-            ≤ counts.old.looks + pattern_look_limit (length pattern.entry.text.now) (length self.entry.bytes) }
+            ≤ counts.old.looks + pattern_look_limit (length pattern.entry.text.now) (length self.now.bytes) }
     {
         pattern.matches_repo_relative_path_with_counts(
             self.bytes,
