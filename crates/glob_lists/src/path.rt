@@ -50,10 +50,8 @@ impl<'a> RepositoryPath<'a> {
         if !plain_path(line) {
             return None;
         }
-        Some(match line {
-            [path @ .., b'/'] => RepositoryPath::from_plain(path, true),
-            _ => RepositoryPath::from_plain(line, false),
-        })
+        let (path, is_dir) = path_of(line);
+        Some(RepositoryPath::from_plain(path, is_dir))
     }
 
     /// The path of these bytes, whose trailing slash, where there is one, is part of it; `None` where they are no
@@ -112,12 +110,11 @@ impl<'a> RepositoryPath<'a> {
         // laws do nothing: they are called for what they ensure
         laws::positions_lie_past_the_base();
         laws::stripped_positions_are_the_rests_own();
-        let (bytes, basename_start) = strip_base_handle_recompute_basename_pos(
-            base,
-            self.bytes,
-            self.basename_start,
-            case,
-        )?;
+        let Some((bytes, basename_start)) =
+            strip_base_handle_recompute_basename_pos(base, self.bytes, self.basename_start, case)
+        else {
+            return None;
+        };
         Some(RepositoryPath {
             bytes,
             basename_start,
@@ -241,4 +238,14 @@ pub fn plain_path(path: &[u8]) -> bool
         is_after_slash = is_slash;
     }
     !path.is_empty()
+}
+
+/// The path of a line, and whether a trailing slash marks it as a directory's.
+fn path_of(line: &[u8]) -> (&[u8], bool)
+    ensures { MarksDirectory line.now result.0.now result.1 }
+{
+    match line {
+        [path @ .., b'/'] => (path, true),
+        _ => (line, false),
+    }
 }

@@ -4,7 +4,7 @@ use Rattle.std.specs.Prelude.{slice_get}
 use Rattle.std.proofs.lemmas.Bool.{cases_eq, cases_lt, cases_order}
 use Rattle.std.proofs.lemmas.Option.{same_Some, slice_get_within}
 use Rattle.gix_glob.specs.declared.pattern.Case.{Case}
-use Rattle.glob_lists.specs.Deciding.{IsLastAnswer, PairAnswers, path_mode}
+use Rattle.glob_lists.specs.Deciding.{IsLastAnswer, PairAnswers}
 use Rattle.gix_glob.specs.EntryLists.{EntryList}
 use Rattle.glob_lists.specs.declared.probe.Probe.{Probe}
 use Rattle.glob_lists.specs.declared.row.Row.{Row}
@@ -42,7 +42,7 @@ module _ {V : Type 0} (lists : List (EntryList V)) (rows : List Row) (path : Lis
   law_holds law probe shows row of answers =
       let e = of.there in
       let under = AnswersAt-only e.list path is_dir case row.mapping of.entry e.here (PairAnswers-only lists path is_dir case row.list row.mapping e.list e.there answers) in
-      law of.entry.text of.entry.mode e.list.base path under.rest under.position (Some is_dir) case path_mode row probe shows of.asks under.left under.basename under.answers
+      law of.entry.text of.entry.mode e.list.base path under.rest is_dir case row probe shows of.asks under.left under.answers
 
   pub row_of_pair : (i m : ℕ) → AreRows lists rows → PairAnswers lists path is_dir case i m → (k : ℕ) × IsAtPlace rows i m k
   row_of_pair i m are h =

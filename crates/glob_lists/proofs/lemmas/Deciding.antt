@@ -1,6 +1,6 @@
 -- Which pattern of a stack of lists decides about a path: of two last answers neither is before the other.
 use Rattle.std.proofs.Common.{◌≡◌, ⊎_elim, ℕ, ◌<◌, ◌≤◌, Bool, List, Option, None, Some, refl, ap, ◌∙◌, arith}
-use Rattle.glob_patterns.specs.declared.pattern.case.Case.{Case}
+use Rattle.gix_glob.specs.declared.pattern.Case.{Case}
 use Rattle.glob_lists.specs.Deciding.{Decides}
 use Rattle.gix_glob.specs.EntryLists.{EntryList}
 

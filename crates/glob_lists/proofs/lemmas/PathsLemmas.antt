@@ -4,8 +4,7 @@ use Rattle.std.specs.Prelude.{codes}
 use Rattle.std.proofs.lemmas.Bool.{cases_eq}
 use Rattle.std.proofs.lemmas.List.{get_or_append_left}
 use Rattle.gix_glob.specs.Bytes.{HasByte, slash}
-use Rattle.glob_lists.specs.Paths.{IsPlainPath}
-use Rattle.glob_lists.specs.Paths.{MarksDirectory}
+use Rattle.glob_lists.specs.Paths.{IsPlainPath, MarksDirectory}
 
 -- The bytes before place i are those of a plain path. Whether the place is the first, or comes after a slash.
 pub record IsPlainUpTo (path : List ℕ) (i : ℕ) (is_after_slash : Bool) : Type 0 where

@@ -14,8 +14,9 @@ use Rattle.gix_glob.specs.Bytes.{HasByte, fold, folds, slash}
 use Rattle.gix_glob.specs.LiteralBytes.{AreAlike, EndsAlike, HasAlike, IsUnescapedUpTo, is_joining}
 use Rattle.gix_glob.specs.Matching.{Splits}
 use Rattle.gix_glob.specs.Patterns.{is_absolute, is_without_sub_dir}
-use Rattle.gix_glob.specs.RepositoryPaths.{Answers, IsBasenameStart, subject, with_case}
+use Rattle.gix_glob.specs.RepositoryPaths.{IsBasenameStart, subject, with_case}
 use Rattle.gix_glob.specs.Stripping.{RestOf}
+use Rattle.glob_lists.specs.Deciding.{AnswersFor, path_mode}
 use Rattle.glob_lists.specs.declared.chains.Class.{Class}
 use Rattle.glob_lists.specs.declared.chains.Class.TheVariants.{Always, EndsIn}
 use Rattle.glob_lists.specs.declared.literals.TheConstants.{LONGEST_END}
@@ -176,18 +177,19 @@ module _ (ends : EndsAsTheText) (bytes : HasTheBytes) (text path value : List �
 
 -- the law `answering_patterns_pass`, restated: a lemma can't cite a clause
 abbrev pub AnsweringPasses : Type 0
-AnsweringPasses = (text : List ℕ) (pattern_mode : pattern.Mode) (base : Option (List ℕ)) (path rest : List ℕ) (position : Option ℕ) (is_dir : Option Bool) (case : Case) (mode : wildmatch.Mode)
-    (row : Row) (probe : Probe) → Shows path probe → Asks text pattern_mode row → RestOf case base path rest → IsBasenameStart rest position → Answers text pattern_mode rest position is_dir case mode → Passes row probe
+AnsweringPasses = (text : List ℕ) (pattern_mode : pattern.Mode) (base : Option (List ℕ)) (path rest : List ℕ) (is_dir : Bool) (case : Case)
+    (row : Row) (probe : Probe) → Shows path probe → Asks text pattern_mode row → RestOf case base path rest → AnswersFor text pattern_mode rest is_dir case → Passes row probe
 
 -- A pattern that answers for what a base leaves of a path asks for nothing that the path doesn't show.
 pub answering_passes : EndsAsTheText → HasTheBytes → AnsweringPasses
-answering_passes ends bytes text pattern_mode base path rest position is_dir case mode row probe shows asks left start answers =
+answering_passes ends bytes text pattern_mode base path rest is_dir case row probe shows asks left answers =
+    let start = answers.basename_start in
     let below = rest_is_end case base path rest left in
-    let within = subject_is_end pattern_mode rest position in
-    let value : List ℕ = subject pattern_mode rest position in
+    let within = subject_is_end pattern_mode rest start in
+    let value : List ℕ = subject pattern_mode rest start in
     let at : ℕ = below.0 + within.0 in
     let is : value ≡ drop at path = within.1 ∙ (ap (drop within.0) below.1 ∙ drop-drop within.0 below.0 path) in
-    let s = answers.splits in record {
-      shown = passes_by ends bytes text path value (with_case mode case) at row probe shows is s row.class asks.short asks.needs
-          (λ name. name_has_no_slash pattern_mode rest position (sym asks.name ∙ name) start);
+    let s = answers.answers.splits in record {
+      shown = passes_by ends bytes text path value (with_case path_mode case) at row probe shows is s row.class asks.short asks.needs
+          (λ name. name_has_no_slash pattern_mode rest start (sym asks.name ∙ name) answers.basename);
     }

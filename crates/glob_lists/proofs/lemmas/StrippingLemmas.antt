@@ -1,16 +1,17 @@
 -- Paths under a base that is empty or ends in a slash: where their last parts begin, and how what is left of them begins.
-use Rattle.std.proofs.Common.{◌≡◌, ⊎_elim, ℕ, ◌+◌, ◌≤◌, Bor, List, [], ◌∷◌, ◌++◌, length, map, Option, None, Some, refl, sym, ap, subst, ◌∙◌, append_assoc, arith}
-use Rattle.std.specs.Prelude.{MatchOption}
+use Rattle.std.proofs.Common.{◌≡◌, ◌⊎◌, inl, inr, ⊎_elim, ℕ, ◌+◌, ◌≤◌, List, [], ◌∷◌, ◌++◌, length, map, Option, None, Some, refl, sym, ap, subst, ◌∙◌, append_assoc, arith}
 use Rattle.std.specs.Option.{ForSome}
 use Rattle.std.specs.Char.{to_ascii_lowercase}
 use Rattle.std.proofs.lemmas.List.{map-append}
+use Rattle.std.proofs.lemmas.Option.{same_Some}
 use Rattle.gix_glob.specs.declared.pattern.Case.{Case}
 use Rattle.gix_glob.specs.declared.pattern.Case.TheVariants.{Sensitive, Fold}
 use Rattle.gix_glob.specs.Bytes.{EndsInSlash, HasByte, slash}
 use Rattle.gix_glob.specs.Paths.{IsFolder}
 use Rattle.glob_lists.specs.Paths.{IsPlainPath}
+use Rattle.glob_lists.specs.Private.Keeping.{IsKept}
 use Rattle.gix_glob.specs.RepositoryPaths.{IsAfterLastSlash, IsBasenameStart}
-use Rattle.gix_glob.specs.Stripping.{IsPlaced, NothingLeft, Rest, RestOf, folding_by, place_after, stripped_place}
+use Rattle.gix_glob.specs.Stripping.{IsPlaced, Rest, RestOf, folding_by, place_after, stripped_place}
 use Rattle.gix_glob.proofs.lemmas.Places.{later_byte, slash_of_lowercase}
 
 -- ---- where the last part begins
@@ -70,7 +71,7 @@ behind_a_slash front path rest is plain here =
     plain.single (length front + 0) (in_path 0 first) (subst (λ i. HasByte path i slash) next (in_path 1 second))
 
 -- what is left of a plain path under a folder has no leading slash
-pub rest_is_relative : (case : Case) (base : Option (List ℕ)) (path rest : List ℕ) → ForSome base IsFolder → IsPlainPath path → RestOf case base path rest → ¬ HasByte rest 0 slash
+rest_is_relative : (case : Case) (base : Option (List ℕ)) (path rest : List ℕ) → ForSome base IsFolder → IsPlainPath path → RestOf case base path rest → ¬ HasByte rest 0 slash
 rest_is_relative case None path rest folder plain is here = plain.relative (subst (λ l. HasByte l 0 slash) is here)
 rest_is_relative case (Some base) path rest folder plain is here =
     ⊎_elim
@@ -91,13 +92,40 @@ IsBasenameStart-rest : (law : StrippedPositionsAreTheRestsOwn) (case : Case) (ba
 IsBasenameStart-rest law case None path rest position is start = subst (λ l. IsBasenameStart l position) (sym is) start
 IsBasenameStart-rest law case (Some base) path rest position is start = law case base path rest position is start
 
-pub rest_and_place : (law : StrippedPositionsAreTheRestsOwn) (case : Case) (base : Option (List ℕ)) (path : List ℕ) (position : Option ℕ) (left : Option (Bor (List ℕ) × Option ℕ))
-    → ForSome base IsFolder → IsPlainPath path → IsBasenameStart path position
-    → MatchOption left (NothingLeft case base path) (λ l. RestOf case base path l.0.now × (l.1 ≡ place_after base position))
-    → MatchOption left (NothingLeft case base path) (λ l. RestOf case base path l.0.now × IsBasenameStart l.0.now l.1 × ¬ HasByte l.0.now 0 slash)
-rest_and_place law case base path position None folder plain start h = h
-rest_and_place law case base path position (Some l) folder plain start h = (
-  h.0,
-  subst (IsBasenameStart l.0.now) (sym h.1) (IsBasenameStart-rest law case base path l.0.now position h.0 start),
-  rest_is_relative case base path l.0.now folder plain h.0,
-)
+-- the bytes of the rest are those of the path, from some place on
+front_and_rest : (case : Case) (base : Option (List ℕ)) (path rest : List ℕ) → RestOf case base path rest → (front : List ℕ) × (path ≡ front ++ rest)
+front_and_rest case None path rest is = ([], sym is)
+front_and_rest case (Some base) path rest is = (is.front, is.joined)
+
+nothing_of_nothing : (front path rest : List ℕ) → path ≡ front ++ rest → path ≡ [] → rest ≡ []
+nothing_of_nothing [] path rest joined none = sym joined ∙ none
+nothing_of_nothing (b ∷ front) path rest joined none = absurd (cc)
+
+plain_rest : (case : Case) (base : Option (List ℕ)) (path rest : List ℕ) → ForSome base IsFolder → IsPlainPath path → RestOf case base path rest → (rest ≡ []) ⊎ IsPlainPath rest
+plain_rest case base path [] folder plain is = inl refl
+plain_rest case base path (b ∷ rest) folder plain is =
+    let joined = front_and_rest case base path (b ∷ rest) is in
+    let in_path : (i : ℕ) → HasByte (b ∷ rest) i slash → HasByte path (length joined.0 + i) slash =
+    λ i h. subst (λ l. HasByte l (length joined.0 + i) slash) (sym joined.1) (later_byte joined.0 (b ∷ rest) i slash h) in
+    inr (record {
+      some = λ e. cc;
+      relative = rest_is_relative case base path (b ∷ rest) folder plain is;
+      single = λ i first second.
+          let next : length joined.0 + (i + 1) ≡ length joined.0 + i + 1 = omega arith in
+          plain.single (length joined.0 + i) (in_path i first) (subst (λ k. HasByte path k slash) next (in_path (i + 1) second));
+    })
+
+-- what a base leaves of a path is kept as the path is
+pub IsKept-rest : (law : StrippedPositionsAreTheRestsOwn) (case : Case) (base : Option (List ℕ)) (path rest : List ℕ) (start left : Option ℕ) → ForSome base IsFolder → IsKept path start
+    → RestOf case base path rest → left ≡ place_after base start → IsKept rest left
+IsKept-rest law case base path rest start left folder kept is place = record {
+  plain = ⊎_elim
+      (λ none. let joined = front_and_rest case base path rest is in inl (nothing_of_nothing joined.0 path rest joined.1 none))
+      (λ (plain : IsPlainPath path). plain_rest case base path rest folder plain is)
+      kept.plain;
+  basename = subst (IsBasenameStart rest) (sym place) (IsBasenameStart-rest law case base path rest start is kept.basename);
+}
+
+-- a base that is there is that of a folder
+pub ForSome-folder : (base : List ℕ) → IsFolder base → ForSome (Some base) IsFolder
+ForSome-folder base folder other same = subst IsFolder (same_Some base other same) folder
