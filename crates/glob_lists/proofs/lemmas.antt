@@ -1,5 +1,6 @@
 pub mod Answering
 pub mod AnsweringRows
+pub mod Asking
 pub mod BitLemmas
 pub mod CandidateLemmas
 pub mod ChainLemmas
@@ -12,8 +13,11 @@ pub mod FoundPairs
 pub mod IndexLemmas
 pub mod KeyLemmas
 pub mod LastNumbers
+pub mod Looking
+pub mod MatchesUpTo
 pub mod PathsLemmas
 pub mod PlaceOrder
 pub mod PrefilterLemmas
 pub mod RowLemmas
+pub mod Spending
 pub mod StrippingLemmas

@@ -2,7 +2,11 @@
 pub mod Chains
 pub mod Keeping
 pub mod Literals
+pub mod Looking
+pub mod Matching
+pub mod Reaching
 pub mod Rows
 pub mod Showing
+pub mod Spending
 pub mod Tables
 pub mod Walking

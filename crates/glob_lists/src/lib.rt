@@ -7,12 +7,15 @@ mod fault;
 mod index;
 pub mod laws;
 mod literals;
+mod matching;
 mod path;
 mod probe;
+mod reached;
 mod row;
 mod table;
 
 pub use deciding::{bases_are_folders, decide, decide_with_counts};
 pub use fault::IndexError;
 pub use index::{CountedDecision, ListIndex};
+pub use matching::matches_into;
 pub use path::{RepositoryPath, plain_path};

@@ -82,7 +82,7 @@ pub(crate) fn needed_bytes(text: &[u8]) -> u64
 }
 
 /// The bytes of a text, as a set.
-fn bytes_of(text: &[u8]) -> u64
+pub(crate) fn bytes_of(text: &[u8]) -> u64
     ensures { HoldsBits text.now result }
 {
     let mut bits = 0;
@@ -90,13 +90,6 @@ fn bytes_of(text: &[u8]) -> u64
         bits |= bit_of(*byte);
     }
     bits
-}
-
-/// The bytes of a text, as a set, or all bytes where it isn't to be read.
-pub(crate) fn bytes_or_all(text: &[u8], is_read: bool) -> u64
-    ensures { HoldsBits text.now result }
-{
-    if is_read { bytes_of(text) } else { u64::MAX }
 }
 
 /// Whether a set has all that another one has.

@@ -4,6 +4,7 @@ ghost use Rattle.std.specs.Option.{ForSome};
 ghost use Rattle.std.specs.Vec.{vec_items};
 ghost use Rattle.gix_glob.specs.Paths.{IsFolder};
 ghost use Rattle.gix_glob.specs.Patterns.{IsPattern};
+ghost use Rattle.gix_glob.specs.RepositoryPaths.{IsBasenameStart};
 ghost use Rattle.gix_glob.specs.Steps.{NeverFall, pattern_look_limit, step_limit};
 ghost use Rattle.gix_glob.specs.Stripping.{NothingLeft, Rest, RestOf, strip_looks};
 ghost use Rattle.glob_lists.specs.Deciding.{AnswersFor};
@@ -86,6 +87,14 @@ impl<'a> RepositoryPath<'a> {
         ensures { result.now ≡ self.now.bytes }
     {
         self.bytes
+    }
+
+    /// Where the last part begins, past the last slash; `None` where there is no slash.
+    #[inline(always)]
+    pub(crate) fn basename_start(&self) -> Option<usize>
+        ensures { IsBasenameStart self.now.bytes result }
+    {
+        self.basename_start
     }
 
     /// Whether the path is a directory's.

@@ -1,15 +1,18 @@
 //! Rows in order, with a chain through those of each class: a path walks down two chains, and meets only rows that can pass.
-ghost use Rattle.std.specs.Prelude.{◌≡◌, ◌+◌, ◌^◌, ◌++◌, ◌∷◌, [], ◌<◌, IfOk, MatchOption, OnOk, length, slice_index_or};
-ghost use Rattle.gix_glob.specs.RepositoryPaths.{IsBasenameStart};
+ghost use Rattle.std.specs.Prelude.{◌≡◌, ◌+◌, ◌-◌, ◌*◌, ◌^◌, ◌++◌, ◌∷◌, [], ◌<◌, ◌≤◌, IfOk, MatchOption, OnOk, length, slice_index_or};
 ghost use Rattle.glob_lists.specs.Private.Chains.{place_of};
+ghost use Rattle.glob_lists.specs.Private.Looking.{LooksUpTo};
 ghost use Rattle.glob_lists.specs.Private.Showing.{Shows};
 ghost use Rattle.glob_lists.specs.Private.Tables.{AreChained};
 ghost use Rattle.glob_lists.specs.Private.Walking.{IsNextPair, IsWalkDown, NonePasses};
 
 use crate::chains::{CLASSES, Class, Link};
+use crate::path::RepositoryPath;
 use crate::probe::Probe;
 use crate::row::Row;
+use gix_glob::wildmatch::Counts;
 use std::alloc::{AllocError, Global};
+use std::sync::ledger::Ledger;
 
 /// The fewest rows for which a walk costs less than a look at each row.
 const FEWEST_ROWS: usize = 8;
@@ -45,6 +48,13 @@ impl Table {
             heads: [Link::NONE; CLASSES],
             counts: [0; CLASSES],
         })
+    }
+
+    /// How many rows there are.
+    pub(crate) fn len(&self) -> usize
+        ensures { result ≡ length self.now.rows.items }
+    {
+        self.rows.len()
     }
 
     /// Adds a row after the others.
@@ -84,42 +94,63 @@ impl Table {
         len >= FEWEST_ROWS && own.saturating_add(other).saturating_mul(2) <= len
     }
 
-    /// What a path shows. The sets of its bytes are made where that is less work than the rows that they pass over.
-    pub(crate) fn probe(&self, path: &[u8], position: Option<usize>) -> Probe
-        requires some { 0 < length path.now }
-        requires basename { IsBasenameStart path.now position }
-        ensures { Shows path.now result }
+    /// What a path shows. The sets of its bytes are made where that is less work than the rows that they pass over. A look is
+    /// counted at each byte that is read.
+    pub(crate) fn probe<S: Ledger, L: Ledger>(
+        &self,
+        path: &RepositoryPath<'_>,
+        counts: &mut Counts<S, L>,
+    ) -> Probe
+        requires some { 0 < length path.now.bytes }
+        ensures shows { Shows path.now.bytes result }
+        ensures looks { LooksUpTo counts.old counts.new (3 * length path.now.bytes + 1) }
     {
-        let has_sets = self.counts[Class::Always.place()] > 0 && path.len() <= self.rows.len();
-        Probe::new(path, position, has_sets)
+        let has_sets = self.counts[Class::Always.place()] > 0 && path.bytes().len() <= self.rows.len();
+        Probe::new(path.bytes(), path.basename_start(), has_sets, counts)
     }
 
-    /// The places of the list and of the mapping of the next row of a walk that passes, from the last one to the first.
-    pub(crate) fn next_pair(&self, probe: &Probe, walk: &mut Walk) -> Option<(usize, usize)>
+    /// The places of the list and of the mapping of the next row of a walk that passes, from the last one to the first. A look is
+    /// counted at each row that is met.
+    pub(crate) fn next_pair<S: Ledger, L: Ledger>(
+        &self,
+        probe: &Probe,
+        walk: &mut Walk,
+        counts: &mut Counts<S, L>,
+    ) -> Option<(usize, usize)>
         requires chained { AreChained self.now }
         requires down { IsWalkDown self.now.rows.items probe.now.last walk.old }
         ensures down { IsWalkDown self.now.rows.items probe.now.last walk.new }
         ensures next { MatchOption result
             (NonePasses self.now.rows.items probe.now 0 walk.old.passed_from)
             (IsNextPair self.now.rows.items probe.now walk.new.passed_from walk.old.passed_from) }
+        ensures falls { walk.new.passed_from ≤ walk.old.passed_from }
+        ensures looks { LooksUpTo counts.old counts.new (walk.old.passed_from - walk.new.passed_from) }
     {
-        let place = self.next(probe, walk)?;
+        let place = self.next(probe, walk, counts)?;
         Some(self.rows[place].pair())
     }
 
     /// The next place of a walk whose row passes, from the last one to the first.
     #[inline(always)]
-    fn next(&self, probe: &Probe, walk: &mut Walk) -> Option<usize>
+    fn next<S: Ledger, L: Ledger>(
+        &self,
+        probe: &Probe,
+        walk: &mut Walk,
+        counts: &mut Counts<S, L>,
+    ) -> Option<usize>
         requires chained { AreChained self.now }
         requires down { IsWalkDown self.now.rows.items probe.now.last walk.old }
         ensures down { IsWalkDown self.now.rows.items probe.now.last walk.new }
         ensures next { MatchOption result
             (NonePasses self.now.rows.items probe.now 0 walk.old.passed_from)
             (λ place. (place < walk.old.passed_from) × (walk.new.passed_from ≡ place) × NonePasses self.now.rows.items probe.now (place + 1) walk.old.passed_from) }
+        ensures falls { walk.new.passed_from ≤ walk.old.passed_from }
+        ensures looks { LooksUpTo counts.old counts.new (walk.old.passed_from - walk.new.passed_from) }
     {
         'places: loop {
             if walk.own.is_after(walk.other) {
                 let place = walk.own.place()?;
+                counts.looks(1);
                 let row = &self.rows[place];
                 walk.own = row.before();
                 walk.passed_from = place;
@@ -128,6 +159,7 @@ impl Table {
                 }
             } else {
                 let place = walk.other.place()?;
+                counts.looks(1);
                 let row = &self.rows[place];
                 walk.other = row.before();
                 walk.passed_from = place;

@@ -10,6 +10,7 @@ use Rattle.gix_glob.specs.Entries.{entry_of}
 use Rattle.gix_glob.specs.EntryLists.{EntryList, entry_list_of}
 use Rattle.gix_glob.proofs.lemmas.Elements.{slice_get-map_at}
 use Rattle.glob_lists.specs.Index.{AreTooMany, entry_count}
+use Rattle.glob_lists.specs.Private.Tables.{HasEntryAt}
 
 module _ {V : Type 0} (lists : List (EntryList V)) where
   module _ (i : ℕ) (list : EntryList V) (there : slice_get lists i ≡ Some list) where
@@ -22,6 +23,13 @@ module _ {V : Type 0} (lists : List (EntryList V)) where
     entry_count-more_le =
         subst (λ (l : EntryList V). entry_count (take i lists) + length l.entries ≤ entry_count lists) (get_or_from_slice_get lists i list list there)
         (sum_by_more_le (λ (l : EntryList V). length l.entries) lists i list (slice_get_within lists i list there))
+
+  -- the entries before a place are fewer than all
+  pub place_within : (i m : ℕ) → HasEntryAt lists i m → entry_count (take i lists) + m + 1 ≤ entry_count lists
+  place_within i m at =
+      let e = at.1 in
+      let inside = slice_get_within e.list.entries m at.0 e.here in
+      let most = entry_count-more_le i e.list e.there in omega arith
 
   pub few_entries : ¬ AreTooMany lists → entry_count lists < 2 ^ 32
   few_entries few = ⊎_elim (λ (no : entry_count lists < 2 ^ 32). no) (λ (more : 2 ^ 32 ≤ entry_count lists). absurd (few (inl more))) (cases_lt (entry_count lists) (2 ^ 32))

@@ -11,7 +11,7 @@ use Rattle.gix_glob.specs.Stripping.{RestOf}
 -- ---- sums from an element on
 
 module _ {X : Type 0} (f : X → ℕ) (xs : List X) where
-  sum_by-from : (i next : ℕ) (x : X) → next ≡ i + 1 → slice_get xs i ≡ Some x → f x + sum_by f (drop next xs) ≡ sum_by f (drop i xs)
+  pub sum_by-from : (i next : ℕ) (x : X) → next ≡ i + 1 → slice_get xs i ≡ Some x → f x + sum_by f (drop next xs) ≡ sum_by f (drop i xs)
   sum_by-from i next x after there =
       let more : sum_by f (drop i xs) ≡ f (get_or xs i x) + sum_by f (drop (i + 1) xs) = sum_by-drop_more f xs i x (slice_get_within xs i x there) in
       rw after (sym (rw (get_or_from_slice_get xs i x x there) at more))

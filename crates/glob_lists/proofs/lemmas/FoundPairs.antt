@@ -23,6 +23,16 @@ module _ {V : Type 0} (lists : List (EntryList V)) (rows : List Row) (path : Lis
     pub falling : (x y : ℕ) (a b : ℕ × ℕ) → x < y → slice_get found x ≡ Some a → slice_get found y ≡ Some b → ComesBefore b.0 b.1 a.0 a.1
     pub all : (l : ℕ) (row : Row) → k ≤ l → slice_get rows l ≡ Some row → PairAnswers lists path is_dir case row.list row.mapping → (x : ℕ) × (slice_get found x ≡ Some (row.list, row.mapping))
 
+  -- from the last row on nothing is found
+  pub AreFoundFrom-none : (k : ℕ) (found : List (ℕ × ℕ)) → length rows ≤ k → found ≡ [] → AreFoundFrom k found
+  AreFoundFrom-none k found past none =
+      let short : length found ≡ 0 = ap (λ (xs : List (ℕ × ℕ)). length xs) none in record {
+        each = λ x pair got. (let inside = slice_get_within found x pair got in absurd (omega arith));
+        later = λ x pair got. (let inside = slice_get_within found x pair got in absurd (omega arith));
+        falling = λ x y a b less got. (let inside = slice_get_within found x a got in absurd (omega arith));
+        all = λ l row low got. (let inside = slice_get_within rows l row got in absurd (omega arith));
+      }
+
   pub AreFoundFrom-skip : (probe : Probe) (from to : ℕ) (found : List (ℕ × ℕ)) → from ≤ to → AreRows lists rows → Law lists rows path is_dir case probe → NonePasses rows probe from to → AreFoundFrom to found → AreFoundFrom from found
   AreFoundFrom-skip probe from to found low are law none h = record {
     each = h.each;

@@ -1,5 +1,5 @@
 -- Making the rows of lists: one more row, and one more list.
-use Rattle.std.proofs.Common.{◌≡◌, inl, inr, ⊎_elim, ℕ, ◌+◌, ◌<◌, List, [], ◌∷◌, ◌++◌, length, Some, sym, ◌∙◌, ap, subst, arith, length-append}
+use Rattle.std.proofs.Common.{◌≡◌, inl, inr, ⊎_elim, ℕ, ◌+◌, ◌<◌, List, [], ◌∷◌, ◌++◌, length, Some, sym, ◌∙◌, ap, subst, arith, length-append, take, take_all}
 use Rattle.std.specs.Prelude.{slice_get}
 use Rattle.std.proofs.lemmas.Bool.{cases_eq}
 use Rattle.std.proofs.lemmas.Option.{same_Some, slice_get_within}
@@ -8,8 +8,8 @@ use Rattle.gix_glob.specs.Entries.{Entry}
 use Rattle.gix_glob.specs.EntryLists.{EntryList}
 use Rattle.glob_lists.specs.declared.chains.Link.{Link}
 use Rattle.glob_lists.specs.declared.row.Row.{Row}
-use Rattle.glob_lists.specs.Index.{ComesBefore}
-use Rattle.glob_lists.specs.Private.Tables.{AreRowsUpTo, IsEntryAt, IsRowOf}
+use Rattle.glob_lists.specs.Index.{ComesBefore, entry_count}
+use Rattle.glob_lists.specs.Private.Tables.{AreRows, AreRowsUpTo, IsEntryAt, IsRowOf}
 use Rattle.glob_lists.specs.Private.Rows.{Asks}
 use Rattle.glob_lists.proofs.lemmas.CountLemmas.{entry_count-more}
 use Rattle.glob_lists.proofs.lemmas.Elements.{slice_get-push_cases, slice_get-push_new, slice_get-push_old}
@@ -79,3 +79,8 @@ module _ {V : Type 0} (lists : List (EntryList V)) where
 -- a row asks for the same, whatever it is chained to
 pub Asks-linked : (text : List ℕ) (mode : pattern.Mode) (row : Row) (before : Link) → Asks text mode row → Asks text mode (record row { before = before })
 Asks-linked text mode row before a = record { short = a.short; needs = a.needs; name = a.name }
+
+-- there are as many rows as entries
+pub rows_count : {V : Type 0} (lists : List (EntryList V)) (rows : List Row) → AreRows lists rows → length rows ≡ entry_count lists
+rows_count {V} lists rows are =
+    let whole : entry_count (take (length lists) lists) ≡ entry_count lists = ap (λ (l : List (EntryList V)). entry_count l) (take_all (length lists) lists (omega arith)) in omega (arith, are.count)

@@ -4,6 +4,7 @@ use Rattle.gix_glob.specs.EntryLists.{EntryList}
 use Rattle.gix_glob.specs.Entries.{Entry}
 use Rattle.glob_lists.specs.declared.row.Row.{Row}
 use Rattle.glob_lists.specs.declared.table.Table.{Table}
+use Rattle.glob_lists.specs.Deciding.{BasesAreFolders}
 use Rattle.glob_lists.specs.Index.{ComesBefore, entry_count}
 use Rattle.glob_lists.specs.Private.Chains.{IsChained, classes_of, links_of}
 use Rattle.glob_lists.specs.Private.Rows.{Asks}
@@ -51,3 +52,8 @@ AreChained table = IsChained (classes_of table.rows.items) (links_of table.rows.
 pub record IsTableOf {V : Type 0} (lists : List (EntryList V)) (table : Table) : Type 0 where
   pub rows : AreRows lists table.rows.items
   pub chained : AreChained table
+
+-- The bases of the lists are those of folders, and the table is theirs.
+pub record IsIndexOf {V : Type 0} (lists : List (EntryList V)) (table : Table) : Type 0 where
+  pub folders : BasesAreFolders lists
+  pub made : IsTableOf lists table

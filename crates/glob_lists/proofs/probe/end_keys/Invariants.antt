@@ -5,7 +5,7 @@ use Rattle.glob_lists.proofs.probe.end_keys.Given as goal
 
 -- the numbers of the ends so far
 abbrev pub invariant-ends : goal.invariant-ends
-invariant-ends l = record {
+invariant-ends g l = record {
   wide : length l.keys ≡ ENDS;
   each : (m : ℕ) → m ≤ l.n → get_or l.keys m 0 ≡ end_key l.path m;
 }

@@ -1,15 +1,8 @@
-use Rattle.std.proofs.Common.{map}
-use Rattle.gix_glob.specs.EntryLists.{entry_list_of}
-use Rattle.glob_lists.specs.Private.Walking.{IsWalkDown}
-use Rattle.glob_lists.proofs.lemmas.FoundPairs.{AreFoundFrom}
+-- The counts are kept in the ledgers that the blank ones become.
 use Rattle.glob_lists.proofs.index.ListIndex.matches_into.Given as goal
 
--- what answers of the rows that were passed was found
-abbrev pub invariant-candidates : goal.invariant-candidates
-invariant-candidates g l = record {
-  down : IsWalkDown l.self-inside.table.rows.items l.probe.last l.walk;
-  found : AreFoundFrom (map (entry_list_of g.T.Pattern.seen) l.self.lists) l.self-inside.table.rows.items l.path l.is_dir l.self.case l.walk.passed_from l.pairs.items;
-}
+abbrev pub ghosts-matches_with_new_counts-S-Ledger : goal.ghosts-matches_with_new_counts-S-Ledger
+ghosts-matches_with_new_counts-S-Ledger g a = record { name = a.steps.name; parts = a.steps.parts }
 
-abbrev pub decreases-candidates : goal.decreases-candidates
-decreases-candidates g l = l.walk.passed_from
+abbrev pub ghosts-matches_with_new_counts-L-Ledger : goal.ghosts-matches_with_new_counts-L-Ledger
+ghosts-matches_with_new_counts-L-Ledger g a = record { name = a.looks.name; parts = a.looks.parts }

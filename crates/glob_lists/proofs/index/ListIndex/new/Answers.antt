@@ -13,6 +13,9 @@ pub invariant_of-result : goal.invariant_of-result
 invariant_of-result g c =
     let lists = map (entry_list_of g.T.Pattern.seen) c.args.lists.now in
     let all : c.lists.i ≡ length lists = omega (arith, length-map c.args.lists.now (entry_list_of g.T.Pattern.seen), c.lists-test.false, c.lists.auto.i-end) in record {
-      rows = subst (λ (i : ℕ). AreRowsUpTo lists i 0 c.lists.table.rows.items) all c.lists.invariant.rows;
-      chained = c.lists.invariant.chained;
+      folders = c.requires.folders;
+      made = record {
+        rows = subst (λ (i : ℕ). AreRowsUpTo lists i 0 c.lists.table.rows.items) all c.lists.invariant.rows;
+        chained = c.lists.invariant.chained;
+      };
     }

@@ -3,6 +3,6 @@ use Rattle.std.proofs.Common.{arith}
 use Rattle.glob_lists.proofs.table.Table.next_pair.Goals as goal
 
 pub index-requires : goal.index-requires
-index-requires c =
+index-requires g c =
     let all = c.requires.down.inside in
     let below = c.in_ok-place.ensures.next.0 in omega arith
