@@ -14,7 +14,7 @@ use Rattle.glob_lists.proofs.deciding.decide_with_counts.Goals.{After-last_match
 pub last_match-requires : goal.last_match-requires
 last_match-requires g c =
     let within : c.loop-i.i - 1 < length c.args.lists.now = omega arith in
-    All-map_at (entry_list_of g.T.Pattern.seen) HasFolder c.args.lists.now (c.loop-i.i - 1) c.index-lists-i.result c.requires.folders within c.index-lists-i.is
+    record { folder = All-map_at (entry_list_of g.T.Pattern.seen) HasFolder c.args.lists.now (c.loop-i.i - 1) c.index-lists-i.result c.requires.folders within c.index-lists-i.is }
 
 -- the list that was asked is the one at its place
 asked_list : (g : Over) (c : After-last_match g) → slice_get (map (entry_list_of g.T.Pattern.seen) c.args.lists.now) (c.loop-i.i - 1) ≡ Some (entry_list_of g.T.Pattern.seen c.index-lists-i.result)
