@@ -18,7 +18,7 @@ places : (c : After-as_slice-pair-items) → ArePlacesOf (λ entry. AnswersUnder
     (map (entry_of (λ _. tt)) c.args.list.now.patterns.items) c.as_slice-pair-items.result.now
 places c =
     places_in (entry_list_of {V = Unit {0}} (λ _. tt) c.args.list.now) c.in-Some-path.path.bytes c.in-Some-path.path.is_dir c.args.stack.now.case (map (entry_list_of {V = Unit {0}} (λ _. tt)) c.args.stack.now.lists)
-    c.as_slice-pair-items.result.now c.matches_into.new.pairs.items (ap (map (entry_list_of {V = Unit {0}} (λ _. tt))) c.requires) c.as_slice-pair-items.ensures.value c.in_ok-matches_into.ensures
+    c.as_slice-pair-items.result.now c.matches_into.new.pairs.items (ap (map (entry_list_of {V = Unit {0}} (λ _. tt))) c.requires.one) c.as_slice-pair-items.ensures.value c.in_ok-matches_into.ensures
 
 pub loop-pair-init : goal.loop-pair-init
 loop-pair-init c =

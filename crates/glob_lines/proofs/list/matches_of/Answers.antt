@@ -23,4 +23,4 @@ pub returns : goal.returns
 returns c = IsWrittenUpTo-all _ _ _ _ c.loop-line.invariant c.in-None.ensures.steps.0
 
 pub append_matches-requires : goal.append_matches-requires
-append_matches-requires c = c.in_ok-stack.ensures.0 ∙ c.from_ref.ensures.value
+append_matches-requires c = record { one = c.in_ok-stack.ensures.0 ∙ c.from_ref.ensures.value }
