@@ -1,10 +1,10 @@
 //! With ample memory no index and no engine answers that there is none, not for many lists, many patterns or many matches
 //! either. No contract can say so.
-use gix_glob::pattern::{Case, basename_start};
+use gix_glob::pattern::Case;
 use gix_glob::search::pattern::List;
 use gix_glob::search::{Pattern as _, Watched};
-use glob_lists::ListIndex;
-use glob_lines::{EngineFault, IgnoreLines, bases_are_folders, plain_path, run_ignore, run_list};
+use glob_lines::{EngineFault, IgnoreLines, bases_are_folders, run_ignore, run_list};
+use glob_lists::{ListIndex, RepositoryPath};
 use std::alloc::{AllocError, Global};
 use std::process::Abort;
 use std::test::Fail;
@@ -39,17 +39,12 @@ fn matches_of(
     rt: &(impl Abort + AllocGlobal),
     lists: &[List<IgnoreLines>],
 ) -> Result<Matches, Fail> {
-    let path = b"a".as_slice();
+    let path = RepositoryPath::new(b"a", false).expect(rt, "a path");
     assert!(rt; bases_are_folders(lists));
-    assert!(rt; plain_path(path));
     let index = ListIndex::new(rt.alloc(), lists, Case::Sensitive)?;
     let mut pairs = Vec::new(rt.alloc());
-    index.matches_into(path, basename_start(path), false, &mut pairs)?;
-    Ok((
-        pairs.last().copied(),
-        pairs.len(),
-        index.decide(path, false),
-    ))
+    index.matches_into(&path, &mut pairs)?;
+    Ok((pairs.last().copied(), pairs.len(), index.decide(&path)))
 }
 
 /// What `run_ignore` answers for the path `a`.

@@ -2,7 +2,6 @@ pub mod DecisionsLemmas
 pub mod EntriesLemmas
 pub mod FoundLemmas
 pub mod IgnoreLemmas
-pub mod IndexingLemmas
 pub mod LabelLemmas
 pub mod LinesLemmas
 pub mod ListLemmas

@@ -119,9 +119,12 @@ impl<'a> RepositoryPath<'a> {
         // laws do nothing: they are called for what they ensure
         laws::positions_lie_past_the_base();
         laws::stripped_positions_are_the_rests_own();
-        let Some((bytes, basename_start)) =
-            strip_base_handle_recompute_basename_pos(base, self.bytes, self.basename_start, case)
-        else {
+        let Some((bytes, basename_start)) = strip_base_handle_recompute_basename_pos(
+            base,
+            self.bytes,
+            self.basename_start,
+            case,
+        ) else {
             return None;
         };
         Some(RepositoryPath {
@@ -179,8 +182,12 @@ impl<'a> RepositoryPath<'a> {
         // laws do nothing: they are called for what they ensure
         laws::positions_lie_past_the_base();
         laws::stripped_positions_are_the_rests_own();
-        let (bytes, basename_start) =
-            list.strip_base_with_counts(self.bytes, self.basename_start, case, counts)?;
+        let (bytes, basename_start) = list.strip_base_with_counts(
+            self.bytes,
+            self.basename_start,
+            case,
+            counts,
+        )?;
         Some(RepositoryPath {
             bytes,
             basename_start,

@@ -5,9 +5,8 @@ use Rattle.gix_glob.specs.declared.pattern.Case.{Case}
 use Rattle.glob_lists.specs.Deciding.{Decides}
 use Rattle.gix_glob.specs.Entries.{Entry}
 use Rattle.gix_glob.specs.EntryLists.{EntryList}
-use Rattle.glob_lists.specs.Paths.{IsPlainPath}
+use Rattle.glob_lists.specs.Paths.{IsPlainPath, MarksDirectory}
 use Rattle.glob_lines.specs.Decisions.{verdict}
-use Rattle.glob_lists.specs.Paths.{MarksDirectory}
 use Rattle.glob_lines.specs.Private.Answering.{WritesDecisions}
 use Rattle.glob_lines.specs.Private.Growing.{Adds}
 

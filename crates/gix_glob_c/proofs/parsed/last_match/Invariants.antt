@@ -7,4 +7,4 @@ use Rattle.gix_glob_c.proofs.parsed.last_match.Given as goal
 
 -- no pattern from here on answers, where all of them are lawful
 abbrev pub invariant-loop-i : goal.invariant-loop-i
-invariant-loop-i l = All IsLawful l.patterns → NoneFrom (AnswersAt (list_of l.patterns) l.path l.is_dir (case_of l.fold)) l.i
+invariant-loop-i l = All IsLawful l.patterns → NoneFrom (AnswersAt (list_of l.patterns) l.path.bytes l.path.is_dir (case_of l.fold)) l.i

@@ -8,9 +8,9 @@ use Rattle.glob_lists.proofs.deciding.decide_with_counts.Given as goal
 -- no list from here on has a mapping that answers, and what was counted is what those lists may take
 abbrev pub invariant-loop-i : goal.invariant-loop-i
 invariant-loop-i g l = record {
-  none : NoListFrom (map (entry_list_of g.T.Pattern.seen) l.lists) l.path l.is_dir l.case l.i;
+  none : NoListFrom (map (entry_list_of g.T.Pattern.seen) l.lists) l.path.bytes l.path.is_dir l.case l.i;
   steps : l.counts.steps
-      ≤ l.fn.counts.steps + sum_by (λ list. list_step_limit list (length l.path)) (drop l.i (map (entry_list_of g.T.Pattern.seen) l.lists));
+      ≤ l.fn.counts.steps + sum_by (λ list. list_step_limit list (length l.path.bytes)) (drop l.i (map (entry_list_of g.T.Pattern.seen) l.lists));
   looks : l.counts.looks
-      ≤ l.fn.counts.looks + length l.path + sum_by (λ list. list_look_limit list (length l.path)) (drop l.i (map (entry_list_of g.T.Pattern.seen) l.lists));
+      ≤ l.fn.counts.looks + sum_by (λ list. list_look_limit list (length l.path.bytes)) (drop l.i (map (entry_list_of g.T.Pattern.seen) l.lists));
 }
