@@ -1,10 +1,7 @@
-pub mod Answering
 pub mod Bases
 pub mod Copies
-pub mod DecisionSums
-pub mod Deciding
 pub mod Elements
-pub mod LastNumbers
+pub mod Limits
 pub mod PathParts
 pub mod Places
 pub mod Rests

@@ -5,8 +5,6 @@ pub mod Stripping
 pub mod Entries
 pub mod Laws
 pub mod EntryLists
-pub mod Deciding
-pub mod DecisionLimits
 pub mod Equations
 pub mod Private
 pub use Rattle.glob_patterns.specs.Folding

@@ -1,8 +1,8 @@
 -- Path texts: their parts, and the base of a source under a root.
-use Rattle.std.specs.Prelude.{◌≡◌, ◌≢◌, ◌⊎◌, ℕ, ◌+◌, Bool, ◌||◌, ◌==◌, not, if◌then◌else◌, List, [], ◌∷◌, ◌++◌, drop, filter, Option, None, Some, MatchOption, codes}
+use Rattle.std.specs.Prelude.{◌≡◌, ◌≢◌, ◌⊎◌, ℕ, Bool, ◌||◌, ◌==◌, not, if◌then◌else◌, List, [], ◌∷◌, ◌++◌, drop, filter, Option, None, Some, MatchOption, codes}
 use Rattle.std.specs.List.{flat_map, slice_split, list_any}
 use Rattle.std.specs.Str.{bytes_eq}
-use Rattle.glob_matcher.specs.Bytes.{EndsInSlash, HasByte, slash}
+use Rattle.glob_matcher.specs.Bytes.{EndsInSlash, slash}
 
 -- the pieces between slashes
 abbrev pub pieces : List ℕ → List (List ℕ)
@@ -48,9 +48,3 @@ Base source (Some root) base = MatchOption base ((text : List ℕ) → ¬ HasBas
 -- the text names the folder that a path begins with: it is empty, or ends in a slash
 abbrev pub IsFolder : List ℕ → Type 0
 IsFolder text = (text ≡ []) ⊎ EndsInSlash text
-
--- a path as repositories have them: not empty, with no leading slash and no two slashes in a row
-pub record IsPlainPath (path : List ℕ) : Type 0 where
-  pub some : path ≢ []
-  pub relative : ¬ HasByte path 0 slash
-  pub single : (i : ℕ) → HasByte path i slash → ¬ HasByte path (i + 1) slash

@@ -1,5 +1,5 @@
 -- Stripping a base from a path: what is left of the path, and where its last part then begins.
-use Rattle.std.specs.Prelude.{◌≡◌, ◌==◌, ◌≤◌, ⊤, ℕ, ◌-◌, if◌then◌else◌, List, length, ◌++◌, Option, None, Some}
+use Rattle.std.specs.Prelude.{◌≡◌, ◌==◌, ◌≤◌, ⊤, ℕ, ◌-◌, ◌*◌, min, if◌then◌else◌, List, length, ◌++◌, Option, None, Some}
 use Rattle.std.specs.Option.{ForSome}
 use Rattle.glob_patterns.specs.declared.pattern.case.Case.{Case}
 use Rattle.glob_patterns.specs.declared.pattern.case.Case.TheVariants.{Sensitive, Fold}
@@ -39,3 +39,8 @@ NothingLeft case base path = (rest : List ℕ) → ¬ RestOf case base path rest
 abbrev pub IsPlaced : Case → Option (List ℕ) → List ℕ → Option ℕ → Type 0
 IsPlaced case None path place = ⊤
 IsPlaced case (Some base) path place = (rest : List ℕ) → Rest case base path rest → ForSome place (λ at. length base ≤ at)
+
+-- how many looks stripping a base counts: at each byte of the base as far as the path goes, and at the path's byte beside it
+abbrev pub strip_looks : Option (List ℕ) → ℕ → ℕ
+strip_looks None v = 0
+strip_looks (Some base) v = 2 * min (length base) v

@@ -1,16 +1,12 @@
 //! Laws over the definitions: each is a call that does nothing, or that only reads its pattern, which a caller makes to know
 //! what it ensures.
-ghost use Rattle.std.specs.Prelude.{◌≡◌, ◌≤◌, ℕ, Bool, List, length, Option, Some};
+ghost use Rattle.std.specs.Prelude.{◌≡◌, ◌≤◌, ℕ, List, length, Option, Some};
 ghost use Rattle.std.specs.List.{join_with_byte};
 ghost use Rattle.glob_matcher.specs.Bytes.{EndsInSlash, slash};
 ghost use Rattle.glob_patterns.specs.declared.pattern.case.Case.{Case};
-ghost use Rattle.gix_glob.specs.Deciding.{Decides};
-ghost use Rattle.gix_glob.specs.EntryLists.{EntryList};
 ghost use Rattle.gix_glob.specs.Paths.{pieces, Base, IsFolder};
 ghost use Rattle.glob_patterns.specs.RepositoryPaths.{IsAfterLastSlash, IsBasenameStart};
 ghost use Rattle.gix_glob.specs.Stripping.{Rest, stripped_place};
-
-use crate::search;
 
 mod lists;
 
@@ -50,12 +46,4 @@ pub fn stripped_positions_are_the_rests_own()
 pub fn positions_lie_past_the_base()
     ensures { (case : Case) (base path rest : List ℕ) (at : ℕ) →
         IsFolder base → Rest case base path rest → IsAfterLastSlash path at → length base ≤ at }
-{}
-
-// ---- what decides
-
-/// At most one pattern of a stack of lists decides about a path: what decides is one pair of places, or none.
-pub fn decides_one_pair<T: search::Pattern>()
-    ensures { (lists : List (EntryList T.Seen)) (path : List ℕ) (is_dir : Bool) (case : Case) (pair other : Option (ℕ × ℕ)) →
-        Decides lists path is_dir case pair → Decides lists path is_dir case other → pair ≡ other }
 {}

@@ -5,7 +5,7 @@ use Rattle.gix_glob.specs.declared.pattern.Mode.{Mode}
 use Rattle.gix_glob.specs.Entries.{Entry}
 use Rattle.gix_glob.specs.EntryLists.{EntryList}
 use Rattle.gix_glob.specs.Patterns.{IsPattern, Reads}
-use Rattle.glob_lines.specs.PathLines.{IsPlainPath}
+use Rattle.glob_lists.specs.Paths.{IsPlainPath}
 use Rattle.gix_glob_c.specs.Parts.{place_in, unless_none}
 use Rattle.gix_glob_c.specs.declared.parsed.GlobPattern.{GlobPattern}
 

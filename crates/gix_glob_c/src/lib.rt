@@ -3,7 +3,7 @@
 
 ghost use Rattle.std.specs.Prelude.{◌≡◌, ◌↔◌, true, false, IsTrue, None};
 ghost use Rattle.gix_glob.specs.Bytes.{HasByte, slash};
-ghost use Rattle.gix_glob.specs.Deciding.{AnswersUnder};
+ghost use Rattle.glob_lists.specs.Deciding.{AnswersUnder};
 ghost use Rattle.gix_glob.specs.Entries.{Entry};
 ghost use Rattle.gix_glob.specs.Matching.{Splits};
 ghost use Rattle.gix_glob.specs.Patterns.{HasReading, IsPattern, Reads};

@@ -1,16 +1,14 @@
 //! Patterns that are read once and matched often: `struct gix_glob_pattern` of the header, and what is asked of it.
-ghost use Rattle.std.specs.Prelude.{◌≡◌, ◌<◌, ◌⊎◌, ◌↔◌, ℕ, [], ◌∷◌, length, All, IsTrue, IfSome, None, option_map, true, false};
-ghost use Rattle.gix_glob.specs.Deciding.{AnswersUnder, Decides};
+ghost use Rattle.std.specs.Prelude.{◌≡◌, ◌<◌, ◌⊎◌, ◌↔◌, ℕ, [], ◌∷◌, length, All, IsTrue, IfSome, MatchOption, None, option_map, true, false};
+ghost use Rattle.glob_lists.specs.Deciding.{AnswersUnder, Decides};
 ghost use Rattle.gix_glob.specs.Patterns.{HasReading, IsPattern, is_blank, without_negation};
-ghost use Rattle.gix_glob.specs.RepositoryPaths.{IsBasenameStart};
 ghost use Rattle.gix_glob_c.specs.Parsed.{IsLawful, IsPathOfFile, IsRead, entry_of_parts, first_of, list_of, mode_of};
 ghost use Rattle.gix_glob_c.specs.Parts.{case_of, none, unless_none};
 
 use crate::{case_of, place_in};
 use bitflags::Flags;
-use gix_glob::pattern::{self, PatternView, basename_start};
-use gix_glob::wildmatch::Mode;
-use glob_lines::plain_path;
+use gix_glob::pattern::{Mode, PatternView};
+use glob_lists::RepositoryPath;
 
 /// What stands for no place and for no index.
 const NONE: usize = usize::MAX;
@@ -58,7 +56,10 @@ pub extern "C" fn gix_glob_pattern_matches_path(
     ensures exact { IsLawful pattern.now → IsPathOfFile path.now
         → (IsTrue result ↔ AnswersUnder None (entry_of_parts pattern.now) path.now is_dir (case_of fold)) }
 {
-    is_path(path) && is_matched(pattern, path, basename_start(path), is_dir, fold)
+    let Some(path) = path_of_file(path, is_dir) else {
+        return false;
+    };
+    is_matched(pattern, &path, fold)
 }
 
 /// The index of the last of the patterns that matches a path, as [`gix_glob_pattern_matches_path`] answers; `usize::MAX`
@@ -75,26 +76,24 @@ pub extern "C" fn gix_glob_last_match(
     ensures exact { All IsLawful patterns.now → IsPathOfFile path.now
         → Decides (list_of patterns.now ∷ []) path.now is_dir (case_of fold) (option_map (λ (index : ℕ). (0, index)) (unless_none result)) }
 {
-    if !is_path(path) {
+    let Some(path) = path_of_file(path, is_dir) else {
         return NONE;
-    }
-    match last_match(patterns, path, is_dir, fold) {
+    };
+    match last_match(patterns, &path, fold) {
         Some(index) => index,
         None => NONE,
     }
 }
 
 /// The index of the last of the patterns that matches a path.
-fn last_match(patterns: &[GlobPattern<'_>], path: &[u8], is_dir: bool, fold: bool) -> Option<usize>
-    requires { IsPathOfFile path.now }
+fn last_match(patterns: &[GlobPattern<'_>], path: &RepositoryPath<'_>, fold: bool) -> Option<usize>
     ensures inside { IfSome result (λ index. index < length patterns.now) }
     ensures some { IfSome result (λ index. index < none) }
     ensures exact { All IsLawful patterns.now
-        → Decides (list_of patterns.now ∷ []) path.now is_dir (case_of fold) (option_map (λ (index : ℕ). (0, index)) result) }
+        → Decides (list_of patterns.now ∷ []) path.now.bytes path.now.is_dir (case_of fold) (option_map (λ (index : ℕ). (0, index)) result) }
 {
-    let position = basename_start(path);
     for i in (0..patterns.len()).rev() {
-        if is_matched(&patterns[i], path, position, is_dir, fold) {
+        if is_matched(&patterns[i], path, fold) {
             return Some(i);
         }
     }
@@ -116,37 +115,29 @@ fn parts_of<'a>(view: PatternView<'a>) -> GlobPattern<'a>
     }
 }
 
-/// Whether bytes are a path from a folder on.
-fn is_path(path: &[u8]) -> bool
-    ensures { IsTrue result ↔ IsPathOfFile path.now }
+/// The path of bytes from a folder on, where they are one that no slash ends.
+fn path_of_file(bytes: &[u8], is_dir: bool) -> Option<RepositoryPath<'_>>
+    ensures { MatchOption result
+        (¬ IsPathOfFile bytes.now)
+        (λ path. IsPathOfFile bytes.now × (path ≡ record { bytes = bytes.now; is_dir = is_dir })) }
 {
-    plain_path(path) && !path.ends_with(b"/")
+    if bytes.ends_with(b"/") {
+        return None;
+    }
+    RepositoryPath::new(bytes, is_dir)
 }
 
-/// Whether a pattern matches a path whose last part begins at the position.
-fn is_matched(
-    pattern: &GlobPattern<'_>,
-    path: &[u8],
-    position: Option<usize>,
-    is_dir: bool,
-    fold: bool,
-) -> bool
-    requires path { IsPathOfFile path.now }
-    requires start { IsBasenameStart path.now position }
-    ensures { IsLawful pattern.now → (IsTrue result ↔ AnswersUnder None (entry_of_parts pattern.now) path.now is_dir (case_of fold)) }
+/// Whether a pattern matches a path.
+fn is_matched(pattern: &GlobPattern<'_>, path: &RepositoryPath<'_>, fold: bool) -> bool
+    ensures { IsLawful pattern.now →
+        (IsTrue result ↔ AnswersUnder None (entry_of_parts pattern.now) path.now.bytes path.now.is_dir (case_of fold)) }
 {
     let view = PatternView {
         text: pattern.text,
-        mode: pattern::Mode::from_bits_retain(pattern.mode),
+        mode: Mode::from_bits_retain(pattern.mode),
         first_wildcard_pos: place_in(pattern.text, pattern.first_wildcard_pos),
     };
-    view.matches_repo_relative_path(
-        path,
-        position,
-        Some(is_dir),
-        case_of(fold),
-        Mode::NO_MATCH_SLASH_LITERAL,
-    )
+    path.is_matched_by(view, case_of(fold))
 }
 
 #[cfg(test)]

@@ -1,16 +1,13 @@
-pub mod DecidingLemmas
 pub mod DecisionsLemmas
 pub mod EntriesLemmas
 pub mod FoundLemmas
 pub mod IgnoreLemmas
-pub mod IndexingLemmas
 pub mod LabelLemmas
 pub mod LinesLemmas
 pub mod ListLemmas
 pub mod MappingsLemmas
 pub mod NumbersLemmas
 pub mod OneText
-pub mod PathsLemmas
 pub mod PlainLemmas
 pub mod TransferLemmas
 pub mod TrimLemmas

@@ -1,7 +1,7 @@
 -- The text of decisions: what is written for path lines and a stack of lists.
 use Rattle.std.specs.Prelude.{◌≡◌, ℕ, ◌+◌, Bool, if◌then◌else◌, List, ◌++◌, slice_get, Option, Some, MatchOption, decimal, codes}
 use Rattle.gix_glob.specs.declared.pattern.Case.{Case}
-use Rattle.gix_glob.specs.Deciding.{Decides}
+use Rattle.glob_lists.specs.Deciding.{Decides}
 use Rattle.gix_glob.specs.Entries.{Entry}
 use Rattle.gix_glob.specs.EntryLists.{EntryList}
 use Rattle.gix_glob.specs.Patterns.{is_negative}

@@ -1,7 +1,7 @@
 -- The text of mappings: what is written for path lines and the entries of a list.
 use Rattle.std.specs.Prelude.{◌≡◌, ℕ, Bool, List, map, Option}
 use Rattle.gix_glob.specs.declared.pattern.Case.{Case}
-use Rattle.gix_glob.specs.Deciding.{AnswersUnder}
+use Rattle.glob_lists.specs.Deciding.{AnswersUnder}
 use Rattle.gix_glob.specs.Paths.{Base}
 use Rattle.glob_lines.specs.Lines.{WritesLines}
 use Rattle.glob_lines.specs.Numbers.{Picks, text_of_numbers}

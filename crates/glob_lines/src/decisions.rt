@@ -1,38 +1,35 @@
 //! The engine that tells, for each path line, which line of which ignore file decides about it.
 ghost use Rattle.std.specs.Prelude.{◌≡◌, ◌↔◌, ◌++◌, false, map, IsTrue, IfOk, OnOk, IsErrOf};
-ghost use Rattle.std.specs.Option.{ForSome};
 ghost use Rattle.std.specs.Io.KnownBytes.{Appends};
-ghost use Rattle.gix_glob.specs.Deciding.{BasesAreFolders, Decides};
+ghost use Rattle.glob_lists.specs.Deciding.{BasesAreFolders};
 ghost use Rattle.gix_glob.specs.Entries.{entry_of};
 ghost use Rattle.gix_glob.specs.EntryLists.{entry_list_of};
-ghost use Rattle.gix_glob.specs.Paths.{IsPlainPath};
 ghost use Rattle.gix_glob.specs.Watched.{has_failed, inner};
 ghost use Rattle.glob_lines.specs.Decisions.{DecisionsText, verdict};
 ghost use Rattle.glob_lines.specs.Transfers.{AppendsFront, ReadsWhole, Run};
 ghost use Rattle.glob_lines.specs.Private.Answering.{WritesDecisions};
 ghost use Rattle.glob_lines.specs.Private.Growing.{Adds};
 
-use crate::deciding::decide;
 use crate::decimal::append_decimal;
 use crate::fault::EngineFault;
 use crate::ignore::IgnoreLines;
-use crate::indexing::unless_too_many;
 use crate::lines::Lines;
-use crate::paths::{path_of, plain_path};
+use crate::stack::ListStack;
 use crate::transfer::{read_whole, write_whole};
 use gix_glob::pattern::Case;
 use gix_glob::search;
 use gix_glob::search::Watched;
 use gix_glob::search::pattern::{List, Mapping};
-use glob_index::ListIndex;
+use glob_lists::RepositoryPath;
 use std::alloc::{AllocError, Global};
 use std::io::{Read, Write};
 
 /// Reads path lines to the reader's end, and writes for each of them which line of which list decides about it.
 ///
-/// For each path line a line is written: `!` where it is not [`plain_path`]; else `none` where no pattern of a list matches;
-/// else `ignored L:N`, or `kept L:N` for a negative pattern, of the one that [`decide`] answers, with the place L of its list,
-/// from 1, and its number N in decimal. A trailing slash marks a directory and is not part of the path.
+/// For each path line a line is written: `!` where it is not [`plain_path`](crate::plain_path); else `none` where no pattern of
+/// a list matches; else `ignored L:N`, or `kept L:N` for a negative pattern, of the one that [`decide`](crate::decide) answers,
+/// with the place L of its list, from 1, and its number N in decimal. A trailing slash marks a directory and is not part of the
+/// path.
 ///
 /// The lists have to meet [`bases_are_folders`](crate::bases_are_folders). No call on the reader or the writer may have
 /// failed before. All input is read before anything is written: `EngineFault::Memory` and `EngineFault::Read` leave the
@@ -77,58 +74,30 @@ fn decisions_of<T: search::Pattern>(
     requires { BasesAreFolders (map (entry_list_of T.seen) lists.now) }
     ensures { IfOk result (λ text. DecisionsText (map (entry_list_of T.seen) lists.now) case paths.now text.items) }
 {
-    let made = unless_too_many(ListIndex::new(alloc, lists, case))?;
-    let index = made.as_ref();
+    let stack = ListStack::new(alloc, lists, case)?;
     let mut text = Vec::new(alloc);
     for line in Lines::new(paths) {
-        append_decision(&mut text, lists, index, case, line)?;
+        append_decision(&mut text, &stack, line)?;
         text.push(b'\n')?;
     }
     Ok(text)
 }
 
-/// Appends what is written for a path line, without the line feed. The index, where there is one, is that of the lists.
+/// Appends what is written for a path line, without the line feed.
 fn append_decision<T: search::Pattern>(
     text: &mut Vec<u8>,
-    lists: &[List<T>],
-    index: Option<&ListIndex<'_, T>>,
-    case: Case,
+    stack: &ListStack<'_, T>,
     line: &[u8],
 ) -> Result<(), AllocError>
-    requires folders { BasesAreFolders (map (entry_list_of T.seen) lists.now) }
-    requires index { ForSome index (λ index. (index.now.lists ≡ lists.now) × (index.now.case ≡ case)) }
-    ensures { OnOk result (Adds (WritesDecisions (map (entry_list_of T.seen) lists.now) case line.now) text.old.items text.new.items) }
+    ensures { OnOk result (Adds (WritesDecisions (map (entry_list_of T.seen) stack.now.lists) stack.now.case line.now) text.old.items text.new.items) }
 {
-    if !plain_path(line) {
+    let Some(path) = RepositoryPath::of_line(line) else {
         text.push(b'!')?;
         return Ok(());
-    }
-    let (path, is_dir) = path_of(line);
-    match decision(lists, index, case, path, is_dir) {
-        Some((i, m)) => append_verdict(text, i + 1, &lists[i].patterns[m]),
+    };
+    match stack.decide(&path) {
+        Some((i, m)) => append_verdict(text, i + 1, &stack.lists()[i].patterns[m]),
         None => text.extend_from_slice(b"none"),
-    }
-}
-
-/// What decides about a path, found by the index where it pays.
-fn decision<T: search::Pattern>(
-    lists: &[List<T>],
-    index: Option<&ListIndex<'_, T>>,
-    case: Case,
-    path: &[u8],
-    is_dir: bool,
-) -> Option<(usize, usize)>
-    requires plain { IsPlainPath path.now }
-    requires folders { BasesAreFolders (map (entry_list_of T.seen) lists.now) }
-    requires index { ForSome index (λ index. (index.now.lists ≡ lists.now) × (index.now.case ≡ case)) }
-    ensures { Decides (map (entry_list_of T.seen) lists.now) path.now is_dir case result }
-{
-    if let Some(index) = index
-        && index.pays_for(path)
-    {
-        index.decide(path, is_dir)
-    } else {
-        decide(lists, path, is_dir, case)
     }
 }
 

@@ -2,10 +2,7 @@
 ghost use Rattle.std.specs.Prelude.{◌≡◌, ◌↔◌, ℕ, List, Option, map};
 ghost use Rattle.gix_glob.specs.declared.pattern.Case.{Case};
 ghost use Rattle.gix_glob.specs.declared.wildmatch.Mode.{Mode};
-ghost use Rattle.gix_glob.specs.Deciding.{HasFolder};
-ghost use Rattle.gix_glob.specs.Entries.{Entry};
 ghost use Rattle.gix_glob.specs.EntryLists.{EntryList};
-ghost use Rattle.gix_glob.specs.Loading.{IsLoaded};
 ghost use Rattle.glob_lines.specs.Decisions.{DecisionsText};
 ghost use Rattle.glob_lines.specs.Ignore.{BeginsWithLine, Ignore};
 ghost use Rattle.glob_lines.specs.Equations.Ignore.{ignore_of};
@@ -19,8 +16,10 @@ ghost use Rattle.glob_lines.specs.Plain.{Plain, PlainEntry};
 ghost use Rattle.glob_lines.specs.Equations.Plain.{plain_of};
 ghost use Rattle.glob_lines.specs.Values.{ValuesText};
 
-use gix_glob::laws::{bases_end_in_a_slash, decides_one_pair, readings_are_these};
+use gix_glob::laws::readings_are_these;
 use gix_glob::search;
+use glob_lists::laws::decides_one_pair;
+pub use glob_lists::laws::loaded_lists_have_folders;
 
 /// Bytes have one list of lines, which the equations of `lines_of` give.
 pub fn lines_are_these()
@@ -85,13 +84,4 @@ pub fn decisions_have_one_text<T: search::Pattern>()
         → DecisionsText lists case paths text → DecisionsText lists case paths other → text ≡ other }
 {
     decides_one_pair::<T>();
-}
-
-/// The base of a list that was loaded is that of a folder: so lists that were loaded meet
-/// [`bases_are_folders`](crate::bases_are_folders).
-pub fn loaded_lists_have_folders<T: search::Pattern>()
-    ensures { (meaning : List ℕ → List ℕ → List (Entry T.Seen)) (bytes source : List ℕ) (root : Option (List ℕ)) (list : EntryList T.Seen) →
-        IsLoaded meaning bytes source root list → HasFolder list }
-{
-    bases_end_in_a_slash();
 }

@@ -3,29 +3,26 @@ ghost use Rattle.std.specs.Prelude.{◌≡◌, ◌↔◌, ◌||◌, ◌∷◌, [
 ghost use Rattle.std.specs.Option.{ForSome, option_copied};
 ghost use Rattle.std.specs.Vec.{vec_items};
 ghost use Rattle.std.specs.Io.KnownBytes.{Appends};
-ghost use Rattle.gix_glob.specs.Bytes.{HasByte, slash};
 ghost use Rattle.gix_glob.specs.Entries.{entry_of};
-ghost use Rattle.gix_glob.specs.Paths.{IsFolder, IsPlainPath, has_file_part};
-ghost use Rattle.gix_glob.specs.RepositoryPaths.{IsBasenameStart};
+ghost use Rattle.gix_glob.specs.Paths.{IsFolder, has_file_part};
+ghost use Rattle.glob_lists.specs.Paths.{IsPlainPath};
 ghost use Rattle.gix_glob.specs.Watched.{has_failed, inner};
-ghost use Rattle.glob_lines.specs.Mappings.{MappingsText, ReadsBoth, WritesNumbers};
+ghost use Rattle.glob_lines.specs.Mappings.{MappingsText, ReadsBoth};
 ghost use Rattle.glob_lines.specs.Transfers.{AppendsFront, Run};
-ghost use Rattle.glob_lines.specs.Private.Answering.{MatchesText, WritesMatches, WritesNumbersOfRest};
+ghost use Rattle.glob_lines.specs.Private.Answering.{MatchesText, WritesMatches};
 ghost use Rattle.glob_lines.specs.Private.Growing.{Adds};
 
 use crate::decimal::append_decimal;
 use crate::fault::EngineFault;
-use crate::indexing::unless_too_many;
 use crate::laws;
 use crate::lines::Lines;
-use crate::paths::{path_of, plain_path};
 use crate::plain::PlainLines;
+use crate::stack::ListStack;
 use crate::transfer::{read_whole, write_whole};
-use gix_glob::pattern::{Case, basename_start};
+use gix_glob::pattern::Case;
 use gix_glob::search::Watched;
-use gix_glob::search::pattern::{List, Mapping};
-use gix_glob::wildmatch::Mode;
-use glob_index::{ListIndex, rest_of};
+use gix_glob::search::pattern::List;
+use glob_lists::RepositoryPath;
 use std::alloc::{AllocError, Global};
 use std::io::{Read, Write};
 use std::slice;
@@ -34,9 +31,9 @@ use std::slice;
 /// that match it.
 ///
 /// The pattern lines are read by [`PlainLines`], into one list with the base of `source` under `root`. For each path line
-/// a line is written: `!` where it is not [`plain_path`]; else the numbers of the pattern lines that match, from 1, in
-/// decimal, in order, with one space between; nothing where the path does not begin with the base. A trailing slash marks a
-/// directory and is not part of the path. A negative pattern is listed like any other.
+/// a line is written: `!` where it is not [`plain_path`](crate::plain_path); else the numbers of the pattern lines that match,
+/// from 1, in decimal, in order, with one space between; nothing where the path does not begin with the base. A trailing slash
+/// marks a directory and is not part of the path. A negative pattern is listed like any other.
 ///
 /// With a root some part of the source must be able to name a file, which `has_file_part` of `gix_glob` tells. No call on
 /// a reader or the writer may have failed before. All input is read before anything is written: `EngineFault::Memory` and
@@ -93,122 +90,41 @@ fn matches_of(
     ensures { IfOk result (λ text.
         MatchesText (map (entry_of (λ _. tt)) list.now.patterns.items) (option_map vec_items list.now.base) case paths.now text.items) }
 {
-    let made = unless_too_many(ListIndex::new(alloc, slice::from_ref(list), case))?;
-    let index = made.as_ref();
+    let stack = ListStack::new(alloc, slice::from_ref(list), case)?;
     let mut text = Vec::new(alloc);
     // one list of pairs for all paths, so that not each of them takes memory
     let mut pairs = Vec::new(alloc);
     for line in Lines::new(paths) {
-        append_matches(&mut text, &mut pairs, list, index, case, line)?;
+        append_matches(&mut text, &mut pairs, list, &stack, line)?;
         text.push(b'\n')?;
     }
     Ok(text)
 }
 
-/// A path of a repository, or what the base of a list leaves of one.
-#[derive(Copy, Clone)]
-struct RepositoryPath<'a> {
-    /// Its bytes, without the slash that marks a directory.
-    bytes: &'a [u8],
-    /// What `basename_start` answers for the bytes.
-    position: Option<usize>,
-    /// Whether it is a directory's.
-    is_dir: bool,
-}
-
-/// Appends what is written for a path line, without the line feed. The index, where there is one, is that of the list. What
-/// `pairs` holds doesn't matter.
+/// Appends what is written for a path line, without the line feed. The stack is that of the list alone. The places of the
+/// mappings that match are put into `pairs`; what it held doesn't matter.
 fn append_matches(
     text: &mut Vec<u8>,
     pairs: &mut Vec<(usize, usize)>,
     list: &List<PlainLines>,
-    index: Option<&ListIndex<'_, PlainLines>>,
-    case: Case,
+    stack: &ListStack<'_, PlainLines>,
     line: &[u8],
 ) -> Result<(), AllocError>
-    requires index { ForSome index (λ index. (index.now.lists ≡ list.now ∷ []) × (index.now.case ≡ case)) }
-    requires folder { ForSome (option_map vec_items list.now.base) IsFolder }
+    requires one { stack.now.lists ≡ list.now ∷ [] }
     ensures { OnOk result (Adds
-        (WritesMatches (map (entry_of (λ _. tt)) list.now.patterns.items) (option_map vec_items list.now.base) case line.now)
+        (WritesMatches (map (entry_of (λ _. tt)) list.now.patterns.items) (option_map vec_items list.now.base) stack.now.case line.now)
         text.old.items text.new.items) }
 {
-    if !plain_path(line) {
+    let Some(path) = RepositoryPath::of_line(line) else {
         text.push(b'!')?;
         return Ok(());
-    }
-    let (path, is_dir) = path_of(line);
-    let position = basename_start(path);
-    let Some((rest, start)) = rest_of(list, path, position, case) else {
-        return Ok(());
     };
-    if let Some(index) = index
-        && index.pays_for(path)
-    {
-        let whole = RepositoryPath {
-            bytes: path,
-            position,
-            is_dir,
-        };
-        append_found(text, pairs, index, list, whole)
-    } else {
-        let left = RepositoryPath {
-            bytes: rest,
-            position: start,
-            is_dir,
-        };
-        append_numbers(text, &list.patterns, left, case)
-    }
-}
-
-/// Appends the numbers of the mappings that match a path, found by the index of the list. Their places are put into `pairs`.
-fn append_found(
-    text: &mut Vec<u8>,
-    pairs: &mut Vec<(usize, usize)>,
-    index: &ListIndex<'_, PlainLines>,
-    list: &List<PlainLines>,
-    path: RepositoryPath<'_>,
-) -> Result<(), AllocError>
-    requires one { index.now.lists ≡ list.now ∷ [] }
-    requires plain { IsPlainPath path.bytes.now }
-    requires basename { IsBasenameStart path.bytes.now path.position }
-    requires folder { ForSome (option_map vec_items list.now.base) IsFolder }
-    ensures { OnOk result (Adds
-        (WritesNumbers (map (entry_of (λ _. tt)) list.now.patterns.items) (option_map vec_items list.now.base) index.now.case path.entry.bytes.now path.entry.is_dir)
-        text.old.items text.new.items) }
-{
-    index.matches_into(path.bytes, path.position, path.is_dir, pairs)?;
+    stack.matches_into(&path, pairs)?;
     let mut separator: &[u8] = b"";
     for pair in pairs.as_slice() {
         text.extend_from_slice(separator)?;
         append_decimal(text, list.patterns[pair.1].sequence_number)?;
         separator = b" ";
-    }
-    Ok(())
-}
-
-/// Appends the numbers of the mappings that match what is left of a path.
-fn append_numbers(
-    text: &mut Vec<u8>,
-    mappings: &[Mapping<()>],
-    rest: RepositoryPath<'_>,
-    case: Case,
-) -> Result<(), AllocError>
-    requires relative { ¬ HasByte rest.bytes.now 0 slash }
-    requires basename { IsBasenameStart rest.bytes.now rest.position }
-    ensures { OnOk result (Adds
-        (WritesNumbersOfRest (map (entry_of (λ _. tt)) mappings.now) case rest.entry.is_dir rest.entry.bytes.now)
-        text.old.items text.new.items) }
-{
-    let mut separator: &[u8] = b"";
-    for mapping in mappings {
-        let pattern = &mapping.pattern;
-        let mode = Mode::NO_MATCH_SLASH_LITERAL;
-        let is_dir = Some(rest.is_dir);
-        if pattern.matches_repo_relative_path(rest.bytes, rest.position, is_dir, case, mode) {
-            text.extend_from_slice(separator)?;
-            append_decimal(text, mapping.sequence_number)?;
-            separator = b" ";
-        }
     }
     Ok(())
 }

@@ -4,7 +4,7 @@ use Rattle.gix_glob.specs.declared.pattern.Case.TheVariants.{Sensitive}
 use Rattle.gix_glob.specs.declared.pattern.Mode.{Mode}
 use Rattle.gix_glob.specs.Patterns.{Reads}
 use Rattle.gix_glob.specs.RepositoryPaths.{Answers, IsBasenameStart}
-use Rattle.gix_glob.specs.Deciding.{path_mode}
+use Rattle.glob_lists.specs.Deciding.{path_mode}
 
 -- The answer is yes exactly if the pattern that the line reads as answers for the path of a file, in path mode.
 pub record LineAnswers (line path : List ℕ) (answer : Bool) : Type 0 where

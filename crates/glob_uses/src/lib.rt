@@ -5,10 +5,10 @@
 ghost use Rattle.std.specs.Prelude.{◌≡◌, true, false, map, IfOk};
 ghost use Rattle.gix_glob.specs.declared.pattern.Case.{Case};
 ghost use Rattle.gix_glob.specs.Bytes.{HasByte, slash};
-ghost use Rattle.gix_glob.specs.Deciding.{BasesAreFolders, Decides};
+ghost use Rattle.glob_lists.specs.Deciding.{BasesAreFolders, Decides};
 ghost use Rattle.gix_glob.specs.Entries.{entry_of};
 ghost use Rattle.gix_glob.specs.EntryLists.{entry_list_of};
-ghost use Rattle.gix_glob.specs.Paths.{IsPlainPath};
+ghost use Rattle.glob_lists.specs.Paths.{IsPlainPath};
 ghost use Rattle.gix_glob.specs.Patterns.{HasReading};
 ghost use Rattle.glob_lines.specs.Ignore.{Ignore};
 ghost use Rattle.glob_uses.specs.Uses.{LineAnswers};

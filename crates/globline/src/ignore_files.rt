@@ -1,7 +1,7 @@
 //! The ignore files that the words name, each as a list of patterns.
 ghost use Rattle.std.specs.Prelude.{◌≡◌, true, IfOk, map, string_bytes};
 ghost use Rattle.std.specs.Option.{option_copied};
-ghost use Rattle.gix_glob.specs.Deciding.{BasesAreFolders};
+ghost use Rattle.glob_lists.specs.Deciding.{BasesAreFolders};
 ghost use Rattle.gix_glob.specs.EntryLists.{entry_list_of};
 ghost use Rattle.globline.specs.Words.{AreIgnoreLists, are_files};
 

@@ -2,12 +2,11 @@
 use Rattle.std.proofs.Common.{◌≡◌, ◌+◌, inr, ℕ, Bool, List, ◌++◌, None, Some, Result, Ok, Err, refl}
 use Rattle.std.specs.Prelude.{OnOk, codes, if◌then◌else◌, is_ok, slice_get}
 use Rattle.gix_glob.specs.declared.pattern.Case.{Case}
-use Rattle.gix_glob.specs.Deciding.{Decides}
+use Rattle.glob_lists.specs.Deciding.{Decides}
 use Rattle.gix_glob.specs.Entries.{Entry}
 use Rattle.gix_glob.specs.EntryLists.{EntryList}
-use Rattle.gix_glob.specs.Paths.{IsPlainPath}
+use Rattle.glob_lists.specs.Paths.{IsPlainPath, MarksDirectory}
 use Rattle.glob_lines.specs.Decisions.{verdict}
-use Rattle.glob_lines.specs.PathLines.{MarksDirectory}
 use Rattle.glob_lines.specs.Private.Answering.{WritesDecisions}
 use Rattle.glob_lines.specs.Private.Growing.{Adds}
 

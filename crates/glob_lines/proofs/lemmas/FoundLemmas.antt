@@ -1,20 +1,14 @@
 -- What an index finds in one list: the places of the entries that answer, in order.
-use Rattle.std.proofs.Common.{◌≡◌, inl, inr, ⊎_elim, ℕ, zero, suc, ◌+◌, ◌-◌, ◌<◌, ◌≤◌, ◌↔◌, Bool, List, [], ◌∷◌, ◌++◌, length, take, Option, Some, refl, sym, ap, subst, ◌∙◌, arith, take_all}
+use Rattle.std.proofs.Common.{◌≡◌, ⊎_elim, ℕ, zero, suc, ◌+◌, ◌-◌, ◌<◌, ◌≤◌, Bool, List, [], ◌∷◌, ◌++◌, length, take, Option, Some, refl, sym, ap, subst, ◌∙◌, arith, take_all}
 use Rattle.std.specs.Prelude.{decimal, slice_get}
 use Rattle.std.proofs.lemmas.Bool.{cases_eq, cases_lt}
 use Rattle.std.proofs.lemmas.List.{take_more}
 use Rattle.std.proofs.lemmas.Option.{get_or_from_slice_get, same_Some, slice_get_within}
 use Rattle.gix_glob.specs.declared.pattern.Case.{Case}
-use Rattle.gix_glob.specs.Deciding.{AnswersAt, AnswersUnder, BasesAreFolders, HasFolder}
+use Rattle.glob_lists.specs.Deciding.{AnswersAt, AnswersUnder, BasesAreFolders, HasFolder}
 use Rattle.gix_glob.specs.EntryLists.{EntryList}
-use Rattle.gix_glob.specs.Stripping.{RestOf}
-use Rattle.glob_index.specs.Index.{AreMatches}
-use Rattle.glob_lines.specs.Mappings.{WritesNumbers}
-use Rattle.glob_lines.specs.Numbers.{Picks}
+use Rattle.glob_lists.specs.Index.{AreMatches}
 use Rattle.glob_lines.specs.Plain.{PlainEntry}
-use Rattle.glob_lines.specs.Private.Answering.{EntryAnswers, WritesNumbersOfRest}
-use Rattle.glob_lines.specs.Private.Growing.{Adds}
-use Rattle.gix_glob.proofs.lemmas.Answering.{AnswersUnder-only, AnswersUnder-yes}
 use Rattle.glob_lines.proofs.lemmas.MappingsLemmas.{IsListedUpTo, IsListedUpTo-more, IsListedUpTo-none, IsListedUpTo-skip}
 
 -- ---- the places of the entries of which P holds
@@ -147,26 +141,3 @@ module _ (list : EntryList (Unit {0})) (path : List ℕ) (is_dir : Bool) (case :
   places_in lists items found one same h =
       subst (λ places. ArePlacesOf (λ entry. AnswersUnder list.base entry path is_dir case) list.entries places) (sym same)
       (places_of_one found (subst (λ stack. AreMatches stack path is_dir case found) one h))
-
--- ---- what is left of the path
-
-Picks-same : (P Q : PlainEntry → Type 0) (entries chosen : List PlainEntry) → ((entry : PlainEntry) → P entry ↔ Q entry) → Picks P entries chosen → Picks Q entries chosen
-Picks-same P Q [] chosen same h = h
-Picks-same P Q (entry ∷ entries) chosen same (inl h) = inl ((same entry).0 h.0, h.1, h.2, Picks-same P Q entries h.1 same h.3)
-Picks-same P Q (entry ∷ entries) chosen same (inr h) = inr (λ q. h.0 ((same entry).1 q), Picks-same P Q entries chosen same h.1)
-
--- the entries that answer for a path are those that answer for what its base leaves of it
-pub numbers_under : (entries : List PlainEntry) (base : Option (List ℕ)) (path rest : List ℕ) (is_dir : Bool) (case : Case) (old new : List ℕ) → RestOf case base path rest
-    → Adds (WritesNumbersOfRest entries case is_dir rest) old new → Adds (WritesNumbers entries base case path is_dir) old new
-numbers_under entries base path rest is_dir case old new left adds =
-    let position = adds.allowed.position in
-    let basename = adds.allowed.basename in record {
-      added = adds.added;
-      allowed = record {
-        chosen = adds.allowed.chosen;
-        picks = Picks-same (EntryAnswers case is_dir rest position) (λ entry. AnswersUnder base entry path is_dir case) entries adds.allowed.chosen
-            (λ entry. (AnswersUnder-yes base path is_dir case entry rest position left basename, AnswersUnder-only base path is_dir case entry rest position left basename)) adds.allowed.picks;
-        shown = adds.allowed.shown;
-      };
-      grown = adds.grown;
-    }

@@ -3,17 +3,15 @@ use Rattle.std.proofs.Common.{◌≡◌, inr, ℕ, Bool, List, [], ◌∷◌, �
 use Rattle.std.specs.Prelude.{◌↔◌, decimal}
 use Rattle.std.proofs.lemmas.List.{map_push}
 use Rattle.gix_glob.specs.declared.pattern.Case.{Case}
-use Rattle.gix_glob.specs.Deciding.{AnswersUnder}
 use Rattle.gix_glob.specs.Paths.{Base}
-use Rattle.gix_glob.specs.Stripping.{NothingLeft}
 use Rattle.glob_lines.specs.Mappings.{MappingsText, WritesNumbers}
 use Rattle.glob_lines.specs.Numbers.{Picks, text_of_numbers}
-use Rattle.glob_lines.specs.PathLines.{IsPlainPath, MarksDirectory}
+use Rattle.glob_lists.specs.Paths.{IsPlainPath, MarksDirectory}
 use Rattle.glob_lines.specs.Plain.{Plain, PlainEntry}
 use Rattle.glob_lines.specs.Equations.Plain.{plain_of}
 use Rattle.glob_lines.specs.Private.Answering.{MatchesText, WritesMatches}
 use Rattle.glob_lines.specs.Private.Growing.{Adds}
-use Rattle.glob_lines.proofs.lemmas.NumbersLemmas.{Picks-more, Picks-none, Picks-skip, separator_after, text_of_numbers-more}
+use Rattle.glob_lines.proofs.lemmas.NumbersLemmas.{Picks-more, Picks-skip, separator_after, text_of_numbers-more}
 
 abbrev pub numbers_of : List PlainEntry → List ℕ
 numbers_of entries = map (λ entry. entry.number) entries
@@ -68,20 +66,6 @@ module _ (P : PlainEntry → Type 0) where
 module _ (entries : List PlainEntry) (base : Option (List ℕ)) (case : Case) (line path : List ℕ) (is_dir : Bool) (plain : IsPlainPath line) (marked : MarksDirectory line path is_dir) where
   pub writes_numbers : (old new : List ℕ) → Adds (WritesNumbers entries base case path is_dir) old new → Adds (WritesMatches entries base case line) old new
   writes_numbers old new adds = record { added = adds.added; allowed = inr (plain, path, is_dir, marked, adds.allowed); grown = adds.grown }
-
-  -- no entry answers for a path that doesn't begin with the base
-  pub writes_nothing : (text : List ℕ) → NothingLeft case base path → Adds (WritesMatches entries base case line) text text
-  writes_nothing text none = record {
-    added = [];
-    allowed = inr (
-      plain,
-      path,
-      is_dir,
-      marked,
-      record { chosen = []; picks = Picks-none (λ (entry : PlainEntry). AnswersUnder base entry path is_dir case) entries (λ entry answers. none answers.rest answers.left); shown = refl },
-    );
-    grown = sym (append-nil text);
-  }
 
 -- ---- all path lines
 

@@ -18,11 +18,6 @@ module _ {X : Type 0} (P : X → Type 0) where
   Picks-skip (y ∷ xs) chosen x (inl h) out = inl (h.0, h.1, h.2, Picks-skip xs h.1 x h.3 out)
   Picks-skip (y ∷ xs) chosen x (inr h) out = inr (h.0, Picks-skip xs chosen x h.1 out)
 
-  -- none is picked where P holds of none
-  pub Picks-none : (xs : List X) → ((x : X) → ¬ P x) → Picks P xs []
-  Picks-none [] none = refl
-  Picks-none (x ∷ xs) none = inr (none x, Picks-none xs none)
-
 -- ---- one more number
 
 -- what stands before the number that comes after these

@@ -5,7 +5,7 @@ use Rattle.std.specs.Prelude.{MatchOption, codes, if◌then◌else◌, slice_get
 use Rattle.std.proofs.lemmas.List.{append_cancel_left, append_cancel_right}
 use Rattle.std.proofs.lemmas.Option.{same_Some}
 use Rattle.gix_glob.specs.declared.pattern.Case.{Case}
-use Rattle.gix_glob.specs.Deciding.{AnswersUnder, Decides}
+use Rattle.glob_lists.specs.Deciding.{AnswersUnder, Decides}
 use Rattle.gix_glob.specs.EntryLists.{EntryList}
 use Rattle.gix_glob.specs.Paths.{Base, folder, parts}
 use Rattle.glob_lines.specs.Decisions.{WritesDecision, WritesVerdict, verdict}

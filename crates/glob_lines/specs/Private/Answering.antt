@@ -1,31 +1,16 @@
 -- What is written of the entries that answer for a path.
-use Rattle.std.specs.Prelude.{◌≡◌, ℕ, Bool, if◌then◌else◌, List, map, Option, Some, codes}
+use Rattle.std.specs.Prelude.{ℕ, Bool, if◌then◌else◌, List, Option, codes}
 use Rattle.gix_glob.specs.declared.pattern.Case.{Case}
-use Rattle.gix_glob.specs.Deciding.{path_mode}
 use Rattle.gix_glob.specs.EntryLists.{EntryList}
-use Rattle.gix_glob.specs.RepositoryPaths.{Answers, IsBasenameStart}
 use Rattle.glob_lines.specs.Decisions.{WritesDecision}
 use Rattle.glob_lines.specs.Lines.{WritesLines}
 use Rattle.glob_lines.specs.Mappings.{WritesNumbers}
-use Rattle.glob_lines.specs.Numbers.{Picks, text_of_numbers}
 use Rattle.glob_lines.specs.PathLines.{WritesForPath}
 use Rattle.glob_lines.specs.Plain.{PlainEntry}
 
 -- the word for an answer
 abbrev pub word_of : Bool → List ℕ
 word_of answer = if answer then codes "yes" else codes "no"
-
--- the entry answers yes for what is left of a path, whose last part begins at the position
-abbrev pub EntryAnswers : Case → Bool → List ℕ → Option ℕ → PlainEntry → Type 0
-EntryAnswers case is_dir rest position entry = Answers entry.text entry.mode rest position (Some is_dir) case path_mode
-
--- the line has the numbers of the entries that answer yes for what is left of a path
-pub record WritesNumbersOfRest (entries : List PlainEntry) (case : Case) (is_dir : Bool) (rest written : List ℕ) : Type 0 where
-  pub position : Option ℕ
-  pub basename : IsBasenameStart rest position
-  pub chosen : List PlainEntry
-  pub picks : Picks (EntryAnswers case is_dir rest position) entries chosen
-  pub shown : written ≡ text_of_numbers (map (λ entry. entry.number) chosen)
 
 -- the line for a path line and the entries of a list, and the text for all path lines
 abbrev pub WritesMatches : List PlainEntry → Option (List ℕ) → Case → List ℕ → List ℕ → Type 0

@@ -4,8 +4,8 @@ use crate::compare::same;
 use crate::lists::list_of;
 use gix_glob::pattern::Case;
 use gix_glob::search::pattern::List;
-use glob_index::ListIndex;
-use glob_lines::{PlainLines, bases_are_folders, decide, plain_path};
+use glob_lines::{PlainLines, bases_are_folders};
+use glob_lists::{ListIndex, RepositoryPath, decide};
 use std::alloc::AllocError;
 use std::process::Abort;
 use std::test::Fail;
@@ -36,14 +36,14 @@ fn compare(
     case: Case,
 ) -> Result<usize, Fail> {
     assert!(rt; bases_are_folders(lists));
-    assert!(rt; plain_path(path.as_bytes()), "{path:?} isn't plain");
     let index = ListIndex::new(rt.alloc(), lists, case)?;
     let mut count = 0;
     for is_dir in [false, true] {
-        let plain = decide(lists, path.as_bytes(), is_dir, case);
-        let indexed = index.decide(path.as_bytes(), is_dir);
+        let named = RepositoryPath::new(path.as_bytes(), is_dir).expect(rt, "a path");
+        let plain = decide(lists, &named, case);
+        let indexed = index.decide(&named);
         same(rt, indexed, plain, "what decides about", (path, case));
-        let found = index.matches(rt.alloc(), path.as_bytes(), is_dir)?;
+        let found = index.matches(rt.alloc(), &named)?;
         same(
             rt,
             found.last().copied(),

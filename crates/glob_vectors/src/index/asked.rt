@@ -5,8 +5,8 @@ use crate::lines::{TOP, decided, listed};
 use crate::lists::list_of;
 use gix_glob::pattern::Case;
 use gix_glob::search::pattern::List;
-use glob_index::{CountedDecision, ListIndex};
-use glob_lines::{IgnoreLines, PlainLines, bases_are_folders, plain_path};
+use glob_lines::{IgnoreLines, PlainLines, bases_are_folders};
+use glob_lists::{CountedDecision, ListIndex, RepositoryPath};
 use std::alloc::AllocError;
 use std::test::Fail;
 
@@ -24,14 +24,19 @@ const ROWS: [Row<'static>; 7] = [
     ("*ab*\n*ac*\n*d*\n", "cba", None, 2),
 ];
 
+/// Lines that no path of the rows ends as: with so many of them the look-up pays.
+const OTHERS: &[u8] = b"q\nq\nq\nq\nq\nq\nq\nq\nq\nq\nq\nq\n";
+
 #[test]
 fn only_what_can_match_is_asked(rt: HostRuntime) -> Result<(), Fail> {
     for (text, path, pair, asked) in ROWS {
-        let lists = [list_of(rt.alloc(), PlainLines, text.as_bytes(), None)?];
+        let mut lines = Vec::from_slice(rt.alloc(), text.as_bytes())?;
+        lines.extend_from_slice(OTHERS)?;
+        let lists = [list_of(rt.alloc(), PlainLines, &lines, None)?];
         assert!(rt; bases_are_folders(&lists));
-        assert!(rt; plain_path(path.as_bytes()));
         let index = ListIndex::new(rt.alloc(), &lists, Case::Sensitive)?;
-        let counted = index.decide_and_count(path.as_bytes(), false);
+        let named = RepositoryPath::new(path.as_bytes(), false).expect(&rt, "a path");
+        let counted = index.decide_and_count(&named);
         let wanted = CountedDecision { pair, asked };
         same(&rt, counted, wanted, "what is asked:", (text, path));
     }
@@ -147,9 +152,8 @@ fn of_a_thousand_patterns_few_are_asked(rt: HostRuntime) -> Result<(), Fail> {
         let mut path = String::new(rt.alloc());
         append_path(&mut path, &mut seed)?;
         let bytes = path.as_bytes();
-        assert!(rt; plain_path(bytes));
-        assert!(rt; index.pays_for(bytes));
-        let counted = index.decide_and_count(bytes, false);
+        let named = RepositoryPath::new(bytes, false).expect(&rt, "a path");
+        let counted = index.decide_and_count(&named);
         let most = shown_count(&lists[0], bytes);
         same(
             &rt,
@@ -171,16 +175,18 @@ fn of_a_thousand_patterns_few_are_asked(rt: HostRuntime) -> Result<(), Fail> {
 }
 
 #[test]
-fn it_pays_where_few_can_match(rt: HostRuntime) -> Result<(), Fail> {
+fn each_is_asked_where_the_look_up_does_not_pay(rt: HostRuntime) -> Result<(), Fail> {
     let rows = [
-        ("a\nb\nc\nd\ne\nf\ng\nh\n", true),
-        ("a\nb\nc\nd\ne\nf\ng\n", false),
-        ("*a\n*b\n*ca\n*da\n*ea\n*fa\n*ga\n*ha\n", false),
+        ("a\nb\nc\nd\ne\nf\ng\nh\n", 1),
+        ("a\nb\nc\nd\ne\nf\ng\n", 7),
+        ("*a\n*b\n*ca\n*da\n*ea\n*fa\n*ga\n*ha\n", 8),
     ];
-    for (text, is_worth) in rows {
+    for (text, asked) in rows {
         let lists = [list_of(rt.alloc(), PlainLines, text.as_bytes(), None)?];
+        assert!(rt; bases_are_folders(&lists));
         let index = ListIndex::new(rt.alloc(), &lists, Case::Sensitive)?;
-        same(&rt, index.pays_for(b"a"), is_worth, "it pays for", text);
+        let path = RepositoryPath::new(b"a", false).expect(&rt, "a path");
+        same(&rt, index.decide_and_count(&path).asked, asked, "asked of", text);
     }
     Ok(())
 }

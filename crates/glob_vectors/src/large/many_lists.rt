@@ -2,10 +2,10 @@
 use crate::lines::{TOP, decided, listed};
 use crate::lists::list_of;
 use crate::texts::repeated;
-use gix_glob::pattern::{Case, basename_start};
+use gix_glob::pattern::Case;
 use gix_glob::search::pattern::List;
-use glob_index::ListIndex;
-use glob_lines::{IgnoreLines, bases_are_folders, plain_path};
+use glob_lines::{IgnoreLines, bases_are_folders};
+use glob_lists::{ListIndex, RepositoryPath};
 use std::process::Abort;
 use std::test::Fail;
 
@@ -23,17 +23,12 @@ fn matches_of(
     rt: &(impl Abort + AllocGlobal),
     lists: &[List<IgnoreLines>],
 ) -> Result<Matches, Fail> {
-    let path = b"a".as_slice();
+    let path = RepositoryPath::new(b"a", false).expect(rt, "a path");
     assert!(rt; bases_are_folders(lists));
-    assert!(rt; plain_path(path));
     let index = ListIndex::new(rt.alloc(), lists, Case::Sensitive)?;
     let mut pairs = Vec::new(rt.alloc());
-    index.matches_into(path, basename_start(path), false, &mut pairs)?;
-    Ok((
-        pairs.last().copied(),
-        pairs.len(),
-        index.decide(path, false),
-    ))
+    index.matches_into(&path, &mut pairs)?;
+    Ok((pairs.last().copied(), pairs.len(), index.decide(&path)))
 }
 
 /// Compares the pair that decides about the path `a`, the last of so many matches, and what `run_ignore` writes of it.

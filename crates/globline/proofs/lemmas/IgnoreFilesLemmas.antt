@@ -7,7 +7,7 @@ use Rattle.std.proofs.lemmas.List.Elements.{All-cons, All-nil}
 use Rattle.std.proofs.lemmas.List.Folds.{list_all-map}
 use Rattle.std.proofs.lemmas.List.Sums.{AllPass-from_list_all}
 use Rattle.gix_glob.specs.Bytes.{EndsInSlash}
-use Rattle.gix_glob.specs.Deciding.{BasesAreFolders, HasFolder}
+use Rattle.glob_lists.specs.Deciding.{BasesAreFolders, HasFolder}
 use Rattle.gix_glob.specs.declared.search.pattern.list.List as patterns
 use Rattle.gix_glob.specs.EntryLists.{EntryList, entry_list_of}
 use Rattle.gix_glob.specs.Loading.{AddsLoadedList, IsLoaded}

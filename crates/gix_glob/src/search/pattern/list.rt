@@ -1,8 +1,7 @@
 //! A list of patterns that knows where it comes from and what its base is.
 ghost use Rattle.std.specs.Prelude.{◌≡◌, ◌+◌, [], None, All, IsTrue, IfOk, MatchOption, length, option_map};
 ghost use Rattle.std.specs.Vec.{vec_items};
-ghost use Rattle.gix_glob.specs.DecisionLimits.{strip_looks};
-ghost use Rattle.gix_glob.specs.Stripping.{RestOf, NothingLeft, IsPlaced, place_after};
+ghost use Rattle.gix_glob.specs.Stripping.{RestOf, NothingLeft, IsPlaced, place_after, strip_looks};
 
 use super::{Mapping, strip_base_handle_recompute_basename_pos, strip_base_with_counts};
 use crate::pattern::Case;

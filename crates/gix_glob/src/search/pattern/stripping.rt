@@ -1,8 +1,7 @@
 //! What is left of a path once a base is stripped from its front.
 ghost use Rattle.std.specs.Prelude.{◌≡◌, ◌+◌, ◌≤◌, length, Some, MatchOption};
 ghost use Rattle.std.specs.Option.{ForSome};
-ghost use Rattle.gix_glob.specs.DecisionLimits.{strip_looks};
-ghost use Rattle.gix_glob.specs.Stripping.{Rest, NothingLeft, IsPlaced, stripped_place};
+ghost use Rattle.gix_glob.specs.Stripping.{Rest, NothingLeft, IsPlaced, stripped_place, strip_looks};
 
 use crate::pattern::Case;
 use crate::wildmatch::Counts;

@@ -1,6 +1,6 @@
 -- An index is no `GIX_GLOB_NONE`.
 use Rattle.std.proofs.Common.{ℕ, [], ◌∷◌, Option, option_map, sym, subst}
-use Rattle.gix_glob.specs.Deciding.{Decides}
+use Rattle.glob_lists.specs.Deciding.{Decides}
 use Rattle.gix_glob_c.specs.Parsed.{list_of}
 use Rattle.gix_glob_c.specs.Parts.{case_of}
 use Rattle.gix_glob_c.proofs.lemmas.Numbers.{unless_none-below}

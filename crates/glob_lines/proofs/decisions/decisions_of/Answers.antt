@@ -1,7 +1,6 @@
 -- What is written for a path line, and its line feed, is the next line of the text.
 use Rattle.std.proofs.Common.{◌≡◌, ◌++◌, ◌∷◌, [], ap, ◌∙◌, append_assoc}
 use Rattle.glob_lines.specs.Equations.Lines.{lines_of}
-use Rattle.glob_lines.proofs.lemmas.IndexingLemmas.{held_index}
 use Rattle.glob_lines.proofs.lemmas.LinesLemmas.{IsWrittenUpTo-all, IsWrittenUpTo-more, IsWrittenUpTo-none}
 use Rattle.glob_lines.proofs.decisions.decisions_of.Goals as goal
 
@@ -12,14 +11,9 @@ loop-line-init g c =
 
 pub loop-line-preserved : goal.loop-line-preserved
 loop-line-preserved g c =
-    let adds = c.in_ok-append_decision.ensures in
+    let adds = rw (c.in_ok-stack.ensures.0, c.in_ok-stack.ensures.1) at c.in_ok-append_decision.ensures in
     IsWrittenUpTo-more _ _ _ _ _ _ _ adds.added c.loop-line.invariant c.in-Some.ensures.steps adds.allowed
     (c.in_ok-push.ensures.items ∙ ap (λ l. l ++ 10 ∷ []) adds.grown ∙ append_assoc c.loop-line.text.items adds.added (10 ∷ []))
 
 pub returns : goal.returns
 returns g c = IsWrittenUpTo-all _ _ _ _ c.loop-line.invariant c.in-None.ensures.steps.0
-
-pub append_decision-requires-clause-index : goal.append_decision-requires-clause-index
-append_decision-requires-clause-index g c = λ x some.
-    held_index (λ index. (index.lists ≡ c.args.lists.now) × (index.case ≡ c.args.case)) _ _ _ _ x c.new.ensures.index
-    c.unless_too_many.ensures.made c.unless_too_many.ensures.too_many c.unless_too_many.ensures.memory c.in_ok-made.was c.as_ref-index.ensures.value some

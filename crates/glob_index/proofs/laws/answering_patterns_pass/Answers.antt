@@ -1,6 +1,0 @@
--- By the two laws of matched values.
-use Rattle.glob_index.proofs.lemmas.PrefilterLemmas.{answering_passes}
-use Rattle.glob_index.proofs.laws.answering_patterns_pass.Goals as goal
-
-pub returns : goal.returns
-returns c = answering_passes c.matched_values_end_as_the_text.ensures c.matched_values_have_the_literal_bytes.ensures

@@ -1,7 +1,0 @@
--- Words that only private clauses cite: what the functions of the crate say to one another.
-pub mod Chains
-pub mod Literals
-pub mod Rows
-pub mod Showing
-pub mod Tables
-pub mod Walking

@@ -1,6 +1,0 @@
-use Rattle.glob_lines.proofs.lemmas.PathsLemmas.{IsPlainUpTo}
-use Rattle.glob_lines.proofs.paths.plain_path.Given as goal
-
--- the bytes so far are those of a plain path
-abbrev pub invariant-loop-byte : goal.invariant-loop-byte
-invariant-loop-byte l = IsPlainUpTo l.path l.byte-index l.is_after_slash

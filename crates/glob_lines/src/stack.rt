@@ -1,0 +1,89 @@
+//! The stack of lists of an engine, with an index where there can be one.
+ghost use Rattle.std.specs.Prelude.{◌≡◌, IfOk, IsOk, OnOk, map};
+ghost use Rattle.gix_glob.specs.EntryLists.{entry_list_of};
+ghost use Rattle.glob_lists.specs.Deciding.{BasesAreFolders, Decides};
+ghost use Rattle.glob_lists.specs.Index.{AreMatches, AreTooMany};
+
+use gix_glob::pattern::Case;
+use gix_glob::search;
+use gix_glob::search::pattern::List;
+use glob_lists::{IndexError, ListIndex, RepositoryPath, decide, matches_into};
+use std::alloc::{AllocError, Global};
+use std::marker::Model;
+
+/// A stack of lists, and its index, but where there are too many patterns for one: each of them is then asked in turn.
+/// Contracts see the lists, and whether the case of letters counts.
+#[derive(Debug, Drop)]
+pub(crate) struct ListStack<'a, T: search::Pattern> {
+    lists: &'a [List<T>],
+    case: Case,
+    index: Option<ListIndex<'a, T>>,
+}
+
+impl<'a, T: search::Pattern> Model for ListStack<'a, T> {
+    ghost use Rattle.glob_lists.specs.Index.{IndexedLists};
+    ghost use Rattle.glob_lines.specs.Private.Indexing.{IsIndexed};
+
+    ghost Value = { IndexedLists T T.Value };
+
+    ghost view = { λ stack. record { lists = stack.lists.now; case = stack.case } };
+
+    ghost invariant = { λ stack. IsIndexed T.seen stack.lists.now stack.case stack.index };
+}
+
+impl<'a, T: search::Pattern> ListStack<'a, T> {
+    /// The stack of these lists.
+    ///
+    /// # Errors
+    /// Only where memory was refused.
+    pub(crate) fn new(
+        alloc: Global,
+        lists: &'a [List<T>],
+        case: Case,
+    ) -> Result<ListStack<'a, T>, AllocError>
+        requires folders { BasesAreFolders (map (entry_list_of T.seen) lists.now) }
+        ensures stack { IfOk result (λ stack. (stack.lists ≡ lists.entry.now) × (stack.case ≡ case)) }
+        ensures too_many { AreTooMany (map (entry_list_of T.seen) lists.entry.now) → IsOk result }
+    {
+        let index = match ListIndex::new(alloc, lists, case) {
+            Ok(index) => Some(index),
+            Err(IndexError::TooMany) => None,
+            Err(IndexError::Memory) => return Err(AllocError),
+        };
+        Ok(ListStack { lists, case, index })
+    }
+
+    /// The lists.
+    pub(crate) fn lists(&self) -> &'a [List<T>]
+        ensures { result.now ≡ self.now.lists }
+    {
+        self.lists
+    }
+
+    /// Which pattern decides about a path, as [`decide`] answers it.
+    pub(crate) fn decide(&self, path: &RepositoryPath<'_>) -> Option<(usize, usize)>
+        ensures { Decides (map (entry_list_of T.seen) self.now.lists) path.now.bytes path.now.is_dir self.now.case result }
+    {
+        match &self.index {
+            Some(index) => index.decide(path),
+            None => decide(self.lists, path, self.case),
+        }
+    }
+
+    /// Puts into `pairs` all patterns that match a path, as [`matches_into`] does.
+    ///
+    /// # Errors
+    /// Only where memory was refused.
+    pub(crate) fn matches_into(
+        &self,
+        path: &RepositoryPath<'_>,
+        pairs: &mut Vec<(usize, usize)>,
+    ) -> Result<(), AllocError>
+        ensures { OnOk result (AreMatches (map (entry_list_of T.seen) self.now.lists) path.now.bytes path.now.is_dir self.now.case pairs.new.items) }
+    {
+        match &self.index {
+            Some(index) => index.matches_into(path, pairs),
+            None => matches_into(self.lists, path, self.case, pairs),
+        }
+    }
+}

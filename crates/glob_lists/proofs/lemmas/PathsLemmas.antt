@@ -1,0 +1,45 @@
+-- The test of a path, a byte at a time.
+use Rattle.std.proofs.Common.{◌≡◌, ◌≢◌, ◌⊎◌, ⊎_elim, ℕ, ◌+◌, ◌-◌, ◌<◌, Bool, true, false, cond, List, [], ◌++◌, refl, sym, ap, subst, ◌∙◌, length-append, arith}
+use Rattle.std.specs.Prelude.{codes}
+use Rattle.std.proofs.lemmas.Bool.{cases_eq}
+use Rattle.std.proofs.lemmas.List.{get_or_append_left}
+use Rattle.gix_glob.specs.Bytes.{HasByte, slash}
+use Rattle.glob_lists.specs.Paths.{IsPlainPath, MarksDirectory}
+
+-- The bytes before place i are those of a plain path. Whether the place is the first, or comes after a slash.
+pub record IsPlainUpTo (path : List ℕ) (i : ℕ) (is_after_slash : Bool) : Type 0 where
+  pub after : is_after_slash ≡ true → (i ≡ 0) ⊎ HasByte path (i - 1) slash
+  pub not_after : is_after_slash ≡ false → (0 < i) × ¬ HasByte path (i - 1) slash
+  pub relative : 0 < i → ¬ HasByte path 0 slash
+  pub single : (k : ℕ) → k + 1 < i → HasByte path k slash → ¬ HasByte path (k + 1) slash
+
+-- a slash at such a place
+pub IsPlainPath-refused : (path : List ℕ) (i : ℕ) (is_after_slash : Bool) → IsPlainUpTo path i is_after_slash → is_after_slash ≡ true → HasByte path i slash → ¬ IsPlainPath path
+IsPlainPath-refused path i is_after_slash h after here plain =
+    let refuse_first : i ≡ 0 → ⊥ = λ first. plain.relative (subst (λ k. HasByte path k slash) first here) in
+    let refuse_second : HasByte path (i - 1) slash → ⊥ = λ before.
+    let next : i ≡ i - 1 + 1 = ⊎_elim (λ first. absurd (refuse_first first)) (λ (later : i ≢ 0). omega arith) (cases_eq i 0) in
+    plain.single (i - 1) before (subst (λ k. HasByte path k slash) next here) in
+    ⊎_elim refuse_first refuse_second (h.after after)
+
+-- ---- the path of a path line
+
+HasByte-front : (xs ys : List ℕ) (i b : ℕ) → HasByte xs i b → HasByte (xs ++ ys) i b
+HasByte-front xs ys i b h =
+    record { inside = omega (arith, length-append xs ys, h.inside); is = get_or_append_left xs ys 0 i h.inside ∙ h.is }
+
+-- a line that is a slash, or nothing, is no plain path
+no_path : (is_dir : Bool) → ¬ IsPlainPath ([] ++ cond is_dir (codes "/") [])
+no_path true plain = plain.relative (record { inside = omega arith; is = refl })
+no_path false plain = plain.some refl
+
+-- the path of a line that is plain is plain too
+pub IsPlainPath-marked : (line path : List ℕ) (is_dir : Bool) → IsPlainPath line → MarksDirectory line path is_dir → IsPlainPath path
+IsPlainPath-marked line path is_dir plain marked =
+    let in_line : (i : ℕ) → HasByte path i slash → HasByte line i slash =
+    λ i h. subst (λ l. HasByte l i slash) (sym marked.joined) (HasByte-front path _ i slash h) in
+    record {
+      some = λ empty. no_path is_dir (subst IsPlainPath (marked.joined ∙ ap (λ l. l ++ cond is_dir (codes "/") []) empty) plain);
+      relative = λ h. plain.relative (in_line 0 h);
+      single = λ i first second. plain.single i (in_line i first) (in_line (i + 1) second);
+    }

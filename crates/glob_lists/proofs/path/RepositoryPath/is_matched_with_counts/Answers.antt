@@ -1,0 +1,6 @@
+-- The place that is kept is where the last part begins.
+use Rattle.glob_lists.proofs.lemmas.Answering.{AnswersFor-tested}
+use Rattle.glob_lists.proofs.path.RepositoryPath.is_matched_with_counts.Goals as goal
+
+pub returns-clause-exact : goal.returns-clause-exact
+returns-clause-exact g c lawful = rw (← c.self.view_is) (AnswersFor-tested _ _ _ _ _ _ c.self.invariant.basename _ (c.matches_repo_relative_path_with_counts.ensures.exact lawful))

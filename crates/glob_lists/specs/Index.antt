@@ -1,0 +1,30 @@
+-- Indexes of lists: what an index is of, and all that it finds for a path.
+use Rattle.std.specs.Prelude.{◌≡◌, ◌⊎◌, ℕ, ◌^◌, ◌<◌, ◌≤◌, Bool, List, Some, length, slice_get}
+use Rattle.std.specs.List.{sum_by}
+use Rattle.gix_glob.specs.declared.pattern.Case.{Case}
+use Rattle.gix_glob.specs.declared.search.pattern.list.List as patterns
+use Rattle.glob_lists.specs.Deciding.{PairAnswers}
+use Rattle.gix_glob.specs.EntryLists.{EntryList}
+
+-- what an index is of: its lists, and whether the case of letters counts
+pub record IndexedLists (T X : Type 0) : Type 0 where
+  pub lists : List (patterns.List T X)
+  pub case : Case
+
+-- how many entries the lists have
+abbrev pub entry_count : {V : Type 0} → List (EntryList V) → ℕ
+entry_count lists = sum_by (λ list. length list.entries) lists
+
+-- there are too many entries or lists for an index, which keeps the place of each in four bytes
+abbrev pub AreTooMany : {V : Type 0} → List (EntryList V) → Type 0
+AreTooMany lists = (2 ^ 32 ≤ entry_count lists) ⊎ (2 ^ 32 < length lists)
+
+-- the place (i, m) comes before the place (j, n): lists first
+abbrev pub ComesBefore : ℕ → ℕ → ℕ → ℕ → Type 0
+ComesBefore i m j n = (i < j) ⊎ ((i ≡ j) × (m < n))
+
+-- The pairs of places that answer, each of them once, in order.
+pub record AreMatches {V : Type 0} (lists : List (EntryList V)) (path : List ℕ) (is_dir : Bool) (case : Case) (found : List (ℕ × ℕ)) : Type 0 where
+  pub each : (x : ℕ) (pair : ℕ × ℕ) → slice_get found x ≡ Some pair → PairAnswers lists path is_dir case pair.0 pair.1
+  pub rising : (x y : ℕ) (a b : ℕ × ℕ) → x < y → slice_get found x ≡ Some a → slice_get found y ≡ Some b → ComesBefore a.0 a.1 b.0 b.1
+  pub all : (i m : ℕ) → PairAnswers lists path is_dir case i m → (x : ℕ) × (slice_get found x ≡ Some (i, m))

@@ -1,0 +1,5 @@
+pub mod Paths
+pub mod Deciding
+pub mod DecisionLimits
+pub mod Index
+pub mod Private

@@ -1,0 +1,12 @@
+-- Words that only private clauses cite: what the functions of the crate say to one another.
+pub mod Chains
+pub mod Keeping
+pub mod Literals
+pub mod Looking
+pub mod Matching
+pub mod Reaching
+pub mod Rows
+pub mod Showing
+pub mod Spending
+pub mod Tables
+pub mod Walking

@@ -1,0 +1,16 @@
+-- How far the asking of pairs has come.
+use Rattle.std.specs.Prelude.{◌≡◌, ℕ, List, Option, Some, MatchOption, slice_get}
+use Rattle.gix_glob.specs.declared.pattern.Case.{Case}
+use Rattle.gix_glob.specs.EntryLists.{EntryList}
+use Rattle.gix_glob.specs.Stripping.{NothingLeft, RestOf}
+use Rattle.glob_lists.specs.declared.reached.Reached.{Reached}
+use Rattle.glob_lists.specs.Paths.{Path}
+
+-- what a base leaves of a path, where the path begins with it
+abbrev pub IsLeft : Case → Option (List ℕ) → Path → Option Path → Type 0
+IsLeft case base path rest =
+    MatchOption rest (NothingLeft case base path.bytes) (λ rest. RestOf case base path.bytes rest.bytes × (rest.is_dir ≡ path.is_dir))
+
+-- The rest is what the base of the list that was asked last leaves of the path.
+pub record HasRest {V : Type 0} (lists : List (EntryList V)) (case : Case) (path : Path) (reached : Reached) : Type 0 where
+  pub left : (list : EntryList V) → slice_get lists reached.pair.0 ≡ Some list → IsLeft case list.base path reached.rest

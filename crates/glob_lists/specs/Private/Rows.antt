@@ -1,0 +1,28 @@
+-- What a pattern asks of a path.
+use Rattle.std.specs.Prelude.{◌≡◌, ◌&&◌, ℕ, ◌<◌, ◌≤◌, not, List}
+use Rattle.std.specs.Char.{to_ascii_lowercase}
+use Rattle.gix_glob.specs.declared.pattern.Mode.{Mode}
+use Rattle.gix_glob.specs.Patterns.{is_absolute, is_without_sub_dir}
+use Rattle.glob_lists.specs.declared.chains.Class.{Class}
+use Rattle.glob_lists.specs.declared.chains.Class.TheVariants.{Always, EndsIn}
+use Rattle.glob_lists.specs.declared.literals.TheConstants.{LONGEST_END}
+use Rattle.glob_lists.specs.declared.row.Row.{Row}
+use Rattle.glob_lists.specs.Private.Literals.{EndsLiterally, NeedsBits, end_key, from_end}
+
+-- a literal end of the text: its length, its last byte and its number
+pub record HasLiteralEnd (text : List ℕ) (n byte key : ℕ) : Type 0 where
+  pub some : 0 < n
+  pub literal : EndsLiterally text n
+  pub last : byte ≡ to_ascii_lowercase (from_end text 0)
+  pub number : key ≡ end_key text n
+
+-- what a row of this class asks for: a literal end of the text, of this length, or the bytes that are needed
+abbrev pub AsksFor : List ℕ → ℕ → ℕ → Class → Type 0
+AsksFor text n asked Always = NeedsBits text asked
+AsksFor text n asked (EndsIn byte) = HasLiteralEnd text n byte asked
+
+-- The row asks of a path what a pattern of this text and mode does: a literal end, or the bytes that are needed.
+pub record Asks (text : List ℕ) (mode : Mode) (row : Row) : Type 0 where
+  pub short : row.length ≤ LONGEST_END
+  pub needs : AsksFor text row.length row.asked row.class
+  pub name : row.is_name ≡ (is_without_sub_dir mode && not (is_absolute mode))

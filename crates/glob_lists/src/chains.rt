@@ -1,0 +1,62 @@
+//! What chains are made of: the classes of rows, and links between rows.
+ghost use Rattle.std.specs.Prelude.{◌≡◌, ◌↔◌, ◌+◌, ◌^◌, ◌<◌, IsTrue, MatchOption};
+ghost use Rattle.glob_lists.specs.Private.Chains.{place_of};
+
+/// How many classes there are: one for each byte, and [`Class::Always`].
+pub(crate) const CLASSES: usize = 257;
+
+/// How the texts of a class of patterns end. The case of letters doesn't count.
+#[derive(Debug, Copy, Clone)]
+pub(crate) enum Class {
+    /// In no byte that stands for itself, so that its rows are always looked at.
+    Always,
+    /// In this byte, which stands for itself; letters are small ones.
+    EndsIn(u8),
+}
+
+impl Class {
+    /// The place of the class among all.
+    #[inline(always)]
+    pub(crate) fn place(self) -> usize
+        ensures within { result < CLASSES }
+        ensures place { result ≡ place_of self }
+    {
+        match self {
+            Class::Always => 0,
+            Class::EndsIn(byte) => usize::from(byte) + 1,
+        }
+    }
+}
+
+/// Where a row stands, or that there is none, in four bytes: the number is one more than its place, or 0.
+#[derive(Debug, Copy, Clone)]
+pub(crate) struct Link(u32);
+
+impl Link {
+    /// The link to no row.
+    pub(crate) const NONE: Link = Link(0);
+
+    /// The link to the row at a place.
+    pub(crate) fn to(place: usize) -> Link
+        requires { place + 1 < 2 ^ 32 }
+        ensures { result.0 ≡ place + 1 }
+    {
+        Link(place as u32 + 1)
+    }
+
+    /// The place of the row, where there is one.
+    #[inline(always)]
+    pub(crate) fn place(self) -> Option<usize>
+        ensures { MatchOption result (self.0 ≡ 0) (λ place. place + 1 ≡ self.0) }
+    {
+        (self.0 as usize).checked_sub(1)
+    }
+
+    /// Whether there is a row, and it stands after that of another link, if that has one.
+    #[inline(always)]
+    pub(crate) fn is_after(self, other: Link) -> bool
+        ensures { IsTrue result ↔ other.0 < self.0 }
+    {
+        self.0 > other.0
+    }
+}

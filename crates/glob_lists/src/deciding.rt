@@ -1,0 +1,124 @@
+//! Which pattern of a stack of lists decides about a path: the last one that matches it.
+ghost use Rattle.std.specs.Prelude.{◌↔◌, ◌+◌, ◌≤◌, ℕ, IsTrue, MatchOption, length, map, option_map};
+ghost use Rattle.std.specs.Vec.{vec_items};
+ghost use Rattle.gix_glob.specs.EntryLists.{entry_list_of};
+ghost use Rattle.gix_glob.specs.Paths.{IsFolder};
+ghost use Rattle.gix_glob.specs.Steps.{IsBlankOf, NeverFall};
+ghost use Rattle.glob_lists.specs.Deciding.{AnswersAt, BasesAreFolders, Decides, HasFolder};
+ghost use Rattle.glob_lists.specs.DecisionLimits.{decision_look_limit, decision_step_limit, list_look_limit, list_step_limit};
+
+use crate::path::RepositoryPath;
+use gix_glob::pattern::Case;
+use gix_glob::search;
+use gix_glob::search::pattern::List;
+use gix_glob::wildmatch::Counts;
+use std::marker::Brand;
+use std::sync::ledger::{Blank, Ledger};
+
+/// Which pattern decides about a path, in a stack of lists where a later one decides over an earlier one: the last mapping, of
+/// the last list that has one, that matches what the base of its list leaves of the path. The answer is the place of the list
+/// and the place of the mapping in it, both from 0, or `None` where no pattern matches.
+///
+/// Whether the path is then kept or left out, [`Pattern::is_negative`](gix_glob::Pattern::is_negative) of that pattern tells. The
+/// lists have to meet [`bases_are_folders`]. No memory is taken. The rule is in `docs/LINES.md`, "Which line decides".
+pub fn decide<T: search::Pattern>(
+    lists: &[List<T>],
+    path: &RepositoryPath<'_>,
+    case: Case,
+) -> Option<(usize, usize)>
+    requires folders { BasesAreFolders (map (entry_list_of T.seen) lists.now) }
+    ensures { Decides (map (entry_list_of T.seen) lists.now) path.now.bytes path.now.is_dir case result }
+{
+    decide_with_new_counts::<T, Brand, Brand>(lists, path, case, Blank::new(1), Blank::new(1))
+}
+
+/// Which pattern decides about a path, with new counts that no one asks for.
+#[inline(always)]
+fn decide_with_new_counts<T: search::Pattern, S: Ledger, L: Ledger>(
+    lists: &[List<T>],
+    path: &RepositoryPath<'_>,
+    case: Case,
+    steps: Blank,
+    looks: Blank,
+) -> Option<(usize, usize)>
+    requires folders { BasesAreFolders (map (entry_list_of T.seen) lists.now) }
+    requires steps { IsBlankOf S.name S.parts steps }
+    requires looks { IsBlankOf L.name L.parts looks }
+    ensures { Decides (map (entry_list_of T.seen) lists.now) path.now.bytes path.now.is_dir case result }
+{
+    decide_with_counts(lists, path, case, &mut Counts::<S, L>::new(steps, looks))
+}
+
+/// Which pattern decides about a path, as [`decide`] answers it and under its condition, with its steps and looks counted.
+///
+/// With `v` the length of the path in bytes, and `p` that of a pattern's text, the count of steps rises by at most the sum of
+/// `2 * (p + 1) * (v + 1)` over all patterns of all lists. That of looks rises by at most the sum of `10 * (p + 1) * (v + 1)`, and
+/// for each list twice the length of its base, or of the path where that is shorter.
+pub fn decide_with_counts<T: search::Pattern, S: Ledger, L: Ledger>(
+    lists: &[List<T>],
+    path: &RepositoryPath<'_>,
+    case: Case,
+    counts: &mut Counts<S, L>,
+) -> Option<(usize, usize)>
+    requires folders { BasesAreFolders (map (entry_list_of T.seen) lists.now) }
+    ensures exact { Decides (map (entry_list_of T.seen) lists.now) path.now.bytes path.now.is_dir case result }
+    ensures steps { counts.new.steps
+        ≤ counts.old.steps + decision_step_limit (map (entry_list_of T.seen) lists.now) (length path.now.bytes) }
+    ensures looks { counts.new.looks
+        ≤ counts.old.looks + decision_look_limit (map (entry_list_of T.seen) lists.now) (length path.now.bytes) }
+{
+    for i in (0..lists.len()).rev() {
+        if let Some(m) = last_match(&lists[i], path, case, counts) {
+            return Some((i, m));
+        }
+    }
+    None
+}
+
+/// The place of the last mapping of a list that matches what the base of the list leaves of a path.
+fn last_match<T: search::Pattern, S: Ledger, L: Ledger>(
+    list: &List<T>,
+    path: &RepositoryPath<'_>,
+    case: Case,
+    counts: &mut Counts<S, L>,
+) -> Option<usize>
+    requires folder { HasFolder (entry_list_of T.seen list.now) }
+    ensures last { MatchOption result
+        ((m : ℕ) → ¬ AnswersAt (entry_list_of T.seen list.now) path.now.bytes path.now.is_dir case m)
+        (λ last. AnswersAt (entry_list_of T.seen list.now) path.now.bytes path.now.is_dir case last
+        × ((m : ℕ) → AnswersAt (entry_list_of T.seen list.now) path.now.bytes path.now.is_dir case m → m ≤ last)) }
+    ensures steps { counts.new.steps ≤ counts.old.steps + list_step_limit (entry_list_of T.seen list.now) (length path.now.bytes) }
+    ensures looks { counts.new.looks ≤ counts.old.looks + list_look_limit (entry_list_of T.seen list.now) (length path.now.bytes) }
+{
+    let rest = path.under_with_counts(list, case, counts)?;
+    let mappings = list.patterns.as_slice();
+    for m in (0..mappings.len()).rev() {
+        if rest.is_matched_with_counts(mappings[m].pattern.view(), case, counts) {
+            return Some(m);
+        }
+    }
+    None
+}
+
+/// Whether the base of each list is that of a folder: the list has none, or it is empty, or it ends in a slash.
+///
+/// It is so for each list that is loaded, as [`List::from_bytes`] and the calls above it do.
+pub fn bases_are_folders<T: search::Pattern>(lists: &[List<T>]) -> bool
+    ensures { IsTrue result ↔ BasesAreFolders (map (entry_list_of T.seen) lists.now) }
+{
+    for list in lists {
+        if let Some(base) = &list.base
+            && !is_folder(base)
+        {
+            return false;
+        }
+    }
+    true
+}
+
+/// Whether a base is empty or ends in a slash.
+fn is_folder(base: &[u8]) -> bool
+    ensures { IsTrue result ↔ IsFolder base.now }
+{
+    matches!(base, [] | [.., b'/'])
+}

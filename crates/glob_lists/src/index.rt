@@ -1,0 +1,357 @@
+//! Lists of patterns with an index: which of their patterns match a path, and which one decides.
+ghost use Rattle.std.specs.Prelude.{◌≡◌, ◌↔◌, ◌⊎◌, ◌+◌, ◌*◌, ◌^◌, ◌<◌, ◌≤◌, IfOk, IsErrOf, IsSome, IsTrue, OnOk, length, map, min};
+ghost use Rattle.gix_glob.specs.EntryLists.{entry_list_of};
+ghost use Rattle.gix_glob.specs.Steps.{IsBlankOf};
+ghost use Rattle.glob_lists.specs.Deciding.{BasesAreFolders, Decides};
+ghost use Rattle.glob_lists.specs.DecisionLimits.{decision_look_limit, decision_step_limit, index_look_limit};
+ghost use Rattle.glob_lists.specs.Index.{AreMatches, AreTooMany, entry_count};
+ghost use Rattle.glob_lists.specs.Private.Looking.{LooksUpTo};
+ghost use Rattle.glob_lists.specs.Private.Tables.{AreChained, AreRowsUpTo, HasEntryAt};
+
+use crate::deciding::{decide, decide_with_counts};
+use crate::fault::IndexError;
+use crate::laws;
+use crate::matching::matches_into;
+use crate::path::RepositoryPath;
+use crate::reached::Reached;
+use crate::row::Row;
+use crate::table::Table;
+use gix_glob::pattern::Case;
+use gix_glob::search;
+use gix_glob::search::pattern::List;
+use gix_glob::wildmatch::Counts;
+use std::alloc::{AllocError, Global};
+use std::marker::{Brand, Model};
+use std::sync::ledger::{Blank, Ledger};
+
+/// Lists of patterns, and an index of them by what each pattern asks of a path. It is made once, and then tests only the few
+/// patterns that can match a path. Contracts see its lists, and whether the case of letters counts.
+#[derive(Debug, Drop)]
+pub struct ListIndex<'a, T: search::Pattern> {
+    lists: &'a [List<T>],
+    case: Case,
+    table: Table,
+}
+
+impl<'a, T: search::Pattern> Model for ListIndex<'a, T> {
+    ghost use Rattle.std.specs.Prelude.{map};
+    ghost use Rattle.gix_glob.specs.EntryLists.{entry_list_of};
+    ghost use Rattle.glob_lists.specs.Index.{IndexedLists};
+    ghost use Rattle.glob_lists.specs.Private.Tables.{IsIndexOf};
+
+    ghost Value = { IndexedLists T T.Value };
+
+    ghost view = { λ index. record { lists = index.lists.now; case = index.case } };
+
+    ghost invariant = { λ index. IsIndexOf (map (entry_list_of T.seen) index.lists.now) index.table };
+}
+
+/// What decides about a path, and what it took to find it.
+#[derive(Debug, Clone, Copy, PartialEq, Eq)]
+pub struct CountedDecision {
+    /// The place of the list and of the mapping that decides, both from 0; `None` where no pattern matches.
+    pub pair: Option<(usize, usize)>,
+    /// How many patterns were left to be asked whether they match, where the path lies below the base of their list.
+    pub asked: usize,
+}
+
+impl<'a, T: search::Pattern> ListIndex<'a, T> {
+    /// The index of the lists, whose bases have to be those of folders: [`bases_are_folders`](crate::bases_are_folders). It
+    /// takes 24 bytes for each pattern, and some 2 KB once.
+    ///
+    /// # Errors
+    /// [`IndexError::TooMany`] where there are 2^32 patterns or more, or more than 2^32 lists, and there alone;
+    /// [`decide`](crate::decide) then answers the same. [`IndexError::Memory`] where memory was refused.
+    pub fn new(
+        alloc: Global,
+        lists: &'a [List<T>],
+        case: Case,
+    ) -> Result<ListIndex<'a, T>, IndexError>
+        requires folders { BasesAreFolders (map (entry_list_of T.seen) lists.now) }
+        ensures index { IfOk result (λ index. (index.lists ≡ lists.entry.now) × (index.case ≡ case)) }
+        ensures too_many { IsErrOf result IndexError.TooMany ↔ AreTooMany (map (entry_list_of T.seen) lists.entry.now) }
+    {
+        let patterns = pattern_count(lists);
+        if are_too_many(patterns, lists.len()) {
+            return Err(IndexError::TooMany);
+        }
+        let mut table = Table::with_capacity(alloc, patterns)?;
+        'lists: for i in 0..lists.len() {
+            add_list(&mut table, lists, i)?;
+        }
+        Ok(ListIndex { lists, case, table })
+    }
+
+    /// The lists that the index is of.
+    pub fn lists(&self) -> &'a [List<T>]
+        ensures { result.now ≡ self.now.lists }
+    {
+        self.lists
+    }
+
+    /// Whether the case of letters counts.
+    pub fn case(&self) -> Case
+        ensures { result ≡ self.now.case }
+    {
+        self.case
+    }
+
+    /// Which pattern decides about a path, as [`decide`](crate::decide) answers it for the lists. No memory is taken.
+    ///
+    /// Where few of the patterns can match the path, those alone are asked, and else each in turn, which then costs less.
+    pub fn decide(&self, path: &RepositoryPath<'_>) -> Option<(usize, usize)>
+        ensures { Decides (map (entry_list_of T.seen) self.now.lists) path.now.bytes path.now.is_dir self.now.case result }
+    {
+        self.decide_with_new_counts::<Brand, Brand>(path, Blank::new(1), Blank::new(1))
+    }
+
+    /// Which pattern decides about a path, with new counts that no one asks for.
+    #[inline(always)]
+    fn decide_with_new_counts<S: Ledger, L: Ledger>(
+        &self,
+        path: &RepositoryPath<'_>,
+        steps: Blank,
+        looks: Blank,
+    ) -> Option<(usize, usize)>
+        requires steps { IsBlankOf S.name S.parts steps }
+        requires looks { IsBlankOf L.name L.parts looks }
+        ensures { Decides (map (entry_list_of T.seen) self.now.lists) path.now.bytes path.now.is_dir self.now.case result }
+    {
+        self.decide_with_counts(path, &mut Counts::<S, L>::new(steps, looks))
+    }
+
+    /// Which pattern decides about a path, as [`ListIndex::decide`] answers it, with its steps and looks counted. No memory is
+    /// taken.
+    ///
+    /// The counts rise by at most what [`decide_with_counts`](crate::decide_with_counts) says for the lists, and that of looks by
+    /// what the index reads besides: three times the path's length and 2, and a look for each row that it meets, of which there is
+    /// one for each pattern.
+    pub fn decide_with_counts<S: Ledger, L: Ledger>(
+        &self,
+        path: &RepositoryPath<'_>,
+        counts: &mut Counts<S, L>,
+    ) -> Option<(usize, usize)>
+        ensures exact { Decides (map (entry_list_of T.seen) self.now.lists) path.now.bytes path.now.is_dir self.now.case result }
+        ensures steps { counts.new.steps
+            ≤ counts.old.steps + decision_step_limit (map (entry_list_of T.seen) self.now.lists) (length path.now.bytes) }
+        ensures looks { counts.new.looks
+            ≤ counts.old.looks + decision_look_limit (map (entry_list_of T.seen) self.now.lists) (length path.now.bytes)
+            + index_look_limit (map (entry_list_of T.seen) self.now.lists) (length path.now.bytes) }
+    {
+        if !self.pays_for(path, counts) {
+            return decide_with_counts(self.lists, path, self.case, counts);
+        }
+        self.decide_by_table(path, counts).pair
+    }
+
+    /// Which pattern decides about a path, as [`ListIndex::decide`] answers it, and how many patterns the index left to be asked:
+    /// the fewer, the more it saves. No memory is taken.
+    pub fn decide_and_count(&self, path: &RepositoryPath<'_>) -> CountedDecision
+        ensures decides { Decides (map (entry_list_of T.seen) self.now.lists) path.now.bytes path.now.is_dir self.now.case result.pair }
+        ensures each_once { result.asked ≤ entry_count (map (entry_list_of T.seen) self.now.lists) }
+        ensures some { IsSome result.pair → 0 < result.asked }
+    {
+        self.decide_and_count_with_new_counts::<Brand, Brand>(path, Blank::new(1), Blank::new(1))
+    }
+
+    /// Which pattern decides about a path, and how many were left to be asked, with new counts that no one asks for.
+    #[inline(always)]
+    fn decide_and_count_with_new_counts<S: Ledger, L: Ledger>(
+        &self,
+        path: &RepositoryPath<'_>,
+        steps: Blank,
+        looks: Blank,
+    ) -> CountedDecision
+        requires steps { IsBlankOf S.name S.parts steps }
+        requires looks { IsBlankOf L.name L.parts looks }
+        ensures decides { Decides (map (entry_list_of T.seen) self.now.lists) path.now.bytes path.now.is_dir self.now.case result.pair }
+        ensures each_once { result.asked ≤ entry_count (map (entry_list_of T.seen) self.now.lists) }
+        ensures some { IsSome result.pair → 0 < result.asked }
+    {
+        let mut counts = Counts::<S, L>::new(steps, looks);
+        if self.pays_for(path, &mut counts) {
+            return self.decide_by_table(path, &mut counts);
+        }
+        let pair = decide(self.lists, path, self.case);
+        let asked = match pair {
+            Some((list, mapping)) => self.count_from(list, mapping),
+            None => self.table.len(),
+        };
+        CountedDecision { pair, asked }
+    }
+
+    /// How many patterns there are from a place on.
+    fn count_from(&self, list: usize, mapping: usize) -> usize
+        requires there { HasEntryAt (map (entry_list_of T.seen) self.now.lists) list mapping }
+        ensures some { 0 < result }
+        ensures most { result ≤ entry_count (map (entry_list_of T.seen) self.now.lists) }
+    {
+        self.table.len() - (pattern_count(&self.lists[..list]) + mapping)
+    }
+
+    /// All patterns that match a path, in order: the places of the list and of the mapping in it, lists first.
+    ///
+    /// # Errors
+    /// Only where memory was refused.
+    pub fn matches(
+        &self,
+        alloc: Global,
+        path: &RepositoryPath<'_>,
+    ) -> Result<Vec<(usize, usize)>, AllocError>
+        ensures { IfOk result (λ found. AreMatches (map (entry_list_of T.seen) self.now.lists) path.now.bytes path.now.is_dir self.now.case found.items) }
+    {
+        let mut pairs = Vec::new(alloc);
+        self.matches_into(path, &mut pairs)?;
+        Ok(pairs)
+    }
+
+    /// Puts into `pairs` all patterns that match a path, as [`ListIndex::matches`] answers them, in place of what it held. So
+    /// one list of pairs serves many paths, and memory is taken only where it has to grow.
+    ///
+    /// # Errors
+    /// Only where memory was refused. What `pairs` holds then is not said.
+    pub fn matches_into(
+        &self,
+        path: &RepositoryPath<'_>,
+        pairs: &mut Vec<(usize, usize)>,
+    ) -> Result<(), AllocError>
+        ensures { OnOk result (AreMatches (map (entry_list_of T.seen) self.now.lists) path.now.bytes path.now.is_dir self.now.case pairs.new.items) }
+    {
+        self.matches_with_new_counts::<Brand, Brand>(path, pairs, Blank::new(1), Blank::new(1))
+    }
+
+    /// Puts into `pairs` all patterns that match a path, with new counts that no one asks for.
+    #[inline(always)]
+    fn matches_with_new_counts<S: Ledger, L: Ledger>(
+        &self,
+        path: &RepositoryPath<'_>,
+        pairs: &mut Vec<(usize, usize)>,
+        steps: Blank,
+        looks: Blank,
+    ) -> Result<(), AllocError>
+        requires steps { IsBlankOf S.name S.parts steps }
+        requires looks { IsBlankOf L.name L.parts looks }
+        ensures { OnOk result (AreMatches (map (entry_list_of T.seen) self.now.lists) path.now.bytes path.now.is_dir self.now.case pairs.new.items) }
+    {
+        let mut counts = Counts::<S, L>::new(steps, looks);
+        if !self.pays_for(path, &mut counts) {
+            return matches_into(self.lists, path, self.case, pairs);
+        }
+        self.matches_by_table(path, pairs, &mut counts)
+    }
+
+    /// Whether few of the patterns can match a path, so that it costs less to ask those alone. It reads the last byte.
+    fn pays_for<S: Ledger, L: Ledger>(
+        &self,
+        path: &RepositoryPath<'_>,
+        counts: &mut Counts<S, L>,
+    ) -> bool
+        ensures some { IsTrue result → 0 < length path.now.bytes }
+        ensures looks { LooksUpTo counts.old counts.new 1 }
+    {
+        match path.bytes() {
+            [.., last] => {
+                counts.looks(1);
+                self.table.is_selective(*last)
+            }
+            [] => false,
+        }
+    }
+
+    /// Which pattern decides about a path, and how many were asked: the candidates, from the last one to the first.
+    #[inline(always)]
+    fn decide_by_table<S: Ledger, L: Ledger>(
+        &self,
+        path: &RepositoryPath<'_>,
+        counts: &mut Counts<S, L>,
+    ) -> CountedDecision
+        requires some { 0 < length path.now.bytes }
+        ensures decides { Decides (map (entry_list_of T.seen) self.now.lists) path.now.bytes path.now.is_dir self.now.case result.pair }
+        ensures each_once { result.asked ≤ entry_count (map (entry_list_of T.seen) self.now.lists) }
+        ensures some { IsSome result.pair → 0 < result.asked }
+        ensures steps { counts.new.steps
+            ≤ counts.old.steps + decision_step_limit (map (entry_list_of T.seen) self.now.lists) (length path.now.bytes) }
+        ensures looks { counts.new.looks
+            ≤ counts.old.looks + decision_look_limit (map (entry_list_of T.seen) self.now.lists) (length path.now.bytes)
+            + (3 * length path.now.bytes + 1) + entry_count (map (entry_list_of T.seen) self.now.lists) }
+    {
+        // a law does nothing: it is called for what it ensures
+        laws::answering_patterns_pass();
+        let probe = self.table.probe(path, counts);
+        let mut walk = self.table.walk(probe.last());
+        let mut reached = Reached::none(self.lists.len());
+        let mut asked = 0;
+        'candidates: while let Some((list, mapping)) = self.table.next_pair(&probe, &mut walk, counts) {
+            asked += 1;
+            if reached.ask(self, path, (list, mapping), counts) {
+                let pair = Some((list, mapping));
+                return CountedDecision { pair, asked };
+            }
+        }
+        CountedDecision { pair: None, asked }
+    }
+
+    /// Puts into `pairs` the candidates that match a path, from the first one to the last.
+    fn matches_by_table<S: Ledger, L: Ledger>(
+        &self,
+        path: &RepositoryPath<'_>,
+        pairs: &mut Vec<(usize, usize)>,
+        counts: &mut Counts<S, L>,
+    ) -> Result<(), AllocError>
+        requires some { 0 < length path.now.bytes }
+        ensures { OnOk result (AreMatches (map (entry_list_of T.seen) self.now.lists) path.now.bytes path.now.is_dir self.now.case pairs.new.items) }
+    {
+        // a law does nothing: it is called for what it ensures
+        laws::answering_patterns_pass();
+        let probe = self.table.probe(path, counts);
+        let mut walk = self.table.walk(probe.last());
+        let mut reached = Reached::none(self.lists.len());
+        pairs.clear();
+        'candidates: while let Some((list, mapping)) = self.table.next_pair(&probe, &mut walk, counts) {
+            if reached.ask(self, path, (list, mapping), counts) {
+                pairs.push((list, mapping))?;
+            }
+        }
+        pairs.reverse();
+        Ok(())
+    }
+}
+
+/// How many patterns the lists have, or the greatest number where they have more.
+fn pattern_count<T: search::Pattern>(lists: &[List<T>]) -> usize
+    ensures { result ≡ min (entry_count (map (entry_list_of T.seen) lists.now)) usize.MAX }
+{
+    let mut count: usize = 0;
+    for list in lists {
+        count = count.saturating_add(list.patterns.len());
+    }
+    count
+}
+
+/// Whether so many patterns and lists are too many for an index.
+fn are_too_many(patterns: usize, lists: usize) -> bool
+    ensures { IsTrue result ↔ (2 ^ 32 ≤ patterns) ⊎ (2 ^ 32 < lists) }
+{
+    const PLACES: usize = 1 << 32;
+    patterns >= PLACES || lists > PLACES
+}
+
+/// Adds the rows of the list at place `i`.
+fn add_list<T: search::Pattern>(
+    table: &mut Table,
+    lists: &[List<T>],
+    i: usize,
+) -> Result<(), AllocError>
+    requires inside { i < length lists.now }
+    requires fits { ¬ AreTooMany (map (entry_list_of T.seen) lists.now) }
+    requires rows { AreRowsUpTo (map (entry_list_of T.seen) lists.now) i 0 table.old.rows.items }
+    requires chained { AreChained table.old }
+    ensures rows { OnOk result (AreRowsUpTo (map (entry_list_of T.seen) lists.now) (i + 1) 0 table.new.rows.items) }
+    ensures chained { OnOk result (AreChained table.new) }
+{
+    let mappings = lists[i].patterns.as_slice();
+    'mappings: for m in 0..mappings.len() {
+        table.push(Row::new(&mappings[m].pattern, i as u32, m as u32))?;
+    }
+    Ok(())
+}

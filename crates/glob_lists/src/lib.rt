@@ -1,0 +1,21 @@
+//! What lists of patterns say of a path: the path, which pattern decides about it, and an index that finds that pattern fast.
+#![tactic(auto)]
+
+mod chains;
+mod deciding;
+mod fault;
+mod index;
+pub mod laws;
+mod literals;
+mod matching;
+mod path;
+mod probe;
+mod reached;
+mod row;
+mod table;
+
+pub use deciding::{bases_are_folders, decide, decide_with_counts};
+pub use fault::IndexError;
+pub use index::{CountedDecision, ListIndex};
+pub use matching::matches_into;
+pub use path::{RepositoryPath, plain_path};

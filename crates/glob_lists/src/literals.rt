@@ -1,0 +1,100 @@
+//! The literal bytes of texts: the bytes that each value that a pattern matches has to end in, and those that it has to hold.
+ghost use Rattle.std.specs.Prelude.{◌≡◌, ◌↔◌, ◌==◌, ◌||◌, ◌+◌, ◌*◌, ◌%◌, ◌≤◌, ◌^◌, IsTrue, length};
+ghost use Rattle.std.specs.Char.{to_ascii_lowercase};
+ghost use Rattle.gix_glob.specs.Bytes.{backslash, open_bracket};
+ghost use Rattle.gix_glob.specs.LiteralBytes.{is_joining};
+ghost use Rattle.glob_lists.specs.Private.Literals.{EndsLiterally, NeedsBits, bit_of, end_key};
+ghost use Rattle.glob_lists.specs.Private.Showing.{HasAll, HoldsBits};
+
+/// The longest end of a text that is looked at, in bytes.
+pub(crate) const LONGEST_END: usize = 8;
+
+/// Whether a byte may be the last of a token of more than one byte.
+fn is_joining(byte: u8) -> bool
+    ensures { result ≡ is_joining byte }
+{
+    matches!(byte, b'*' | b'?' | b'[' | b'\\' | b']' | b'/')
+}
+
+/// Whether a set may begin at a byte, or an escape.
+fn is_opening(byte: u8) -> bool
+    ensures { result ≡ (byte == open_bracket || byte == backslash) }
+{
+    matches!(byte, b'[' | b'\\')
+}
+
+/// How many bytes at the end of a text stand for themselves, up to [`LONGEST_END`].
+pub(crate) fn literal_end(text: &[u8]) -> usize
+    ensures short { result ≤ LONGEST_END }
+    ensures literal { EndsLiterally text.now result }
+{
+    let most = text.len().min(LONGEST_END);
+    'bytes: for n in 0..most {
+        if is_joining(text[text.len() - (n + 1)]) {
+            return n;
+        }
+    }
+    most
+}
+
+/// The number that the last bytes of a text make, as many as `count` says: letters of both cases are one.
+pub(crate) fn end_key(text: &[u8], count: usize) -> u64
+    requires { count ≤ length text.now }
+    ensures { result ≡ end_key text.now count }
+{
+    let mut key = 0;
+    'bytes: for n in 0..count {
+        key = longer_key(key, text[text.len() - (n + 1)]);
+    }
+    key
+}
+
+/// The number of one byte more.
+pub(crate) fn longer_key(key: u64, byte: u8) -> u64
+    ensures { result ≡ ((key * 256) % (2 ^ 64) + to_ascii_lowercase byte) % (2 ^ 64) }
+{
+    key.wrapping_mul(256)
+        .wrapping_add(u64::from(byte.to_ascii_lowercase()))
+}
+
+/// The bit that stands for a byte in a set of bytes; the two cases of a letter are 32 apart, and share one.
+fn bit_of(byte: u8) -> u64
+    ensures { result ≡ 1 * 2 ^ bit_of byte % 2 ^ 64 }
+{
+    1 << (byte % 32)
+}
+
+/// The bytes that each value has to hold that a text matches, as a set: those that stand for themselves before the first `[`
+/// and the first `\`.
+pub(crate) fn needed_bytes(text: &[u8]) -> u64
+    ensures { NeedsBits text.now result }
+{
+    let mut bits = 0;
+    for byte in text {
+        if is_opening(*byte) {
+            return bits;
+        }
+        if !is_joining(*byte) {
+            bits |= bit_of(*byte);
+        }
+    }
+    bits
+}
+
+/// The bytes of a text, as a set.
+pub(crate) fn bytes_of(text: &[u8]) -> u64
+    ensures { HoldsBits text.now result }
+{
+    let mut bits = 0;
+    for byte in text {
+        bits |= bit_of(*byte);
+    }
+    bits
+}
+
+/// Whether a set has all that another one has.
+pub(crate) fn has_all(held: u64, needed: u64) -> bool
+    ensures { IsTrue result ↔ HasAll held needed }
+{
+    needed & !held == 0
+}

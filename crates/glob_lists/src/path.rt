@@ -1,0 +1,267 @@
+//! Paths of a repository: which bytes are one, and what the base of a list leaves of it.
+ghost use Rattle.std.specs.Prelude.{◌≡◌, ◌+◌, ◌≤◌, ◌↔◌, IsTrue, MatchOption, Some, length, option_map};
+ghost use Rattle.std.specs.Option.{ForSome};
+ghost use Rattle.std.specs.Vec.{vec_items};
+ghost use Rattle.gix_glob.specs.Paths.{IsFolder};
+ghost use Rattle.gix_glob.specs.Patterns.{IsPattern};
+ghost use Rattle.gix_glob.specs.RepositoryPaths.{IsBasenameStart};
+ghost use Rattle.gix_glob.specs.Steps.{NeverFall, pattern_look_limit, step_limit};
+ghost use Rattle.gix_glob.specs.Stripping.{NothingLeft, Rest, RestOf, strip_looks};
+ghost use Rattle.glob_lists.specs.Deciding.{AnswersFor};
+ghost use Rattle.glob_lists.specs.Paths.{IsPlainPath, MarksDirectory};
+
+use gix_glob::pattern::{Case, PatternView, basename_start};
+use gix_glob::search::pattern::{List, strip_base_handle_recompute_basename_pos};
+use gix_glob::wildmatch::{Counts, Mode};
+use gix_glob::{laws, search};
+use std::marker::Model;
+use std::sync::ledger::Ledger;
+
+/// A path of a repository, or what a base leaves of one: its bytes, and whether it is a directory's.
+///
+/// The bytes begin with no slash and have no two slashes in a row. They are empty only where a base was all of a path.
+/// Contracts see the bytes, and whether it is a directory's.
+#[derive(Debug, Drop)]
+pub struct RepositoryPath<'a> {
+    bytes: &'a [u8],
+    /// What [`basename_start`] answers for the bytes.
+    basename_start: Option<usize>,
+    is_dir: bool,
+}
+
+impl<'a> Model for RepositoryPath<'a> {
+    ghost use Rattle.glob_lists.specs.Paths.{Path};
+    ghost use Rattle.glob_lists.specs.Private.Keeping.{IsKept};
+
+    ghost Value = { Path };
+
+    ghost view = { λ path. record { bytes = path.bytes.now; is_dir = path.is_dir } };
+
+    ghost invariant = { λ path. IsKept path.bytes.now path.basename_start };
+}
+
+impl<'a> RepositoryPath<'a> {
+    /// The path of a line: one trailing slash marks a directory, and is not part of the path. `None` where the line is no
+    /// [`plain_path`].
+    pub fn of_line(line: &'a [u8]) -> Option<RepositoryPath<'a>>
+        ensures { MatchOption result
+            (¬ IsPlainPath line.entry.now)
+            (λ path. IsPlainPath line.entry.now × MarksDirectory line.entry.now path.bytes path.is_dir) }
+    {
+        if !plain_path(line) {
+            return None;
+        }
+        let (path, is_dir) = path_of(line);
+        Some(RepositoryPath::from_plain(path, is_dir))
+    }
+
+    /// The path of these bytes, whose trailing slash, where there is one, is part of it; `None` where they are no
+    /// [`plain_path`].
+    pub fn new(bytes: &'a [u8], is_dir: bool) -> Option<RepositoryPath<'a>>
+        ensures { MatchOption result
+            (¬ IsPlainPath bytes.entry.now)
+            (λ path. IsPlainPath bytes.entry.now × (path ≡ record { bytes = bytes.entry.now; is_dir = is_dir })) }
+    {
+        if !plain_path(bytes) {
+            return None;
+        }
+        Some(RepositoryPath::from_plain(bytes, is_dir))
+    }
+
+    /// The path of bytes that are known to be a [`plain_path`], which are not tested again.
+    #[inline(always)]
+    pub fn from_plain(bytes: &'a [u8], is_dir: bool) -> RepositoryPath<'a>
+        requires { IsPlainPath bytes.now }
+        ensures { result ≡ record { bytes = bytes.entry.now; is_dir = is_dir } }
+    {
+        RepositoryPath {
+            bytes,
+            basename_start: basename_start(bytes),
+            is_dir,
+        }
+    }
+
+    /// The bytes of the path.
+    #[inline(always)]
+    pub fn bytes(&self) -> &'a [u8]
+        ensures { result.now ≡ self.now.bytes }
+    {
+        self.bytes
+    }
+
+    /// Where the last part begins, past the last slash; `None` where there is no slash.
+    #[inline(always)]
+    pub(crate) fn basename_start(&self) -> Option<usize>
+        ensures { IsBasenameStart self.now.bytes result }
+    {
+        self.basename_start
+    }
+
+    /// Whether the path is a directory's.
+    #[inline(always)]
+    pub fn is_dir(&self) -> bool
+        ensures { result ≡ self.now.is_dir }
+    {
+        self.is_dir
+    }
+
+    /// What follows `base` in the path, again as a path; `None` where the path doesn't begin with it. With [`Case::Fold`] the
+    /// case of ASCII letters doesn't count.
+    ///
+    /// The base is empty or ends in a slash.
+    #[inline(always)]
+    pub fn below(&self, base: &[u8], case: Case) -> Option<RepositoryPath<'a>>
+        requires { IsFolder base.now }
+        ensures { MatchOption result
+            (NothingLeft case (Some base.now) self.now.bytes)
+            (λ rest. Rest case base.now self.now.bytes rest.bytes × (rest.is_dir ≡ self.now.is_dir)) }
+    {
+        // laws do nothing: they are called for what they ensure
+        laws::positions_lie_past_the_base();
+        laws::stripped_positions_are_the_rests_own();
+        let Some((bytes, basename_start)) = strip_base_handle_recompute_basename_pos(
+            base,
+            self.bytes,
+            self.basename_start,
+            case,
+        ) else {
+            return None;
+        };
+        Some(RepositoryPath {
+            bytes,
+            basename_start,
+            is_dir: self.is_dir,
+        })
+    }
+
+    /// What the base of a list leaves of the path, as [`RepositoryPath::below`] answers it: all of it, where the list has no
+    /// base.
+    #[inline(always)]
+    pub(crate) fn under<T: search::Pattern>(
+        &self,
+        list: &List<T>,
+        case: Case,
+    ) -> Option<RepositoryPath<'a>>
+        requires { ForSome (option_map vec_items list.now.base) IsFolder }
+        ensures { MatchOption result
+            (NothingLeft case (option_map vec_items list.now.base) self.now.bytes)
+            (λ rest. RestOf case (option_map vec_items list.now.base) self.now.bytes rest.bytes × (rest.is_dir ≡ self.now.is_dir)) }
+    {
+        // laws do nothing: they are called for what they ensure
+        laws::positions_lie_past_the_base();
+        laws::stripped_positions_are_the_rests_own();
+        let (bytes, basename_start) = list.strip_base_handle_recompute_basename_pos(
+            self.bytes,
+            self.basename_start,
+            case,
+        )?;
+        Some(RepositoryPath {
+            bytes,
+            basename_start,
+            is_dir: self.is_dir,
+        })
+    }
+
+    /// What [`RepositoryPath::under`] answers, with looks counted at each byte that may be read: those of the base as far as the
+    /// path goes, and those of the path beside them. No step is counted.
+    #[inline(always)]
+    pub(crate) fn under_with_counts<T: search::Pattern, S: Ledger, L: Ledger>(
+        &self,
+        list: &List<T>,
+        case: Case,
+        counts: &mut Counts<S, L>,
+    ) -> Option<RepositoryPath<'a>>
+        requires { ForSome (option_map vec_items list.now.base) IsFolder }
+        ensures rest { MatchOption result
+            (NothingLeft case (option_map vec_items list.now.base) self.now.bytes)
+            (λ rest. RestOf case (option_map vec_items list.now.base) self.now.bytes rest.bytes × (rest.is_dir ≡ self.now.is_dir)) }
+        ensures steps { counts.new.steps ≡ counts.old.steps }
+        ensures looks { counts.new.looks
+            ≡ counts.old.looks + strip_looks (option_map vec_items list.now.base) (length self.now.bytes) }
+    {
+        // laws do nothing: they are called for what they ensure
+        laws::positions_lie_past_the_base();
+        laws::stripped_positions_are_the_rests_own();
+        let (bytes, basename_start) = list.strip_base_with_counts(
+            self.bytes,
+            self.basename_start,
+            case,
+            counts,
+        )?;
+        Some(RepositoryPath {
+            bytes,
+            basename_start,
+            is_dir: self.is_dir,
+        })
+    }
+
+    /// Whether a pattern matches the path, where no wildcard matches a slash. It looks at the whole path, whatever stands
+    /// before it in the repository.
+    #[inline(always)]
+    pub fn is_matched_by(&self, pattern: PatternView<'_>, case: Case) -> bool
+        ensures { IsPattern pattern.entry.text.now pattern.entry.mode pattern.entry.first_wildcard_pos →
+            IsTrue result ↔ AnswersFor pattern.entry.text.now pattern.entry.mode self.now.bytes self.now.is_dir case }
+    {
+        pattern.matches_repo_relative_path(
+            self.bytes,
+            self.basename_start,
+            Some(self.is_dir),
+            case,
+            Mode::NO_MATCH_SLASH_LITERAL,
+        )
+    }
+
+    /// Whether a pattern matches the path, as [`RepositoryPath::is_matched_by`] answers it, with its steps and looks counted.
+    ///
+    /// The count of steps rises by at most `2 * (p + 1) * (v + 1)`, and that of looks by at most `10 * (p + 1) * (v + 1)`, `p` and
+    /// `v` being the lengths in bytes of the pattern's text and of the path.
+    #[inline(always)]
+    pub fn is_matched_with_counts<S: Ledger, L: Ledger>(
+        &self,
+        pattern: PatternView<'_>,
+        case: Case,
+        counts: &mut Counts<S, L>,
+    ) -> bool
+        ensures exact { IsPattern pattern.entry.text.now pattern.entry.mode pattern.entry.first_wildcard_pos →
+            IsTrue result ↔ AnswersFor pattern.entry.text.now pattern.entry.mode self.now.bytes self.now.is_dir case }
+        ensures steps { counts.new.steps ≤ counts.old.steps + step_limit (length pattern.entry.text.now) (length self.now.bytes) }
+        ensures looks { counts.new.looks
+            ≤ counts.old.looks + pattern_look_limit (length pattern.entry.text.now) (length self.now.bytes) }
+    {
+        pattern.matches_repo_relative_path_with_counts(
+            self.bytes,
+            self.basename_start,
+            Some(self.is_dir),
+            case,
+            Mode::NO_MATCH_SLASH_LITERAL,
+            counts,
+        )
+    }
+}
+
+/// Whether a line is a path as repositories have them: not empty, with no leading slash and no two slashes in a row.
+///
+/// A trailing slash is allowed; it marks a directory.
+pub fn plain_path(path: &[u8]) -> bool
+    ensures { IsTrue result ↔ IsPlainPath path.now }
+{
+    let mut is_after_slash = true;
+    for byte in path {
+        let is_slash = *byte == b'/';
+        if is_slash && is_after_slash {
+            return false;
+        }
+        is_after_slash = is_slash;
+    }
+    !path.is_empty()
+}
+
+/// The path of a line, and whether a trailing slash marks it as a directory's.
+fn path_of(line: &[u8]) -> (&[u8], bool)
+    ensures { MarksDirectory line.now result.0.now result.1 }
+{
+    match line {
+        [path @ .., b'/'] => (path, true),
+        _ => (line, false),
+    }
+}

@@ -1,0 +1,118 @@
+//! One pattern as the index sees it: what its text asks of a path, and where its mapping stands.
+ghost use Rattle.std.specs.Prelude.{◌≡◌, ◌↔◌, ◌&&◌, not, IsTrue};
+ghost use Rattle.gix_glob.specs.PatternParts.{mode_of, text_of};
+ghost use Rattle.gix_glob.specs.Patterns.{is_absolute, is_without_sub_dir};
+ghost use Rattle.glob_lists.specs.Private.Rows.{Asks};
+ghost use Rattle.glob_lists.specs.Private.Showing.{HasBytes, HasEnd};
+
+use crate::chains::{Class, Link};
+use crate::literals::{end_key, has_all, literal_end, needed_bytes};
+use crate::probe::Probe;
+use bitflags::Flags;
+use gix_glob::Pattern;
+use gix_glob::pattern::Mode;
+
+/// What a pattern asks of a path, and where its mapping stands.
+#[derive(Debug, Copy, Clone)]
+pub(crate) struct Row {
+    /// What is asked for: the number of the text's literal end; in the class [`Class::Always`] the set of the bytes that are
+    /// needed.
+    asked: u64,
+    /// The row before this one that has its class.
+    before: Link,
+    /// The place of the list.
+    list: u32,
+    /// The place of the mapping in its list.
+    mapping: u32,
+    /// How the text ends.
+    class: Class,
+    /// The length of the literal end, in bytes.
+    length: u8,
+    /// Whether the pattern looks at the last part of a path alone.
+    is_name: bool,
+}
+
+impl Row {
+    /// The row of a pattern, not chained to another.
+    pub(crate) fn new(pattern: &Pattern, list: u32, mapping: u32) -> Row
+        ensures asks { Asks (text_of pattern.now) (mode_of pattern.now) result }
+        ensures list { result.list ≡ list }
+        ensures mapping { result.mapping ≡ mapping }
+    {
+        let text = pattern.text();
+        let length = literal_end(text);
+        let is_name = looks_at_name(pattern.mode());
+        if length == 0 {
+            return Row {
+                asked: needed_bytes(text),
+                before: Link::NONE,
+                list,
+                mapping,
+                class: Class::Always,
+                length: 0,
+                is_name,
+            };
+        }
+        Row {
+            asked: end_key(text, length),
+            before: Link::NONE,
+            list,
+            mapping,
+            class: Class::EndsIn(text[text.len() - 1].to_ascii_lowercase()),
+            length: length as u8,
+            is_name,
+        }
+    }
+
+    /// The class of the row.
+    pub(crate) fn class(&self) -> Class
+        ensures { result ≡ self.now.class }
+    {
+        self.class
+    }
+
+    /// The places of the list and of the mapping.
+    pub(crate) fn pair(&self) -> (usize, usize)
+        ensures { result ≡ (self.now.list, self.now.mapping) }
+    {
+        (self.list as usize, self.mapping as usize)
+    }
+
+    /// The row before this one that has its class.
+    #[inline(always)]
+    pub(crate) fn before(&self) -> Link
+        ensures { result ≡ self.now.before }
+    {
+        self.before
+    }
+
+    /// The row, chained to another.
+    pub(crate) fn after(self, before: Link) -> Row
+        ensures { result ≡ record self { before = before } }
+    {
+        Row { before, ..self }
+    }
+
+    /// Whether the path ends as the text does.
+    #[inline(always)]
+    pub(crate) fn has_end(&self, probe: &Probe) -> bool
+        ensures { IsTrue result ↔ HasEnd self.now probe.now }
+    {
+        self.asked == probe.key(self.length)
+    }
+
+    /// Whether the path has the bytes that are needed.
+    #[inline(always)]
+    pub(crate) fn has_bytes(&self, probe: &Probe) -> bool
+        ensures { IsTrue result ↔ HasBytes self.now probe.now }
+    {
+        has_all(probe.bytes_for(self.is_name), self.asked)
+    }
+}
+
+/// Whether a pattern of this mode looks at the last part of a path alone.
+fn looks_at_name(mode: Mode) -> bool
+    ensures { result ≡ (is_without_sub_dir mode && not (is_absolute mode)) }
+{
+    mode.contains(Mode::NO_SUB_DIR) && !mode.contains(Mode::ABSOLUTE)
+}
