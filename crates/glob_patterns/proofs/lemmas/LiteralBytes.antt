@@ -28,8 +28,8 @@ module _ (mode : Mode) (p v : List ℕ) (i b : ℕ) (clean : IsUnescapedUpTo p i
       record { place = k; inside = one.0; alike = one.1 ∙ ap (fold mode) (sym byte) }
   covers j e k Any low past inside x all = absurd (not_joining (byte "?") (at_place (byte "?") j (omega (arith, x.1)) x.0) refl)
   covers j e k (OneOf s) low past inside x all = absurd (clean.no_set j low x.bracket)
-  covers j e k Free low past inside x all = absurd (not_joining star (x.run.stars i low past) refl)
-  covers j e k Local low past inside x all = absurd (not_joining star (x.run.stars i low past) refl)
+  covers j e k Free low past inside x all = absurd (not_joining star (x.0.stars i low past) refl)
+  covers j e k Local low past inside x all = absurd (not_joining star (x.0.stars i low past) refl)
   covers j e k Dirs low past inside x all = ⊎_elim
       (λ (before : i < x.run_end). absurd (not_joining star (x.run.stars i low before) refl))
       (λ (after : x.run_end ≤ i). absurd (not_joining slash (at_place slash x.run_end (omega (arith, x.after)) x.slash) refl))

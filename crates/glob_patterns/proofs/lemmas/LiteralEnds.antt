@@ -71,8 +71,8 @@ straddles mode p v n i j k (Byte b) tail low past inside (inr e) all = absurd (o
 straddles mode p v n i j k Any tail low past inside e all = absurd (omega (arith, e.1))
 straddles mode p v n i j k (OneOf s) tail low past inside e all =
     absurd (not_in_tail p n e.close (byte "]") tail (omega (arith, e.after)) (items_close p _ _ _ _ _ e.items) refl)
-straddles mode p v n i j k Free tail low past inside e all = absurd (not_in_tail p n (j - 1) star tail (omega arith) (e.run.stars (j - 1) (omega arith) (omega arith)) refl)
-straddles mode p v n i j k Local tail low past inside e all = absurd (not_in_tail p n (j - 1) star tail (omega arith) (e.run.stars (j - 1) (omega arith) (omega arith)) refl)
+straddles mode p v n i j k Free tail low past inside e all = absurd (not_in_tail p n (j - 1) star tail (omega arith) (e.0.stars (j - 1) (omega arith) (omega arith)) refl)
+straddles mode p v n i j k Local tail low past inside e all = absurd (not_in_tail p n (j - 1) star tail (omega arith) (e.0.stars (j - 1) (omega arith) (omega arith)) refl)
 straddles mode p v n i j k Dirs tail low past inside e all = absurd (not_in_tail p n e.run_end slash tail (omega (arith, e.after)) e.slash refl)
 straddles mode p v n i j k Nothing tail low past inside e all = absurd (nothing_out mode p v i j k e inside all)
 

@@ -123,10 +123,10 @@ module _ (mode : Mode) (lit : List ℕ) (none : list_any is_special lit ≡ fals
   }
 
   leading_star_is_free : is_path mode ≡ false → TokenAt mode (42 ∷ lit) 0 Free 1
-  leading_star_is_free plain = record { run = leading_star_is_run; bounded = λ path. absurd (false≢true (sym plain ∙ path)) }
+  leading_star_is_free plain = (leading_star_is_run, λ path. absurd (false≢true (sym plain ∙ path)))
 
   leading_star_is_local : is_path mode ≡ true → TokenAt mode (42 ∷ lit) 0 Local 1
-  leading_star_is_local path = record { path = path; run = leading_star_is_run; unbounded = λ b. let many = b.many in absurd (omega arith) }
+  leading_star_is_local path = (leading_star_is_run, path, λ b. let many = b.many in absurd (omega arith))
 
   plain_behind : IsLiteral (42 ∷ lit) 1 (length (42 ∷ lit))
   plain_behind = record { at = literal_behind lit none }
