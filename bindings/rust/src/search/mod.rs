@@ -1,0 +1,32 @@
+//! Lists of patterns, as they are read from files. Ignore and attribute files share this.
+use std::fmt::Debug;
+use std::hash::Hash;
+use std::io;
+use std::path::{Path, PathBuf};
+
+pub mod pattern;
+
+/// A parser of files: it turns bytes into patterns, each with a value, such as the attributes that a line gives.
+pub trait Pattern: Clone + PartialEq + Eq + Debug + Hash + Ord + PartialOrd + Default {
+    /// What belongs to a pattern.
+    type Value: PartialEq + Eq + Debug + Hash + Ord + PartialOrd + Clone;
+
+    /// The patterns of a file, in the order of its lines. Lines that can't be read are left out. `source` names the file.
+    fn bytes_to_patterns(&self, bytes: &[u8], source: &Path) -> Vec<pattern::Mapping<Self::Value>>;
+}
+
+/// Puts the list of a file behind the others, and answers whether there is such a file. See
+/// [`List::from_file()`](pattern::List::from_file()) for the parameters.
+pub fn add_patterns_file<T: Pattern>(
+    patterns: &mut Vec<pattern::List<T>>,
+    source: PathBuf,
+    follow_symlinks: bool,
+    root: Option<&Path>,
+    buf: &mut Vec<u8>,
+    parse: T,
+) -> io::Result<bool> {
+    let list = pattern::List::from_file(source, root, follow_symlinks, buf, parse)?;
+    let has_file = list.is_some();
+    patterns.extend(list);
+    Ok(has_file)
+}
