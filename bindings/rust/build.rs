@@ -33,7 +33,7 @@ fn library_folder() -> Result<PathBuf, String> {
 
 fn main() {
     println!("cargo::rerun-if-changed=build.rs");
-    for name in ["GIX_GLOB_LIB_DIR", "PKG_CONFIG", "PKG_CONFIG_PATH"] {
+    for name in ["GIX_GLOB_LIB_DIR", "PKG_CONFIG", "PKG_CONFIG_PATH", "PKG_CONFIG_LIBDIR"] {
         println!("cargo::rerun-if-env-changed={name}");
     }
     let target = env::var("TARGET").expect("cargo sets TARGET");

@@ -1,4 +1,4 @@
-//! A million random patterns, and as many lines, against the rules written plainly.
+//! A million random patterns, and as many lines, against the rules written plainly. `RANDOM_INPUTS` is another number.
 mod rules;
 
 use gix_glob::{Pattern, pattern, wildmatch};
@@ -16,6 +16,11 @@ impl Random {
     fn of<T: Copy>(&mut self, all: &[T]) -> T {
         all[self.below(all.len())]
     }
+}
+
+/// How many inputs are tried.
+fn inputs() -> usize {
+    std::env::var("RANDOM_INPUTS").map_or(1_000_000, |count| count.parse().expect("a number"))
 }
 
 /// Spellings, each with a text that it may stand for.
@@ -79,7 +84,7 @@ fn pattern_and_value(random: &mut Random) -> (Vec<u8>, Vec<u8>) {
 fn wildmatch_is_as_the_rules_say() {
     let mut random = Random(1);
     let mut matched = 0;
-    for _ in 0..1_000_000 {
+    for _ in 0..inputs() {
         let (pattern, value) = pattern_and_value(&mut random);
         let mode = random.below(4) as u8;
         let wanted = rules::matches(&pattern, &value, mode);
@@ -89,15 +94,15 @@ fn wildmatch_is_as_the_rules_say() {
             wildmatch::Mode::from_bits_retain(mode),
         );
         assert_eq!(answer, wanted, "{} on {} in mode {mode}", pattern.escape_ascii(), value.escape_ascii());
-        matched += u32::from(answer);
+        matched += usize::from(answer);
     }
-    assert!((200_000..800_000).contains(&matched), "{matched} matched");
+    assert!((inputs() / 5..inputs() / 5 * 4).contains(&matched), "{matched} matched");
 }
 
 #[test]
 fn lines_are_read_and_matched_as_the_rules_say() {
     let mut random = Random(2);
-    for _ in 0..1_000_000 {
+    for _ in 0..inputs() {
         let (text, path) = pattern_and_value(&mut random);
         let front = random.of(&["", "", "!", "/", "!/", "\\!", "\\#", "!\\!", " "]);
         let line = [front.as_bytes(), &text, random.of(&["", "/", " "]).as_bytes()].concat();
@@ -105,7 +110,7 @@ fn lines_are_read_and_matched_as_the_rules_say() {
             let pattern =
                 if may_alter { Pattern::from_bytes(&line) } else { Pattern::from_bytes_without_negation(&line) };
             let parts = pattern.as_ref().map(|it| (&it.text[..], it.mode.bits(), it.first_wildcard_pos));
-            let wanted = rules::reading(&line, may_alter).map(|(text, bits, place)| (text.into(), bits, place));
+            let wanted = rules::reading(&line, may_alter);
             assert_eq!(parts, wanted, "{}", line.escape_ascii());
             if let Some(pattern) = pattern {
                 matches_as_the_rules_say(&pattern, &path, &mut random);

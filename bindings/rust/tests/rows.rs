@@ -58,7 +58,8 @@ fn sets() {
 
 #[test]
 fn classes() {
-    let classes: [(&str, fn(u8) -> bool); 12] = [
+    type Class = (&'static str, fn(u8) -> bool);
+    let classes: [Class; 12] = [
         ("alnum", |b| b.is_ascii_alphanumeric()),
         ("alpha", |b| b.is_ascii_alphabetic()),
         ("blank", |b| b == b' ' || b == b'\t'),

@@ -107,7 +107,7 @@ pub fn strip_base_handle_recompute_basename_pos<'a>(
 ) -> Option<(&'a BStr, Option<usize>)> {
     let (front, rest) = relative_path.split_at_checked(base.len())?;
     let is_below = match case {
-        Case::Sensitive => front == &base[..],
+        Case::Sensitive => front == base,
         Case::Fold => front.eq_ignore_ascii_case(base),
     };
     if !is_below {
