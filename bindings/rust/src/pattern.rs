@@ -115,18 +115,27 @@ impl Pattern {
     ///
     /// # Panics
     ///
-    /// With debug assertions, where `first_wildcard_pos` lies outside the text. Without them the text is then compared.
+    /// With debug assertions, where `first_wildcard_pos` is another place than the first `*`, `?`, `[` or `\`, or `ENDS_WITH`
+    /// stands with another text than a `*` and a literal. Without them the answer may then be wrong. No place at all is allowed
+    /// with any text, which is then compared.
     #[inline]
     pub fn matches(&self, value: &BStr, mode: wildmatch::Mode) -> bool {
         self.matches_bytes(value, mode)
     }
 
+    /// Whether what is told of the text is so.
+    fn is_consistent(&self) -> bool {
+        let mut specials = (0..).zip(self.text.iter()).filter(|(_, byte)| b"*?[\\".contains(byte));
+        let first = specials.next();
+        let is_suffix = matches!(first, Some((0, b'*'))) && specials.next().is_none();
+        self.first_wildcard_pos.is_none_or(|place| {
+            first.is_some_and(|(first, _)| first == place) && (is_suffix || !self.mode.contains(Mode::ENDS_WITH))
+        })
+    }
+
     #[inline]
     fn matches_bytes(&self, value: &[u8], mode: wildmatch::Mode) -> bool {
-        debug_assert!(
-            self.first_wildcard_pos.is_none_or(|place| place < self.text.len()),
-            "the first wildcard lies in the text"
-        );
+        debug_assert!(self.is_consistent(), "mode and place belong to the text");
         library::matches(&self.text, self.mode.bits(), self.first_wildcard_pos, value, mode.bits())
     }
 }

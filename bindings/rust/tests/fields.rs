@@ -5,36 +5,46 @@ use gix_glob::pattern::{Case, Mode};
 use gix_glob::{Pattern, wildmatch};
 
 const TEXTS: [&str; 8] = ["", "a", "*", "*a", "a*", "[a", "\\", "a/b*c"];
-const PLACES: [Option<usize>; 7] = [None, Some(0), Some(1), Some(2), Some(6), Some(usize::MAX - 1), Some(usize::MAX)];
+const PLACES: [Option<usize>; 7] = [None, Some(0), Some(1), Some(2), Some(3), Some(usize::MAX - 1), Some(usize::MAX)];
+const MODES: [u32; 6] = [0, 1, 2, 4, 31, u32::MAX];
 
-/// Runs all bits of both modes on a pattern of these parts, and counts the answers.
-fn answers(text: &str, first_wildcard_pos: Option<usize>) -> usize {
-    let mut count = 0;
-    for bits in (0..32).chain([u32::MAX]) {
-        let mode = Mode::from_bits_retain(bits);
-        let pattern = Pattern { text: text.into(), mode, first_wildcard_pos };
-        for bits in [0, 1, 2, 3, u8::MAX] {
-            let mode = wildmatch::Mode::from_bits_retain(bits);
-            for value in ["", "a", "ba", "a/bc"] {
-                pattern.matches(value.as_bytes().into(), mode);
-                pattern.matches_repo_relative_path(value.as_bytes().into(), None, None, Case::Fold, mode);
-                count += 2;
-            }
+/// Asks a pattern of these parts about some values, in every mode.
+fn ask(text: &str, mode: Mode, first_wildcard_pos: Option<usize>) {
+    let pattern = Pattern { text: text.into(), mode, first_wildcard_pos };
+    assert!(pattern.to_string().contains(text));
+    for bits in [0, 1, 2, 3, u8::MAX] {
+        let mode = wildmatch::Mode::from_bits_retain(bits);
+        for value in ["", "a", "ba", "a/bc"] {
+            pattern.matches_repo_relative_path(value.as_bytes().into(), None, Some(true), Case::Fold, mode);
+            pattern.matches(value.as_bytes().into(), mode);
         }
-        assert!(pattern.to_string().contains(text));
     }
-    count
+}
+
+/// Whether the parts may be those of a line, or have no place.
+fn belong(text: &str, mode: Mode, place: Option<usize>) -> bool {
+    let specials = ['*', '?', '[', '\\'];
+    let is_suffix = text.strip_prefix('*').is_some_and(|literal| !literal.contains(specials));
+    place.is_none() || place == text.find(specials) && (is_suffix || !mode.contains(Mode::ENDS_WITH))
 }
 
 #[test]
 fn any_parts_have_an_answer_or_an_assertion() {
+    // (hundreds of assertions are meant to fail)
+    panic::set_hook(Box::new(|_| ()));
+    let mut wrong = Vec::new();
     for text in TEXTS {
         for place in PLACES {
-            let is_inside = place.is_none_or(|place| place < text.len());
-            let result = panic::catch_unwind(|| answers(text, place));
-            assert_eq!(result.is_ok(), is_inside || !cfg!(debug_assertions), "{text} {place:?}");
+            for mode in MODES.map(Mode::from_bits_retain) {
+                let has_failed = panic::catch_unwind(|| ask(text, mode, place)).is_err();
+                if has_failed != (cfg!(debug_assertions) && !belong(text, mode, place)) {
+                    wrong.push((text, mode, place));
+                }
+            }
         }
     }
+    drop(panic::take_hook());
+    assert_eq!(wrong, []);
 }
 
 #[test]
