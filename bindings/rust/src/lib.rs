@@ -1,8 +1,8 @@
 //! Glob [`Pattern`]s of Git's ignore and attribute files, for paths and for anything else.
 //!
 //! This crate has the name and the calls of `gix-glob` 0.28.0, so that a program takes it by one line of its `Cargo.toml`. Its
-//! answers come from a library that is proved: no pattern can make it crash, recurse deeply or run for long. Where it answers
-//! otherwise than that crate is in `docs/DIFFERENCES.md` of the library.
+//! answers come from a library that is proved: no pattern makes it crash or recurse, and a match takes work within the product
+//! of both lengths. Where it answers otherwise than that crate is in `docs/DIFFERENCES.md` of the library.
 //!
 //! A path is decided by the patterns of a file:
 //!

@@ -65,5 +65,6 @@ fn a_wrong_position_has_an_answer_or_an_assertion() {
             pattern.matches_repo_relative_path(path.into(), start, Some(false), Case::Sensitive, mode)
         });
         assert_eq!(result.is_err(), cfg!(debug_assertions));
+        assert!(!result.unwrap_or(false));
     }
 }

@@ -124,7 +124,8 @@ fn files() {
     assert!(!add("").unwrap());
     assert!(!add("ignore/below").unwrap());
     assert!(add("ignore").unwrap());
-    assert_eq!((lists.len(), lists[0].patterns.len(), &lists[0].base), (1, 1, &None));
+    assert!(add("ignore").unwrap());
+    assert_eq!((lists.len(), lists[1].patterns.len(), &lists[1].base), (2, 1, &None));
     assert_eq!(bytes, b"*.o\n");
 }
 
