@@ -52,8 +52,7 @@ pub use wildmatch::function::wildmatch;
 
 /// A pattern line that was read.
 ///
-/// The fields are public, as far as they tell what was read of a line they belong together. Others may give a wrong answer, and
-/// nothing worse.
+/// The fields of a pattern that was read belong together. Others may give a wrong answer, and nothing worse.
 #[derive(PartialEq, Eq, Debug, Hash, Ord, PartialOrd, Clone)]
 pub struct Pattern {
     /// What is matched: the line without its `!` and without the slash at each end.
