@@ -1,4 +1,33 @@
 //! Lists of patterns, as they are read from files. Ignore and attribute files share this.
+//!
+//! How a file is parsed is the caller's: here each line is a pattern without a value.
+//!
+//! ```
+//! use gix_glob::search::{self, pattern::{List, Mapping}};
+//! use std::path::Path;
+//!
+//! #[derive(Clone, PartialEq, Eq, Debug, Hash, PartialOrd, Ord, Default)]
+//! struct Lines;
+//!
+//! impl search::Pattern for Lines {
+//!     type Value = ();
+//!
+//!     fn bytes_to_patterns(&self, bytes: &[u8], _source: &Path) -> Vec<Mapping<()>> {
+//!         let lines = bytes.split(|&byte| byte == b'\n').zip(1..);
+//!         lines
+//!             .filter_map(|(line, sequence_number)| {
+//!                 let pattern = gix_glob::Pattern::from_bytes(line)?;
+//!                 Some(Mapping { pattern, value: (), sequence_number })
+//!             })
+//!             .collect()
+//!     }
+//! }
+//!
+//! let list = List::from_bytes(b"*.o\n!keep.o\n", "/repo/src/.ignore".into(), Some(Path::new("/repo")), Lines);
+//! assert_eq!(list.base, Some("src/".into()));
+//! assert!(list.patterns[1].pattern.is_negative());
+//! assert_eq!(list.patterns[1].sequence_number, 2);
+//! ```
 use std::fmt::Debug;
 use std::hash::Hash;
 use std::io;

@@ -96,6 +96,13 @@ impl<T: Pattern> List<T> {
 /// What of a path lies below a base, with the place of its last part; `None` where the path doesn't lie there. The place is
 /// `None` where the rest has no slash.
 ///
+/// ```
+/// use gix_glob::{pattern::Case, search::pattern::strip_base_handle_recompute_basename_pos};
+///
+/// let below = strip_base_handle_recompute_basename_pos("src/".into(), "src/deep/a.rs".into(), Some(9), Case::Sensitive);
+/// assert_eq!(below, Some(("deep/a.rs".into(), Some(5))));
+/// ```
+///
 /// # Panics
 ///
 /// With debug assertions, where the position lies inside the base.
