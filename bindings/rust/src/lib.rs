@@ -1,0 +1,74 @@
+//! Glob [`Pattern`]s of Git's ignore and attribute files, for paths and for anything else.
+//!
+//! This crate has the name and the calls of `gix-glob` 0.28.0, so that a program takes it by one line of its `Cargo.toml`. Its
+//! answers come from a library that is proved: no pattern makes it crash or recurse, and a match takes work within the product
+//! of both lengths. Where it answers otherwise than that crate is in `docs/DIFFERENCES.md` of the library.
+//!
+//! A path is decided by the patterns of a file:
+//!
+//! ```
+//! use gix_glob::{Pattern, pattern::Case, wildmatch};
+//!
+//! let pattern = Pattern::from_bytes(b"!src/**/*.rs").unwrap();
+//! assert!(pattern.is_negative());
+//! assert!(pattern.matches_repo_relative_path(
+//!     "src/deep/lib.rs".into(),
+//!     Some(9),
+//!     Some(false),
+//!     Case::Sensitive,
+//!     wildmatch::Mode::NO_MATCH_SLASH_LITERAL,
+//! ));
+//! assert_eq!(pattern.to_string(), "!src/**/*.rs");
+//! ```
+//!
+//! Any text is matched as a whole:
+//!
+//! ```
+//! use gix_glob::wildmatch::{self, Mode};
+//!
+//! assert!(gix_glob::wildmatch("[a-c]*".into(), "b/x".into(), Mode::empty()));
+//! assert!(!gix_glob::wildmatch("[a-c]*".into(), "b/x".into(), wildmatch::Mode::NO_MATCH_SLASH_LITERAL));
+//! ```
+//!
+//! # Features
+//!
+//! Both are on unless they are turned off, since the other crate always has them.
+//!
+//! - `bstr`: texts are `BStr` and `BString` of the crate `bstr`. Without it they are `[u8]` and `Vec<u8>`; then `.into()` makes
+//!   an argument of a byte slice all the same.
+//! - `bitflags`: the two modes are made by the crate `bitflags`. Without it they have the same methods and operators, but for
+//!   iteration, names and number formats.
+
+#[cfg(not(feature = "bitflags"))]
+mod flags;
+mod library;
+mod parse;
+pub mod pattern;
+pub mod search;
+mod text;
+pub mod wildmatch;
+
+pub use wildmatch::function::wildmatch;
+
+/// A pattern line that was read.
+///
+/// The fields of a pattern that was read belong together. Others may give a wrong answer, and nothing worse.
+#[derive(PartialEq, Eq, Debug, Hash, Ord, PartialOrd, Clone)]
+pub struct Pattern {
+    /// What is matched: the line without its `!` and without the slash at each end.
+    pub text: text::BString,
+    /// What else was read of the line.
+    pub mode: pattern::Mode,
+    /// The place of the first `*`, `?`, `[` or `\` in the text, escaped or not.
+    pub first_wildcard_pos: Option<usize>,
+}
+
+/// Reads a pattern line, as [`Pattern::from_bytes`] does.
+///
+/// ```
+/// assert_eq!(gix_glob::parse("/*.o/").unwrap().text, "*.o");
+/// assert_eq!(gix_glob::parse(" \t"), None);
+/// ```
+pub fn parse(text: impl AsRef<[u8]>) -> Option<Pattern> {
+    Pattern::from_bytes(text.as_ref())
+}

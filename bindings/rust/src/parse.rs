@@ -1,0 +1,51 @@
+//! Reading a pattern line.
+use crate::pattern::Mode;
+use crate::{Pattern, library};
+
+/// Instantiation
+impl Pattern {
+    /// Reads a pattern line; `None` where it is empty or white space alone, also behind a `!`.
+    ///
+    /// A leading `!` makes the pattern negative, and `\!` and `\#` at the front lose the backslash. One slash is taken off each
+    /// end. The line is one of an attribute file: a `#` begins no comment, and white space at the end belongs to the text.
+    ///
+    /// ```
+    /// use gix_glob::{Pattern, pattern::Mode};
+    ///
+    /// let pattern = Pattern::from_bytes(b"!/target/").unwrap();
+    /// assert_eq!(pattern.text, "target");
+    /// assert_eq!(pattern.mode, Mode::NEGATIVE | Mode::ABSOLUTE | Mode::MUST_BE_DIR | Mode::NO_SUB_DIR);
+    /// assert_eq!(pattern.first_wildcard_pos, None);
+    /// ```
+    pub fn from_bytes(text: &[u8]) -> Option<Self> {
+        let reading = library::parse(text)?;
+        Some(Pattern {
+            text: text[reading.text].into(),
+            mode: Mode::from_bits_retain(reading.mode),
+            first_wildcard_pos: reading.first_wildcard_pos,
+        })
+    }
+
+    /// Reads a pattern line in which `!`, `\!` and `\#` at the front are a part of the text. One slash is taken off each end all
+    /// the same.
+    ///
+    /// ```
+    /// let pattern = gix_glob::Pattern::from_bytes_without_negation(b"!keep/").unwrap();
+    /// assert_eq!(pattern.text, "!keep");
+    /// assert!(!pattern.is_negative());
+    /// ```
+    pub fn from_bytes_without_negation(text: &[u8]) -> Option<Self> {
+        // A line has one sign at most, so what follows a `!` is read as it is.
+        let mut line = Vec::with_capacity(text.len() + 1);
+        line.push(b'!');
+        line.extend_from_slice(text);
+        let reading = library::parse(&line)?;
+        line.truncate(reading.text.end);
+        line.drain(..reading.text.start);
+        Some(Pattern {
+            text: line.into(),
+            mode: Mode::from_bits_retain(reading.mode & !Mode::NEGATIVE.bits()),
+            first_wildcard_pos: reading.first_wildcard_pos,
+        })
+    }
+}
