@@ -281,7 +281,10 @@ impl<'a, T: search::Pattern> ListIndex<'a, T> {
         let mut walk = self.table.walk(probe.last());
         let mut reached = Reached::none(self.lists.len());
         let mut asked = 0;
-        'candidates: while let Some((list, mapping)) = self.table.next_pair(&probe, &mut walk, counts) {
+        'candidates: while let Some((list, mapping)) = self
+            .table
+            .next_pair(&probe, &mut walk, counts)
+        {
             asked += 1;
             if reached.ask(self, path, (list, mapping), counts) {
                 let pair = Some((list, mapping));
@@ -307,7 +310,10 @@ impl<'a, T: search::Pattern> ListIndex<'a, T> {
         let mut walk = self.table.walk(probe.last());
         let mut reached = Reached::none(self.lists.len());
         pairs.clear();
-        'candidates: while let Some((list, mapping)) = self.table.next_pair(&probe, &mut walk, counts) {
+        'candidates: while let Some((list, mapping)) = self
+            .table
+            .next_pair(&probe, &mut walk, counts)
+        {
             if reached.ask(self, path, (list, mapping), counts) {
                 pairs.push((list, mapping))?;
             }

@@ -1,5 +1,5 @@
 //! What a path shows: the numbers of its ends, and the sets of its bytes.
-ghost use Rattle.std.specs.Prelude.{◌≡◌, ◌+◌, ◌*◌, ◌<◌, length, slice_index, if◌then◌else◌};
+ghost use Rattle.std.specs.Prelude.{◌≡◌, ◌+◌, ◌*◌, ◌<◌, ◌≤◌, IsTrue, length, min, slice_index, if◌then◌else◌};
 ghost use Rattle.gix_glob.specs.RepositoryPaths.{IsBasenameStart};
 ghost use Rattle.glob_lists.specs.Private.Looking.{LooksUpTo};
 ghost use Rattle.glob_lists.specs.Private.Showing.{HasEndKeys, HoldsBits, Shows, last_part};
@@ -91,6 +91,7 @@ fn last_part(path: &[u8], basename_start: Option<usize>) -> &[u8]
 fn end_keys<S: Ledger, L: Ledger>(path: &[u8], counts: &mut Counts<S, L>) -> [u64; ENDS]
     ensures keys { HasEndKeys path.now result }
     ensures looks { LooksUpTo counts.old counts.new (length path.now) }
+    ensures each { counts.old.looks + min (length path.now) LONGEST_END ≤ counts.new.looks }
 {
     let mut keys = [0; ENDS];
     let most = path.len().min(LONGEST_END);
@@ -102,13 +103,10 @@ fn end_keys<S: Ledger, L: Ledger>(path: &[u8], counts: &mut Counts<S, L>) -> [u6
 }
 
 /// The bytes of a text, as a set, or all bytes where it isn't to be read.
-fn bytes_or_all<S: Ledger, L: Ledger>(
-    text: &[u8],
-    is_read: bool,
-    counts: &mut Counts<S, L>,
-) -> u64
+fn bytes_or_all<S: Ledger, L: Ledger>(text: &[u8], is_read: bool, counts: &mut Counts<S, L>) -> u64
     ensures bytes { HoldsBits text.now result }
     ensures looks { LooksUpTo counts.old counts.new (length text.now) }
+    ensures each { IsTrue is_read → counts.old.looks + length text.now ≤ counts.new.looks }
 {
     if !is_read {
         return u64::MAX;

@@ -105,7 +105,8 @@ impl Table {
         ensures shows { Shows path.now.bytes result }
         ensures looks { LooksUpTo counts.old counts.new (3 * length path.now.bytes + 1) }
     {
-        let has_sets = self.counts[Class::Always.place()] > 0 && path.bytes().len() <= self.rows.len();
+        let has_sets = self.counts[Class::Always.place()] > 0
+            && path.bytes().len() <= self.rows.len();
         Probe::new(path.bytes(), path.basename_start(), has_sets, counts)
     }
 

@@ -12,15 +12,6 @@ use Rattle.glob_lists.proofs.lemmas.Elements.{slice_get-push_cases, slice_get-pu
 use Rattle.glob_lists.proofs.lemmas.PlaceOrder.{before_later, before_next, before_next_list}
 
 module _ {V : Type 0} (lists : List (EntryList V)) (path : List ℕ) (is_dir : Bool) (case : Case) where
-  pub matches_none : (found : List (ℕ × ℕ)) → found ≡ [] → AreMatchesUpTo lists path is_dir case 0 0 found
-  matches_none found none =
-      let short : length found ≡ 0 = ap (λ (xs : List (ℕ × ℕ)). length xs) none in record {
-        each = λ x pair got. (let inside = slice_get_within found x pair got in absurd (omega arith));
-        before = λ x pair got. (let inside = slice_get_within found x pair got in absurd (omega arith));
-        rising = λ x y a b less got. (let inside = slice_get_within found x a got in absurd (omega arith));
-        all = λ i m answers before. ⊎_elim (λ (x : i < 0). absurd (omega arith)) (λ (x : (i ≡ 0) × (m < 0)). absurd (omega (arith, x.1))) before;
-      }
-
   -- the pair at the next place doesn't answer
   pub matches_skip : (j n : ℕ) (found : List (ℕ × ℕ)) → ¬ PairAnswers lists path is_dir case j n → AreMatchesUpTo lists path is_dir case j n found
       → AreMatchesUpTo lists path is_dir case j (n + 1) found

@@ -67,8 +67,15 @@ pub returns-then-ask-clause-looks : goal.returns-then-ask-clause-looks
 returns-then-ask-clause-looks g c =
     let made = to_value g.T.Pattern.seen _ _ c.self.view_is (λ lists _. IsIndexOf lists c.self.inside.table) c.self.invariant in
     let lists = map (entry_list_of g.T.Pattern.seen) c.args.self.now.lists in
-    omega (arith, c.ask.ensures.looks, c.candidates.invariant.looks, c.next_pair.ensures.falls, c.next_pair.ensures.looks.to, looks_from-all lists (length c.args.path.now.bytes) (c.in-Some.list, c.in-Some.mapping),
-    rows_count lists c.self.inside.table.rows.items made.made.rows)
+    omega (
+      arith,
+      c.ask.ensures.looks,
+      c.candidates.invariant.looks,
+      c.next_pair.ensures.falls,
+      c.next_pair.ensures.looks.to,
+      looks_from-all lists (length c.args.path.now.bytes) (c.in-Some.list, c.in-Some.mapping),
+      rows_count lists c.self.inside.table.rows.items made.made.rows,
+    )
 
 pub candidates-preserved : goal.candidates-preserved
 candidates-preserved g c =
