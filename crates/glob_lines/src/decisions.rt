@@ -96,7 +96,10 @@ fn append_decision<T: search::Pattern>(
         return Ok(());
     };
     match stack.decide(&path) {
-        Some((i, m)) => append_verdict(text, i + 1, &stack.lists()[i].patterns[m]),
+        Some((i, m)) => {
+            let mapping = &stack.lists()[i].patterns[m];
+            append_verdict(text, i + 1, mapping)
+        }
         None => text.extend_from_slice(b"none"),
     }
 }

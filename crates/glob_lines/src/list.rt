@@ -7,7 +7,7 @@ ghost use Rattle.gix_glob.specs.Entries.{entry_of};
 ghost use Rattle.gix_glob.specs.Paths.{IsFolder, has_file_part};
 ghost use Rattle.glob_lists.specs.Paths.{IsPlainPath};
 ghost use Rattle.gix_glob.specs.Watched.{has_failed, inner};
-ghost use Rattle.glob_lines.specs.Mappings.{MappingsText, ReadsBoth};
+ghost use Rattle.glob_lines.specs.Mappings.{MappingsText, ReadsBoth, WritesNumbers};
 ghost use Rattle.glob_lines.specs.Transfers.{AppendsFront, Run};
 ghost use Rattle.glob_lines.specs.Private.Answering.{MatchesText, WritesMatches};
 ghost use Rattle.glob_lines.specs.Private.Growing.{Adds};
@@ -119,7 +119,24 @@ fn append_matches(
         text.push(b'!')?;
         return Ok(());
     };
-    stack.matches_into(&path, pairs)?;
+    append_numbers(text, pairs, list, stack, &path)
+}
+
+/// Appends the numbers of the mappings that match a path. The stack is that of the list alone. The places of those mappings are
+/// put into `pairs`; what it held doesn't matter.
+fn append_numbers(
+    text: &mut Vec<u8>,
+    pairs: &mut Vec<(usize, usize)>,
+    list: &List<PlainLines>,
+    stack: &ListStack<'_, PlainLines>,
+    path: &RepositoryPath<'_>,
+) -> Result<(), AllocError>
+    requires one { stack.now.lists ≡ list.now ∷ [] }
+    ensures { OnOk result (Adds
+        (WritesNumbers (map (entry_of (λ _. tt)) list.now.patterns.items) (option_map vec_items list.now.base) stack.now.case path.now.bytes path.now.is_dir)
+        text.old.items text.new.items) }
+{
+    stack.matches_into(path, pairs)?;
     let mut separator: &[u8] = b"";
     for pair in pairs.as_slice() {
         text.extend_from_slice(separator)?;

@@ -108,15 +108,15 @@ module _ (P : PlainEntry → Type 0) (entries : List PlainEntry) (found : List (
 
 -- ---- one list
 
+pub folders_of_one : {V : Type 0} (list : EntryList V) → HasFolder list → BasesAreFolders (list ∷ [])
+folders_of_one list folder zero d inside = folder
+folders_of_one list folder (suc i) d inside = absurd (omega arith)
+
 module _ (list : EntryList (Unit {0})) (path : List ℕ) (is_dir : Bool) (case : Case) where
   -- a stack of one list has its entries at the place 0
   at_zero : (i : ℕ) (other : EntryList (Unit {0})) → slice_get (list ∷ []) i ≡ Some other → (i ≡ 0) × (other ≡ list)
   at_zero zero other is = (refl, sym (same_Some _ _ is))
   at_zero (suc i) other is = (let within = slice_get_within (list ∷ []) (suc i) other is in absurd (omega arith))
-
-  pub folders_of_one : HasFolder list → BasesAreFolders (list ∷ [])
-  folders_of_one folder zero d inside = folder
-  folders_of_one folder (suc i) d inside = absurd (omega arith)
 
   places_of_one : (found : List (ℕ × ℕ)) → AreMatches (list ∷ []) path is_dir case found → ArePlacesOf (λ entry. AnswersUnder list.base entry path is_dir case) list.entries found
   places_of_one found h = record {

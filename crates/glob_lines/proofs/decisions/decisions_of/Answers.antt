@@ -11,7 +11,7 @@ loop-line-init g c =
 
 pub loop-line-preserved : goal.loop-line-preserved
 loop-line-preserved g c =
-    let adds = rw (c.in_ok-stack.ensures.0, c.in_ok-stack.ensures.1) at c.in_ok-append_decision.ensures in
+    let adds = rw (c.in_ok-stack.ensures.stack.0, c.in_ok-stack.ensures.stack.1) at c.in_ok-append_decision.ensures in
     IsWrittenUpTo-more _ _ _ _ _ _ _ adds.added c.loop-line.invariant c.in-Some.ensures.steps adds.allowed
     (c.in_ok-push.ensures.items ∙ ap (λ l. l ++ 10 ∷ []) adds.grown ∙ append_assoc c.loop-line.text.items adds.added (10 ∷ []))
 

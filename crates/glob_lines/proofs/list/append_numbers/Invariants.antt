@@ -3,7 +3,7 @@ use Rattle.std.specs.Vec.{vec_items}
 use Rattle.glob_lists.specs.Deciding.{AnswersUnder}
 use Rattle.gix_glob.specs.Entries.{entry_of}
 use Rattle.glob_lines.proofs.lemmas.FoundLemmas.{IsListedThrough}
-use Rattle.glob_lines.proofs.list.append_matches.Given as goal
+use Rattle.glob_lines.proofs.list.append_numbers.Given as goal
 
 -- the text has the numbers of the mappings up to the last place so far
 abbrev pub invariant-loop-pair : goal.invariant-loop-pair
