@@ -1,6 +1,7 @@
 //! The calls of lists for a path that is given as its bytes.
 ghost use Rattle.std.specs.Prelude.{◌+◌, ◌≤◌, length, map};
 ghost use Rattle.gix_glob.specs.EntryLists.{entry_list_of};
+ghost use Rattle.gix_glob.specs.Steps.{NeverFall};
 ghost use Rattle.glob_lists.specs.Deciding.{BasesAreFolders, Decides};
 ghost use Rattle.glob_lists.specs.DecisionLimits.{decision_look_limit, decision_step_limit};
 ghost use Rattle.glob_lists.specs.Paths.{IsPlainPath};
@@ -49,6 +50,7 @@ pub fn decide_with_counts<T: search::Pattern, S: Ledger, L: Ledger>(
         ≤ counts.old.steps + decision_step_limit (map (entry_list_of T.seen) lists.now) (length path.now) }
     ensures looks { counts.new.looks
         ≤ counts.old.looks + (length path.now + decision_look_limit (map (entry_list_of T.seen) lists.now) (length path.now)) }
+    ensures grows { NeverFall counts.old counts.new }
 {
     counts.looks(path.len());
     glob_lists::decide_with_counts(

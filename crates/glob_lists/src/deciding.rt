@@ -66,6 +66,7 @@ pub fn decide_with_counts<T: search::Pattern, S: Ledger, L: Ledger>(
         ≤ counts.old.steps + decision_step_limit (map (entry_list_of T.seen) lists.now) (length path.now.bytes) }
     ensures looks { counts.new.looks
         ≤ counts.old.looks + decision_look_limit (map (entry_list_of T.seen) lists.now) (length path.now.bytes) }
+    ensures grows { NeverFall counts.old counts.new }
 {
     for i in (0..lists.len()).rev() {
         if let Some(m) = last_match(&lists[i], path, case, counts) {
@@ -89,6 +90,7 @@ fn last_match<T: search::Pattern, S: Ledger, L: Ledger>(
         × ((m : ℕ) → AnswersAt (entry_list_of T.seen list.now) path.now.bytes path.now.is_dir case m → m ≤ last)) }
     ensures steps { counts.new.steps ≤ counts.old.steps + list_step_limit (entry_list_of T.seen list.now) (length path.now.bytes) }
     ensures looks { counts.new.looks ≤ counts.old.looks + list_look_limit (entry_list_of T.seen list.now) (length path.now.bytes) }
+    ensures grows { NeverFall counts.old counts.new }
 {
     let rest = path.under_with_counts(list, case, counts)?;
     let mappings = list.patterns.as_slice();

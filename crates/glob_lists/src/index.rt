@@ -1,7 +1,7 @@
 //! Lists of patterns with an index: which of their patterns match a path, and which one decides.
 ghost use Rattle.std.specs.Prelude.{◌≡◌, ◌↔◌, ◌⊎◌, ◌+◌, ◌*◌, ◌^◌, ◌<◌, ◌≤◌, IfOk, IsErrOf, IsSome, IsTrue, OnOk, length, map, min};
 ghost use Rattle.gix_glob.specs.EntryLists.{entry_list_of};
-ghost use Rattle.gix_glob.specs.Steps.{IsBlankOf};
+ghost use Rattle.gix_glob.specs.Steps.{IsBlankOf, NeverFall};
 ghost use Rattle.glob_lists.specs.Deciding.{BasesAreFolders, Decides};
 ghost use Rattle.glob_lists.specs.DecisionLimits.{decision_look_limit, decision_step_limit, index_look_limit};
 ghost use Rattle.glob_lists.specs.Index.{AreMatches, AreTooMany, entry_count};
@@ -137,6 +137,7 @@ impl<'a, T: search::Pattern> ListIndex<'a, T> {
         ensures looks { counts.new.looks
             ≤ counts.old.looks + decision_look_limit (map (entry_list_of T.seen) self.now.lists) (length path.now.bytes)
             + index_look_limit (map (entry_list_of T.seen) self.now.lists) (length path.now.bytes) }
+        ensures grows { NeverFall counts.old counts.new }
     {
         if !self.pays_for(path, counts) {
             return decide_with_counts(self.lists, path, self.case, counts);
@@ -274,6 +275,7 @@ impl<'a, T: search::Pattern> ListIndex<'a, T> {
         ensures looks { counts.new.looks
             ≤ counts.old.looks + decision_look_limit (map (entry_list_of T.seen) self.now.lists) (length path.now.bytes)
             + (3 * length path.now.bytes + 1) + entry_count (map (entry_list_of T.seen) self.now.lists) }
+        ensures grows { NeverFall counts.old counts.new }
     {
         // a law does nothing: it is called for what it ensures
         laws::answering_patterns_pass();

@@ -227,6 +227,7 @@ impl<'a> RepositoryPath<'a> {
         ensures steps { counts.new.steps ≤ counts.old.steps + step_limit (length pattern.entry.text.now) (length self.now.bytes) }
         ensures looks { counts.new.looks
             ≤ counts.old.looks + pattern_look_limit (length pattern.entry.text.now) (length self.now.bytes) }
+        ensures grows { NeverFall counts.old counts.new }
     {
         pattern.matches_repo_relative_path_with_counts(
             self.bytes,

@@ -1,6 +1,7 @@
 //! How far the asking of an index's pairs has come: the pair that was asked last, and what the base of its list leaves of the path.
 ghost use Rattle.std.specs.Prelude.{◌≡◌, ◌↔◌, ◌+◌, ◌≤◌, IsTrue, Some, length, map, slice_get};
 ghost use Rattle.gix_glob.specs.EntryLists.{EntryList, entry_list_of};
+ghost use Rattle.gix_glob.specs.Steps.{NeverFall};
 ghost use Rattle.gix_glob.specs.Stripping.{strip_looks};
 ghost use Rattle.glob_lists.specs.Deciding.{BasesAreFolders, PairAnswers};
 ghost use Rattle.glob_lists.specs.Index.{ComesBefore};
@@ -59,6 +60,7 @@ impl<'p> Reached<'p> {
             ≤ counts.old.steps + steps_from (map (entry_list_of T.seen) index.now.lists) (length path.now.bytes) pair }
         ensures looks { counts.new.looks + looks_from (map (entry_list_of T.seen) index.now.lists) (length path.now.bytes) self.old.pair
             ≤ counts.old.looks + looks_from (map (entry_list_of T.seen) index.now.lists) (length path.now.bytes) pair }
+        ensures grows { NeverFall counts.old counts.new }
     {
         self.enter(index, path, pair, counts);
         let Some(rest) = &self.rest else {
@@ -86,6 +88,7 @@ impl<'p> Reached<'p> {
         ensures same_list { pair.0 ≡ self.old.pair.0 → LooksUpTo counts.old counts.new 0 }
         ensures looks { (list : EntryList T.Seen) → slice_get (map (entry_list_of T.seen) index.now.lists) pair.0 ≡ Some list →
             LooksUpTo counts.old counts.new (strip_looks list.base (length path.now.bytes)) }
+        ensures grows { NeverFall counts.old counts.new }
     {
         if pair.0 == self.pair.0 {
             self.pair = pair;

@@ -186,7 +186,13 @@ fn each_is_asked_where_the_look_up_does_not_pay(rt: HostRuntime) -> Result<(), F
         assert!(rt; bases_are_folders(&lists));
         let index = ListIndex::new(rt.alloc(), &lists, Case::Sensitive)?;
         let path = RepositoryPath::new(b"a", false).expect(&rt, "a path");
-        same(&rt, index.decide_and_count(&path).asked, asked, "asked of", text);
+        same(
+            &rt,
+            index.decide_and_count(&path).asked,
+            asked,
+            "asked of",
+            text,
+        );
     }
     Ok(())
 }

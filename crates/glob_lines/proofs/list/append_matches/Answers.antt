@@ -1,5 +1,5 @@
 -- The numbers are those of a line that is a path.
-use Rattle.std.proofs.Common.{map, option_map}
+use Rattle.std.proofs.Common.{option_map}
 use Rattle.std.specs.Vec.{vec_items}
 use Rattle.std.proofs.lemmas.Result.{on_ok_weaker}
 use Rattle.glob_lines.proofs.lemmas.MappingsLemmas.{writes_numbers}

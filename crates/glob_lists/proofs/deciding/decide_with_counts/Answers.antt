@@ -63,6 +63,10 @@ loop-i-preserved g c =
       none =
           NoListFrom-less _ _ _ _ c.loop-i.i (c.loop-i.i - 1) (entry_list_of g.T.Pattern.seen c.index-lists-i.result) next (asked_list g after) c.loop-i.invariant.none
           (rw c.in_default.is at c.last_match.ensures.last);
+      grows = record {
+        steps = omega (arith, c.loop-i.invariant.grows.steps, c.last_match.ensures.grows.steps);
+        looks = omega (arith, c.loop-i.invariant.grows.looks, c.last_match.ensures.grows.looks);
+      };
       steps = asked_steps g after;
       looks = asked_looks g after;
     }

@@ -92,6 +92,10 @@ loop-m-preserved g c =
     absurd (cc) in
     record {
       none = NoneFrom-less (AnswersAt list c.args.path.now.bytes c.args.path.now.is_dir c.args.case) c.loop-m.m at next c.loop-m.invariant.none refused;
+      grows = record {
+        steps = omega (arith, c.loop-m.invariant.grows.steps, c.is_matched_with_counts.ensures.grows.steps);
+        looks = omega (arith, c.loop-m.invariant.grows.looks, c.is_matched_with_counts.ensures.grows.looks);
+      };
       steps = tested_steps g after;
       looks = tested_looks g after;
     }

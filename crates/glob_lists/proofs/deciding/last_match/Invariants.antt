@@ -4,7 +4,7 @@ use Rattle.std.specs.Vec.{vec_items}
 use Rattle.glob_lists.specs.Deciding.{AnswersAt}
 use Rattle.gix_glob.specs.Entries.{entry_of}
 use Rattle.gix_glob.specs.EntryLists.{entry_list_of}
-use Rattle.gix_glob.specs.Steps.{pattern_look_limit, step_limit}
+use Rattle.gix_glob.specs.Steps.{NeverFall, pattern_look_limit, step_limit}
 use Rattle.gix_glob.specs.Stripping.{strip_looks}
 use Rattle.glob_lists.proofs.lemmas.LastNumbers.{NoneFrom}
 use Rattle.glob_lists.proofs.deciding.last_match.Given as goal
@@ -13,6 +13,7 @@ use Rattle.glob_lists.proofs.deciding.last_match.Given as goal
 abbrev pub invariant-loop-m : goal.invariant-loop-m
 invariant-loop-m g l = record {
   none : NoneFrom (AnswersAt (entry_list_of g.T.Pattern.seen l.list) l.path.bytes l.path.is_dir l.case) l.m;
+  grows : NeverFall l.fn.counts l.counts;
   steps : l.counts.steps
       ≤ l.fn.counts.steps
       + sum_by (λ entry. step_limit (length entry.text) (length l.path.bytes)) (drop l.m (map (entry_of g.T.Pattern.seen) l.list.patterns.items));

@@ -102,8 +102,7 @@ star_token : (mode : Mode) (p : List ℕ) (i j : ℕ) → IsRun p i j → j ≤ 
 star_token mode p i j run inside none = by_mode (is_path mode) refl where
   bounded : is_path mode ≡ true → IsBounded p i j → ⊥
   bounded path both =
-      none Free j
-      (
+      none Free j (
         run,
         λ path'. (
           both,

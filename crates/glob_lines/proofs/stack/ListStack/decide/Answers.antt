@@ -2,7 +2,6 @@
 use Rattle.std.proofs.Common.{map, subst}
 use Rattle.gix_glob.specs.EntryLists.{entry_list_of}
 use Rattle.glob_lists.specs.Deciding.{Decides}
-use Rattle.glob_lists.specs.Index.{IndexedLists}
 use Rattle.glob_lines.proofs.stack.ListStack.decide.Goals as goal
 
 pub returns-in-Some : goal.returns-in-Some

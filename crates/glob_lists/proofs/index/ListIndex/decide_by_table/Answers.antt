@@ -40,6 +40,10 @@ candidates-init g c =
       before = AreBefore-all lists _ _ _ whole made.made.rows c.none-reached.ensures;
       rest = HasRest-none lists _ _ _ _ whole c.none-reached.ensures;
       counted = omega (arith, c.walk-walk.ensures.all);
+      grows = record {
+        steps = omega (arith, c.probe-probe.ensures.looks.steps);
+        looks = omega (arith, c.probe-probe.ensures.looks.from);
+      };
       steps = omega (arith, c.probe-probe.ensures.looks.steps);
       looks = omega (arith, c.walk-walk.ensures.all, c.probe-probe.ensures.looks.to);
     }
@@ -89,6 +93,10 @@ candidates-preserved g c =
       before = AreBefore-next _ _ _ _ _ _ c.in-Some.ensures.next lists _ made.made.rows c.ask.ensures.pair;
       rest = c.ask.ensures.rest;
       counted = omega (arith, c.in-Some.ensures.next.below);
+      grows = record {
+        steps = omega (arith, c.candidates.invariant.grows.steps, c.next_pair.ensures.looks.steps, c.ask.ensures.grows.steps);
+        looks = omega (arith, c.candidates.invariant.grows.looks, c.next_pair.ensures.looks.from, c.ask.ensures.grows.looks);
+      };
       steps = rw c.ask.ensures.pair (omega (arith, c.ask.ensures.steps, c.candidates.invariant.steps, c.next_pair.ensures.looks.steps));
       looks = rw c.ask.ensures.pair (omega (arith, c.ask.ensures.looks, c.candidates.invariant.looks, c.next_pair.ensures.falls, c.next_pair.ensures.looks.to));
     }

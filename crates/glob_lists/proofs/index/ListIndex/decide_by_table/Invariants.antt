@@ -1,5 +1,6 @@
 use Rattle.std.proofs.Common.{◌+◌, ◌*◌, ◌≤◌, length, map}
 use Rattle.gix_glob.specs.EntryLists.{entry_list_of}
+use Rattle.gix_glob.specs.Steps.{NeverFall}
 use Rattle.glob_lists.specs.Private.Reaching.{HasRest}
 use Rattle.glob_lists.specs.Private.Spending.{looks_from, steps_from}
 use Rattle.glob_lists.specs.Private.Walking.{IsWalkDown}
@@ -16,6 +17,7 @@ invariant-candidates g l = record {
   before : AreBefore l.self-inside.table.rows.items l.walk.passed_from l.reached.pair;
   rest : HasRest (map (entry_list_of g.T.Pattern.seen) l.self.lists) l.self.case l.path l.reached;
   counted : l.asked + l.walk.passed_from ≤ length l.self-inside.table.rows.items;
+  grows : NeverFall l.fn.counts l.counts;
   steps : l.counts.steps ≤ l.fn.counts.steps + steps_from (map (entry_list_of g.T.Pattern.seen) l.self.lists) (length l.path.bytes) l.reached.pair;
   looks : l.counts.looks + l.walk.passed_from
       ≤ l.fn.counts.looks + (3 * length l.path.bytes + 1) + length l.self-inside.table.rows.items
