@@ -40,6 +40,21 @@ def hostile(file, counted):
     save(figure, file)
 
 
+def lengths(file, counted):
+    """What a value costs by its length: `counted` gives the instructions of an engine for a load and a length."""
+    figure, axis = axes("A value by its length", "bytes of the value", "instructions a call")
+    axis.set(xscale="log")
+    sizes = (16, 32, 64, 256, 1_024, 16_384, 100_000)
+    for color, (load, name) in enumerate((("miss", "*xb"), ("miss_path", "*xb in path mode"), ("literal", "the value itself"))):
+        for engine, style in (("crate", "--"), ("here", "-")):
+            costs = [counted(engine, load, size) for size in sizes]
+            print(f"{load} {engine}: {' '.join(f'{cost:,.0f}' for cost in costs)}", flush=True)
+            who = "gix-glob" if engine == "crate" else "here"
+            axis.plot(sizes, costs, style, marker="o", markersize=3, color=f"C{color}", label=f"{name}: {who}")
+    axis.legend(frameon=False)
+    save(figure, file)
+
+
 def lists(file, rows):
     """What a path costs by the number of patterns: `rows` gives for each program pairs of a number and a cost."""
     figure, axis = axes("A path against an ignore file", "patterns", "instructions a path")

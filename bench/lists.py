@@ -67,6 +67,25 @@ class Load:
         return "/".join(parts)
 
 
+    def tree(self, count):
+        """So many folders, each but the first below an earlier one, at most five deep."""
+        folders = [""]
+        known = {""}
+        while len(folders) < count:
+            folder = self.random.choice(folders) + self.random.choice(self.names) + "/"
+            if folder.count("/") <= 5 and folder not in known:
+                known.add(folder)
+                folders.append(folder)
+        return folders
+
+    def path_below(self, folder):
+        """A path below a folder, of three to six parts where the folder has fewer."""
+        parts = self.random.randrange(3, 7) - 1
+        while folder.count("/") < parts:
+            folder += self.random.choice(self.names) + "/"
+        return folder + self.word(2) + ("" if self.random.random() < 0.1 else "." + self.ending())
+
+
 def write(file, lines):
     with open(file, "w", encoding="ascii") as out:
         out.writelines(line + "\n" for line in lines)
@@ -123,6 +142,36 @@ def counted(words, size, folder, paths):
     return a_path, (part - start - a_path * len(half)) / size
 
 
+def count_folders(o):
+    """What a path costs among the ignore files of many folders, ten lines each: in random order, and sorted."""
+    git = shutil.which("git")
+    rows = {"globline ignore": lambda folder, files: [PROGRAM, "ignore", "sensitive", folder, *files]}
+    if git:
+        rows["git check-ignore"] = lambda folder, files: [git, "-C", folder, "check-ignore", "-v", "-n", "--no-index", "--stdin"]
+    print("| Folders | Order | " + " | ".join(rows) + " |\n|---|---" + "|---" * len(rows) + "|")
+    for count in [int(count) for count in o.folders.split(",")]:
+        load = Load(o.seed)
+        tree = load.tree(count)
+        patterns = {folder: [load.pattern() for _ in range(10)] for folder in tree}
+        paths = [load.path_below(load.random.choice(tree)) for _ in range(o.paths)]
+        with tempfile.TemporaryDirectory() as root:
+            subprocess.run(["git", "init", "-q", root], check=False)
+            for folder in tree:
+                os.makedirs(f"{root}/{folder}", exist_ok=True)
+                write(f"{root}/{folder}.gitignore", patterns[folder])
+            files = [f"{root}/{folder}.gitignore" for folder in tree]
+            for order, ordered in (("random", paths), ("sorted", sorted(paths))):
+                # of sorted paths each second one is left out, so that both runs go through all folders
+                half = ordered[::2]
+                write(f"{root}/paths", ordered)
+                write(f"{root}/half", half)
+                cells = []
+                for words in rows.values():
+                    whole, part = (instructions(words(root, files), f"{root}/{name}") for name in ("paths", "half"))
+                    cells.append(f"{(whole - part) / (len(ordered) - len(half)):,.0f}")
+                print(f"| {count:,} | {order} | " + " | ".join(cells) + " |", flush=True)
+
+
 def main():
     args = argparse.ArgumentParser(description=__doc__, formatter_class=argparse.RawDescriptionHelpFormatter)
     args.add_argument("--sizes", default="10,100,1000,10000")
@@ -130,7 +179,10 @@ def main():
     args.add_argument("--seed", type=int, default=5)
     args.add_argument("--make", metavar="FOLDER")
     args.add_argument("--draw", metavar="FILE.svg")
+    args.add_argument("--folders", metavar="COUNTS", help="count paths among the ignore files of so many folders, as 20,200,2000, and nothing else")
     o = args.parse_args()
+    if o.folders:
+        return count_folders(o)
     sizes = [int(size) for size in o.sizes.split(",")]
     rows = {} if o.make else programs()
     points = {name: [] for name in rows}

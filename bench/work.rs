@@ -147,7 +147,7 @@ fn members(count: usize, places: usize) -> Case {
 }
 
 /// Hostile input of a size: stars that each could end anywhere, double stars that each could end at any slash, and sets that are
-/// long, or tried at many places.
+/// long, or tried at many places. And values of a size.
 pub fn hostile(load: &str, size: usize) -> Case {
     match load {
         "stars" => one("*a".repeat(size) + "xb", "a".repeat(8 * size) + "b", 0),
@@ -159,7 +159,11 @@ pub fn hostile(load: &str, size: usize) -> Case {
         "brackets" => one("[".repeat(size), "[".repeat(size), 0),
         "members_by_pattern" => members(size, 1_000),
         "members_by_value" => members(500, size),
-        _ => panic!("stars | dirs | brackets | sets, open_sets or members, and _by_pattern or _by_value"),
+        // what follows the star stands nowhere
+        "miss" => one("*xb".into(), "a".repeat(size - 1) + "b", 0),
+        "miss_path" => one("*xb".into(), "a".repeat(size - 1) + "b", PATH),
+        "literal" => one("a".repeat(size), "a".repeat(size), 0),
+        _ => panic!("miss | miss_path | literal | stars | dirs | brackets | sets, open_sets or members, and _by_pattern or _by_value"),
     }
 }
 

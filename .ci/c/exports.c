@@ -14,6 +14,14 @@ _Static_assert(sizeof(struct gix_glob_lines) == 24, "the size of the lines");
 _Static_assert(offsetof(struct gix_glob_lines, rest) == 0, "rest");
 _Static_assert(offsetof(struct gix_glob_lines, rest_len) == 8, "rest_len");
 _Static_assert(offsetof(struct gix_glob_lines, number) == 16, "number");
+_Static_assert(sizeof(struct gix_glob_list) == 32, "the size of a list");
+_Static_assert(offsetof(struct gix_glob_list, patterns) == 0, "patterns");
+_Static_assert(offsetof(struct gix_glob_list, count) == 8, "count");
+_Static_assert(offsetof(struct gix_glob_list, base) == 16, "base");
+_Static_assert(offsetof(struct gix_glob_list, base_len) == 24, "base_len");
+_Static_assert(sizeof(struct gix_glob_decision) == 16, "the size of a decision");
+_Static_assert(offsetof(struct gix_glob_decision, list) == 0, "list");
+_Static_assert(offsetof(struct gix_glob_decision, pattern) == 8, "pattern");
 _Static_assert(GIX_GLOB_VERSION == 100, "the version");
 
 static int failed;
@@ -78,6 +86,22 @@ static void deciding(void)
     CHECK(gix_glob_last_match(list, 0, TEXT("a"), false, false) == GIX_GLOB_NONE);
 }
 
+static void deciding_in_tree(void)
+{
+    const struct gix_glob_pattern top[] = {parsed(TEXT("x")), parsed(TEXT("a/"))}, below[] = {parsed(TEXT("!/x/")), parsed(TEXT("Y"))};
+    const struct gix_glob_list lists[] = {{top, 2, TEXT("")}, {below, 2, TEXT("d/")}};
+    struct gix_glob_decision by = {7, 8};
+    CHECK(gix_glob_decide_in_tree(lists, 2, TEXT("a/x"), false, false, &by) && by.list == 0 && by.pattern == 1);
+    CHECK(gix_glob_decide_in_tree(lists, 2, TEXT("d/x"), true, false, &by) && by.list == 1 && by.pattern == 0);
+    CHECK(gix_glob_decide_in_tree(lists, 2, TEXT("d/x"), false, true, &by) && by.list == 0 && by.pattern == 0);
+    CHECK(gix_glob_decide_in_tree(lists, 2, TEXT("d/y"), false, true, &by) && by.list == 1 && by.pattern == 1);
+    CHECK(!gix_glob_decide_in_tree(lists, 2, TEXT("d/y"), true, false, &by) && by.list == 1 && by.pattern == 1);
+    CHECK(gix_glob_decide_in_tree(lists, 1, TEXT("d/x"), true, false, &by) && by.list == 0 && by.pattern == 0);
+    CHECK(!gix_glob_decide_in_tree(lists, 2, TEXT("d/x/y"), false, false, &by));
+    CHECK(!gix_glob_decide_in_tree(lists, 2, TEXT("a//x"), false, false, &by));
+    CHECK(!gix_glob_decide_in_tree(lists, 0, TEXT("a"), true, false, &by));
+}
+
 static void ignore_lines(void)
 {
     static const uint8_t file[] = "\xEF\xBB\xBF*.o \r\n#x\n\n\xEF\xBB\xBFy\r\n!k\\ ";
@@ -114,6 +138,7 @@ int main(void)
     matching();
     parsing();
     deciding();
+    deciding_in_tree();
     ignore_lines();
     return failed > 0;
 }

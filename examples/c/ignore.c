@@ -1,8 +1,8 @@
-/* Answers as `globline ignore` does: ./ignore sensitive|fold ROOT FILE.. < PATHS
+/* Which line of which ignore file decides about a path in a work tree: ./ignore sensitive|fold ROOT FILE.. < PATHS
  *
- * For each path, which line of which ignore file decides about it: `ignored L:N` or `kept L:N` with the place of the file and
- * the number of the line, `none` where no line matches, `!` for what is no path. A path that ends in a slash is a directory's.
- * A FILE that is missing or a folder is passed over. ROOT and FILE are compared as they are written.
+ * It answers as `globline ignore` does, but asks about the folders above a path first: `ignored L:N` or `kept L:N` with the place
+ * of the file and the number of the line, `none` where no line decides, `!` for what is no path. A path that ends in a slash is a
+ * directory's. A FILE that is missing or a folder is passed over. ROOT and FILE are compared as they are written.
  *
  * The status is 0 where each path was answered, 1 where something can't be read or written, and 2 for wrong words.
  *
@@ -13,28 +13,31 @@
 #include <stdio.h>
 #include <stdlib.h>
 #include <string.h>
-#include <strings.h>
 
-static struct rule {
-    struct gix_glob_pattern pattern;
-    const char *base; /* the folder of its file below ROOT, with its slash */
-    size_t base_len, file, line;
-} *rules;
-static size_t count, files;
+static struct gix_glob_list *lists; /* one for each file */
+static size_t **numbers, files;     /* for each list the number of each pattern's line, and how many lists there are */
 
-static void find_base(struct rule *rule, const char *file, const char *root)
+/* The folder of a file below ROOT, with its slash. */
+static void find_base(struct gix_glob_list *list, const char *file, const char *root)
 {
     const char *slash = strrchr(file, '/');
     const size_t len = strlen(root), skipped = len + (len > 0 && root[len - 1] != '/'), end = slash ? (size_t)(slash - file) + 1 : 0;
     const bool is_below = strcmp(root, "-") && skipped < end && !strncmp(file, root, len) && (skipped == len || file[len] == '/');
-    rule->base = file + (is_below ? skipped : 0);
-    rule->base_len = is_below ? end - skipped : 0;
+    list->base = gix_glob_bytes(file + (is_below ? skipped : 0));
+    list->base_len = is_below ? end - skipped : 0;
 }
 
 static void stop(const char *what)
 {
     perror(what);
     exit(1);
+}
+
+static void *grown(void *memory, size_t count, size_t size)
+{
+    if (!(memory = realloc(memory, count * size)))
+        stop("ignore");
+    return memory;
 }
 
 /* The bytes of a file, which stay: the texts of the patterns lie in them. NULL where it is missing or a folder. */
@@ -60,34 +63,26 @@ static char *read_whole(const char *file, size_t *len)
 
 static void load(const char *file, const char *root)
 {
-    struct rule rule = { GIX_GLOB_PATTERN_INIT, NULL, 0, files + 1, 0 };
-    size_t len = 0;
+    static const struct gix_glob_pattern blank = GIX_GLOB_PATTERN_INIT;
+    struct gix_glob_pattern *patterns = NULL;
+    size_t len = 0, count = 0, *lines = NULL;
     bool has_pattern = false;
     const char *bytes = read_whole(file, &len);
 
     if (!bytes)
         return;
-    files++;
-    find_base(&rule, file, root);
-    struct gix_glob_lines lines = gix_glob_lines_of(bytes, len);
-    while (gix_glob_parse_ignore_line(&lines, &rule.pattern, &has_pattern))
-        if (has_pattern) {
-            rule.line = lines.number;
-            if (!(rules = (struct rule *)realloc(rules, (count + 1) * sizeof *rules)))
-                stop("ignore");
-            rules[count++] = rule;
-        }
-}
-
-static const struct rule *last_match(const char *path, size_t len, bool is_dir, bool fold)
-{
-    for (size_t i = count; i-- > 0;) {
-        const struct rule *rule = &rules[i];
-        if (len >= rule->base_len && !(fold ? strncasecmp : strncmp)(path, rule->base, rule->base_len)
-            && gix_glob_pattern_matches_path(&rule->pattern, gix_glob_bytes(path + rule->base_len), len - rule->base_len, is_dir, fold))
-            return rule;
+    struct gix_glob_lines left = gix_glob_lines_of(bytes, len);
+    for (bool is_left = true; is_left; count += is_left && has_pattern) {
+        patterns = (struct gix_glob_pattern *)grown(patterns, count + 1, sizeof *patterns);
+        lines = (size_t *)grown(lines, count + 1, sizeof *lines);
+        patterns[count] = blank;
+        is_left = gix_glob_parse_ignore_line(&left, &patterns[count], &has_pattern);
+        lines[count] = left.number;
     }
-    return NULL;
+    find_base(&lists[files], file, root);
+    lists[files].patterns = patterns;
+    lists[files].count = count;
+    numbers[files++] = lines;
 }
 
 static bool is_plain(const char *path, size_t len)
@@ -104,6 +99,8 @@ int main(int argc, char **argv)
     if (argc < 4 || (!fold && strcmp(argv[1], "sensitive")))
         return fprintf(stderr, "usage: %s sensitive|fold ROOT FILE.. < PATHS\n", argv[0]), 2;
     signal(SIGPIPE, SIG_IGN); /* a reader that goes away is a write that fails */
+    lists = (struct gix_glob_list *)grown(NULL, (size_t)argc, sizeof *lists);
+    numbers = (size_t **)grown(NULL, (size_t)argc, sizeof *numbers);
     for (int i = 3; i < argc; i++)
         load(argv[i], argv[2]);
     char *path = NULL;
@@ -111,13 +108,14 @@ int main(int argc, char **argv)
     for (ssize_t len; (len = getline(&path, &room, stdin)) > 0;) {
         len -= path[len - 1] == '\n';
         const bool is_dir = len > 0 && path[len - 1] == '/';
-        const struct rule *rule = last_match(path, (size_t)len - is_dir, is_dir, fold);
+        struct gix_glob_decision by = { 0, 0 };
         if (!is_plain(path, (size_t)len))
             puts("!");
-        else if (!rule)
+        else if (!gix_glob_decide_in_tree(lists, files, gix_glob_bytes(path), (size_t)(len - is_dir), is_dir, fold, &by))
             puts("none");
         else
-            printf("%s %zu:%zu\n", rule->pattern.mode & GIX_GLOB_NEGATIVE ? "kept" : "ignored", rule->file, rule->line);
+            printf("%s %zu:%zu\n", lists[by.list].patterns[by.pattern].mode & GIX_GLOB_NEGATIVE ? "kept" : "ignored", by.list + 1,
+                   numbers[by.list][by.pattern]);
     }
     free(path);
     if (!feof(stdin) || fflush(stdout) || ferror(stdout))

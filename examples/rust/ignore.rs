@@ -1,9 +1,11 @@
 //! Decides about paths by ignore files, over the proved library: ./ignore FILE.. < PATHS
 //!
-//! `Pattern` and `decide` are a safe wrapper over the C exports of `gix_glob_c`; `main` answers for each path as `globline ignore
-//! sensitive - FILE..` does. A path that ends in a slash is a directory's. A FILE that is missing or a folder is passed over;
-//! where another one, or standard input, can't be read, or the output can't be written, the status is 1. README.md says how it
-//! is built.
+//! `Pattern`, `List` and `decide_in_tree` are a safe wrapper over the C exports of `gix_glob_c`; `main` answers for each path as
+//! `globline ignore sensitive - FILE..` does, but asks about the folders above it first. A path that ends in a slash is a
+//! directory's. A FILE that is missing or a folder is passed over; where another one, or standard input, can't be read, or the
+//! output can't be written, the status is 1.
+//!
+//! Build it by `examples/c/install PREFIX` and `rustc --edition=2021 -O -L PREFIX/lib examples/rust/ignore.rs`.
 use std::ffi::OsString;
 use std::io::{self, BufRead, ErrorKind, Write};
 use std::marker::PhantomData;
@@ -29,7 +31,7 @@ unsafe extern "C" {
     fn gix_glob_parse(line: *const u8, line_len: usize, out: *mut Parts) -> bool;
     fn gix_glob_parse_ignore_line(lines: *mut RawLines, out: *mut Parts, has_pattern: *mut bool) -> bool;
     fn gix_glob_pattern_matches_path(pattern: *const Parts, path: *const u8, path_len: usize, is_dir: bool, fold: bool) -> bool;
-    fn gix_glob_last_match(patterns: *const Parts, count: usize, path: *const u8, path_len: usize, is_dir: bool, fold: bool) -> usize;
+    fn gix_glob_decide_in_tree(lists: *const List<'_>, count: usize, path: *const u8, path_len: usize, is_dir: bool, fold: bool, out: *mut Decision) -> bool;
 }
 
 const BLANK: Parts = Parts { text: std::ptr::NonNull::dangling().as_ptr(), text_len: 0, first_wildcard_pos: usize::MAX, mode: 0 };
@@ -77,11 +79,37 @@ pub fn ignore_lines(file: &[u8]) -> impl Iterator<Item = (usize, Pattern<'_>)> {
     })
 }
 
-/// The index of the last pattern that matches the path: the one that decides.
-pub fn decide(patterns: &[Pattern<'_>], path: &[u8], is_dir: bool, fold: bool) -> Option<usize> {
-    // SAFETY: `Pattern` is laid out as its parts, and each of them was written by the library.
-    let at = unsafe { gix_glob_last_match(patterns.as_ptr().cast(), patterns.len(), path.as_ptr(), path.len(), is_dir, fold) };
-    (at != usize::MAX).then_some(at)
+/// The patterns of an ignore file, and its folder.
+#[repr(C)]
+pub struct List<'a> {
+    patterns: *const Parts,
+    count: usize,
+    base: *const u8,
+    base_len: usize,
+    lives: PhantomData<&'a [Pattern<'a>]>,
+}
+
+impl<'a> List<'a> {
+    /// The patterns in the order of their lines, and the folder from the top of the tree on: empty, or with a slash at its end.
+    pub fn new(patterns: &'a [Pattern<'a>], base: &'a [u8]) -> List<'a> {
+        // `Pattern` is laid out as its parts
+        List { patterns: patterns.as_ptr().cast(), count: patterns.len(), base: base.as_ptr(), base_len: base.len(), lives: PhantomData }
+    }
+}
+
+/// The pattern that decides: the place of its list, and its place there, both from 0.
+#[derive(Clone, Copy)]
+#[repr(C)]
+pub struct Decision {
+    pub list: usize,
+    pub pattern: usize,
+}
+
+/// The pattern that decides about a path in a work tree, where one does: that of the topmost ignored folder above it, or its own.
+pub fn decide_in_tree(lists: &[List<'_>], path: &[u8], is_dir: bool, fold: bool) -> Option<Decision> {
+    let mut by = Decision { list: 0, pattern: 0 };
+    // SAFETY: each list has the pointers and lengths of slices that it borrows, and `by` is initialised.
+    unsafe { gix_glob_decide_in_tree(lists.as_ptr(), lists.len(), path.as_ptr(), path.len(), is_dir, fold, &mut by) }.then_some(by)
 }
 
 /// The bytes of a file; `None` where it is missing or a folder.
@@ -94,15 +122,16 @@ fn read_whole(file: OsString) -> Option<io::Result<Vec<u8>>> {
 
 fn main() -> io::Result<()> {
     let files: Vec<Vec<u8>> = std::env::args_os().skip(1).filter_map(read_whole).collect::<io::Result<_>>()?;
-    let lists: Vec<(Vec<usize>, Vec<Pattern>)> = files.iter().map(|file| ignore_lines(file).unzip()).collect();
+    let parsed: Vec<(Vec<usize>, Vec<Pattern>)> = files.iter().map(|file| ignore_lines(file).unzip()).collect();
+    let lists: Vec<List> = parsed.iter().map(|(_, patterns)| List::new(patterns, b"")).collect();
     let mut out = io::stdout().lock();
     for line in io::stdin().lock().split(b'\n') {
         let line = line?;
         let is_plain = !line.is_empty() && line[0] != b'/' && !line.windows(2).any(|pair| pair == b"//");
         let (path, is_dir) = line.strip_suffix(b"/").map_or((&line[..], false), |path| (path, true));
-        let found = lists.iter().enumerate().rev().find_map(|(list, (numbers, patterns))| {
-            let at = decide(patterns, path, is_dir, false)?;
-            Some((list + 1, numbers[at], patterns[at].is_negative()))
+        let found = decide_in_tree(&lists, path, is_dir, false).map(|by| {
+            let (numbers, patterns) = &parsed[by.list];
+            (by.list + 1, numbers[by.pattern], patterns[by.pattern].is_negative())
         });
         match found {
             _ if !is_plain => writeln!(out, "!")?,

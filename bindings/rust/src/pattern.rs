@@ -91,7 +91,7 @@ impl Pattern {
         debug_assert!(
             basename_start_pos
                 .is_none_or(|start| start > 0 && path.iter().rposition(|&byte| byte == b'/') == Some(start - 1)),
-            "the position is that after the last slash of the path"
+            "the basename start is the place after the last slash of the path"
         );
         let mode = match case {
             Case::Sensitive => mode,

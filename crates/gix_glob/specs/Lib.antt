@@ -12,6 +12,7 @@ pub use Rattle.glob_patterns.specs.Laws.LiteralBytes
 pub use Rattle.glob_patterns.specs.Patterns
 pub use Rattle.glob_patterns.specs.PatternParts
 pub use Rattle.glob_patterns.specs.RepositoryPaths
+pub use Rattle.glob_patterns.specs.PatternLimits
 pub use Rattle.glob_matcher.specs.Bytes
 pub use Rattle.glob_matcher.specs.Sets
 pub use Rattle.glob_matcher.specs.Tokens

@@ -35,15 +35,15 @@ pub fn bases_end_in_a_slash()
     ensures { (source : List ℕ) (root : Option (List ℕ)) (base : List ℕ) → Base source root (Some base) → EndsInSlash base }
 {}
 
-/// A stripped position is the rest's own: where the position is the place after the path's last slash, what stripping
-/// answers is the place after the rest's last slash, and no place where the rest has no slash.
-pub fn stripped_positions_are_the_rests_own()
-    ensures { (case : Case) (base path rest : List ℕ) (position : Option ℕ) →
-        Rest case base path rest → IsBasenameStart path position → IsBasenameStart rest (stripped_place (length base) position) }
+/// A stripped basename start is the rest's own: where it is the place after the path's last slash, what stripping answers is the
+/// place after the rest's last slash, and no place where the rest has no slash.
+pub fn stripped_basename_starts_are_the_rests_own()
+    ensures { (case : Case) (base path rest : List ℕ) (basename_start : Option ℕ) →
+        Rest case base path rest → IsBasenameStart path basename_start → IsBasenameStart rest (stripped_place (length base) basename_start) }
 {}
 
 /// The place after a path's last slash does not lie before the end of a base that is empty or ends in a slash.
-pub fn positions_lie_past_the_base()
+pub fn basename_starts_lie_past_the_base()
     ensures { (case : Case) (base path rest : List ℕ) (at : ℕ) →
         IsFolder base → Rest case base path rest → IsAfterLastSlash path at → length base ≤ at }
 {}

@@ -107,14 +107,38 @@ bool gix_glob_parse_ignore_line(struct gix_glob_lines *lines, struct gix_glob_pa
 bool gix_glob_pattern_matches_path(const struct gix_glob_pattern *pattern,
                                    const uint8_t *path, size_t path_len, bool is_dir, bool fold);
 
-/* The index of the last of several patterns that matches a path, or GIX_GLOB_NONE where none does. In an ignore file that one
- * decides: the path is ignored, or kept where the pattern is negative. For several files ask from the last file to the first,
- * and stop at the first answer. What lies in an ignored directory is ignored in Git whatever the files say of it, so a walk
- * asks for the directories above first.
+/* The index of the last of several patterns that matches a path, or GIX_GLOB_NONE where none does. Of an ignore file that one
+ * decides about the path by itself; gix_glob_decide_in_tree also asks about the folders above it.
  *   patterns, count  the patterns in the order of their lines; not NULL, also where count is 0
  *   path ..          as in gix_glob_pattern_matches_path */
 size_t gix_glob_last_match(const struct gix_glob_pattern *patterns, size_t count,
                            const uint8_t *path, size_t path_len, bool is_dir, bool fold);
+
+/* A list of patterns: those of one ignore file, and its folder. The patterns and the base are borrowed. */
+struct gix_glob_list {
+    const struct gix_glob_pattern *patterns; /* in the order of their lines; not NULL */
+    size_t count;                            /* how many */
+    const uint8_t *base; /* the folder of the file, from the top of the work tree on: empty, or with a slash at its end; not
+                            NULL. A list with another base says nothing */
+    size_t base_len;     /* how many bytes */
+};
+
+/* The pattern that decides about a path. */
+struct gix_glob_decision {
+    size_t list;    /* the index of its list */
+    size_t pattern; /* its index in that list */
+};
+
+/* Which pattern decides about a path in a work tree, as Git has it. The topmost folder above the path that is ignored decides
+ * about the path, by the pattern that ignores the folder. Where no folder above it is ignored, the last pattern that matches
+ * the path decides, and a later list comes after an earlier one. The path is ignored unless that pattern is negative.
+ *   lists, count  the lists, files of excludes first, then that of the top, then those of the folders on the way down; not
+ *                 NULL, also where count is 0
+ *   path ..       the path from the top on, as in gix_glob_pattern_matches_path
+ *   out           receives the pattern; it stays as it was where false is answered
+ * Answers whether a pattern decides. */
+bool gix_glob_decide_in_tree(const struct gix_glob_list *lists, size_t count,
+                             const uint8_t *path, size_t path_len, bool is_dir, bool fold, struct gix_glob_decision *out);
 
 /* Whether a pattern's text, as it is, matches the whole of a value.
  *   pattern, pattern_len  the text

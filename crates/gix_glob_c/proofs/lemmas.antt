@@ -1,3 +1,5 @@
 pub mod Bits
 pub mod DecidingLemmas
+pub mod ListsLemmas
 pub mod Numbers
+pub mod Views

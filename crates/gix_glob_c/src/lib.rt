@@ -11,10 +11,12 @@ ghost use Rattle.gix_glob_c.specs.Parts.{case_of, place_in};
 
 pub mod ignore_file;
 pub mod parsed;
+pub mod tree;
 
+use crate::parsed::GlobPattern;
 use bitflags::Flags;
 use gix_glob::laws::line_has_one_reading;
-use gix_glob::pattern::{self, Case, PatternView, basename_start};
+use gix_glob::pattern::{Case, PatternView, basename_start};
 use gix_glob::wildmatch::{Mode, wildmatch};
 
 /// Whether the pattern matches the whole of the value. The bit of value 1 in `mode` is path
@@ -65,11 +67,12 @@ pub extern "C" fn gix_glob_matches(
     ensures { IsPattern text.now (record { 0 = pattern_mode }) (place_in text.now first_wildcard_pos) →
         IsTrue result ↔ Splits value.now text.now (record { 0 = mode }) }
 {
-    let view = PatternView {
+    let parts = GlobPattern {
         text,
-        mode: pattern::Mode::from_bits_retain(pattern_mode),
-        first_wildcard_pos: place_in(text, first_wildcard_pos),
+        first_wildcard_pos,
+        mode: pattern_mode,
     };
+    let view = parts.view();
     view.matches(value, Mode::from_bits_retain(mode))
 }
 

@@ -1,7 +1,7 @@
 //! Patterns that are read once and matched often: `struct gix_glob_pattern` of the header, and what is asked of it.
 ghost use Rattle.std.specs.Prelude.{◌≡◌, ◌<◌, ◌⊎◌, ◌↔◌, ℕ, [], ◌∷◌, length, All, IsTrue, IfSome, MatchOption, None, option_map, true, false};
 ghost use Rattle.glob_lists.specs.Deciding.{AnswersUnder, Decides};
-ghost use Rattle.gix_glob.specs.Patterns.{HasReading, IsPattern, is_blank, without_negation};
+ghost use Rattle.gix_glob.specs.Patterns.{HasReading, IsPattern, is_blank, is_negative, without_negation};
 ghost use Rattle.gix_glob_c.specs.Parsed.{IsLawful, IsPathOfFile, IsRead, entry_of_parts, first_of, list_of, mode_of};
 ghost use Rattle.gix_glob_c.specs.Parts.{case_of, none, unless_none};
 
@@ -24,6 +24,21 @@ pub struct GlobPattern<'a> {
     pub first_wildcard_pos: usize,
     /// The bits of what is known of the text and of what stood around it.
     pub mode: u32,
+}
+
+impl<'a> GlobPattern<'a> {
+    /// The same parts, as Rust keeps them.
+    pub(crate) fn view(&self) -> PatternView<'a>
+        ensures text { result.text.now ≡ self.now.text.now }
+        ensures mode { result.mode ≡ mode_of self.now }
+        ensures place { result.first_wildcard_pos ≡ first_of self.now }
+    {
+        PatternView {
+            text: self.text,
+            mode: Mode::from_bits_retain(self.mode),
+            first_wildcard_pos: place_in(self.text, self.first_wildcard_pos),
+        }
+    }
 }
 
 /// Reads a pattern line, as `Pattern::from_bytes` does. A blank line leaves `out` as it was, and is answered by `false`.
@@ -86,7 +101,11 @@ pub extern "C" fn gix_glob_last_match(
 }
 
 /// The index of the last of the patterns that matches a path.
-fn last_match(patterns: &[GlobPattern<'_>], path: &RepositoryPath<'_>, fold: bool) -> Option<usize>
+pub(crate) fn last_match(
+    patterns: &[GlobPattern<'_>],
+    path: &RepositoryPath<'_>,
+    fold: bool,
+) -> Option<usize>
     ensures inside { IfSome result (λ index. index < length patterns.now) }
     ensures some { IfSome result (λ index. index < none) }
     ensures exact { All IsLawful patterns.now
@@ -116,7 +135,7 @@ fn parts_of<'a>(view: PatternView<'a>) -> GlobPattern<'a>
 }
 
 /// The path of bytes from a folder on, where they are one that no slash ends.
-fn path_of_file(bytes: &[u8], is_dir: bool) -> Option<RepositoryPath<'_>>
+pub(crate) fn path_of_file(bytes: &[u8], is_dir: bool) -> Option<RepositoryPath<'_>>
     ensures { MatchOption result
         (¬ IsPathOfFile bytes.now)
         (λ path. IsPathOfFile bytes.now × (path ≡ record { bytes = bytes.now; is_dir = is_dir })) }
@@ -127,17 +146,19 @@ fn path_of_file(bytes: &[u8], is_dir: bool) -> Option<RepositoryPath<'_>>
     RepositoryPath::new(bytes, is_dir)
 }
 
+/// Whether the line of a pattern began with `!`.
+pub(crate) fn is_negative(pattern: &GlobPattern<'_>) -> bool
+    ensures { result ≡ is_negative (mode_of pattern.now) }
+{
+    Mode::from_bits_retain(pattern.mode).contains(Mode::NEGATIVE)
+}
+
 /// Whether a pattern matches a path.
 fn is_matched(pattern: &GlobPattern<'_>, path: &RepositoryPath<'_>, fold: bool) -> bool
     ensures { IsLawful pattern.now →
         (IsTrue result ↔ AnswersUnder None (entry_of_parts pattern.now) path.now.bytes path.now.is_dir (case_of fold)) }
 {
-    let view = PatternView {
-        text: pattern.text,
-        mode: Mode::from_bits_retain(pattern.mode),
-        first_wildcard_pos: place_in(pattern.text, pattern.first_wildcard_pos),
-    };
-    path.is_matched_by(view, case_of(fold))
+    path.is_matched_by(pattern.view(), case_of(fold))
 }
 
 #[cfg(test)]

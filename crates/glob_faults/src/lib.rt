@@ -17,8 +17,12 @@ mod files;
 #[cfg(test)]
 mod lists_from_readers;
 #[cfg(test)]
+mod records;
+#[cfg(test)]
 mod refused_memory;
 #[cfg(test)]
 mod told;
+#[cfg(test)]
+mod trees;
 #[cfg(test)]
 mod watched;

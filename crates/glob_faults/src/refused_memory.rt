@@ -2,6 +2,7 @@
 //!
 //! `.ci/refuse-memory` runs each of these tests with each of its allocations refused in turn. The test then ends with the
 //! fault of memory, and with no other; what the call leaves is looked at first. Here, with ample memory, each one answers.
+use crate::records::Brackets;
 use bitflags::Flags;
 use gix_glob::pattern::Case;
 use gix_glob::search::pattern::{List, Mapping};
@@ -9,11 +10,13 @@ use gix_glob::search::{Pattern as _, Watched, add_patterns_file};
 use gix_glob::wildmatch::Mode;
 use gix_glob::{Pattern, parse};
 use glob_lines::{IgnoreLines, PlainLines, bases_are_folders, run_ignore, run_list, run_wild};
+use glob_trees::RecordStream;
 use std::alloc::{AllocError, Global};
 use std::test::Fail;
 use std::{env, fs, process};
 
 mod labels;
+mod trees;
 
 const LINES: &[u8] = b"*.rs\n\n!src/\n";
 
@@ -223,5 +226,22 @@ fn paths_are_decided(rt: HostRuntime) -> Result<(), Fail> {
     assert!(rt; output.is_empty() || answer.is_ok());
     answer?;
     assert!(rt; output.as_slice() == b"ignored 1:1\nkept 1:3\n!\n".as_slice());
+    Ok(())
+}
+
+#[test]
+fn records_are_answered(rt: HostRuntime) -> Result<(), Fail> {
+    let mut records = Watched::new(b"ab\nc".as_slice());
+    // with room for all that is written
+    let mut writer = Watched::new(Vec::with_capacity(rt.alloc(), 16)?);
+    let stream = RecordStream {
+        alloc: rt.alloc(),
+        end: b'\n',
+    };
+    let answer = stream.run(&mut records, &mut writer, &mut Brackets::new(2));
+    let output = writer.into_inner();
+    assert!(rt; b"<ab><c>".starts_with(&output));
+    answer?;
+    assert!(rt; output.as_slice() == b"<ab><c>".as_slice());
     Ok(())
 }

@@ -8,6 +8,7 @@ pub mod ListLemmas
 pub mod MappingsLemmas
 pub mod NumbersLemmas
 pub mod OneText
+pub mod PathLineLemmas
 pub mod PlainLemmas
 pub mod TransferLemmas
 pub mod TrimLemmas

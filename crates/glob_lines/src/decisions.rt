@@ -1,19 +1,17 @@
 //! The engine that tells, for each path line, which line of which ignore file decides about it.
-ghost use Rattle.std.specs.Prelude.{◌≡◌, ◌↔◌, ◌++◌, false, map, IsTrue, IfOk, OnOk, IsErrOf};
+ghost use Rattle.std.specs.Prelude.{◌≡◌, ◌++◌, false, map, IsTrue, IfOk, OnOk};
 ghost use Rattle.std.specs.Io.KnownBytes.{Appends};
 ghost use Rattle.glob_lists.specs.Deciding.{BasesAreFolders};
 ghost use Rattle.gix_glob.specs.Entries.{entry_of};
 ghost use Rattle.gix_glob.specs.EntryLists.{entry_list_of};
 ghost use Rattle.gix_glob.specs.Watched.{has_failed, inner};
 ghost use Rattle.glob_lines.specs.Decisions.{DecisionsText, verdict};
-ghost use Rattle.glob_lines.specs.Transfers.{AppendsFront, ReadsWhole, Run};
-ghost use Rattle.glob_lines.specs.Private.Answering.{WritesDecisions};
-ghost use Rattle.glob_lines.specs.Private.Growing.{Adds};
+ghost use Rattle.glob_lines.specs.Transfers.{AppendsFront, ReadsWhole, Run, TellsFaults};
 
-use crate::decimal::append_decimal;
 use crate::fault::EngineFault;
 use crate::ignore::IgnoreLines;
-use crate::lines::Lines;
+use crate::numbers::append_decimal;
+use crate::path_lines::{PathReport, report_on};
 use crate::stack::ListStack;
 use crate::transfer::{read_whole, write_whole};
 use gix_glob::pattern::Case;
@@ -50,14 +48,10 @@ pub fn run_ignore<R: Read, W: Write>(
         (Run (ReadsWhole (R.remaining (inner paths.old)) (R.remaining (inner paths.new)))
         (DecisionsText (map (entry_list_of {V = Unit {0}} (λ _. tt)) lists.now) case)
         (Appends (W.contents (inner writer.old)) (W.contents (inner writer.new)))) }
-    ensures memory { IsErrOf result EngineFault.Memory → writer.new ≡ writer.old }
-    ensures read { IsErrOf result EngineFault.Read → writer.new ≡ writer.old }
-    ensures write { IsErrOf result EngineFault.Write →
-        Run (ReadsWhole (R.remaining (inner paths.old)) (R.remaining (inner paths.new)))
+    ensures faults { TellsFaults result writer.old writer.new (has_failed paths.new)
+        (Run (ReadsWhole (R.remaining (inner paths.old)) (R.remaining (inner paths.new)))
         (DecisionsText (map (entry_list_of {V = Unit {0}} (λ _. tt)) lists.now) case)
-        (AppendsFront (W.contents (inner writer.old)) (W.contents (inner writer.new))) }
-    ensures read_failed { IsErrOf result EngineFault.Read ↔ IsTrue (has_failed paths.new) }
-    ensures write_failed { IsErrOf result EngineFault.Write ↔ IsTrue (has_failed writer.new) }
+        (AppendsFront (W.contents (inner writer.old)) (W.contents (inner writer.new)))) }
 {
     let path_lines = read_whole(alloc, paths)?;
     let text = decisions_of(alloc, lists, case, &path_lines)?;
@@ -75,32 +69,35 @@ fn decisions_of<T: search::Pattern>(
     ensures { IfOk result (λ text. DecisionsText (map (entry_list_of T.seen) lists.now) case paths.now text.items) }
 {
     let stack = ListStack::new(alloc, lists, case)?;
-    let mut text = Vec::new(alloc);
-    for line in Lines::new(paths) {
-        append_decision(&mut text, &stack, line)?;
-        text.push(b'\n')?;
-    }
-    Ok(text)
+    report_on(alloc, &mut Decision { stack }, paths)
 }
 
-/// Appends what is written for a path line, without the line feed.
-fn append_decision<T: search::Pattern>(
-    text: &mut Vec<u8>,
-    stack: &ListStack<'_, T>,
-    line: &[u8],
-) -> Result<(), AllocError>
-    ensures { OnOk result (Adds (WritesDecisions (map (entry_list_of T.seen) stack.now.lists) stack.now.case line.now) text.old.items text.new.items) }
-{
-    let Some(path) = RepositoryPath::of_line(line) else {
-        text.push(b'!')?;
-        return Ok(());
-    };
-    match stack.decide(&path) {
-        Some((i, m)) => {
-            let mapping = &stack.lists()[i].patterns[m];
-            append_verdict(text, i + 1, mapping)
+/// Reports which pattern decides about a path.
+#[derive(Drop)]
+struct Decision<'a, T: search::Pattern> {
+    stack: ListStack<'a, T>,
+}
+
+impl<'a, T: search::Pattern> PathReport for Decision<'a, T> {
+    ghost use Rattle.std.specs.Prelude.{map};
+    ghost use Rattle.gix_glob.specs.EntryLists.{entry_list_of};
+    ghost use Rattle.glob_lists.specs.Index.{IndexedLists};
+    ghost use Rattle.glob_lines.specs.Decisions.{WritesDecision};
+
+    ghost Basis = { IndexedLists T T.Value };
+
+    ghost basis = { λ report. report.stack };
+
+    ghost writes = { λ stack. WritesDecision (map (entry_list_of T.seen) stack.lists) stack.case };
+
+    fn append(&mut self, text: &mut Vec<u8>, path: &RepositoryPath<'_>) -> Result<(), AllocError> {
+        match self.stack.decide(path) {
+            Some((i, m)) => {
+                let mapping = &self.stack.lists()[i].patterns[m];
+                append_verdict(text, i + 1, mapping)
+            }
+            None => text.extend_from_slice(b"none"),
         }
-        None => text.extend_from_slice(b"none"),
     }
 }
 

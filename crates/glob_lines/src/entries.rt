@@ -1,33 +1,63 @@
-//! What the parsers of lines share: a text is read as a pattern, and put behind the others with its value and its number.
-ghost use Rattle.std.specs.Prelude.{◌≡◌, ◌++◌, true, map, option_map, OnOk};
-ghost use Rattle.std.specs.Option.{option_to_list};
+//! What the parsers of lines share: each line is counted, and the text that it gives is read as a pattern, which is put behind the
+//! others with its value and the line's number.
+ghost use Rattle.std.specs.Prelude.{◌≡◌, ◌+◌, ◌<◌, ◌++◌, [], map, OnOk};
+ghost use Rattle.std.specs.Option.{option_copied, option_to_list};
 ghost use Rattle.gix_glob.specs.Entries.{entry_of};
-ghost use Rattle.gix_glob.specs.Equations.Entries.{entry_with};
-ghost use Rattle.gix_glob.specs.Equations.Readings.{reading_of};
+ghost use Rattle.glob_lines.specs.Equations.Entries.{entry_of_text};
 
 use gix_glob::search::pattern::Mapping;
 use gix_glob::{Pattern, laws};
 use std::alloc::{AllocError, Global};
 
-/// Appends the pattern that is read from a text, with its value and its number; nothing where the text is no pattern.
-pub(crate) fn push_pattern<V: Drop>(
+/// The mappings of the lines so far, and how many lines those were.
+#[derive(Drop)]
+pub(crate) struct NumberedMappings<V> {
     alloc: Global,
-    mappings: &mut Vec<Mapping<V>>,
-    text: &[u8],
-    value: V,
-    number: usize,
-) -> Result<(), AllocError>
-    ensures { OnOk result (map (entry_of (λ v. v)) mappings.new.items
-        ≡ map (entry_of (λ v. v)) mappings.old.items ++ option_to_list (option_map (entry_with value number) (reading_of true text.now))) }
-{
-    // a law does nothing: it is called for what it ensures
-    laws::readings_are_these();
-    if let Some(pattern) = Pattern::from_bytes(alloc, text)? {
-        mappings.push(Mapping {
-            pattern,
-            value,
-            sequence_number: number,
-        })?;
+    mappings: Vec<Mapping<V>>,
+    lines: usize,
+}
+
+impl<V: Drop> NumberedMappings<V> {
+    /// No lines yet.
+    pub(crate) fn new(alloc: Global) -> NumberedMappings<V>
+        ensures mappings { result.mappings.items ≡ [] }
+        ensures lines { result.lines ≡ 0 }
+    {
+        NumberedMappings {
+            alloc,
+            mappings: Vec::new(alloc),
+            lines: 0,
+        }
     }
-    Ok(())
+
+    /// Counts a line. The pattern of the text that it gives is appended with the value and the line's number, from 1; nothing where
+    /// it gives no text, or the text is no pattern.
+    pub(crate) fn push_line(&mut self, text: Option<&[u8]>, value: V) -> Result<(), AllocError>
+        requires { self.old.lines < usize.MAX }
+        ensures lines { self.new.lines ≡ self.old.lines + 1 }
+        ensures entry { OnOk result (map (entry_of (λ v. v)) self.new.mappings.items
+            ≡ map (entry_of (λ v. v)) self.old.mappings.items ++ option_to_list (entry_of_text value (self.old.lines + 1) (option_copied text.entry))) }
+    {
+        self.lines += 1;
+        let Some(text) = text else {
+            return Ok(());
+        };
+        // a law does nothing: it is called for what it ensures
+        laws::readings_are_these();
+        if let Some(pattern) = Pattern::from_bytes(self.alloc, text)? {
+            self.mappings.push(Mapping {
+                pattern,
+                value,
+                sequence_number: self.lines,
+            })?;
+        }
+        Ok(())
+    }
+
+    /// The mappings.
+    pub(crate) fn into_mappings(self) -> Vec<Mapping<V>>
+        ensures { result.items ≡ self.mappings.items }
+    {
+        self.mappings
+    }
 }

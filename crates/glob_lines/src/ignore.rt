@@ -1,7 +1,7 @@
 //! The parser of ignore lines: each line of an ignore file is a pattern by Git's rules, but for the three departures that
 //! `docs/LINES.md` names, and its number stands beside it.
 
-use crate::entries::push_pattern;
+use crate::entries::NumberedMappings;
 use crate::ignore_line::{next_ignore_line, without_byte_order_mark};
 use gix_glob::search;
 use gix_glob::search::pattern::Mapping;
@@ -32,16 +32,12 @@ impl search::Pattern for IgnoreLines {
         bytes: &[u8],
         _source: &str,
     ) -> Result<Vec<Mapping<()>>, AllocError> {
-        let mut mappings = Vec::new(alloc);
-        let mut number = 0;
+        let mut read = NumberedMappings::new(alloc);
         let mut rest = without_byte_order_mark(bytes);
         'lines: while let Some(line) = next_ignore_line(rest) {
-            number += 1;
-            if let Some(text) = line.text {
-                push_pattern(alloc, &mut mappings, text, (), number)?;
-            }
+            read.push_line(line.text, ())?;
             rest = line.rest;
         }
-        Ok(mappings)
+        Ok(read.into_mappings())
     }
 }

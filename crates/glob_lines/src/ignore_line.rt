@@ -52,6 +52,20 @@ pub fn next_ignore_line(bytes: &[u8]) -> Option<IgnoreLine<'_>>
     Some(IgnoreLine { text, rest })
 }
 
+/// Takes the first line off bytes whose lines end as those of an ignore file, comments and spaces left as they are; `None` where
+/// there are no bytes.
+///
+/// A line ends at a line feed or at the end of the bytes. A carriage return directly before the line feed is not part of the line.
+pub fn next_ended_line(bytes: &[u8]) -> Option<(&[u8], &[u8])>
+    ensures line { MatchOption result (bytes.entry.now ≡ []) (λ cut. CutsLine EndsIgnoreLine bytes.entry.now cut.0.now cut.1.now) }
+    ensures place { IfSome result (λ cut. end_of cut.1 ≡ end_of bytes.entry) }
+{
+    if bytes.is_empty() {
+        return None;
+    }
+    Some(split_ended_line(bytes))
+}
+
 /// Whether a line is a comment.
 fn is_comment(line: &[u8]) -> bool
     ensures { result ≡ is_comment line.now }

@@ -1,7 +1,7 @@
 //! The parser of labels: a pattern, a tab and a value on each line.
 ghost use Rattle.glob_lines.specs.Label.{GivesLabel};
 
-use crate::entries::push_pattern;
+use crate::entries::NumberedMappings;
 use crate::lines::Lines;
 use gix_glob::search;
 use gix_glob::search::pattern::Mapping;
@@ -34,15 +34,13 @@ impl search::Pattern for LabelLines {
         bytes: &[u8],
         _source: &str,
     ) -> Result<Vec<Mapping<Vec<u8>>>, AllocError> {
-        let mut mappings = Vec::new(alloc);
-        let mut number = 0;
+        let mut read = NumberedMappings::new(alloc);
         for line in Lines::new(bytes) {
-            number += 1;
             let (text, label) = split_label(line);
             let label = Vec::from_slice(alloc, label)?;
-            push_pattern(alloc, &mut mappings, text, label, number)?;
+            read.push_line(Some(text), label)?;
         }
-        Ok(mappings)
+        Ok(read.into_mappings())
     }
 }
 

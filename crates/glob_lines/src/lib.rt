@@ -2,7 +2,6 @@
 #![tactic(auto)]
 
 mod calls;
-mod decimal;
 mod decisions;
 mod entries;
 mod fault;
@@ -12,6 +11,8 @@ mod label;
 pub mod laws;
 mod lines;
 mod list;
+mod numbers;
+mod path_lines;
 mod plain;
 mod stack;
 mod transfer;
@@ -22,7 +23,7 @@ pub use decisions::run_ignore;
 pub use fault::EngineFault;
 pub use glob_lists::{bases_are_folders, plain_path};
 pub use ignore::IgnoreLines;
-pub use ignore_line::{IgnoreLine, next_ignore_line, without_byte_order_mark};
+pub use ignore_line::{IgnoreLine, next_ended_line, next_ignore_line, without_byte_order_mark};
 pub use label::LabelLines;
 pub use list::run_list;
 pub use plain::PlainLines;

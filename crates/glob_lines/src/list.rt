@@ -1,21 +1,19 @@
 //! The engine that lists, for each path line, the numbers of the pattern lines that match it.
-ghost use Rattle.std.specs.Prelude.{◌≡◌, ◌↔◌, ◌||◌, ◌∷◌, [], false, map, option_map, IsTrue, IfOk, OnOk, IsErrOf};
+ghost use Rattle.std.specs.Prelude.{◌≡◌, ◌||◌, ◌∷◌, [], false, map, option_map, IsTrue, IfOk, OnOk};
 ghost use Rattle.std.specs.Option.{ForSome, option_copied};
 ghost use Rattle.std.specs.Vec.{vec_items};
 ghost use Rattle.std.specs.Io.KnownBytes.{Appends};
 ghost use Rattle.gix_glob.specs.Entries.{entry_of};
 ghost use Rattle.gix_glob.specs.Paths.{IsFolder, has_file_part};
-ghost use Rattle.glob_lists.specs.Paths.{IsPlainPath};
 ghost use Rattle.gix_glob.specs.Watched.{has_failed, inner};
-ghost use Rattle.glob_lines.specs.Mappings.{MappingsText, ReadsBoth, WritesNumbers};
-ghost use Rattle.glob_lines.specs.Transfers.{AppendsFront, Run};
-ghost use Rattle.glob_lines.specs.Private.Answering.{MatchesText, WritesMatches};
-ghost use Rattle.glob_lines.specs.Private.Growing.{Adds};
+ghost use Rattle.glob_lines.specs.Mappings.{MappingsText, ReadsBoth};
+ghost use Rattle.glob_lines.specs.Transfers.{AppendsFront, Run, TellsFaults};
+ghost use Rattle.glob_lines.specs.Private.Answering.{MatchesText};
 
-use crate::decimal::append_decimal;
 use crate::fault::EngineFault;
 use crate::laws;
-use crate::lines::Lines;
+use crate::numbers::append_decimal;
+use crate::path_lines::{PathReport, report_on};
 use crate::plain::PlainLines;
 use crate::stack::ListStack;
 use crate::transfer::{read_whole, write_whole};
@@ -58,15 +56,11 @@ pub fn run_list<P: Read, Q: Read, W: Write>(
         (Q.remaining (inner paths.old)) (Q.remaining (inner paths.new)))
         (MappingsText source.now (option_copied root.entry) case)
         (Appends (W.contents (inner writer.old)) (W.contents (inner writer.new)))) }
-    ensures memory { IsErrOf result EngineFault.Memory → writer.new ≡ writer.old }
-    ensures read { IsErrOf result EngineFault.Read → writer.new ≡ writer.old }
-    ensures write { IsErrOf result EngineFault.Write →
-        Run (ReadsBoth (P.remaining (inner patterns.old)) (P.remaining (inner patterns.new))
+    ensures faults { TellsFaults result writer.old writer.new (has_failed patterns.new || has_failed paths.new)
+        (Run (ReadsBoth (P.remaining (inner patterns.old)) (P.remaining (inner patterns.new))
         (Q.remaining (inner paths.old)) (Q.remaining (inner paths.new)))
         (MappingsText source.now (option_copied root.entry) case)
-        (AppendsFront (W.contents (inner writer.old)) (W.contents (inner writer.new))) }
-    ensures read_failed { IsErrOf result EngineFault.Read ↔ IsTrue (has_failed patterns.new || has_failed paths.new) }
-    ensures write_failed { IsErrOf result EngineFault.Write ↔ IsTrue (has_failed writer.new) }
+        (AppendsFront (W.contents (inner writer.old)) (W.contents (inner writer.new)))) }
 {
     let pattern_lines = read_whole(alloc, patterns)?;
     let source = String::from_str(alloc, source)?;
@@ -90,58 +84,46 @@ fn matches_of(
     ensures { IfOk result (λ text.
         MatchesText (map (entry_of (λ _. tt)) list.now.patterns.items) (option_map vec_items list.now.base) case paths.now text.items) }
 {
-    let stack = ListStack::new(alloc, slice::from_ref(list), case)?;
-    let mut text = Vec::new(alloc);
-    // one list of pairs for all paths, so that not each of them takes memory
-    let mut pairs = Vec::new(alloc);
-    for line in Lines::new(paths) {
-        append_matches(&mut text, &mut pairs, list, &stack, line)?;
-        text.push(b'\n')?;
-    }
-    Ok(text)
-}
-
-/// Appends what is written for a path line, without the line feed. The stack is that of the list alone. The places of the
-/// mappings that match are put into `pairs`; what it held doesn't matter.
-fn append_matches(
-    text: &mut Vec<u8>,
-    pairs: &mut Vec<(usize, usize)>,
-    list: &List<PlainLines>,
-    stack: &ListStack<'_, PlainLines>,
-    line: &[u8],
-) -> Result<(), AllocError>
-    requires one { stack.now.lists ≡ list.now ∷ [] }
-    ensures { OnOk result (Adds
-        (WritesMatches (map (entry_of (λ _. tt)) list.now.patterns.items) (option_map vec_items list.now.base) stack.now.case line.now)
-        text.old.items text.new.items) }
-{
-    let Some(path) = RepositoryPath::of_line(line) else {
-        text.push(b'!')?;
-        return Ok(());
+    let mut report = Matches {
+        list,
+        stack: ListStack::new(alloc, slice::from_ref(list), case)?,
+        pairs: Vec::new(alloc),
     };
-    append_numbers(text, pairs, list, stack, &path)
+    report_on(alloc, &mut report, paths)
 }
 
-/// Appends the numbers of the mappings that match a path. The stack is that of the list alone. The places of those mappings are
-/// put into `pairs`; what it held doesn't matter.
-fn append_numbers(
-    text: &mut Vec<u8>,
-    pairs: &mut Vec<(usize, usize)>,
-    list: &List<PlainLines>,
-    stack: &ListStack<'_, PlainLines>,
-    path: &RepositoryPath<'_>,
-) -> Result<(), AllocError>
-    requires one { stack.now.lists ≡ list.now ∷ [] }
-    ensures { OnOk result (Adds
-        (WritesNumbers (map (entry_of (λ _. tt)) list.now.patterns.items) (option_map vec_items list.now.base) stack.now.case path.now.bytes path.now.is_dir)
-        text.old.items text.new.items) }
-{
-    stack.matches_into(path, pairs)?;
-    let mut separator: &[u8] = b"";
-    for pair in pairs.as_slice() {
-        text.extend_from_slice(separator)?;
-        append_decimal(text, list.patterns[pair.1].sequence_number)?;
-        separator = b" ";
+/// Reports which mappings of a list match a path: their numbers.
+#[derive(Drop)]
+struct Matches<'a> {
+    list: &'a List<PlainLines>,
+    /// The stack of the list alone.
+    stack: ListStack<'a, PlainLines>,
+    /// The places of the mappings that match a path: one list of them for all paths, so that not each of those takes memory.
+    pairs: Vec<(usize, usize)>,
+    ghost one: { stack.lists ≡ list.now ∷ [] },
+}
+
+impl<'a> PathReport for Matches<'a> {
+    ghost use Rattle.std.specs.Prelude.{map, option_map};
+    ghost use Rattle.std.specs.Vec.{vec_items};
+    ghost use Rattle.gix_glob.specs.Entries.{entry_of};
+    ghost use Rattle.glob_lines.specs.Mappings.{WritesNumbers};
+    ghost use Rattle.glob_lines.specs.Private.Answering.{CasedList};
+
+    ghost Basis = { CasedList };
+
+    ghost basis = { λ report. record { entries = map (entry_of (λ _. tt)) report.list.now.patterns.items; base = option_map vec_items report.list.now.base; case = report.stack.case } };
+
+    ghost writes = { λ it. WritesNumbers it.entries it.base it.case };
+
+    fn append(&mut self, text: &mut Vec<u8>, path: &RepositoryPath<'_>) -> Result<(), AllocError> {
+        self.stack.matches_into(path, &mut self.pairs)?;
+        let mut separator: &[u8] = b"";
+        for pair in self.pairs.as_slice() {
+            text.extend_from_slice(separator)?;
+            append_decimal(text, self.list.patterns[pair.1].sequence_number)?;
+            separator = b" ";
+        }
+        Ok(())
     }
-    Ok(())
 }

@@ -1,6 +1,6 @@
 //! The parser of plain lines: each line is a pattern, and its number stands beside it.
 
-use crate::entries::push_pattern;
+use crate::entries::NumberedMappings;
 use crate::lines::Lines;
 use gix_glob::search;
 use gix_glob::search::pattern::Mapping;
@@ -29,12 +29,10 @@ impl search::Pattern for PlainLines {
         bytes: &[u8],
         _source: &str,
     ) -> Result<Vec<Mapping<()>>, AllocError> {
-        let mut mappings = Vec::new(alloc);
-        let mut number = 0;
+        let mut read = NumberedMappings::new(alloc);
         for line in Lines::new(bytes) {
-            number += 1;
-            push_pattern(alloc, &mut mappings, line, (), number)?;
+            read.push_line(Some(line), ())?;
         }
-        Ok(mappings)
+        Ok(read.into_mappings())
     }
 }

@@ -1,9 +1,9 @@
 //! The engine that matches each line of its input against one pattern.
-ghost use Rattle.std.specs.Prelude.{◌≡◌, ◌↔◌, [], ◌∷◌, ◌++◌, false, IsTrue, IfOk, OnOk, IsErrOf};
+ghost use Rattle.std.specs.Prelude.{◌≡◌, [], ◌∷◌, ◌++◌, false, IsTrue, IfOk, OnOk};
 ghost use Rattle.std.specs.Io.KnownBytes.{Appends};
 ghost use Rattle.gix_glob.specs.Watched.{has_failed, inner};
 ghost use Rattle.glob_lines.specs.Lines.{line_feed};
-ghost use Rattle.glob_lines.specs.Transfers.{AppendsFront, ReadsWhole, Run};
+ghost use Rattle.glob_lines.specs.Transfers.{AppendsFront, ReadsWhole, Run, TellsFaults};
 ghost use Rattle.glob_lines.specs.Values.{ValuesText};
 ghost use Rattle.glob_lines.specs.Private.Answering.{word_of};
 
@@ -34,14 +34,10 @@ pub fn run_wild<R: Read, W: Write>(
         (Run (ReadsWhole (R.remaining (inner reader.old)) (R.remaining (inner reader.new)))
         (ValuesText pattern.now mode)
         (Appends (W.contents (inner writer.old)) (W.contents (inner writer.new)))) }
-    ensures memory { IsErrOf result EngineFault.Memory → writer.new ≡ writer.old }
-    ensures read { IsErrOf result EngineFault.Read → writer.new ≡ writer.old }
-    ensures write { IsErrOf result EngineFault.Write →
-        Run (ReadsWhole (R.remaining (inner reader.old)) (R.remaining (inner reader.new)))
+    ensures faults { TellsFaults result writer.old writer.new (has_failed reader.new)
+        (Run (ReadsWhole (R.remaining (inner reader.old)) (R.remaining (inner reader.new)))
         (ValuesText pattern.now mode)
-        (AppendsFront (W.contents (inner writer.old)) (W.contents (inner writer.new))) }
-    ensures read_failed { IsErrOf result EngineFault.Read ↔ IsTrue (has_failed reader.new) }
-    ensures write_failed { IsErrOf result EngineFault.Write ↔ IsTrue (has_failed writer.new) }
+        (AppendsFront (W.contents (inner writer.old)) (W.contents (inner writer.new)))) }
 {
     let input = read_whole(alloc, reader)?;
     let text = answers(alloc, pattern, mode, &input)?;

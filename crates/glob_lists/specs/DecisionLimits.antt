@@ -1,7 +1,8 @@
 -- How many steps and looks a decision over a stack of lists takes at most, v being the length of the path: each list strips its
 -- base off the path once, and asks each of its patterns at most once about what is left.
 use Rattle.std.specs.Prelude.{ℕ, ◌+◌, ◌*◌, List, length, sum_by}
-use Rattle.gix_glob.specs.Steps.{pattern_look_limit, step_limit}
+use Rattle.gix_glob.specs.Steps.{step_limit}
+use Rattle.gix_glob.specs.PatternLimits.{pattern_look_limit}
 use Rattle.gix_glob.specs.EntryLists.{EntryList}
 use Rattle.gix_glob.specs.Stripping.{strip_looks}
 use Rattle.glob_lists.specs.Index.{entry_count}
@@ -20,6 +21,7 @@ decision_step_limit lists v = sum_by (λ list. list_step_limit list v) lists
 abbrev pub decision_look_limit : {V : Type 0} → List (EntryList V) → ℕ → ℕ
 decision_look_limit lists v = sum_by (λ list. list_look_limit list v) lists
 
--- how many looks an index adds: it reads the path three times, and its last byte twice more, and meets the row of each entry once
+-- how many looks an index adds: it reads the path three times, and its last byte twice more; it compares the path with at most 32
+-- bases, byte by byte, and the front of the path with numbers; and it meets the row of each entry once
 abbrev pub index_look_limit : {V : Type 0} → List (EntryList V) → ℕ → ℕ
-index_look_limit lists v = 3 * v + 2 + entry_count lists
+index_look_limit lists v = 68 * v + 2 + entry_count lists

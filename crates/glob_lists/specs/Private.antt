@@ -1,5 +1,8 @@
 -- Words that only private clauses cite: what the functions of the crate say to one another.
 pub mod Chains
+pub mod Folders
+pub mod Fronts
+pub mod Indexes
 pub mod Keeping
 pub mod Literals
 pub mod Looking
@@ -10,3 +13,4 @@ pub mod Showing
 pub mod Spending
 pub mod Tables
 pub mod Walking
+pub mod Ways

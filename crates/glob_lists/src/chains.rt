@@ -44,6 +44,14 @@ impl Link {
         Link(place as u32 + 1)
     }
 
+    /// The link to the last of so many, where there is one.
+    pub(crate) fn up_to(count: usize) -> Link
+        requires { count < 2 ^ 32 }
+        ensures { result.0 ≡ count }
+    {
+        Link(count as u32)
+    }
+
     /// The place of the row, where there is one.
     #[inline(always)]
     pub(crate) fn place(self) -> Option<usize>

@@ -29,7 +29,7 @@ pub fn decide<T: search::Pattern>(
     requires folders { BasesAreFolders (map (entry_list_of T.seen) lists.now) }
     ensures { Decides (map (entry_list_of T.seen) lists.now) path.now.bytes path.now.is_dir case result }
 {
-    decide_with_new_counts::<T, Brand, Brand>(lists, path, case, Blank::new(1), Blank::new(1))
+    decide_with_new_counts::<T, Brand, Brand>(lists, path, case, (Blank::new(1), Blank::new(1)))
 }
 
 /// Which pattern decides about a path, with new counts that no one asks for.
@@ -38,15 +38,19 @@ fn decide_with_new_counts<T: search::Pattern, S: Ledger, L: Ledger>(
     lists: &[List<T>],
     path: &RepositoryPath<'_>,
     case: Case,
-    steps: Blank,
-    looks: Blank,
+    blanks: (Blank, Blank),
 ) -> Option<(usize, usize)>
     requires folders { BasesAreFolders (map (entry_list_of T.seen) lists.now) }
-    requires steps { IsBlankOf S.name S.parts steps }
-    requires looks { IsBlankOf L.name L.parts looks }
+    requires steps { IsBlankOf S.name S.parts blanks.0 }
+    requires looks { IsBlankOf L.name L.parts blanks.1 }
     ensures { Decides (map (entry_list_of T.seen) lists.now) path.now.bytes path.now.is_dir case result }
 {
-    decide_with_counts(lists, path, case, &mut Counts::<S, L>::new(steps, looks))
+    decide_with_counts(
+        lists,
+        path,
+        case,
+        &mut Counts::<S, L>::new(blanks.0, blanks.1),
+    )
 }
 
 /// Which pattern decides about a path, as [`decide`] answers it and under its condition, with its steps and looks counted.

@@ -1,21 +1,25 @@
 //! Lists of patterns with an index: which of their patterns match a path, and which one decides.
-ghost use Rattle.std.specs.Prelude.{◌≡◌, ◌↔◌, ◌⊎◌, ◌+◌, ◌*◌, ◌^◌, ◌<◌, ◌≤◌, IfOk, IsErrOf, IsSome, IsTrue, OnOk, length, map, min};
+ghost use Rattle.std.specs.Prelude.{◌≡◌, ◌↔◌, ◌⊎◌, ◌+◌, ◌*◌, ◌^◌, ◌<◌, ◌≤◌, IfOk, IfSome, IsErrOf, IsSome, IsTrue, OnOk, length, map, min};
 ghost use Rattle.gix_glob.specs.EntryLists.{entry_list_of};
 ghost use Rattle.gix_glob.specs.Steps.{IsBlankOf, NeverFall};
 ghost use Rattle.glob_lists.specs.Deciding.{BasesAreFolders, Decides};
 ghost use Rattle.glob_lists.specs.DecisionLimits.{decision_look_limit, decision_step_limit, index_look_limit};
 ghost use Rattle.glob_lists.specs.Index.{AreMatches, AreTooMany, entry_count};
+ghost use Rattle.glob_lists.specs.Private.Indexes.{AreWays};
 ghost use Rattle.glob_lists.specs.Private.Looking.{LooksUpTo};
 ghost use Rattle.glob_lists.specs.Private.Tables.{AreChained, AreRowsUpTo, HasEntryAt};
 
+use crate::chains::Link;
 use crate::deciding::{decide, decide_with_counts};
 use crate::fault::IndexError;
+use crate::folders::{Folder, can_pay, folders_of};
 use crate::laws;
 use crate::matching::matches_into;
 use crate::path::RepositoryPath;
 use crate::reached::Reached;
 use crate::row::Row;
 use crate::table::Table;
+use crate::way::Ways;
 use gix_glob::pattern::Case;
 use gix_glob::search;
 use gix_glob::search::pattern::List;
@@ -31,19 +35,22 @@ pub struct ListIndex<'a, T: search::Pattern> {
     lists: &'a [List<T>],
     case: Case,
     table: Table,
+    /// The folders of the lists, where going through those on the way of a path can pay.
+    folders: Option<Vec<Folder>>,
 }
 
 impl<'a, T: search::Pattern> Model for ListIndex<'a, T> {
-    ghost use Rattle.std.specs.Prelude.{map};
+    ghost use Rattle.std.specs.Prelude.{map, option_map};
+    ghost use Rattle.std.specs.Vec.{vec_items};
     ghost use Rattle.gix_glob.specs.EntryLists.{entry_list_of};
     ghost use Rattle.glob_lists.specs.Index.{IndexedLists};
-    ghost use Rattle.glob_lists.specs.Private.Tables.{IsIndexOf};
+    ghost use Rattle.glob_lists.specs.Private.Indexes.{IsIndexBy};
 
     ghost Value = { IndexedLists T T.Value };
 
     ghost view = { λ index. record { lists = index.lists.now; case = index.case } };
 
-    ghost invariant = { λ index. IsIndexOf (map (entry_list_of T.seen) index.lists.now) index.table };
+    ghost invariant = { λ index. IsIndexBy (map (entry_list_of T.seen) index.lists.now) index.table (option_map vec_items index.folders) };
 }
 
 /// What decides about a path, and what it took to find it.
@@ -57,7 +64,7 @@ pub struct CountedDecision {
 
 impl<'a, T: search::Pattern> ListIndex<'a, T> {
     /// The index of the lists, whose bases have to be those of folders: [`bases_are_folders`](crate::bases_are_folders). It
-    /// takes 24 bytes for each pattern, and some 2 KB once.
+    /// takes 24 bytes for each pattern, 24 for each of 16 lists or more, and some 2 KB once.
     ///
     /// # Errors
     /// [`IndexError::TooMany`] where there are 2^32 patterns or more, or more than 2^32 lists, and there alone;
@@ -79,7 +86,13 @@ impl<'a, T: search::Pattern> ListIndex<'a, T> {
         'lists: for i in 0..lists.len() {
             add_list(&mut table, lists, i)?;
         }
-        Ok(ListIndex { lists, case, table })
+        let folders = folders_of(alloc, lists)?;
+        Ok(ListIndex {
+            lists,
+            case,
+            table,
+            folders,
+        })
     }
 
     /// The lists that the index is of.
@@ -98,7 +111,8 @@ impl<'a, T: search::Pattern> ListIndex<'a, T> {
 
     /// Which pattern decides about a path, as [`decide`](crate::decide) answers it for the lists. No memory is taken.
     ///
-    /// Where few of the patterns can match the path, those alone are asked, and else each in turn, which then costs less.
+    /// Where the lists whose base the path begins with have few patterns, those lists alone are gone through. Else, where few of all
+    /// patterns can match the path, those alone are asked; and else each in turn, which then costs less.
     pub fn decide(&self, path: &RepositoryPath<'_>) -> Option<(usize, usize)>
         ensures { Decides (map (entry_list_of T.seen) self.now.lists) path.now.bytes path.now.is_dir self.now.case result }
     {
@@ -124,7 +138,7 @@ impl<'a, T: search::Pattern> ListIndex<'a, T> {
     /// taken.
     ///
     /// The counts rise by at most what [`decide_with_counts`](crate::decide_with_counts) says for the lists, and that of looks by
-    /// what the index reads besides: three times the path's length and 2, and a look for each row that it meets, of which there is
+    /// what the index reads besides: 68 times the path's length and 2, and a look for each row that it meets, of which there is
     /// one for each pattern.
     pub fn decide_with_counts<S: Ledger, L: Ledger>(
         &self,
@@ -139,6 +153,64 @@ impl<'a, T: search::Pattern> ListIndex<'a, T> {
             + index_look_limit (map (entry_list_of T.seen) self.now.lists) (length path.now.bytes) }
         ensures grows { NeverFall counts.old counts.new }
     {
+        let Some(ways) = self.ways() else {
+            return self.decide_among_all(path, counts);
+        };
+        let last = ways.last_up_to(path, counts);
+        if !self.pays_to_go(&ways, last, path) {
+            return self.decide_among_all(path, counts);
+        }
+        ways.decide(path, last, counts)
+    }
+
+    /// The lists, their rows and their folders, where there are folders.
+    #[inline(always)]
+    fn ways(&self) -> Option<Ways<'_, T>>
+        ensures lists { IfSome result (λ ways. (ways.lists.now ≡ self.now.lists) × (ways.case ≡ self.now.case)) }
+        ensures made { IfSome result (λ ways. AreWays (map (entry_list_of T.seen) ways.lists.now) ways.rows.now ways.folders.now) }
+    {
+        match &self.folders {
+            Some(folders) => {
+                if !can_pay(folders, self.table.len()) {
+                    return None;
+                }
+                Some(Ways {
+                    lists: self.lists,
+                    case: self.case,
+                    rows: self.table.rows(),
+                    folders: folders.as_slice(),
+                })
+            }
+            None => None,
+        }
+    }
+
+    /// Whether a path meets fewer rows on its way than in the table, and fewer than half of all. It reads the last byte.
+    fn pays_to_go(&self, ways: &Ways<'_, T>, last: Link, path: &RepositoryPath<'_>) -> bool
+        ensures { IsTrue result → 0 < length path.now.bytes }
+    {
+        let [.., byte] = path.bytes() else {
+            return false;
+        };
+        let rows = ways.row_count(last);
+        rows.saturating_mul(2) <= self.table.len() && rows <= self.table.met(*byte)
+    }
+
+    /// Which pattern decides about a path, by the rows of all lists or by each pattern in turn.
+    #[inline(always)]
+    fn decide_among_all<S: Ledger, L: Ledger>(
+        &self,
+        path: &RepositoryPath<'_>,
+        counts: &mut Counts<S, L>,
+    ) -> Option<(usize, usize)>
+        ensures exact { Decides (map (entry_list_of T.seen) self.now.lists) path.now.bytes path.now.is_dir self.now.case result }
+        ensures steps { counts.new.steps
+            ≤ counts.old.steps + decision_step_limit (map (entry_list_of T.seen) self.now.lists) (length path.now.bytes) }
+        ensures looks { counts.new.looks
+            ≤ counts.old.looks + decision_look_limit (map (entry_list_of T.seen) self.now.lists) (length path.now.bytes)
+            + (3 * length path.now.bytes + 2 + entry_count (map (entry_list_of T.seen) self.now.lists)) }
+        ensures grows { NeverFall counts.old counts.new }
+    {
         if !self.pays_for(path, counts) {
             return decide_with_counts(self.lists, path, self.case, counts);
         }
@@ -146,7 +218,8 @@ impl<'a, T: search::Pattern> ListIndex<'a, T> {
     }
 
     /// Which pattern decides about a path, as [`ListIndex::decide`] answers it, and how many patterns the index left to be asked:
-    /// the fewer, the more it saves. No memory is taken.
+    /// the fewer, the more it saves. It goes by the rows of all lists, also where [`ListIndex::decide`] goes by folders. No memory
+    /// is taken.
     pub fn decide_and_count(&self, path: &RepositoryPath<'_>) -> CountedDecision
         ensures decides { Decides (map (entry_list_of T.seen) self.now.lists) path.now.bytes path.now.is_dir self.now.case result.pair }
         ensures each_once { result.asked ≤ entry_count (map (entry_list_of T.seen) self.now.lists) }

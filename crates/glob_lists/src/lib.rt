@@ -4,6 +4,8 @@
 mod chains;
 mod deciding;
 mod fault;
+mod folders;
+mod fronts;
 mod index;
 pub mod laws;
 mod literals;
@@ -13,6 +15,7 @@ mod probe;
 mod reached;
 mod row;
 mod table;
+mod way;
 
 pub use deciding::{bases_are_folders, decide, decide_with_counts};
 pub use fault::IndexError;

@@ -28,35 +28,41 @@ pub fn matches_into<T: search::Pattern>(
     requires folders { BasesAreFolders (map (entry_list_of T.seen) lists.now) }
     ensures { OnOk result (AreMatches (map (entry_list_of T.seen) lists.now) path.now.bytes path.now.is_dir case pairs.new.items) }
 {
+    let asked = Asked { lists, path, case };
     pairs.clear();
     'lists: for i in 0..lists.len() {
-        push_matches(lists, i, path, case, pairs)?;
+        asked.push_matches(i, pairs)?;
     }
     Ok(())
 }
 
-/// Adds the pairs of the list at place `i` after those of the lists before it.
-fn push_matches<T: search::Pattern>(
-    lists: &[List<T>],
-    i: usize,
-    path: &RepositoryPath<'_>,
+/// What is asked of lists: which of their patterns match this path.
+#[derive(Drop)]
+struct Asked<'a, 'p, T: search::Pattern> {
+    lists: &'a [List<T>],
+    path: &'a RepositoryPath<'p>,
     case: Case,
-    pairs: &mut Vec<(usize, usize)>,
-) -> Result<(), AllocError>
-    requires folders { BasesAreFolders (map (entry_list_of T.seen) lists.now) }
-    requires inside { i < length lists.now }
-    requires found { AreMatchesUpTo (map (entry_list_of T.seen) lists.now) path.now.bytes path.now.is_dir case i 0 pairs.old.items }
-    ensures { OnOk result (AreMatchesUpTo (map (entry_list_of T.seen) lists.now) path.now.bytes path.now.is_dir case (i + 1) 0 pairs.new.items) }
-{
-    let list = &lists[i];
-    let Some(rest) = path.under(list, case) else {
-        return Ok(());
-    };
-    let mappings = list.patterns.as_slice();
-    'mappings: for m in 0..mappings.len() {
-        if rest.is_matched_by(mappings[m].pattern.view(), case) {
-            pairs.push((i, m))?;
+}
+
+impl<'a, 'p, T: search::Pattern> Asked<'a, 'p, T> {
+    /// Adds the pairs of the list at place `i` after those of the lists before it.
+    fn push_matches(&self, i: usize, pairs: &mut Vec<(usize, usize)>) -> Result<(), AllocError>
+        requires folders { BasesAreFolders (map (entry_list_of T.seen) self.now.lists.now) }
+        requires inside { i < length self.now.lists.now }
+        requires found { AreMatchesUpTo (map (entry_list_of T.seen) self.now.lists.now) self.now.path.now.bytes self.now.path.now.is_dir self.now.case i 0 pairs.old.items }
+        ensures { OnOk result (AreMatchesUpTo (map (entry_list_of T.seen) self.now.lists.now) self.now.path.now.bytes self.now.path.now.is_dir self.now.case (i + 1) 0 pairs.new.items) }
+    {
+        let lists = self.lists;
+        let list = &lists[i];
+        let Some(rest) = self.path.under(list, self.case) else {
+            return Ok(());
+        };
+        let mappings = list.patterns.as_slice();
+        'mappings: for m in 0..mappings.len() {
+            if rest.is_matched_by(mappings[m].pattern.view(), self.case) {
+                pairs.push((i, m))?;
+            }
         }
+        Ok(())
     }
-    Ok(())
 }

@@ -1,11 +1,13 @@
 //! Paths of a repository: which bytes are one, and what the base of a list leaves of it.
-ghost use Rattle.std.specs.Prelude.{◌≡◌, ◌+◌, ◌≤◌, ◌↔◌, IsTrue, MatchOption, Some, length, option_map};
+ghost use Rattle.std.specs.Prelude.{◌≡◌, ◌+◌, ◌≤◌, ◌↔◌, IsTrue, MatchOption, Some, length, option_map, take, true};
 ghost use Rattle.std.specs.Option.{ForSome};
 ghost use Rattle.std.specs.Vec.{vec_items};
+ghost use Rattle.gix_glob.specs.Bytes.{HasByte, slash};
 ghost use Rattle.gix_glob.specs.Paths.{IsFolder};
 ghost use Rattle.gix_glob.specs.Patterns.{IsPattern};
 ghost use Rattle.gix_glob.specs.RepositoryPaths.{IsBasenameStart};
-ghost use Rattle.gix_glob.specs.Steps.{NeverFall, pattern_look_limit, step_limit};
+ghost use Rattle.gix_glob.specs.Steps.{NeverFall, step_limit};
+ghost use Rattle.gix_glob.specs.PatternLimits.{pattern_look_limit};
 ghost use Rattle.gix_glob.specs.Stripping.{NothingLeft, Rest, RestOf, strip_looks};
 ghost use Rattle.glob_lists.specs.Deciding.{AnswersFor};
 ghost use Rattle.glob_lists.specs.Paths.{IsPlainPath, MarksDirectory};
@@ -105,6 +107,15 @@ impl<'a> RepositoryPath<'a> {
         self.is_dir
     }
 
+    /// The folder that stands before the slash at a place of the path, as a directory. The place is counted in bytes from 0.
+    #[inline(always)]
+    pub fn folder_before(&self, place: usize) -> RepositoryPath<'a>
+        requires { HasByte self.now.bytes place slash }
+        ensures { result ≡ record { bytes = take place self.now.bytes; is_dir = true } }
+    {
+        RepositoryPath::from_plain(&self.bytes[..place], true)
+    }
+
     /// What follows `base` in the path, again as a path; `None` where the path doesn't begin with it. With [`Case::Fold`] the
     /// case of ASCII letters doesn't count.
     ///
@@ -117,8 +128,8 @@ impl<'a> RepositoryPath<'a> {
             (λ rest. Rest case base.now self.now.bytes rest.bytes × (rest.is_dir ≡ self.now.is_dir)) }
     {
         // laws do nothing: they are called for what they ensure
-        laws::positions_lie_past_the_base();
-        laws::stripped_positions_are_the_rests_own();
+        laws::basename_starts_lie_past_the_base();
+        laws::stripped_basename_starts_are_the_rests_own();
         let Some((bytes, basename_start)) = strip_base_handle_recompute_basename_pos(
             base,
             self.bytes,
@@ -148,8 +159,8 @@ impl<'a> RepositoryPath<'a> {
             (λ rest. RestOf case (option_map vec_items list.now.base) self.now.bytes rest.bytes × (rest.is_dir ≡ self.now.is_dir)) }
     {
         // laws do nothing: they are called for what they ensure
-        laws::positions_lie_past_the_base();
-        laws::stripped_positions_are_the_rests_own();
+        laws::basename_starts_lie_past_the_base();
+        laws::stripped_basename_starts_are_the_rests_own();
         let (bytes, basename_start) = list.strip_base_handle_recompute_basename_pos(
             self.bytes,
             self.basename_start,
@@ -180,8 +191,8 @@ impl<'a> RepositoryPath<'a> {
             ≡ counts.old.looks + strip_looks (option_map vec_items list.now.base) (length self.now.bytes) }
     {
         // laws do nothing: they are called for what they ensure
-        laws::positions_lie_past_the_base();
-        laws::stripped_positions_are_the_rests_own();
+        laws::basename_starts_lie_past_the_base();
+        laws::stripped_basename_starts_are_the_rests_own();
         let (bytes, basename_start) = list.strip_base_with_counts(
             self.bytes,
             self.basename_start,

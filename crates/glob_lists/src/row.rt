@@ -1,16 +1,13 @@
 //! One pattern as the index sees it: what its text asks of a path, and where its mapping stands.
-ghost use Rattle.std.specs.Prelude.{◌≡◌, ◌↔◌, ◌&&◌, not, IsTrue};
+ghost use Rattle.std.specs.Prelude.{◌≡◌, ◌↔◌, IsTrue};
 ghost use Rattle.gix_glob.specs.PatternParts.{mode_of, text_of};
-ghost use Rattle.gix_glob.specs.Patterns.{is_absolute, is_without_sub_dir};
 ghost use Rattle.glob_lists.specs.Private.Rows.{Asks};
-ghost use Rattle.glob_lists.specs.Private.Showing.{HasBytes, HasEnd};
+ghost use Rattle.glob_lists.specs.Private.Showing.{HasBytes, HasEnd, Passes};
 
 use crate::chains::{Class, Link};
 use crate::literals::{end_key, has_all, literal_end, needed_bytes};
 use crate::probe::Probe;
-use bitflags::Flags;
 use gix_glob::Pattern;
-use gix_glob::pattern::Mode;
 
 /// What a pattern asks of a path, and where its mapping stands.
 #[derive(Debug, Copy, Clone)]
@@ -41,7 +38,7 @@ impl Row {
     {
         let text = pattern.text();
         let length = literal_end(text);
-        let is_name = looks_at_name(pattern.mode());
+        let is_name = pattern.mode().looks_at_name();
         if length == 0 {
             return Row {
                 asked: needed_bytes(text),
@@ -93,6 +90,17 @@ impl Row {
         Row { before, ..self }
     }
 
+    /// Whether the path shows what the row asks for.
+    #[inline(always)]
+    pub(crate) fn is_shown_by(&self, probe: &Probe) -> bool
+        ensures { IsTrue result ↔ Passes self.now probe.now }
+    {
+        match self.class {
+            Class::Always => self.has_bytes(probe),
+            Class::EndsIn(last) => last == probe.last() && self.has_end(probe),
+        }
+    }
+
     /// Whether the path ends as the text does.
     #[inline(always)]
     pub(crate) fn has_end(&self, probe: &Probe) -> bool
@@ -108,11 +116,4 @@ impl Row {
     {
         has_all(probe.bytes_for(self.is_name), self.asked)
     }
-}
-
-/// Whether a pattern of this mode looks at the last part of a path alone.
-fn looks_at_name(mode: Mode) -> bool
-    ensures { result ≡ (is_without_sub_dir mode && not (is_absolute mode)) }
-{
-    mode.contains(Mode::NO_SUB_DIR) && !mode.contains(Mode::ABSOLUTE)
 }

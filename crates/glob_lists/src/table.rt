@@ -57,6 +57,21 @@ impl Table {
         self.rows.len()
     }
 
+    /// The rows.
+    #[inline(always)]
+    pub(crate) fn rows(&self) -> &[Row]
+        ensures { result.now ≡ self.now.rows.items }
+    {
+        &self.rows
+    }
+
+    /// How many rows a path meets that ends in this byte.
+    pub(crate) fn met(&self, last: u8) -> usize {
+        let own = self.counts[Class::EndsIn(last.to_ascii_lowercase()).place()] as usize;
+        let other = self.counts[Class::Always.place()] as usize;
+        own.saturating_add(other)
+    }
+
     /// Adds a row after the others.
     pub(crate) fn push(&mut self, row: Row) -> Result<(), AllocError>
         requires chained { AreChained self.old }
@@ -88,10 +103,8 @@ impl Table {
 
     /// Whether a path that ends in this byte meets at most half of the rows, and there are enough rows for that to pay.
     pub(crate) fn is_selective(&self, last: u8) -> bool {
-        let own = self.counts[Class::EndsIn(last.to_ascii_lowercase()).place()] as usize;
-        let other = self.counts[Class::Always.place()] as usize;
         let len = self.rows.len();
-        len >= FEWEST_ROWS && own.saturating_add(other).saturating_mul(2) <= len
+        len >= FEWEST_ROWS && self.met(last).saturating_mul(2) <= len
     }
 
     /// What a path shows. The sets of its bytes are made where that is less work than the rows that they pass over. A look is

@@ -28,8 +28,3 @@ step_limit p v = 2 * (p + 1) * (v + 1)
 -- how many looks a match takes at most, in each mode
 abbrev pub look_limit : ℕ → ℕ → ℕ
 look_limit p v = 8 * (p + 1) * (v + 1)
-
--- how many looks a parsed pattern takes at most, p being the length of its text: its shortcuts compare the text with the
--- value, and look for a slash in the value, before the matcher is asked
-abbrev pub pattern_look_limit : ℕ → ℕ → ℕ
-pattern_look_limit p v = 10 * (p + 1) * (v + 1)

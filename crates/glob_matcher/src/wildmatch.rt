@@ -3,6 +3,7 @@ ghost use Rattle.std.specs.Prelude.{◌↔◌, IsTrue};
 ghost use Rattle.glob_matcher.specs.Matching.{Splits};
 ghost use Rattle.glob_matcher.specs.Steps.{IsBlankOf};
 
+mod any_of;
 mod backtrack;
 mod barrier;
 mod counted_text;
@@ -11,6 +12,7 @@ mod counts;
 mod ends;
 mod engine;
 mod fitting;
+mod front;
 mod items;
 mod marks;
 mod mode;
@@ -48,7 +50,7 @@ pub use two_marks::marked;
 pub fn wildmatch(pattern: &[u8], value: &[u8], mode: Mode) -> bool
     ensures { IsTrue result ↔ Splits value.now pattern.now mode }
 {
-    with_new_counts::<Brand, Brand>(pattern, value, mode, Blank::new(1), Blank::new(1))
+    with_new_counts::<Brand, Brand>(pattern, value, mode, (Blank::new(1), Blank::new(1)))
 }
 
 /// The two marks, with new counts that no one asks for.
@@ -57,12 +59,12 @@ fn with_new_counts<S: Ledger, L: Ledger>(
     pattern: &[u8],
     value: &[u8],
     mode: Mode,
-    steps: Blank,
-    looks: Blank,
+    blanks: (Blank, Blank),
 ) -> bool
-    requires steps { IsBlankOf S.name S.parts steps }
-    requires looks { IsBlankOf L.name L.parts looks }
+    requires steps { IsBlankOf S.name S.parts blanks.0 }
+    requires looks { IsBlankOf L.name L.parts blanks.1 }
     ensures { IsTrue result ↔ Splits value.now pattern.now mode }
 {
-    marked(pattern, value, mode, &mut Counts::<S, L>::new(steps, looks))
+    let mut counts = Counts::<S, L>::new(blanks.0, blanks.1);
+    marked(pattern, value, mode, &mut counts)
 }

@@ -8,9 +8,6 @@ use Rattle.glob_patterns.specs.declared.mode.Mode.{Mode}
 use Rattle.glob_matcher.specs.Bytes.{has_slash, is_special}
 
 -- which of the named bits stand in a pattern's mode
-abbrev pub is_without_sub_dir : Mode → Bool
-is_without_sub_dir mode = bit_and mode.0 1 == 1
-
 abbrev pub is_by_its_end : Mode → Bool
 is_by_its_end mode = bit_and mode.0 2 == 2
 
@@ -22,6 +19,10 @@ is_negative mode = bit_and mode.0 8 == 8
 
 abbrev pub is_absolute : Mode → Bool
 is_absolute mode = bit_and mode.0 16 == 16
+
+-- whether a pattern looks at the last part of a path alone: its text has no slash, and its line began with none
+abbrev pub looks_at_name : Mode → Bool
+looks_at_name mode = bit_and mode.0 1 == 1 && not (is_absolute mode)
 
 -- the place of the first special byte, where a literal front ends
 abbrev pub first_special : List ℕ → Option ℕ

@@ -47,12 +47,12 @@ impl Flags for Mode {
 }
 
 impl Mode {
-    ghost use Rattle.std.specs.Prelude.{◌≡◌, ◌&&◌, not};
-    ghost use Rattle.glob_patterns.specs.Patterns.{is_absolute, is_without_sub_dir};
+    ghost use Rattle.std.specs.Prelude.{◌≡◌};
+    ghost use Rattle.glob_patterns.specs.Patterns.{looks_at_name};
 
     /// Whether a pattern of this mode looks at the last part of a path alone, where it is known where that begins.
     pub fn looks_at_name(self) -> bool
-        ensures { result ≡ (is_without_sub_dir self && not (is_absolute self)) }
+        ensures { result ≡ looks_at_name self }
     {
         self.contains(Mode::NO_SUB_DIR) && !self.contains(Mode::ABSOLUTE)
     }

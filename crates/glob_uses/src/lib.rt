@@ -2,37 +2,39 @@
 //! public ones alone. A test calls each once; rows are in `glob_vectors`, and files in `glob_faults`.
 #![tactic(auto)]
 
-ghost use Rattle.std.specs.Prelude.{◌≡◌, true, false, map, IfOk};
+ghost use Rattle.std.specs.Prelude.{◌≡◌, ◌↔◌, true, false, map, IfOk, IsTrue};
 ghost use Rattle.gix_glob.specs.declared.pattern.Case.{Case};
-ghost use Rattle.gix_glob.specs.Bytes.{HasByte, slash};
-ghost use Rattle.glob_lists.specs.Deciding.{BasesAreFolders, Decides};
-ghost use Rattle.gix_glob.specs.Entries.{entry_of};
+ghost use Rattle.glob_lists.specs.Deciding.{AnswersFor, BasesAreFolders, Decides};
+ghost use Rattle.gix_glob.specs.Entries.{Entry, entry_of};
 ghost use Rattle.gix_glob.specs.EntryLists.{entry_list_of};
 ghost use Rattle.glob_lists.specs.Paths.{IsPlainPath};
-ghost use Rattle.gix_glob.specs.Patterns.{HasReading};
+ghost use Rattle.gix_glob.specs.Patterns.{HasReading, Reads};
 ghost use Rattle.glob_lines.specs.Ignore.{Ignore};
-ghost use Rattle.glob_uses.specs.Uses.{LineAnswers};
 
 mod own_parser;
 
-use gix_glob::pattern::{Case, PatternView, basename_start};
+use gix_glob::laws::line_has_one_reading;
+use gix_glob::pattern::{Case, PatternView};
 use gix_glob::search::pattern::List;
-use gix_glob::wildmatch::Mode;
 use glob_lines::{IgnoreLines, bases_are_folders, decide, laws, plain_path};
+use glob_lists::RepositoryPath;
 pub use own_parser::{Whole, whole_entries_are_these};
 use std::alloc::{AllocError, Global};
 
 /// Whether a pattern line matches the path of a file. It takes no memory.
 pub fn matches_line(line: &[u8], path: &[u8]) -> bool
-    requires { ¬ HasByte path.now 0 slash }
     ensures blank { ¬ HasReading line.now true → result ≡ false }
-    ensures answers { HasReading line.now true → LineAnswers line.now path.now result }
+    ensures answers { (entry : Entry (Unit {0})) → Reads line.now true entry.text entry.mode entry.place
+        → IsPlainPath path.now → IsTrue result ↔ AnswersFor entry.text entry.mode path.now false Case.Sensitive }
 {
-    let Some(pattern) = PatternView::from_bytes(line) else {
+    line_has_one_reading();
+    let (Some(pattern), Some(path)) = (
+        PatternView::from_bytes(line),
+        RepositoryPath::new(path, false),
+    ) else {
         return false;
     };
-    let (start, mode) = (basename_start(path), Mode::NO_MATCH_SLASH_LITERAL);
-    pattern.matches_repo_relative_path(path, start, Some(false), Case::Sensitive, mode)
+    path.is_matched_by(pattern, Case::Sensitive)
 }
 
 /// The rules of an ignore file's bytes, for the paths of the folder that it stands in.

@@ -3,6 +3,8 @@
 #![tactic(auto)]
 
 #[cfg(test)]
+mod attributes;
+#[cfg(test)]
 mod compare;
 #[cfg(test)]
 mod index;
@@ -17,6 +19,10 @@ mod matching;
 #[cfg(test)]
 mod patterns;
 #[cfg(test)]
+mod records;
+#[cfg(test)]
 mod shown;
 #[cfg(test)]
 mod texts;
+#[cfg(test)]
+mod trees;

@@ -6,7 +6,7 @@ mod own_parser;
 use gix_glob::pattern::Case;
 use gix_glob::search::Pattern;
 use gix_glob::search::pattern::List;
-use glob_lines::{bases_are_folders, decide, plain_path};
+use glob_lines::{IgnoreLines, bases_are_folders, decide, plain_path};
 use std::alloc::{AllocError, Global};
 use std::process::Abort;
 
@@ -36,4 +36,34 @@ pub(crate) fn last_match<T: Pattern>(
     assert!(rt; bases_are_folders(lists));
     assert!(rt; plain_path(path), "{path:?} isn't plain");
     decide(lists, path, is_dir, case)
+}
+
+/// The bytes of an ignore file, and the base of its list.
+#[derive(Clone, Copy)]
+pub(crate) struct IgnoreFile<'a> {
+    pub(crate) bytes: &'a [u8],
+    pub(crate) base: Option<&'a [u8]>,
+}
+
+/// A file whose list has no base.
+pub(crate) fn at_top(bytes: &[u8]) -> IgnoreFile<'_> {
+    IgnoreFile { bytes, base: None }
+}
+
+/// A file whose list has a base.
+pub(crate) fn under<'a>(base: &'a [u8], bytes: &'a [u8]) -> IgnoreFile<'a> {
+    let base = Some(base);
+    IgnoreFile { bytes, base }
+}
+
+/// The lists of the files, in their order.
+pub(crate) fn lists_of(
+    rt: &impl AllocGlobal,
+    files: &[IgnoreFile<'_>],
+) -> Result<Vec<List<IgnoreLines>>, AllocError> {
+    let mut lists = Vec::new(rt.alloc());
+    for file in files {
+        lists.push(list_of(rt.alloc(), IgnoreLines, file.bytes, file.base)?)?;
+    }
+    Ok(lists)
 }

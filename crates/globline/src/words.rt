@@ -62,7 +62,7 @@ pub fn run_words<F: Files, I: Read, O: Write, E: Write>(
     let Some(command) = command_of(words) else {
         return tell_usage(errors);
     };
-    match run(rt, alloc, command, input, output) {
+    match command.run(rt, alloc, input, output) {
         Ok(()) => Status::Answered as u8,
         Err(fault) => tell_fault(fault, errors),
     }
@@ -79,31 +79,33 @@ pub(crate) fn without_words<E: Write>(refused: ErrorKind, errors: &mut E) -> u8
     }
 }
 
-/// Runs the engine that the command asks for.
-fn run<F: Files, I: Read, O: Write>(
-    rt: &F,
-    alloc: Global,
-    command: Command<'_>,
-    input: &mut Watched<I>,
-    output: &mut Watched<O>,
-) -> Result<(), EngineFault>
-    requires readable { has_failed input.old ≡ false }
-    requires writable { has_failed output.old ≡ false }
-    requires file { CanRun command }
-    ensures ok { OnOk result (CarriesOut command.entry
-        (I.remaining (inner input.old)) (I.remaining (inner input.new)) (Appends (O.contents (inner output.old)) (O.contents (inner output.new)))) }
-    ensures err { OnErr result ((output.new ≡ output.old) ⊎ CarriesOut command.entry
-        (I.remaining (inner input.old)) (I.remaining (inner input.new)) (AppendsFront (O.contents (inner output.old)) (O.contents (inner output.new)))) }
-{
-    match command {
-        Command::Wild { mode, pattern } => run_wild(alloc, pattern, mode, input, output),
-        Command::List { case, file, root } => {
-            let mut patterns = Watched::new(open(rt, file)?);
-            run_list(alloc, &mut patterns, file, root, case, input, output)
-        }
-        Command::Ignore { case, root, files } => {
-            let lists = lists_of(rt, alloc, root, files)?;
-            run_ignore(alloc, &lists, case, input, output)
+impl<'a> Command<'a> {
+    /// Runs the engine that the command asks for.
+    fn run<F: Files, I: Read, O: Write>(
+        self,
+        rt: &F,
+        alloc: Global,
+        input: &mut Watched<I>,
+        output: &mut Watched<O>,
+    ) -> Result<(), EngineFault>
+        requires readable { has_failed input.old ≡ false }
+        requires writable { has_failed output.old ≡ false }
+        requires file { CanRun self }
+        ensures ok { OnOk result (CarriesOut self.entry
+            (I.remaining (inner input.old)) (I.remaining (inner input.new)) (Appends (O.contents (inner output.old)) (O.contents (inner output.new)))) }
+        ensures err { OnErr result ((output.new ≡ output.old) ⊎ CarriesOut self.entry
+            (I.remaining (inner input.old)) (I.remaining (inner input.new)) (AppendsFront (O.contents (inner output.old)) (O.contents (inner output.new)))) }
+    {
+        match self {
+            Command::Wild { mode, pattern } => run_wild(alloc, pattern, mode, input, output),
+            Command::List { case, file, root } => {
+                let mut patterns = Watched::new(open(rt, file)?);
+                run_list(alloc, &mut patterns, file, root, case, input, output)
+            }
+            Command::Ignore { case, root, files } => {
+                let lists = lists_of(rt, alloc, root, files)?;
+                run_ignore(alloc, &lists, case, input, output)
+            }
         }
     }
 }

@@ -77,7 +77,7 @@ impl<T: Pattern> List<T> {
 /// Utilities
 impl<T: Pattern> List<T> {
     /// What of a path lies below the list's base, as [`strip_base_handle_recompute_basename_pos()`] tells it. Without a base
-    /// path and position stay as they are.
+    /// path and basename start stay as they are.
     pub fn strip_base_handle_recompute_basename_pos<'a>(
         &self,
         relative_path: &'a BStr,
@@ -105,7 +105,7 @@ impl<T: Pattern> List<T> {
 ///
 /// # Panics
 ///
-/// With debug assertions, where the position lies inside the base.
+/// With debug assertions, where the basename start lies inside the base.
 pub fn strip_base_handle_recompute_basename_pos<'a>(
     base: &BStr,
     relative_path: &'a BStr,

@@ -45,14 +45,14 @@ place_case front rest at false some after =
     }
 
 -- the place after a path's last slash, as a place in the rest
-start_behind_front : (front rest : List ℕ) (position : Option ℕ) → IsBasenameStart (front ++ rest) position → IsBasenameStart rest (stripped_place (length front) position)
+start_behind_front : (front rest : List ℕ) (basename_start : Option ℕ) → IsBasenameStart (front ++ rest) basename_start → IsBasenameStart rest (stripped_place (length front) basename_start)
 start_behind_front front rest None none = λ j has. none (length front + j) (later_byte front rest j slash has)
 start_behind_front front rest (Some at) after = place_case front rest at (at - length front == 0) refl after
 
-pub start_in_rest : (case : Case) (base path rest : List ℕ) (position : Option ℕ) → Rest case base path rest → IsBasenameStart path position → IsBasenameStart rest (stripped_place (length base) position)
-start_in_rest case base path rest position r start =
-    subst (λ n. IsBasenameStart rest (stripped_place n position)) (Rest-front case base path rest r)
-    (start_behind_front r.front rest position (subst (λ p. IsBasenameStart p position) r.joined start))
+pub start_in_rest : (case : Case) (base path rest : List ℕ) (basename_start : Option ℕ) → Rest case base path rest → IsBasenameStart path basename_start → IsBasenameStart rest (stripped_place (length base) basename_start)
+start_in_rest case base path rest basename_start r start =
+    subst (λ n. IsBasenameStart rest (stripped_place n basename_start)) (Rest-front case base path rest r)
+    (start_behind_front r.front rest basename_start (subst (λ p. IsBasenameStart p basename_start) r.joined start))
 
 folding_by-slash : (case : Case) (text : List ℕ) (i : ℕ) → HasByte (folding_by case text) i slash → HasByte text i slash
 folding_by-slash Sensitive text i has = has

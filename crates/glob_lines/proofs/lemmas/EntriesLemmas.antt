@@ -10,7 +10,7 @@ use Rattle.gix_glob.specs.Equations.Entries.{entry_with}
 use Rattle.gix_glob.specs.Patterns.{Reads}
 use Rattle.gix_glob.specs.Equations.Readings.{Reading, reading_of}
 use Rattle.glob_lines.specs.Entries.{Entries, EntriesFrom, HasNoEntry, IsEntryOf}
-use Rattle.glob_lines.specs.Equations.Entries.{LineContent, entries_from, entry_of_content, entry_of_line}
+use Rattle.glob_lines.specs.Equations.Entries.{LineContent, entries_from, entry_of_content, entry_of_line, entry_of_text}
 use Rattle.glob_lines.proofs.lemmas.LinesLemmas.{Lines-are, Lines-only, TellsLines}
 
 -- the law `readings_are_these`, restated: a lemma can't cite a clause
@@ -150,31 +150,25 @@ module _ {T V : Type 0} (seen : T → V) where
   seen-option value number None more = refl
   seen-option value number (Some reading) more = refl
 
-  -- a line was read: what is meant by those after it is still to come
-  pub meant-more : (content_of : List ℕ → Option (LineContent V)) (old new : List (Mapping T)) (number : ℕ) (lines more : List (List ℕ)) (line text : List ℕ) (value : T) (all : List (Entry V))
-      → map (entry_of (λ v. v)) new ≡ map (entry_of (λ v. v)) old ++ option_to_list (option_map (entry_with value number) (reading_of true text))
-      → lines ≡ line ∷ more → content_of line ≡ Some (record { text = text; value = seen value })
+  seen-text : (value : T) (number : ℕ) (text : Option (List ℕ)) (more : List (Entry V))
+      → map (with_seen_value seen) (option_to_list (entry_of_text value number text)) ++ more ≡ cons_option (option_and_then (entry_of_content number) (option_map (λ t. record { text = t; value = seen value }) text)) more
+  seen-text value number None more = refl
+  seen-text value number (Some text) more = seen-option value number (reading_of true text) more
+
+  -- a line was read, which may give no text: what is meant by those after it is still to come
+  pub meant-more : (content_of : List ℕ → Option (LineContent V)) (old new : List (Mapping T)) (number : ℕ) (lines more : List (List ℕ)) (line : List ℕ) (text : Option (List ℕ)) (value : T) (all : List (Entry V))
+      → map (entry_of (λ v. v)) new ≡ map (entry_of (λ v. v)) old ++ option_to_list (entry_of_text value number text)
+      → lines ≡ line ∷ more → content_of line ≡ option_map (λ t. record { text = t; value = seen value }) text
       → map (entry_of seen) old ++ entries_from content_of number lines ≡ all → map (entry_of seen) new ++ entries_from content_of (number + 1) more ≡ all
   unfolding entry_of_line
   meant-more content_of old new number lines more line text value all grown is gives meant =
-      let added = option_to_list (option_map (entry_with value number) (reading_of true text)) in
+      let added = option_to_list (entry_of_text value number text) in
       let rest = entries_from content_of (number + 1) more in
       let news : map (entry_of seen) new ≡ map (entry_of seen) old ++ map (with_seen_value seen) added =
       sym (seen-entries new) ∙ ap (map (with_seen_value seen)) grown ∙ seen-append (map (entry_of (λ v. v)) old) added ∙ ap (λ l. l ++ map (with_seen_value seen) added) (seen-entries old) in
-      let here : entries_from content_of number lines ≡ cons_option (option_map (entry_with (seen value) number) (reading_of true text)) rest =
+      let here : entries_from content_of number lines ≡ cons_option (option_and_then (entry_of_content number) (option_map (λ t. record { text = t; value = seen value }) text)) rest =
       ap (entries_from content_of number) is ∙ ap (λ o. cons_option (option_and_then (entry_of_content number) o) rest) gives in
       ap (λ l. l ++ rest) news
       ∙ append_assoc (map (entry_of seen) old) (map (with_seen_value seen) added) rest
-      ∙ ap (λ l. map (entry_of seen) old ++ l) (seen-option value number (reading_of true text) rest ∙ sym here)
+      ∙ ap (λ l. map (entry_of seen) old ++ l) (seen-text value number text rest ∙ sym here)
       ∙ meant
-
-  -- a line that gives nothing was passed over
-  pub meant-skip : (content_of : List ℕ → Option (LineContent V)) (old : List (Mapping T)) (number : ℕ) (lines more : List (List ℕ)) (line : List ℕ) (all : List (Entry V))
-      → lines ≡ line ∷ more → content_of line ≡ None
-      → map (entry_of seen) old ++ entries_from content_of number lines ≡ all → map (entry_of seen) old ++ entries_from content_of (number + 1) more ≡ all
-  unfolding entry_of_line
-  meant-skip content_of old number lines more line all is nothing meant =
-      let rest = entries_from content_of (number + 1) more in
-      let here : entries_from content_of number lines ≡ rest =
-      ap (entries_from content_of number) is ∙ ap (λ o. cons_option (option_and_then (entry_of_content number) o) rest) nothing in
-      ap (λ l. map (entry_of seen) old ++ l) (sym here) ∙ meant

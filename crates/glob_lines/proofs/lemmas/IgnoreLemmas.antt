@@ -2,6 +2,7 @@
 use Rattle.std.proofs.Common.{◌≡◌, ◌≢◌, ◌⊎◌, inl, inr, ⊎_elim, ℕ, ◌-◌, ◌<◌, ◌≤◌, Bool, true, false, cond, ◌&&◌, List, [], ◌∷◌, ◌++◌, length, take, Option, None, Some, refl, sym, ap, subst, ◌∙◌, append_assoc, append-nil, length-append, length-drop, le_refl, arith}
 use Rattle.std.specs.Prelude.{◌==◌, MatchOption, nat_eq}
 use Rattle.std.specs.List.{starts_with}
+use Rattle.std.specs.Option.{option_map}
 use Rattle.std.proofs.lemmas.Bool.Decides.{Decides-eqb}
 use Rattle.std.proofs.lemmas.List.{append_cancel_left}
 use Rattle.std.proofs.lemmas.Slice.Eq.{ends_is}
@@ -195,11 +196,11 @@ Tells-ignore_content = record {
   gives = GivesTrimmed-content;
 }
 
-pub ignore_content-text : (line text : List ℕ) → GivesTrimmed line text tt → ignore_content line ≡ Some (record { text = text; value = tt })
-ignore_content-text line text h = Tells-ignore_content.found line text tt h
-
-pub ignore_content-comment : (line : List ℕ) → is_comment line ≡ true → ignore_content line ≡ None
-ignore_content-comment line comment = let it : LineContent (Unit {0}) = record { text = text_before_spaces line; value = tt } in ap (λ b. cond b None (Some it)) comment
+-- what a line gives that is a comment, or has this text
+pub ignore_content-is : (line : List ℕ) (text : Option (List ℕ)) → MatchOption text (is_comment line ≡ true) (λ t. GivesTrimmed line t tt)
+    → ignore_content line ≡ option_map (λ t. record { text = t; value = tt }) text
+ignore_content-is line None comment = let it : LineContent (Unit {0}) = record { text = text_before_spaces line; value = tt } in ap (λ b. cond b None (Some it)) comment
+ignore_content-is line (Some text) h = Tells-ignore_content.found line text tt h
 
 -- ---- one first line
 

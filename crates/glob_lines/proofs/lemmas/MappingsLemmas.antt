@@ -1,16 +1,14 @@
 -- The numbers of the mappings that answer, one mapping after the other, and what is made of them.
-use Rattle.std.proofs.Common.{◌≡◌, inr, ℕ, Bool, List, [], ◌∷◌, ◌++◌, map, Option, refl, sym, ap, subst, ◌∙◌, append_assoc, append-nil}
+use Rattle.std.proofs.Common.{◌≡◌, ℕ, List, [], ◌∷◌, ◌++◌, map, Option, refl, sym, ap, subst, ◌∙◌, append_assoc, append-nil}
 use Rattle.std.specs.Prelude.{◌↔◌, decimal}
 use Rattle.std.proofs.lemmas.List.{map_push}
 use Rattle.gix_glob.specs.declared.pattern.Case.{Case}
 use Rattle.gix_glob.specs.Paths.{Base}
-use Rattle.glob_lines.specs.Mappings.{MappingsText, WritesNumbers}
+use Rattle.glob_lines.specs.Mappings.{MappingsText}
 use Rattle.glob_lines.specs.Numbers.{Picks, text_of_numbers}
-use Rattle.glob_lists.specs.Paths.{IsPlainPath, MarksDirectory}
 use Rattle.glob_lines.specs.Plain.{Plain, PlainEntry}
 use Rattle.glob_lines.specs.Equations.Plain.{plain_of}
-use Rattle.glob_lines.specs.Private.Answering.{MatchesText, WritesMatches}
-use Rattle.glob_lines.specs.Private.Growing.{Adds}
+use Rattle.glob_lines.specs.Private.Answering.{MatchesText}
 use Rattle.glob_lines.proofs.lemmas.NumbersLemmas.{Picks-more, Picks-skip, separator_after, text_of_numbers-more}
 
 abbrev pub numbers_of : List PlainEntry → List ℕ
@@ -62,10 +60,6 @@ module _ (P : PlainEntry → Type 0) where
       }
 
 -- ---- a path line
-
-module _ (entries : List PlainEntry) (base : Option (List ℕ)) (case : Case) (line path : List ℕ) (is_dir : Bool) (plain : IsPlainPath line) (marked : MarksDirectory line path is_dir) where
-  pub writes_numbers : (old new : List ℕ) → Adds (WritesNumbers entries base case path is_dir) old new → Adds (WritesMatches entries base case line) old new
-  writes_numbers old new adds = record { added = adds.added; allowed = inr (plain, path, is_dir, marked, adds.allowed); grown = adds.grown }
 
 -- ---- all path lines
 

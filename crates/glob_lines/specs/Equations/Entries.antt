@@ -16,6 +16,10 @@ pub record LineContent (V : Type 0) : Type 0 where
 abbrev pub entry_of_content : {V : Type 0} → ℕ → LineContent V → Option (Entry V)
 entry_of_content number content = option_map (entry_with content.value number) (reading_of true content.text)
 
+-- the entry of a line that gives this text, if it gives any, with this value
+abbrev pub entry_of_text : {V : Type 0} → V → ℕ → Option (List ℕ) → Option (Entry V)
+entry_of_text value number text = option_and_then (λ t. option_map (entry_with value number) (reading_of true t)) text
+
 -- the entry of a line, where `content_of` says what a line gives, if it gives anything
 unfoldable pub entry_of_line : {V : Type 0} → (List ℕ → Option (LineContent V)) → ℕ → List ℕ → Option (Entry V)
 entry_of_line content_of number line = option_and_then (entry_of_content number) (content_of line)

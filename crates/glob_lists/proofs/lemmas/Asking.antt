@@ -5,7 +5,8 @@ use Rattle.gix_glob.specs.declared.pattern.Case.{Case}
 use Rattle.gix_glob.specs.declared.pattern.Mode as pattern
 use Rattle.gix_glob.specs.Entries.{Entry}
 use Rattle.gix_glob.specs.EntryLists.{EntryList}
-use Rattle.gix_glob.specs.Steps.{pattern_look_limit, step_limit}
+use Rattle.gix_glob.specs.Steps.{step_limit}
+use Rattle.gix_glob.specs.PatternLimits.{pattern_look_limit}
 use Rattle.gix_glob.specs.Stripping.{NothingLeft, RestOf, strip_looks}
 use Rattle.glob_lists.specs.Deciding.{AnswersFor, AnswersUnder, PairAnswers}
 use Rattle.glob_lists.specs.DecisionLimits.{decision_look_limit, decision_step_limit, list_look_limit, list_step_limit}

@@ -3,7 +3,8 @@ use Rattle.std.proofs.Common.{◌≡◌, ℕ, ◌+◌, ◌≤◌, List, length, 
 use Rattle.std.specs.Prelude.{slice_get, sum_by}
 use Rattle.std.proofs.lemmas.List.Sums.{sum_by-drop_more, sum_by-take-drop}
 use Rattle.std.proofs.lemmas.Option.{get_or_from_slice_get, slice_get_within}
-use Rattle.gix_glob.specs.Steps.{pattern_look_limit, step_limit}
+use Rattle.gix_glob.specs.Steps.{step_limit}
+use Rattle.gix_glob.specs.PatternLimits.{pattern_look_limit}
 use Rattle.gix_glob.specs.declared.pattern.Case.{Case}
 use Rattle.gix_glob.proofs.lemmas.Limits.{pattern_look_limit-le, step_limit-le, within_more}
 use Rattle.gix_glob.specs.Stripping.{RestOf}

@@ -22,7 +22,7 @@ end_keys_more text keys n longer wide is each m below = ⊎_elim
     (cases_eq m (n + 1))
 
 -- a byte that no slash follows stands in the last part
-pub name_bits : (path : List ℕ) (position : Option ℕ) (set : ℕ) → IsBasenameStart path position → HoldsBits (last_part position path) set → HoldsNameBits path set
+pub name_bits : (path : List ℕ) (basename_start : Option ℕ) (set : ℕ) → IsBasenameStart path basename_start → HoldsBits (last_part basename_start path) set → HoldsNameBits path set
 name_bits path None set base h j inside alone = h j inside
 name_bits path (Some start) set after h j inside alone =
     let some = after.some in

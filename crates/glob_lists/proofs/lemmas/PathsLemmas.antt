@@ -1,8 +1,8 @@
 -- The test of a path, a byte at a time.
-use Rattle.std.proofs.Common.{◌≡◌, ◌≢◌, ◌⊎◌, ⊎_elim, ℕ, ◌+◌, ◌-◌, ◌<◌, Bool, true, false, cond, List, [], ◌++◌, refl, sym, ap, subst, ◌∙◌, length-append, arith}
+use Rattle.std.proofs.Common.{◌≡◌, ◌≢◌, ◌⊎◌, ⊎_elim, ℕ, ◌+◌, ◌-◌, ◌<◌, Bool, true, false, cond, List, [], ◌++◌, length, take, drop, refl, sym, ap, subst, ◌∙◌, length-append, arith}
 use Rattle.std.specs.Prelude.{codes}
 use Rattle.std.proofs.lemmas.Bool.{cases_eq}
-use Rattle.std.proofs.lemmas.List.{get_or_append_left}
+use Rattle.std.proofs.lemmas.List.{get_or_append_left, length-take-le, take-append-drop}
 use Rattle.gix_glob.specs.Bytes.{HasByte, slash}
 use Rattle.glob_lists.specs.Paths.{IsPlainPath, MarksDirectory}
 
@@ -43,3 +43,23 @@ IsPlainPath-marked line path is_dir plain marked =
       relative = λ h. plain.relative (in_line 0 h);
       single = λ i first second. plain.single i (in_line i first) (in_line (i + 1) second);
     }
+
+-- ---- the folder before a slash
+
+HasByte-take : (path : List ℕ) (place i b : ℕ) → HasByte (take place path) i b → HasByte path i b
+HasByte-take path place i b h =
+    subst (λ l. HasByte l i b) (take-append-drop place path) (HasByte-front (take place path) (drop place path) i b h)
+
+-- what stands before a slash of a plain path is plain too
+pub IsPlainPath-folder : (path : List ℕ) (place : ℕ) → (path ≡ []) ⊎ IsPlainPath path → HasByte path place slash → IsPlainPath (take place path)
+IsPlainPath-folder path place kept here = ⊎_elim
+    (λ (none : path ≡ []). absurd (let inside : place < length path = here.inside in omega (arith, ap length none)))
+    (λ (plain : IsPlainPath path).
+    let later : place ≢ 0 = λ first. plain.relative (subst (λ k. HasByte path k slash) first here) in
+    let some : take place path ≢ [] = λ empty. later (sym (length-take-le place path (omega (arith, here.inside))) ∙ ap length empty) in
+    record {
+      some = some;
+      relative = λ h. plain.relative (HasByte-take path place 0 slash h);
+      single = λ i first second. plain.single i (HasByte-take path place i slash first) (HasByte-take path place (i + 1) slash second);
+    })
+    kept

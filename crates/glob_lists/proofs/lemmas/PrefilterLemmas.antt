@@ -1,5 +1,5 @@
 -- What a pattern that answers for a path asks for is shown by the path.
-use Rattle.std.proofs.Common.{◌≡◌, ⊎_elim, ℕ, zero, suc, ◌+◌, ◌-◌, ◌*◌, ◌%◌, ◌^◌, ◌<◌, ◌≤◌, Bool, true, false, not, ◌&&◌, List, ◌++◌, length, get_or, take, drop, Option, None, Some, refl, sym, ◌∙◌, ap, subst, arith, length-drop, if◌then◌else◌}
+use Rattle.std.proofs.Common.{◌≡◌, ⊎_elim, ℕ, zero, suc, ◌+◌, ◌-◌, ◌*◌, ◌%◌, ◌^◌, ◌<◌, ◌≤◌, Bool, true, false, List, ◌++◌, length, get_or, take, drop, Option, None, Some, refl, sym, ◌∙◌, ap, subst, arith, length-drop, if◌then◌else◌}
 use Rattle.std.specs.List.{list_any}
 use Rattle.std.specs.Char.{to_ascii_lowercase}
 use Rattle.std.specs.Int.{bit_at}
@@ -13,7 +13,7 @@ use Rattle.gix_glob.specs.declared.wildmatch.Mode as wildmatch
 use Rattle.gix_glob.specs.Bytes.{HasByte, fold, folds, slash}
 use Rattle.gix_glob.specs.LiteralBytes.{AreAlike, EndsAlike, HasAlike, IsUnescapedUpTo, is_joining}
 use Rattle.gix_glob.specs.Matching.{Splits}
-use Rattle.gix_glob.specs.Patterns.{is_absolute, is_without_sub_dir}
+use Rattle.gix_glob.specs.Patterns.{looks_at_name}
 use Rattle.gix_glob.specs.RepositoryPaths.{IsBasenameStart, subject, with_case}
 use Rattle.gix_glob.specs.Stripping.{RestOf}
 use Rattle.glob_lists.specs.Deciding.{AnswersFor, path_mode}
@@ -112,13 +112,13 @@ if_end : (b : Bool) (k : ℕ) (rest : List ℕ) → (at : ℕ) × ((if b then dr
 if_end true k rest = (k, refl)
 if_end false k rest = (0, refl)
 
-subject_is_end : (pattern_mode : pattern.Mode) (rest : List ℕ) (position : Option ℕ) → (at : ℕ) × (subject pattern_mode rest position ≡ drop at rest)
+subject_is_end : (pattern_mode : pattern.Mode) (rest : List ℕ) (basename_start : Option ℕ) → (at : ℕ) × (subject pattern_mode rest basename_start ≡ drop at rest)
 subject_is_end pattern_mode rest None = (0, refl)
-subject_is_end pattern_mode rest (Some k) = if_end (is_without_sub_dir pattern_mode && not (is_absolute pattern_mode)) k rest
+subject_is_end pattern_mode rest (Some k) = if_end (looks_at_name pattern_mode) k rest
 
 -- the last part of what is left has no slash
-name_has_no_slash : (pattern_mode : pattern.Mode) (rest : List ℕ) (position : Option ℕ) → (is_without_sub_dir pattern_mode && not (is_absolute pattern_mode)) ≡ true → IsBasenameStart rest position
-    → (m : ℕ) → ¬ HasByte (subject pattern_mode rest position) m slash
+name_has_no_slash : (pattern_mode : pattern.Mode) (rest : List ℕ) (basename_start : Option ℕ) → looks_at_name pattern_mode ≡ true → IsBasenameStart rest basename_start
+    → (m : ℕ) → ¬ HasByte (subject pattern_mode rest basename_start) m slash
 name_has_no_slash pattern_mode rest None name start m there = start m there
 name_has_no_slash pattern_mode rest (Some k) name start m there =
     let same : subject pattern_mode rest (Some k) ≡ drop k rest = ap (λ (b : Bool). if b then drop k rest else rest) name in

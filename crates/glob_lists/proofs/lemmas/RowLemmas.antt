@@ -23,6 +23,7 @@ module _ {V : Type 0} (lists : List (EntryList V)) where
         before = λ k row got. (let inside = slice_get_within rows k row got in absurd (omega arith));
         rising = λ k l a b less got. (let inside = slice_get_within rows k a got in absurd (omega arith));
         all = λ i m has before. ⊎_elim (λ (x : i < 0). absurd (omega arith)) (λ (x : (i ≡ 0) × (m < 0)). absurd (omega (arith, x.1))) before;
+        places = λ k row got. (let inside = slice_get_within rows k row got in absurd (omega arith));
         count = short;
       }
 
@@ -54,6 +55,12 @@ module _ {V : Type 0} (lists : List (EntryList V)) where
           | inl old ↦ (let at = h.all i m has old in (at.0, record { row = at.1.row; there = slice_get-push_old rows added at.0 at.1.row at.1.there; list = at.1.list; mapping = at.1.mapping }))
           | inr here ↦ (length rows, record { row = added; there = slice_get-push_new rows added; list = list ∙ sym here.0; mapping = mapping ∙ sym here.1 })
         ];
+        places = λ k row got. elim (slice_get-push_cases rows added k row got) [
+          | inl old ↦ h.places k row old
+          | inr new ↦ (let list_is : row.list ≡ j = ap (λ (r : Row). r.list) new.1 ∙ list in
+              let mapping_is : row.mapping ≡ n = ap (λ (r : Row). r.mapping) new.1 ∙ mapping in
+              let counts : entry_count (take row.list lists) ≡ entry_count (take j lists) = ap (λ (i : ℕ). entry_count (take i lists)) list_is in omega (arith, new.0, h.count))
+        ];
         count = omega (arith, h.count, length-append rows (added ∷ []));
       }
 
@@ -73,6 +80,7 @@ module _ {V : Type 0} (lists : List (EntryList V)) where
         (cases_eq i j))
         (λ (none : (i ≡ j + 1) × (m < 0)). absurd (omega (arith, none.1)))
         before;
+    places = h.places;
     count = omega (arith, h.count, entry_count-more lists j list there);
   }
 

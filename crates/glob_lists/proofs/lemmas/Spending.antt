@@ -10,7 +10,7 @@ use Rattle.glob_lists.specs.Private.Spending.{list_part, pairs_part}
 use Rattle.glob_lists.proofs.lemmas.DecisionSums.{sum_by-from}
 
 -- what the elements from a later one on take is within what those from an earlier one on do
-sum_by-drop-le : {X : Type 0} (f : X → ℕ) (xs : List X) (i j : ℕ) → i ≤ j → sum_by f (drop j xs) ≤ sum_by f (drop i xs)
+pub sum_by-drop-le : {X : Type 0} (f : X → ℕ) (xs : List X) (i j : ℕ) → i ≤ j → sum_by f (drop j xs) ≤ sum_by f (drop i xs)
 sum_by-drop-le f xs i j low =
     let at : i + (j - i) ≡ j = omega arith in
     let same = drop-drop (j - i) i xs in

@@ -16,14 +16,14 @@ use Rattle.gix_glob.proofs.lemmas.Places.{later_byte, slash_of_lowercase}
 
 -- ---- where the last part begins
 
--- the law `positions_lie_past_the_base`, restated: a lemma can't cite a clause
-abbrev pub PositionsLiePastTheBase : Type 0
-PositionsLiePastTheBase = (case : Case) (base path rest : List ℕ) (at : ℕ) → IsFolder base → Rest case base path rest → IsAfterLastSlash path at → length base ≤ at
+-- the law `basename_starts_lie_past_the_base`, restated: a lemma can't cite a clause
+abbrev pub BasenameStartsLiePastTheBase : Type 0
+BasenameStartsLiePastTheBase = (case : Case) (base path rest : List ℕ) (at : ℕ) → IsFolder base → Rest case base path rest → IsAfterLastSlash path at → length base ≤ at
 
-pub IsPlaced-basename : (law : PositionsLiePastTheBase) (case : Case) (base : Option (List ℕ)) (path : List ℕ) (position : Option ℕ) → ForSome base IsFolder → IsBasenameStart path position
-    → IsPlaced case base path position
-IsPlaced-basename law case None path position folder start = tt
-IsPlaced-basename law case (Some base) path position folder start =
+pub IsPlaced-basename : (law : BasenameStartsLiePastTheBase) (case : Case) (base : Option (List ℕ)) (path : List ℕ) (basename_start : Option ℕ) → ForSome base IsFolder → IsBasenameStart path basename_start
+    → IsPlaced case base path basename_start
+IsPlaced-basename law case None path basename_start folder start = tt
+IsPlaced-basename law case (Some base) path basename_start folder start =
     λ rest is at here. law case base path rest at (folder base refl) is (subst (IsBasenameStart path) here start)
 
 -- ---- how the rest begins
@@ -83,14 +83,14 @@ rest_is_relative case (Some base) path rest folder plain is here =
 
 -- ---- what stripping answers
 
--- the law `stripped_positions_are_the_rests_own`, restated: a lemma can't cite a clause
-abbrev pub StrippedPositionsAreTheRestsOwn : Type 0
-StrippedPositionsAreTheRestsOwn = (case : Case) (base path rest : List ℕ) (position : Option ℕ) → Rest case base path rest → IsBasenameStart path position → IsBasenameStart rest (stripped_place (length base) position)
+-- the law `stripped_basename_starts_are_the_rests_own`, restated: a lemma can't cite a clause
+abbrev pub StrippedBasenameStartsAreTheRestsOwn : Type 0
+StrippedBasenameStartsAreTheRestsOwn = (case : Case) (base path rest : List ℕ) (basename_start : Option ℕ) → Rest case base path rest → IsBasenameStart path basename_start → IsBasenameStart rest (stripped_place (length base) basename_start)
 
-IsBasenameStart-rest : (law : StrippedPositionsAreTheRestsOwn) (case : Case) (base : Option (List ℕ)) (path rest : List ℕ) (position : Option ℕ) → RestOf case base path rest → IsBasenameStart path position
-    → IsBasenameStart rest (place_after base position)
-IsBasenameStart-rest law case None path rest position is start = subst (λ l. IsBasenameStart l position) (sym is) start
-IsBasenameStart-rest law case (Some base) path rest position is start = law case base path rest position is start
+IsBasenameStart-rest : (law : StrippedBasenameStartsAreTheRestsOwn) (case : Case) (base : Option (List ℕ)) (path rest : List ℕ) (basename_start : Option ℕ) → RestOf case base path rest → IsBasenameStart path basename_start
+    → IsBasenameStart rest (place_after base basename_start)
+IsBasenameStart-rest law case None path rest basename_start is start = subst (λ l. IsBasenameStart l basename_start) (sym is) start
+IsBasenameStart-rest law case (Some base) path rest basename_start is start = law case base path rest basename_start is start
 
 -- the bytes of the rest are those of the path, from some place on
 front_and_rest : (case : Case) (base : Option (List ℕ)) (path rest : List ℕ) → RestOf case base path rest → (front : List ℕ) × (path ≡ front ++ rest)
@@ -116,7 +116,7 @@ plain_rest case base path (b ∷ rest) folder plain is =
     })
 
 -- what a base leaves of a path is kept as the path is
-pub IsKept-rest : (law : StrippedPositionsAreTheRestsOwn) (case : Case) (base : Option (List ℕ)) (path rest : List ℕ) (start left : Option ℕ) → ForSome base IsFolder → IsKept path start
+pub IsKept-rest : (law : StrippedBasenameStartsAreTheRestsOwn) (case : Case) (base : Option (List ℕ)) (path rest : List ℕ) (start left : Option ℕ) → ForSome base IsFolder → IsKept path start
     → RestOf case base path rest → left ≡ place_after base start → IsKept rest left
 IsKept-rest law case base path rest start left folder kept is place = record {
   plain = ⊎_elim

@@ -1,8 +1,8 @@
 -- What a pattern asks of a path.
-use Rattle.std.specs.Prelude.{◌≡◌, ◌&&◌, ℕ, ◌<◌, ◌≤◌, not, List}
+use Rattle.std.specs.Prelude.{◌≡◌, ℕ, ◌<◌, ◌≤◌, List}
 use Rattle.std.specs.Char.{to_ascii_lowercase}
 use Rattle.gix_glob.specs.declared.pattern.Mode.{Mode}
-use Rattle.gix_glob.specs.Patterns.{is_absolute, is_without_sub_dir}
+use Rattle.gix_glob.specs.Patterns.{looks_at_name}
 use Rattle.glob_lists.specs.declared.chains.Class.{Class}
 use Rattle.glob_lists.specs.declared.chains.Class.TheVariants.{Always, EndsIn}
 use Rattle.glob_lists.specs.declared.literals.TheConstants.{LONGEST_END}
@@ -25,4 +25,4 @@ AsksFor text n asked (EndsIn byte) = HasLiteralEnd text n byte asked
 pub record Asks (text : List ℕ) (mode : Mode) (row : Row) : Type 0 where
   pub short : row.length ≤ LONGEST_END
   pub needs : AsksFor text row.length row.asked row.class
-  pub name : row.is_name ≡ (is_without_sub_dir mode && not (is_absolute mode))
+  pub name : row.is_name ≡ looks_at_name mode

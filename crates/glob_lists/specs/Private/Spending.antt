@@ -2,7 +2,8 @@
 use Rattle.std.specs.Prelude.{ℕ, ◌+◌, List, length, drop, slice_get, sum_by, Option, None, Some}
 use Rattle.gix_glob.specs.Entries.{Entry}
 use Rattle.gix_glob.specs.EntryLists.{EntryList}
-use Rattle.gix_glob.specs.Steps.{pattern_look_limit, step_limit}
+use Rattle.gix_glob.specs.Steps.{step_limit}
+use Rattle.gix_glob.specs.PatternLimits.{pattern_look_limit}
 use Rattle.gix_glob.specs.Stripping.{strip_looks}
 use Rattle.glob_lists.specs.DecisionLimits.{list_look_limit, list_step_limit}
 

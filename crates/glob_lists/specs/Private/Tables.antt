@@ -38,6 +38,7 @@ pub record AreRowsUpTo {V : Type 0} (lists : List (EntryList V)) (j n : ℕ) (ro
   pub before : (k : ℕ) (row : Row) → slice_get rows k ≡ Some row → ComesBefore row.list row.mapping j n
   pub rising : (k l : ℕ) (a b : Row) → k < l → slice_get rows k ≡ Some a → slice_get rows l ≡ Some b → ComesBefore a.list a.mapping b.list b.mapping
   pub all : (i m : ℕ) → HasEntryAt lists i m → ComesBefore i m j n → (k : ℕ) × IsAtPlace rows i m k
+  pub places : (k : ℕ) (row : Row) → slice_get rows k ≡ Some row → k ≡ entry_count (take row.list lists) + row.mapping
   pub count : length rows ≡ entry_count (take j lists) + n
 
 -- the rows are those of all entries

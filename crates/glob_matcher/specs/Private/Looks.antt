@@ -4,8 +4,8 @@ use Rattle.std.specs.Prelude.{◌≡◌, ℕ, ◌+◌, ◌*◌, ◌<◌, ◌≤�
 use Rattle.glob_matcher.specs.declared.wildmatch.items.Item.{Item}
 use Rattle.glob_matcher.specs.declared.wildmatch.sets.SetRead.{SetRead}
 use Rattle.glob_matcher.specs.declared.wildmatch.sets.Spelled.{Spelled}
-use Rattle.glob_matcher.specs.declared.wildmatch.sets.Entry.{Entry}
-use Rattle.glob_matcher.specs.declared.wildmatch.sets.Entry.TheVariants as entry
+use Rattle.glob_matcher.specs.declared.wildmatch.sets.NextItem.{NextItem}
+use Rattle.glob_matcher.specs.declared.wildmatch.sets.NextItem.TheVariants as next_item
 use Rattle.glob_matcher.specs.Private.Spelling.{close_bracket}
 use Rattle.glob_matcher.specs.Sets.{IsFirstFrom, ItemAt}
 use Rattle.glob_matcher.specs.Steps.{Counts}
@@ -71,7 +71,7 @@ read_end text None = length text
 read_end text (Some set) = set.end
 
 -- the looks at what stands at place i
-abbrev pub IsPaidFor : Counts → Counts → List ℕ → ℕ → Option ℕ → Entry → Type 0
-IsPaidFor before after text i known (entry.Item s) = IsPaid 0 before after i known s
-IsPaidFor before after text i known entry.Close = TakesExactly before after 0 1
-IsPaidFor before after text i known entry.Broken = IsPaidToEnd 0 before after text i
+abbrev pub IsPaidFor : Counts → Counts → List ℕ → ℕ → Option ℕ → NextItem → Type 0
+IsPaidFor before after text i known (next_item.Item s) = IsPaid 0 before after i known s
+IsPaidFor before after text i known next_item.Close = TakesExactly before after 0 1
+IsPaidFor before after text i known next_item.Broken = IsPaidToEnd 0 before after text i

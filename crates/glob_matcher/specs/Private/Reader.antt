@@ -4,8 +4,8 @@ use Rattle.glob_matcher.specs.declared.wildmatch.items.Item.{Item}
 use Rattle.glob_matcher.specs.declared.wildmatch.sets.Cursor.{Cursor}
 use Rattle.glob_matcher.specs.declared.wildmatch.sets.SetRead.{SetRead}
 use Rattle.glob_matcher.specs.declared.wildmatch.sets.Spelled.{Spelled}
-use Rattle.glob_matcher.specs.declared.wildmatch.sets.Entry.{Entry}
-use Rattle.glob_matcher.specs.declared.wildmatch.sets.Entry.TheVariants as entry
+use Rattle.glob_matcher.specs.declared.wildmatch.sets.NextItem.{NextItem}
+use Rattle.glob_matcher.specs.declared.wildmatch.sets.NextItem.TheVariants as next_item
 use Rattle.glob_matcher.specs.declared.wildmatch.mode.Mode.{Mode}
 use Rattle.glob_matcher.specs.declared.wildmatch.tokens.TokenKind.{TokenKind}
 use Rattle.glob_matcher.specs.declared.wildmatch.tokens.TokenKind.TheVariants as kind
@@ -17,11 +17,11 @@ use Rattle.glob_matcher.specs.Private.Looks.{IsSpelled}
 use Rattle.glob_matcher.specs.Tokens.{Token, Byte, Any, OneOf, Free, Local, Dirs, Nothing, TokenAt}
 
 -- what stands at place i, after the member `low` or none
-abbrev pub IsEntry : List ℕ → Bool → Option ℕ → ℕ → Entry → Type 0
-IsEntry text first low i (entry.Item s) =
+abbrev pub IsNextItem : List ℕ → Bool → Option ℕ → ℕ → NextItem → Type 0
+IsNextItem text first low i (next_item.Item s) =
     (IsTrue (not first) → ¬ HasByte text i close_bracket) × IsSpelled text low i s
-IsEntry text first low i entry.Close = ItemsAt text first low i [] i × (i < length text)
-IsEntry text first low i entry.Broken = (xs : List Item) (j : ℕ) → ¬ ItemsAt text first low i xs j
+IsNextItem text first low i next_item.Close = ItemsAt text first low i [] i × (i < length text)
+IsNextItem text first low i next_item.Broken = (xs : List Item) (j : ℕ) → ¬ ItemsAt text first low i xs j
 
 -- A set is spelled from place i up to place j, past i and inside the text, and this tells whether it holds byte b.
 pub record IsSetThatHolds (mode : Mode) (text : List ℕ) (i b j : ℕ) (holds : Bool) : Type 0 where

@@ -48,6 +48,12 @@ MovesBy count at (scan.Found m) = Unit {0}
 MovesBy count at (scan.Blocked m) = Unit {0}
 MovesBy count at (scan.Undecided m) = m.at ≡ at + count
 
+-- a scan that goes on has passed a byte
+abbrev pub MovesOn : ℕ → Scan → Type 0
+MovesOn at (scan.Found m) = Unit {0}
+MovesOn at (scan.Blocked m) = Unit {0}
+MovesOn at (scan.Undecided m) = at < m.at
+
 -- how many steps a scan takes: two for each byte that was passed
 abbrev pub scan_steps : Mark → Scan → ℕ
 scan_steps from s = 2 * ((reached_by s).at - from.at) + last_steps s

@@ -1,15 +1,27 @@
 -- What a turn of the engine with two marks, and a way back to a mark, are from a state: what they mean, and what they leave of
 -- the budget.
-use Rattle.std.specs.Prelude.{ℕ, ◌+◌, ◌<◌, ◌≤◌, List, Option, OnSome}
+use Rattle.std.specs.Prelude.{ℕ, ◌+◌, ◌<◌, ◌≤◌, List, Option, None, OnSome}
 use Rattle.glob_matcher.specs.declared.wildmatch.mode.Mode.{Mode}
 use Rattle.glob_matcher.specs.declared.wildmatch.state.State.{State}
 use Rattle.glob_matcher.specs.declared.wildmatch.state.Turn.{Turn}
+use Rattle.glob_matcher.specs.declared.wildmatch.state.Crossing.TheVariants as crossing
 use Rattle.glob_matcher.specs.Steps.{Counts, NeverFall}
-use Rattle.glob_matcher.specs.Private.States.{IsOutcome, Resumes, ResumesLocal}
+use Rattle.glob_matcher.specs.Private.States.{StandsAt, IsOutcome, Resumes, ResumesLocal}
 use Rattle.glob_matcher.specs.Private.Prices.{Measure, amount, amount_of}
 use Rattle.glob_matcher.specs.Private.Budget.{AllowsAt, AllowsMiss, AllowsOutcome, AllowsResumed, AllowsLocal, CountsOutcome}
 
+-- no mark is set, and so many bytes of both texts are passed
+abbrev pub at_front : ℕ → State
+at_front k = record { place = k; at = k; crossing = crossing.Unmet; local = None }
+
 module _ (mode : Mode) (p v : List ℕ) where
+  -- So many bytes at the front of both texts are passed, from the start. The last byte that was tested may be looked at in vain.
+  pub record IsFront (passed : ℕ) (before after : Counts) : Type 0 where
+    pub meaning : StandsAt mode p v (at_front passed)
+    pub allows : (measure : Measure) (limit : ℕ) → AllowsAt measure mode p v (at_front 0) (amount_of measure before + amount measure 0 2) limit
+        → AllowsAt measure mode p v (at_front passed) (amount_of measure after) limit
+    pub grows : NeverFall before after
+
   -- A turn from a state at whose token so many looks were taken already.
   pub record IsTurn (state : State) (looked : ℕ) (turn : Turn) (before after : Counts) : Type 0 where
     pub meaning : IsOutcome mode p v turn

@@ -2,10 +2,12 @@
 //!
 //! This module alone sees the slices of a match, and it hands out none: whoever has a text reads a byte of it in a look that
 //! its ledgers count, or not at all.
-ghost use Rattle.std.specs.Prelude.{◌≡◌, ◌<◌, ◌≤◌, MatchOption, length, slice_index};
+ghost use Rattle.std.specs.Prelude.{◌≡◌, ◌<◌, ◌≤◌, ◌+◌, ◌-◌, MatchOption, length, slice_index};
 ghost use Rattle.glob_matcher.specs.Bytes.{HasByte};
-ghost use Rattle.glob_matcher.specs.Private.Takes.{TakesExactly};
+ghost use Rattle.glob_matcher.specs.Private.Finding.{HasComeTo};
+ghost use Rattle.glob_matcher.specs.Private.Takes.{TakesExactly, looks_at};
 
+use super::any_of::AnyOf;
 use super::counts::Counts;
 use std::marker::{Model, PhantomData};
 use std::sync::ledger::Ledger;
@@ -75,5 +77,30 @@ impl<'a, S: Ledger, L: Ledger> CountedText<'a, S, L> {
     {
         counts.look();
         self.bytes[place]
+    }
+
+    /// The first place from one on that has one of these bytes, with the byte there, in a look at each byte up to it; or the
+    /// text's end, in a look at each byte before it.
+    #[inline(always)]
+    pub(super) fn find(
+        &self,
+        from: usize,
+        wanted: AnyOf,
+        counts: &mut Counts<S, L>,
+    ) -> (usize, Option<u8>)
+        requires { from ≤ length self.now }
+        ensures found { HasComeTo self.now wanted from result.0 result.1 }
+        ensures count { TakesExactly counts.old counts.new 0 (result.0 - from + looks_at result.1) }
+    {
+        match wanted.first_in(&self.bytes[from..]) {
+            None => {
+                counts.looks(self.bytes.len() - from);
+                (self.bytes.len(), None)
+            }
+            Some(passed) => {
+                counts.looks(passed + 1);
+                (from + passed, Some(self.bytes[from + passed]))
+            }
+        }
     }
 }

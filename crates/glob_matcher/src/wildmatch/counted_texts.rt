@@ -1,8 +1,10 @@
 //! The texts of a match and its counts as one value. What reads a byte of one is `counted_text`.
-ghost use Rattle.std.specs.Prelude.{◌≡◌, ◌<◌, ◌≤◌, MatchOption, length, slice_index};
+ghost use Rattle.std.specs.Prelude.{◌≡◌, ◌<◌, ◌≤◌, ◌+◌, ◌-◌, MatchOption, length, slice_index};
 ghost use Rattle.glob_matcher.specs.Bytes.{HasByte};
+ghost use Rattle.glob_matcher.specs.Private.Finding.{HasComeTo};
 ghost use Rattle.glob_matcher.specs.Private.Takes.{TakesExactly, looks_at};
 
+use super::any_of::AnyOf;
 use super::counted_text::CountedText;
 use super::counts::Counts;
 use super::texts::Texts;
@@ -14,7 +16,7 @@ use std::sync::ledger::Ledger;
 #[derive(Drop)]
 pub struct CountedTexts<'c, 'a, S: Ledger, L: Ledger, M: Texts> {
     pub(super) pattern: CountedText<'a, S, L>,
-    value: CountedText<'a, S, L>,
+    pub(super) value: CountedText<'a, S, L>,
     pub(super) counts: &'c mut Counts<S, L>,
     of: PhantomData<M>,
 }
@@ -95,6 +97,14 @@ impl<'c, 'a, S: Ledger, L: Ledger, M: Texts> CountedTexts<'c, 'a, S, L, M> {
         self.counts.step();
     }
 
+    /// Counts so many steps. No byte is read.
+    #[inline(always)]
+    pub(super) fn steps(&mut self, count: usize)
+        ensures { TakesExactly self.old self.new count 0 }
+    {
+        self.counts.steps(count);
+    }
+
     /// The byte at a place of the pattern, in one look; `None` past its end, where there is nothing to look at.
     #[inline(always)]
     pub fn pattern_at(&mut self, place: usize) -> Option<u8>
@@ -134,5 +144,16 @@ impl<'c, 'a, S: Ledger, L: Ledger, M: Texts> CountedTexts<'c, 'a, S, L, M> {
         ensures count { TakesExactly self.old self.new 0 1 }
     {
         self.value.byte(at, self.counts)
+    }
+
+    /// The first place of the value from one on that has one of these bytes, with the byte there, in a look at each byte up to
+    /// it; or the value's end, in a look at each byte before it.
+    #[inline(always)]
+    pub(super) fn find_in_value(&mut self, from: usize, wanted: AnyOf) -> (usize, Option<u8>)
+        requires { from ≤ length M.value }
+        ensures found { HasComeTo M.value wanted from result.0 result.1 }
+        ensures count { TakesExactly self.old self.new 0 (result.0 - from + looks_at result.1) }
+    {
+        self.value.find(from, wanted, self.counts)
     }
 }

@@ -83,6 +83,14 @@ impl<S: Ledger, L: Ledger> Counts<S, L> {
         self.steps.add(1);
     }
 
+    /// Counts so many steps.
+    #[inline(always)]
+    pub(super) fn steps(&mut self, count: usize)
+        ensures { TakesExactly self.old self.new count 0 }
+    {
+        self.steps.add(count);
+    }
+
     /// Counts one step that reads a byte, or finds that the value has none there.
     #[inline(always)]
     pub(super) fn step_with_look(&mut self)

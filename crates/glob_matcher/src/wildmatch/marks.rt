@@ -1,8 +1,10 @@
 //! The marks of star tokens: how one is set and moved over the value, in counted steps, and what a scan tests at it.
-ghost use Rattle.std.specs.Prelude.{◌≡◌, ◌≢◌, ◌↔◌, ◌⊎◌, ◌+◌, ◌<◌, ◌≤◌, IsTrue, IfSome, IfNone, length, slice_index};
+ghost use Rattle.std.specs.Prelude.{◌≡◌, ◌≢◌, ◌↔◌, ◌⊎◌, ◌+◌, ◌-◌, ◌*◌, ◌<◌, ◌≤◌, IsTrue, IfSome, IfNone, length, slice_index};
 ghost use Rattle.glob_matcher.specs.Bytes.{slash};
-ghost use Rattle.glob_matcher.specs.Private.Takes.{TakesExactly};
+ghost use Rattle.glob_matcher.specs.Private.Finding.{HasComeTo};
+ghost use Rattle.glob_matcher.specs.Private.Takes.{TakesExactly, looks_at};
 
+use super::any_of::AnyOf;
 use super::engine::Engine;
 use super::needle::Needle;
 use super::texts::Texts;
@@ -76,6 +78,44 @@ impl<'c, 'a, S: Ledger, L: Ledger, M: Texts> Engine<'c, 'a, S, L, M> {
             place: mark.place,
             at: mark.at + 1,
         }
+    }
+
+    /// Moves a mark to the next place of the value that has one of these bytes, and tells which; or to the value's end. As by
+    /// single bytes, that is a test and a move for each byte passed.
+    #[inline(always)]
+    pub fn pass_to(&mut self, mark: Mark, wanted: AnyOf) -> (Mark, Option<u8>)
+        requires { mark.at ≤ length M.value }
+        ensures place { result.0.place ≡ mark.place }
+        ensures found { HasComeTo M.value wanted mark.at result.0.at result.1 }
+        ensures count { TakesExactly self.old self.new (2 * (result.0.at - mark.at)) (result.0.at - mark.at + looks_at result.1) }
+    {
+        let (at, met) = self.texts.find_in_value(mark.at, wanted);
+        let passed = at - mark.at;
+        self.texts.steps(passed);
+        self.texts.steps(passed);
+        let moved = Mark {
+            place: mark.place,
+            at,
+        };
+        (moved, met)
+    }
+
+    /// Tests a byte that the mark was moved to.
+    #[inline(always)]
+    pub fn suits_found<N: Needle>(&mut self, byte: u8, needle: N) -> bool
+        ensures answer { IsTrue result ↔ N.suits needle byte }
+        ensures count { TakesExactly self.old self.new 1 0 }
+    {
+        self.texts.step();
+        needle.suits(byte)
+    }
+
+    /// Finds a mark unable to move.
+    #[inline(always)]
+    pub fn stay(&mut self)
+        ensures { TakesExactly self.old self.new 1 0 }
+    {
+        self.texts.step();
     }
 
     /// Moves a mark inside the value by one byte that is not a slash; `None` where it is at a slash.

@@ -1,5 +1,6 @@
 //! How a pattern is matched: whether a slash is special, and whether case counts.
-ghost use Rattle.std.specs.Prelude.{⊤, ◌≡◌, ◌↔◌, [], ◌∷◌, codes, IsTrue};
+ghost use Rattle.std.specs.Prelude.{⊤, ◌≡◌, ◌≢◌, ◌↔◌, [], ◌∷◌, codes, IsTrue};
+ghost use Rattle.std.specs.Char.{to_ascii_lowercase};
 
 use bitflags::{Flag, Flags, bitflag_items};
 
@@ -50,6 +51,15 @@ impl Default for Mode {
     }
 }
 
+/// Whether one byte is a small letter, and the other its capital.
+#[inline(always)]
+fn is_small_of(small: u8, capital: u8) -> bool
+    ensures { IsTrue result ↔ ((small ≢ capital) × (small ≡ to_ascii_lowercase capital)) }
+{
+    // most bytes fail the first test
+    small.wrapping_sub(capital) == 32 && capital.is_ascii_uppercase()
+}
+
 impl Mode {
     ghost use Rattle.glob_matcher.specs.Bytes.{is_path, folds, fold};
 
@@ -74,7 +84,7 @@ impl Mode {
     pub(crate) fn alike(self, one: u8, other: u8) -> bool
         ensures { IsTrue result ↔ (fold self one ≡ fold self other) }
     {
-        one == other || self.fold(one) == self.fold(other)
+        one == other || (self.folds() && (is_small_of(one, other) || is_small_of(other, one)))
     }
 
     /// A byte after folding, where the mode asks for it.

@@ -1,10 +1,11 @@
 //! What follows a star in the pattern, where the engine with two marks can scan for it byte by byte.
-ghost use Rattle.std.specs.Prelude.{◌≡◌, ◌↔◌, ◌<◌, ◌≤◌, IsTrue, IfSome, IfNone, length, slice_index};
+ghost use Rattle.std.specs.Prelude.{◌≡◌, ◌≢◌, ◌↔◌, ◌<◌, ◌≤◌, IsTrue, IfSome, IfNone, length, slice_index};
 ghost use Rattle.std.specs.Char.{to_ascii_lowercase};
-ghost use Rattle.glob_matcher.specs.Bytes.{StandsForItself};
+ghost use Rattle.glob_matcher.specs.Bytes.{StandsForItself, slash};
 ghost use Rattle.glob_matcher.specs.Private.Scans.{Follows};
 ghost use Rattle.glob_matcher.specs.Private.Takes.{Takes};
 
+use super::any_of::AnyOf;
 use super::engine::Engine;
 use super::texts::Texts;
 use std::sync::ledger::Ledger;
@@ -22,13 +23,19 @@ pub enum Follow {
 
 /// What a scan looks for. Each way to compare is a type, so that each has a loop of its own.
 pub trait Needle: Copy {
-    ghost use Rattle.std.specs.Prelude.{ℕ};
+    ghost use Rattle.std.specs.Prelude.{◌≡◌, ◌⊎◌, ℕ};
+    ghost use Rattle.glob_matcher.specs.Bytes.{slash};
+    ghost use Rattle.glob_matcher.specs.Private.Finding.{IsAnyOf};
 
     ghost suits: { Self → ℕ → Type 0 };
 
     /// Whether a byte of the value is what is looked for.
     fn suits(self, byte: u8) -> bool
         ensures { IsTrue result ↔ suits self byte };
+
+    /// What is looked for, and a slash if it is asked for.
+    fn any_of(self, with_slash: bool) -> AnyOf
+        ensures { (b : ℕ) → IsAnyOf result b ↔ (suits self b ⊎ (IsTrue with_slash × (b ≡ slash))) };
 }
 
 /// A byte, where case counts.
@@ -50,6 +57,15 @@ impl Needle for ExactByte {
     fn suits(self, byte: u8) -> bool {
         byte == self.0
     }
+
+    #[inline(always)]
+    fn any_of(self, with_slash: bool) -> AnyOf {
+        if with_slash {
+            AnyOf::Two(self.0, b'/')
+        } else {
+            AnyOf::One(self.0)
+        }
+    }
 }
 
 impl Needle for FoldedByte {
@@ -58,6 +74,16 @@ impl Needle for FoldedByte {
     #[inline(always)]
     fn suits(self, byte: u8) -> bool {
         byte.to_ascii_lowercase() == self.0.to_ascii_lowercase()
+    }
+
+    #[inline(always)]
+    fn any_of(self, with_slash: bool) -> AnyOf {
+        let (lower, upper) = (self.0.to_ascii_lowercase(), self.0.to_ascii_uppercase());
+        if with_slash {
+            AnyOf::Three(lower, upper, b'/')
+        } else {
+            AnyOf::Two(lower, upper)
+        }
     }
 }
 
@@ -68,6 +94,15 @@ impl Needle for NoByte {
     fn suits(self, _: u8) -> bool {
         false
     }
+
+    #[inline(always)]
+    fn any_of(self, with_slash: bool) -> AnyOf {
+        if with_slash {
+            AnyOf::One(b'/')
+        } else {
+            AnyOf::Nothing
+        }
+    }
 }
 
 /// Whether a byte is a token by itself: it begins no other.
@@ -77,6 +112,15 @@ pub fn stands_for_itself(byte: u8) -> bool
 {
     // apart: with `[` and `\` side by side in it, the test would be one of a range, and each way out would copy the state
     !(matches!(byte, b'*' | b'?' | b'[') || byte == b'\\')
+}
+
+/// Whether a byte is a token by itself, and no slash.
+#[inline(always)]
+pub fn stands_within_component(byte: u8) -> bool
+    ensures { IsTrue result ↔ (StandsForItself byte × (byte ≢ slash)) }
+{
+    // most bytes are small letters, which come after all that are special
+    byte > b'\\' || (byte != b'/' && stands_for_itself(byte))
 }
 
 impl<'c, 'a, S: Ledger, L: Ledger, M: Texts> Engine<'c, 'a, S, L, M> {

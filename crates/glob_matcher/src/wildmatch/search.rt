@@ -17,9 +17,10 @@ impl<'c, 'a, S: Ledger, L: Ledger, M: Texts> Engine<'c, 'a, S, L, M> {
         ensures limits { IsWithinLimits (length M.pattern) (length M.value) self.old self.new }
         ensures grows { NeverFall self.old self.new }
     {
+        let front = self.front();
         let mut state = State {
-            place: 0,
-            at: 0,
+            place: front,
+            at: front,
             crossing: Crossing::Unmet,
             local: None,
         };

@@ -9,7 +9,7 @@ ghost use Rattle.glob_matcher.specs.declared.wildmatch.items.Class.{Class};
 ghost use Rattle.glob_matcher.specs.Sets.{BeginsRange, BeginsClass, IsFirstFrom, IsUpperEnd, name_of};
 ghost use Rattle.glob_matcher.specs.Private.Takes.{Takes, TakesExactly, looks_at};
 ghost use Rattle.glob_matcher.specs.Private.Looks.{LookedAtEach, LookedOver, IsItemRead, IsKnown, IsPaidFor, read_end, search_front};
-ghost use Rattle.glob_matcher.specs.Private.Reader.{IsEntry, IsSetRead, after_item, at_first, first_item};
+ghost use Rattle.glob_matcher.specs.Private.Reader.{IsNextItem, IsSetRead, after_item, at_first, first_item};
 
 use super::engine::Engine;
 use super::items::{Class, ClassName, Item};
@@ -43,7 +43,7 @@ impl Spelled {
 
 /// What stands at an item's place.
 #[derive(Clone, Copy)]
-enum Entry {
+enum NextItem {
     /// An item.
     Item(Spelled),
     /// The closing bracket.
@@ -342,21 +342,21 @@ impl<'c, 'a, S: Ledger, L: Ledger, M: Texts> Engine<'c, 'a, S, L, M> {
     }
 
     /// What stands where the cursor stands.
-    fn entry_at(&mut self, cursor: Cursor) -> Entry
+    fn next_item(&mut self, cursor: Cursor) -> NextItem
         requires inside { cursor.place ≤ length M.pattern }
         requires known { IsKnown M.pattern cursor.place cursor.close }
-        ensures entry { IsEntry M.pattern cursor.is_first cursor.low cursor.place result }
+        ensures item { IsNextItem M.pattern cursor.is_first cursor.low cursor.place result }
         ensures count { IsPaidFor self.old self.new M.pattern cursor.place cursor.close result }
     {
         let Some(byte) = self.look_at(cursor.place) else {
-            return Entry::Broken;
+            return NextItem::Broken;
         };
         if cursor.closes(byte) {
-            return Entry::Close;
+            return NextItem::Close;
         }
         match self.item_at(cursor, byte) {
-            Some(spelled) => Entry::Item(spelled),
-            None => Entry::Broken,
+            Some(spelled) => NextItem::Item(spelled),
+            None => NextItem::Broken,
         }
     }
 
@@ -395,19 +395,19 @@ impl<'c, 'a, S: Ledger, L: Ledger, M: Texts> Engine<'c, 'a, S, L, M> {
         let mut is_held = false;
         let mut cursor = first;
         'items: loop {
-            match self.entry_at(cursor) {
-                Entry::Item(spelled) => {
+            match self.next_item(cursor) {
+                NextItem::Item(spelled) => {
                     is_held = is_held || spelled.item.holds(byte, mode);
                     cursor = spelled.onward();
                 }
-                Entry::Close => {
+                NextItem::Close => {
                     let holds = decides_set(is_held, is_negated, byte, mode);
                     return Some(SetRead {
                         end: cursor.place + 1,
                         holds,
                     });
                 }
-                Entry::Broken => return None,
+                NextItem::Broken => return None,
             }
         }
     }

@@ -21,7 +21,7 @@ pub fn token_at(pattern: &[u8], place: usize, mode: Mode) -> TokenRead
     requires { place < length pattern.now }
     ensures { IsToken mode pattern.now place result.kind result.end }
 {
-    token_with_counts::<Brand, Brand>(pattern, place, mode, Blank::new(1), Blank::new(1))
+    token_with_counts::<Brand, Brand>(pattern, place, mode, (Blank::new(1), Blank::new(1)))
 }
 
 /// The same, with new counts.
@@ -30,16 +30,16 @@ fn token_with_counts<S: Ledger, L: Ledger>(
     pattern: &[u8],
     place: usize,
     mode: Mode,
-    steps: Blank,
-    looks: Blank,
+    blanks: (Blank, Blank),
 ) -> TokenRead
-    requires steps { IsBlankOf S.name S.parts steps }
-    requires looks { IsBlankOf L.name L.parts looks }
+    requires steps { IsBlankOf S.name S.parts blanks.0 }
+    requires looks { IsBlankOf L.name L.parts blanks.1 }
     requires inside { place < length pattern.now }
     ensures { IsToken mode pattern.now place result.kind result.end }
 {
     text_is_short(pattern);
-    token_over::<S, L, Brand>(pattern, place, mode, &mut Counts::new(steps, looks)).0
+    let mut counts = Counts::new(blanks.0, blanks.1);
+    token_over::<S, L, Brand>(pattern, place, mode, &mut counts).0
 }
 
 /// The same, of the pattern in counted looks; and the counts.
@@ -63,53 +63,55 @@ fn token_over<'c, 'a, S: Ledger, L: Ledger, M: Texts>(
     (token, engine.into_counts())
 }
 
-/// The set whose bracket stands at this place, read for this byte; `None` where no set begins.
-fn set_at(pattern: &[u8], place: usize, byte: u8, mode: Mode) -> Option<SetRead>
-    requires { HasByte pattern.now place open_bracket }
-    ensures { IsSetRead mode pattern.now place byte result }
-{
-    set_with_counts::<Brand, Brand>(pattern, place, byte, mode, Blank::new(1), Blank::new(1))
-}
-
-/// The same, with new counts.
-#[inline(always)]
-fn set_with_counts<S: Ledger, L: Ledger>(
-    pattern: &[u8],
-    place: usize,
-    byte: u8,
-    mode: Mode,
-    steps: Blank,
-    looks: Blank,
-) -> Option<SetRead>
-    requires steps { IsBlankOf S.name S.parts steps }
-    requires looks { IsBlankOf L.name L.parts looks }
-    requires bracket { HasByte pattern.now place open_bracket }
-    ensures { IsSetRead mode pattern.now place byte result }
-{
-    text_is_short(pattern);
-    set_over::<S, L, Brand>(pattern, place, byte, mode, &mut Counts::new(steps, looks)).0
-}
-
-/// The same, of the pattern in counted looks; and the counts.
-#[inline(always)]
-fn set_over<'c, 'a, S: Ledger, L: Ledger, M: Texts>(
+/// What is asked of a set: whether the one whose bracket stands at this place holds this byte.
+#[derive(Copy, Clone)]
+struct AskedSet<'a> {
     pattern: &'a [u8],
+    mode: Mode,
     place: usize,
     byte: u8,
-    mode: Mode,
-    counts: &'c mut Counts<S, L>,
-) -> (Option<SetRead>, &'c mut Counts<S, L>)
-    requires pattern { pattern.now ≡ M.pattern }
-    requires value { M.value ≡ [] }
-    requires mode { mode ≡ M.mode }
-    requires counts { counts.ghost_name ≡ M.counts }
-    requires bracket { HasByte pattern.now place open_bracket }
-    ensures { IsSetRead mode pattern.now place byte result.0 }
-{
-    let texts = CountedTexts::<'c, 'a, S, L, M>::new(pattern, &[], counts);
-    let mut engine = Engine::new(texts, mode);
-    let set = engine.set_apart(place, byte);
-    (set, engine.into_counts())
+}
+
+impl<'a> AskedSet<'a> {
+    /// What is read of the set for the byte; `None` where no set begins.
+    fn read(self) -> Option<SetRead>
+        requires { HasByte self.pattern.now self.place open_bracket }
+        ensures { IsSetRead self.entry.mode self.entry.pattern.now self.entry.place self.entry.byte result }
+    {
+        self.read_with_counts::<Brand, Brand>((Blank::new(1), Blank::new(1)))
+    }
+
+    /// The same, with new counts.
+    #[inline(always)]
+    fn read_with_counts<S: Ledger, L: Ledger>(self, blanks: (Blank, Blank)) -> Option<SetRead>
+        requires steps { IsBlankOf S.name S.parts blanks.0 }
+        requires looks { IsBlankOf L.name L.parts blanks.1 }
+        requires bracket { HasByte self.pattern.now self.place open_bracket }
+        ensures { IsSetRead self.entry.mode self.entry.pattern.now self.entry.place self.entry.byte result }
+    {
+        text_is_short(self.pattern);
+        let mut counts = Counts::new(blanks.0, blanks.1);
+        self.read_over::<S, L, Brand>(&mut counts).0
+    }
+
+    /// The same, of the pattern in counted looks; and the counts.
+    #[inline(always)]
+    fn read_over<'c, S: Ledger, L: Ledger, M: Texts>(
+        self,
+        counts: &'c mut Counts<S, L>,
+    ) -> (Option<SetRead>, &'c mut Counts<S, L>)
+        requires pattern { self.pattern.now ≡ M.pattern }
+        requires value { M.value ≡ [] }
+        requires mode { self.mode ≡ M.mode }
+        requires counts { counts.ghost_name ≡ M.counts }
+        requires bracket { HasByte self.pattern.now self.place open_bracket }
+        ensures { IsSetRead self.entry.mode self.entry.pattern.now self.entry.place self.entry.byte result.0 }
+    {
+        let texts = CountedTexts::<'c, 'a, S, L, M>::new(self.pattern, &[], counts);
+        let mut engine = Engine::new(texts, self.mode);
+        let set = engine.set_apart(self.place, self.byte);
+        (set, engine.into_counts())
+    }
 }
 
 impl TokenKind {
@@ -124,7 +126,13 @@ impl TokenKind {
         if pattern[place] != b'[' {
             return false;
         }
-        match set_at(pattern, place, byte, mode) {
+        let asked = AskedSet {
+            pattern,
+            mode,
+            place,
+            byte,
+        };
+        match asked.read() {
             Some(set) => set.holds,
             None => false,
         }

@@ -8,7 +8,7 @@ ghost use Rattle.glob_matcher.specs.Private.States.{StandsAt};
 ghost use Rattle.glob_matcher.specs.Private.Turns.{IsTurn};
 
 use super::engine::Engine;
-use super::needle::stands_for_itself;
+use super::needle::{stands_for_itself, stands_within_component};
 use super::state::{Crossing, State, Turn};
 use super::texts::Texts;
 use super::tokens::TokenKind;
@@ -171,7 +171,7 @@ impl<'c, 'a, S: Ledger, L: Ledger, M: Texts> Engine<'c, 'a, S, L, M> {
         let mut at = state.at;
         'bytes: while place < self.pattern_len() {
             let byte = self.pattern_byte(place);
-            if byte == b'/' || !stands_for_itself(byte) {
+            if !stands_within_component(byte) {
                 break;
             }
             if !self.fits_byte(at, byte) {

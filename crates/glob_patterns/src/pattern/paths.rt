@@ -56,7 +56,8 @@ impl Pattern {
     ghost use Rattle.std.specs.Prelude.{◌+◌, ◌≤◌, length};
     ghost use Rattle.std.specs.Option.{ForSome};
     ghost use Rattle.glob_matcher.specs.Bytes.{HasByte, slash};
-    ghost use Rattle.glob_matcher.specs.Steps.{NeverFall, pattern_look_limit, step_limit};
+    ghost use Rattle.glob_matcher.specs.Steps.{NeverFall, step_limit};
+    ghost use Rattle.glob_patterns.specs.PatternLimits.{pattern_look_limit};
     ghost use Rattle.glob_patterns.specs.PatternParts.{text_of, mode_of};
     ghost use Rattle.glob_patterns.specs.RepositoryPaths.{IsAfterLastSlash, Answers};
 

@@ -1,41 +1,11 @@
 //! Path lines against a stack of ignore files: which line of which file decides.
 use super::decided;
 use crate::compare::same;
-use crate::lists::{last_match, list_of};
+use crate::lists::{IgnoreFile, at_top, last_match, lists_of, under};
 use gix_glob::pattern::Case;
 use gix_glob::search::pattern::List;
 use glob_lines::{IgnoreLines, bases_are_folders};
-use std::alloc::AllocError;
 use std::test::Fail;
-
-/// The bytes of an ignore file, and the base of its list.
-#[derive(Clone, Copy)]
-struct IgnoreFile<'a> {
-    bytes: &'a [u8],
-    base: Option<&'a [u8]>,
-}
-
-/// A file whose list has no base.
-fn at_top(bytes: &[u8]) -> IgnoreFile<'_> {
-    IgnoreFile { bytes, base: None }
-}
-
-/// A file whose list has a base.
-fn under<'a>(base: &'a [u8], bytes: &'a [u8]) -> IgnoreFile<'a> {
-    let base = Some(base);
-    IgnoreFile { bytes, base }
-}
-
-fn lists_of(
-    rt: &impl AllocGlobal,
-    files: &[IgnoreFile<'_>],
-) -> Result<Vec<List<IgnoreLines>>, AllocError> {
-    let mut lists = Vec::new(rt.alloc());
-    for file in files {
-        lists.push(list_of(rt.alloc(), IgnoreLines, file.bytes, file.base)?)?;
-    }
-    Ok(lists)
-}
 
 #[test]
 fn the_last_match_is_told(rt: HostRuntime) -> Result<(), Fail> {

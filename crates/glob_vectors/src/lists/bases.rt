@@ -110,12 +110,12 @@ fn parts_of_texts(rt: HostRuntime) -> Result<(), Fail> {
 fn left<'a>(
     base: &[u8],
     path: &'a [u8],
-    position: Option<usize>,
+    basename_pos: Option<usize>,
     case: Case,
 ) -> Option<(&'a [u8], Option<usize>)> {
-    match position {
+    match basename_pos {
         Some(at) if at < base.len() => None,
-        _ => strip(base, path, position, case),
+        _ => strip(base, path, basename_pos, case),
     }
 }
 
@@ -133,8 +133,8 @@ fn bases_are_stripped(rt: HostRuntime) {
         ("", "", Some(0), Case::Sensitive, Some(("", None))),
         ("a", "A", None, Case::Fold, Some(("", None))),
     ];
-    for (base, path, position, case, wanted) in rows {
-        let answer = left(base.as_bytes(), path.as_bytes(), position, case);
+    for (base, path, basename_pos, case, wanted) in rows {
+        let answer = left(base.as_bytes(), path.as_bytes(), basename_pos, case);
         let wanted = wanted.map(|(rest, place)| (rest.as_bytes(), place));
         same(&rt, answer, wanted, "base and path:", (base, path));
     }

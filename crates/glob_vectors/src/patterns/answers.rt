@@ -132,19 +132,19 @@ fn check_path(
     case: Case,
     mode: wildmatch::Mode,
 ) -> Result<(), Fail> {
-    let (line, path, position, is_dir, wanted) = row;
+    let (line, path, basename_start_pos, is_dir, wanted) = row;
     let (line, path) = (line.as_bytes(), path.as_bytes());
     let pattern = Pattern::from_bytes(rt.alloc(), line)?.ok_or("a pattern")?;
     let view = PatternView::from_bytes(line).ok_or("a view")?;
     assert!(rt; is_relative(path));
-    let answers = if position.is_none() {
+    let answers = if basename_start_pos.is_none() {
         (
             pattern.matches_repo_relative_path(path, None, is_dir, case, mode),
             view.matches_repo_relative_path(path, None, is_dir, case, mode),
         )
     } else {
         let start = basename_start(path);
-        same(rt, start, position, "the basename in", row);
+        same(rt, start, basename_start_pos, "the basename in", row);
         (
             pattern.matches_repo_relative_path(path, start, is_dir, case, mode),
             view.matches_repo_relative_path(path, start, is_dir, case, mode),

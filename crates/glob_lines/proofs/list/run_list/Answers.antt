@@ -1,4 +1,5 @@
 -- What was read is what the list and its matches were made of.
+use Rattle.std.proofs.Common.{rules}
 use Rattle.std.proofs.lemmas.Result.{on_ok_weaker, IfErr-at_err}
 use Rattle.std.specs.Io.KnownBytes.{Appends}
 use Rattle.gix_glob.specs.Watched.{inner}
@@ -20,18 +21,25 @@ returns-clause-ok g c =
     })
     c.write_whole.ensures.ok
 
-pub returns-clause-write : goal.returns-clause-write
-returns-clause-write g c = λ failed.
+pub returns-clause-faults : goal.returns-clause-faults
+returns-clause-faults g c =
     let allowed = mappings_text c.in_ok-pattern_lines.pattern_lines.items c.in_ok-path_lines.path_lines.items c.args.source.now _ _ _ _ c.args.case _ _ c.in_ok-text.text.items
     c.plain_entries_are_these.ensures c.deref.ensures.value c.deref-2.ensures.value c.in_ok-source.ensures.ok c.in_ok-list.ensures.means c.in_ok-list.ensures.based c.in_ok-text.ensures in
-    let written : AppendsFront (g.W.Write.contents (inner c.args.writer.now)) (g.W.Write.contents (inner c.write_whole.new.writer)) c.deref-3.result.now =
-    IfErr-at_err (λ _. AppendsFront (g.W.Write.contents (inner c.args.writer.now)) (g.W.Write.contents (inner c.write_whole.new.writer)) c.deref-3.result.now) failed c.write_whole.ensures.err in
     record {
-      input = record { patterns = c.in_ok-pattern_lines.pattern_lines.items; paths = c.in_ok-path_lines.path_lines.items };
-      read = record { patterns = c.in_ok-pattern_lines.ensures.ok; paths = c.in_ok-path_lines.ensures.ok };
-      text = c.in_ok-text.text.items;
-      allowed = allowed;
-      written = rw c.deref-3.ensures.value at written;
+      memory = search rules;
+      read = search rules;
+      read_failed = search rules;
+      write_failed = search rules;
+      write = λ failed.
+          let written : AppendsFront (g.W.Write.contents (inner c.args.writer.now)) (g.W.Write.contents (inner c.write_whole.new.writer)) c.deref-3.result.now =
+          IfErr-at_err (λ _. AppendsFront (g.W.Write.contents (inner c.args.writer.now)) (g.W.Write.contents (inner c.write_whole.new.writer)) c.deref-3.result.now) failed c.write_whole.ensures.err in
+          record {
+            input = record { patterns = c.in_ok-pattern_lines.pattern_lines.items; paths = c.in_ok-path_lines.path_lines.items };
+            read = record { patterns = c.in_ok-pattern_lines.ensures.ok; paths = c.in_ok-path_lines.ensures.ok };
+            text = c.in_ok-text.text.items;
+            allowed = allowed;
+            written = rw c.deref-3.ensures.value at written;
+          };
     }
 
 pub matches_of-requires : goal.matches_of-requires

@@ -6,7 +6,8 @@ use Rattle.glob_lists.specs.Deciding.{AnswersAt, AnswersUnder}
 use Rattle.gix_glob.specs.Entries.{entry_of}
 use Rattle.gix_glob.specs.EntryLists.{entry_list_of}
 use Rattle.gix_glob.specs.PatternParts.{mode_of, text_of}
-use Rattle.gix_glob.specs.Steps.{pattern_look_limit, step_limit}
+use Rattle.gix_glob.specs.Steps.{step_limit}
+use Rattle.gix_glob.specs.PatternLimits.{pattern_look_limit}
 use Rattle.gix_glob.specs.Stripping.{strip_looks}
 use Rattle.glob_lists.proofs.lemmas.Answering.{AnswersAt-only, AnswersAt-yes, AnswersUnder-tested}
 use Rattle.glob_lists.proofs.lemmas.DecisionSums.{counted-all, counted-all_after, counted-from, looks-under, steps-under}

@@ -4,7 +4,8 @@ use Rattle.std.specs.Vec.{vec_items}
 use Rattle.glob_lists.specs.Deciding.{AnswersAt}
 use Rattle.gix_glob.specs.Entries.{entry_of}
 use Rattle.gix_glob.specs.EntryLists.{entry_list_of}
-use Rattle.gix_glob.specs.Steps.{NeverFall, pattern_look_limit, step_limit}
+use Rattle.gix_glob.specs.Steps.{NeverFall, step_limit}
+use Rattle.gix_glob.specs.PatternLimits.{pattern_look_limit}
 use Rattle.gix_glob.specs.Stripping.{strip_looks}
 use Rattle.glob_lists.proofs.lemmas.LastNumbers.{NoneFrom}
 use Rattle.glob_lists.proofs.deciding.last_match.Given as goal

@@ -176,7 +176,7 @@ module _ {mode : Mode} {p v : List ℕ} {i k j e : ℕ} (t : Token) (next : ℕ)
   aligned_next x one here past inside fits =
       let low : i ≤ j = x.low in
       let value_low : k ≤ e = x.value_low in record {
-        start = record { place = inl (start_next t next x.start here) };
+        start = start_next t next x.start here;
         low = omega arith;
         value_low = omega arith;
         value_high = omega arith;

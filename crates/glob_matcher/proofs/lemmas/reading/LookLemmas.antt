@@ -4,12 +4,12 @@ use Rattle.std.proofs.Common.{◌≡◌, ℕ, Bool, false, ◌||◌, ◌+◌, �
 use Rattle.glob_matcher.specs.declared.wildmatch.items.Item.{Item}
 use Rattle.glob_matcher.specs.declared.wildmatch.sets.Spelled.{Spelled}
 use Rattle.glob_matcher.specs.declared.wildmatch.sets.Cursor.{Cursor}
-use Rattle.glob_matcher.specs.declared.wildmatch.sets.Entry.TheVariants as entry
+use Rattle.glob_matcher.specs.declared.wildmatch.sets.NextItem.TheVariants as next_item
 use Rattle.glob_matcher.specs.Steps.{Counts}
 use Rattle.glob_matcher.specs.Bytes.{HasByte}
 use Rattle.glob_matcher.specs.Private.Spelling.{close_bracket}
 use Rattle.glob_matcher.specs.Private.Looks.{IsItemRead, IsKnown, IsPaid, LookedAtEach, search_front}
-use Rattle.glob_matcher.specs.Private.Reader.{IsEntry, after_item, at_first}
+use Rattle.glob_matcher.specs.Private.Reader.{IsNextItem, after_item, at_first}
 use Rattle.glob_matcher.specs.Private.Takes.{Takes, TakesExactly, looks_at}
 use Rattle.glob_matcher.proofs.lemmas.reading.Walks.{IsUnderway, underway_first, underway_next}
 
@@ -108,7 +108,7 @@ module _ {text : List ℕ} {place start : ℕ} {test : Item → Bool} {before no
 
   pub reading_next : {held next_held : Bool} {cursor next : Cursor} {after : Counts} (s : Spelled)
       → next_held ≡ held || test s.item → next ≡ after_item s
-      → IsReading text place start test held cursor before now → IsEntry text cursor.is_first cursor.low cursor.place (entry.Item s)
+      → IsReading text place start test held cursor before now → IsNextItem text cursor.is_first cursor.low cursor.place (next_item.Item s)
       → IsPaid 0 now after cursor.place cursor.close s → IsReading text place start test next_held next before after
   reading_next {held = held} {next_held = next_held} {after = after} s holds is so_far here paid =
       subst (λ (x : Cursor). IsReading text place start test next_held x before after) (sym is)

@@ -91,8 +91,8 @@ module _ {mode : Mode} {p : List ℕ} where
         omega arith
 
   -- a token leads from a start to a token's start
-  pub start_next : {i : ℕ} (t : Token) (j : ℕ) → IsStart p i mode → TokenAt mode p i t j → IsBoundary p j mode
-  start_next {i} t j x here = by x.place where
+  pub start_next : {i : ℕ} (t : Token) (j : ℕ) → IsStart p i mode → TokenAt mode p i t j → IsStart p j mode
+  start_next {i} t j x here = record { place = inl (by x.place) } where
     by : IsBoundary p i mode ⊎ IsDirsSlash p i mode → IsBoundary p j mode
     by (inl at) = boundary_next t j at here
     by (inr at) =

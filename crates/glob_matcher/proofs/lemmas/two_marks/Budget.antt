@@ -17,9 +17,9 @@ use Rattle.glob_matcher.specs.Private.Budget.{LocalRestIfSet, Owes, AllowsAt, Al
 use Rattle.glob_matcher.proofs.lemmas.two_marks.Prices.{amount-sum, cost-next_tests_at, cost-limit, sized-head, sized-settle, test-single, first_test-cons, first_test-places_left, first_test-some}
 use Rattle.glob_matcher.proofs.lemmas.two_marks.States.{state_of}
 
--- the engine at its start, after the look at the last byte
+-- the engine at its start, after the look at the last byte, and with two looks to spare
 pub allows_start : (measure : Measure) (mode : Mode) (p v : List ℕ) (before : Counts)
-    → AllowsAt measure mode p v (state_of 0 0 crossing.Unmet None) (amount_of measure before)
+    → AllowsAt measure mode p v (state_of 0 0 crossing.Unmet None) (amount_of measure before + amount measure 0 2)
     (amount_of measure before + amount measure (step_limit (length p) (length v) - 1) (look_limit (length p) (length v) - 2))
 allows_start measure mode p v before = record {
   all = λ xs read.

@@ -1,4 +1,4 @@
--- A turn of the engine with two marks, after looks at its token.
+-- A turn of the engine with two marks, after looks at its token; and the front that is passed before the first turn.
 use Rattle.std.proofs.Common.{◌≡◌, ℕ, ◌+◌, ◌-◌, ◌*◌, ◌<◌, ◌≤◌, Bool, true, false, List, refl, arith}
 use Rattle.glob_matcher.specs.declared.wildmatch.mode.Mode.{Mode}
 use Rattle.glob_matcher.specs.declared.wildmatch.state.State.{State}
@@ -9,9 +9,12 @@ use Rattle.glob_matcher.specs.Private.Takes.{Takes}
 use Rattle.glob_matcher.specs.declared.wildmatch.tokens.TokenKind.{TokenKind}
 use Rattle.glob_matcher.specs.Private.Looks.{IsSetPaid}
 use Rattle.glob_matcher.specs.Private.Reader.{IsTokenRead, is_star}
-use Rattle.glob_matcher.specs.Private.Budget.{CountsOutcome}
-use Rattle.glob_matcher.specs.Private.Turns.{IsTurn}
-use Rattle.glob_matcher.proofs.lemmas.two_marks.Prices.{NeverFall-on, Takes-grows, Takes-within}
+use Rattle.glob_matcher.specs.Private.Budget.{AllowsAt, CountsOutcome}
+use Rattle.glob_matcher.specs.Private.Prices.{Measure, amount, amount_of}
+use Rattle.glob_matcher.specs.Private.States.{StandsAt}
+use Rattle.glob_matcher.specs.Private.Turns.{IsFront, IsTurn, at_front}
+use Rattle.glob_matcher.proofs.lemmas.two_marks.Prices.{NeverFall-on, Takes-grows, Takes-within, amount-sum}
+use Rattle.glob_matcher.proofs.lemmas.two_marks.Budget.{allows_less}
 
 counts_on : (t : Turn) (a b c : ℕ) → b ≡ a → CountsOutcome t b c → CountsOutcome t a c
 counts_on turn.Match a b c same more = tt
@@ -43,3 +46,17 @@ star_looks {i = i} {j = j} past star read = record { steps = omega (arith, read.
 
 pub set_looks : {before after : Counts} {i j : ℕ} → i ≤ j → IsSetPaid before after i j → Takes before after 1 (4 * (j - i) + 1)
 set_looks {i = i} {j} inside paid = record { steps = paid.steps; looks = omega (arith, paid.looks); low = omega (arith, paid.low) }
+
+-- The front of both texts is passed, each byte by a step and two looks, and the next one was looked at.
+pub front_passed : {mode : Mode} {p v : List ℕ} {k : ℕ} {before after : Counts} → StandsAt mode p v (at_front k)
+    → ((measure : Measure) (spent limit : ℕ) → AllowsAt measure mode p v (at_front 0) spent limit
+    → AllowsAt measure mode p v (at_front k) (spent + amount measure k (8 * k)) limit)
+    → Takes before after k (2 * k + 2) → IsFront mode p v k before after
+front_passed {k = k} {before} stands allows takes = record {
+  meaning = stands;
+  allows = λ measure limit a.
+      let all = Takes-within measure (amount_of measure before) 0 0 {e = k} {f = 2 * k + 2} (omega arith) takes (omega arith) (omega arith) in
+      let sum = amount-sum measure 0 2 k (8 * k) {e = k} {f = 2 * k + 2} (omega arith) (omega arith) in
+      allows_less (omega (arith, all, sum)) (allows measure (amount_of measure before + amount measure 0 2) limit a);
+  grows = Takes-grows takes;
+}

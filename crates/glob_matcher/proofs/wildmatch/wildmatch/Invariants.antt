@@ -2,7 +2,7 @@
 use Rattle.glob_matcher.proofs.wildmatch.wildmatch.Given as goal
 
 abbrev pub ghosts-with_new_counts-S-Ledger : goal.ghosts-with_new_counts-S-Ledger
-ghosts-with_new_counts-S-Ledger a = record { name = a.steps.name; parts = a.steps.parts }
+ghosts-with_new_counts-S-Ledger a = record { name = a.blanks.0.name; parts = a.blanks.0.parts }
 
 abbrev pub ghosts-with_new_counts-L-Ledger : goal.ghosts-with_new_counts-L-Ledger
-ghosts-with_new_counts-L-Ledger a = record { name = a.looks.name; parts = a.looks.parts }
+ghosts-with_new_counts-L-Ledger a = record { name = a.blanks.1.name; parts = a.blanks.1.parts }

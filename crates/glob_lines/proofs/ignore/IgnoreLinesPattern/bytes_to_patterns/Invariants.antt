@@ -9,8 +9,8 @@ use Rattle.glob_lines.proofs.ignore.IgnoreLinesPattern.bytes_to_patterns.Given a
 -- the lines so far are counted, and with the entries of the others theirs are all entries
 abbrev pub invariant-lines : goal.invariant-lines
 invariant-lines l = record {
-  counted : l.number + length (lines_of (without_returns l.rest)) ≡ length (lines_of (without_returns (without_mark l.bytes)));
-  meant : map (entry_of (λ _. tt)) l.mappings.items ++ entries_from ignore_content (l.number + 1) (lines_of (without_returns l.rest)) ≡ ignore_of l.bytes;
+  counted : l.read.lines + length (lines_of (without_returns l.rest)) ≡ length (lines_of (without_returns (without_mark l.bytes)));
+  meant : map (entry_of (λ _. tt)) l.read.mappings.items ++ entries_from ignore_content (l.read.lines + 1) (lines_of (without_returns l.rest)) ≡ ignore_of l.bytes;
 }
 
 abbrev pub decreases-lines : goal.decreases-lines

@@ -9,6 +9,6 @@ use Rattle.glob_lines.proofs.label.LabelLinesPattern.bytes_to_patterns.Given as 
 -- the lines so far are counted, and with the entries of the others theirs are all entries
 abbrev pub invariant-loop-line : goal.invariant-loop-line
 invariant-loop-line l = record {
-  counted : l.number + length (lines_of l.line-iterator.rest.now) ≡ length (lines_of l.bytes);
-  meant : map (entry_of vec_items) l.mappings.items ++ entries_from label_content (l.number + 1) (lines_of l.line-iterator.rest.now) ≡ label_of l.bytes;
+  counted : l.read.lines + length (lines_of l.line-iterator.rest.now) ≡ length (lines_of l.bytes);
+  meant : map (entry_of vec_items) l.read.mappings.items ++ entries_from label_content (l.read.lines + 1) (lines_of l.line-iterator.rest.now) ≡ label_of l.bytes;
 }

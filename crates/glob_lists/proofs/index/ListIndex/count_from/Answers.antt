@@ -11,7 +11,7 @@ use Rattle.glob_lists.proofs.index.ListIndex.count_from.Goals as goal
 
 pub overflow_add-result : goal.overflow_add-result
 overflow_add-result g c =
-    let made = to_value g.T.Pattern.seen _ _ c.self.view_is (λ lists _. IsIndexOf lists c.self.inside.table) c.self.invariant in
+    let made = to_value g.T.Pattern.seen _ _ c.self.view_is (λ lists _. IsIndexOf lists c.self.inside.table) c.self.invariant.index in
     let lists = map (entry_list_of g.T.Pattern.seen) c.args.self.now.lists in
     let before = to_value g.T.Pattern.seen _ _ c.self.view_is (λ lists _. entry_count (map (entry_list_of g.T.Pattern.seen) (take c.args.list c.self.inside.lists.now)) ≡ entry_count (take c.args.list lists))
     (ap (λ l. entry_count l) (sym (take-map (entry_list_of g.T.Pattern.seen) c.args.list c.self.inside.lists.now))) in
@@ -19,7 +19,7 @@ overflow_add-result g c =
 
 pub overflow_sub-result : goal.overflow_sub-result
 overflow_sub-result g c =
-    let made = to_value g.T.Pattern.seen _ _ c.self.view_is (λ lists _. IsIndexOf lists c.self.inside.table) c.self.invariant in
+    let made = to_value g.T.Pattern.seen _ _ c.self.view_is (λ lists _. IsIndexOf lists c.self.inside.table) c.self.invariant.index in
     let lists = map (entry_list_of g.T.Pattern.seen) c.args.self.now.lists in
     let before = to_value g.T.Pattern.seen _ _ c.self.view_is (λ lists _. entry_count (map (entry_list_of g.T.Pattern.seen) (take c.args.list c.self.inside.lists.now)) ≡ entry_count (take c.args.list lists))
     (ap (λ l. entry_count l) (sym (take-map (entry_list_of g.T.Pattern.seen) c.args.list c.self.inside.lists.now))) in
@@ -27,7 +27,7 @@ overflow_sub-result g c =
 
 pub returns-clause-some : goal.returns-clause-some
 returns-clause-some g c =
-    let made = to_value g.T.Pattern.seen _ _ c.self.view_is (λ lists _. IsIndexOf lists c.self.inside.table) c.self.invariant in
+    let made = to_value g.T.Pattern.seen _ _ c.self.view_is (λ lists _. IsIndexOf lists c.self.inside.table) c.self.invariant.index in
     let lists = map (entry_list_of g.T.Pattern.seen) c.args.self.now.lists in
     let before = to_value g.T.Pattern.seen _ _ c.self.view_is (λ lists _. entry_count (map (entry_list_of g.T.Pattern.seen) (take c.args.list c.self.inside.lists.now)) ≡ entry_count (take c.args.list lists))
     (ap (λ l. entry_count l) (sym (take-map (entry_list_of g.T.Pattern.seen) c.args.list c.self.inside.lists.now))) in

@@ -15,22 +15,22 @@ use Rattle.glob_lists.proofs.index.ListIndex.decide_by_table.Goals as goal
 
 pub ask-requires-clause-folders : goal.ask-requires-clause-folders
 ask-requires-clause-folders g c =
-    let made = to_value g.T.Pattern.seen _ _ c.self.view_is (λ lists _. IsIndexOf lists c.self.inside.table) c.self.invariant in
+    let made = to_value g.T.Pattern.seen _ _ c.self.view_is (λ lists _. IsIndexOf lists c.self.inside.table) c.self.invariant.index in
     made.folders
 
 pub ask-requires-clause-there : goal.ask-requires-clause-there
 ask-requires-clause-there g c =
-    let made = to_value g.T.Pattern.seen _ _ c.self.view_is (λ lists _. IsIndexOf lists c.self.inside.table) c.self.invariant in
+    let made = to_value g.T.Pattern.seen _ _ c.self.view_is (λ lists _. IsIndexOf lists c.self.inside.table) c.self.invariant.index in
     entry_of_next _ _ _ _ _ _ _ made.made.rows c.in-Some.ensures.next
 
 pub ask-requires-clause-before : goal.ask-requires-clause-before
 ask-requires-clause-before g c =
-    let made = to_value g.T.Pattern.seen _ _ c.self.view_is (λ lists _. IsIndexOf lists c.self.inside.table) c.self.invariant in
+    let made = to_value g.T.Pattern.seen _ _ c.self.view_is (λ lists _. IsIndexOf lists c.self.inside.table) c.self.invariant.index in
     next_before _ _ _ _ _ _ c.in-Some.ensures.next _ c.candidates.invariant.before
 
 pub candidates-init : goal.candidates-init
 candidates-init g c =
-    let made = to_value g.T.Pattern.seen _ _ c.self.view_is (λ lists _. IsIndexOf lists c.self.inside.table) c.self.invariant in
+    let made = to_value g.T.Pattern.seen _ _ c.self.view_is (λ lists _. IsIndexOf lists c.self.inside.table) c.self.invariant.index in
     let lists = map (entry_list_of g.T.Pattern.seen) c.args.self.now.lists in
     let many = rows_count lists c.self.inside.table.rows.items made.made.rows in
     let whole = to_value g.T.Pattern.seen _ _ c.self.view_is (λ lists _. length lists ≡ length c.self.inside.lists.now) (length-map c.self.inside.lists.now (entry_list_of g.T.Pattern.seen)) in
@@ -50,26 +50,26 @@ candidates-init g c =
 
 pub returns-then-ask-clause-decides : goal.returns-then-ask-clause-decides
 returns-then-ask-clause-decides g c =
-    let made = to_value g.T.Pattern.seen _ _ c.self.view_is (λ lists _. IsIndexOf lists c.self.inside.table) c.self.invariant in
+    let made = to_value g.T.Pattern.seen _ _ c.self.view_is (λ lists _. IsIndexOf lists c.self.inside.table) c.self.invariant.index in
     last_answer _ _ c.args.path.now.bytes c.args.path.now.is_dir c.args.self.now.case _ _ _ _ _ made.made.rows
     (law_holds _ c.self.inside.table.rows.items c.args.path.now.bytes c.args.path.now.is_dir c.args.self.now.case c.answering_patterns_pass.ensures c.probe-probe.result c.probe-probe.ensures.shows)
     c.in-Some.ensures.next (c.ask.ensures.exact.0 c.if-ask.true) c.candidates.invariant.none
 
 pub returns-then-ask-clause-each_once : goal.returns-then-ask-clause-each_once
 returns-then-ask-clause-each_once g c =
-    let made = to_value g.T.Pattern.seen _ _ c.self.view_is (λ lists _. IsIndexOf lists c.self.inside.table) c.self.invariant in
+    let made = to_value g.T.Pattern.seen _ _ c.self.view_is (λ lists _. IsIndexOf lists c.self.inside.table) c.self.invariant.index in
     let lists = map (entry_list_of g.T.Pattern.seen) c.args.self.now.lists in
     omega (arith, c.in-Some.ensures.next.below, c.candidates.invariant.counted, rows_count lists c.self.inside.table.rows.items made.made.rows)
 
 pub returns-then-ask-clause-steps : goal.returns-then-ask-clause-steps
 returns-then-ask-clause-steps g c =
-    let made = to_value g.T.Pattern.seen _ _ c.self.view_is (λ lists _. IsIndexOf lists c.self.inside.table) c.self.invariant in
+    let made = to_value g.T.Pattern.seen _ _ c.self.view_is (λ lists _. IsIndexOf lists c.self.inside.table) c.self.invariant.index in
     let lists = map (entry_list_of g.T.Pattern.seen) c.args.self.now.lists in
     omega (arith, c.ask.ensures.steps, c.candidates.invariant.steps, c.next_pair.ensures.looks.steps, steps_from-all lists (length c.args.path.now.bytes) (c.in-Some.list, c.in-Some.mapping))
 
 pub returns-then-ask-clause-looks : goal.returns-then-ask-clause-looks
 returns-then-ask-clause-looks g c =
-    let made = to_value g.T.Pattern.seen _ _ c.self.view_is (λ lists _. IsIndexOf lists c.self.inside.table) c.self.invariant in
+    let made = to_value g.T.Pattern.seen _ _ c.self.view_is (λ lists _. IsIndexOf lists c.self.inside.table) c.self.invariant.index in
     let lists = map (entry_list_of g.T.Pattern.seen) c.args.self.now.lists in
     omega (
       arith,
@@ -83,7 +83,7 @@ returns-then-ask-clause-looks g c =
 
 pub candidates-preserved : goal.candidates-preserved
 candidates-preserved g c =
-    let made = to_value g.T.Pattern.seen _ _ c.self.view_is (λ lists _. IsIndexOf lists c.self.inside.table) c.self.invariant in
+    let made = to_value g.T.Pattern.seen _ _ c.self.view_is (λ lists _. IsIndexOf lists c.self.inside.table) c.self.invariant.index in
     let lists = map (entry_list_of g.T.Pattern.seen) c.args.self.now.lists in
     record {
       down = c.in-Some.ensures.down;
@@ -103,7 +103,7 @@ candidates-preserved g c =
 
 pub returns-clause-decides : goal.returns-clause-decides
 returns-clause-decides g c =
-    let made = to_value g.T.Pattern.seen _ _ c.self.view_is (λ lists _. IsIndexOf lists c.self.inside.table) c.self.invariant in
+    let made = to_value g.T.Pattern.seen _ _ c.self.view_is (λ lists _. IsIndexOf lists c.self.inside.table) c.self.invariant.index in
     let lists = map (entry_list_of g.T.Pattern.seen) c.args.self.now.lists in
     let none : NonePasses c.self.inside.table.rows.items c.probe-probe.result 0 c.candidates.walk.passed_from = rw c.in_default.is at c.next_pair.ensures.next in
     decides_none lists c.self.inside.table.rows.items c.args.path.now.bytes c.args.path.now.is_dir c.args.self.now.case made.made.rows
@@ -113,18 +113,18 @@ returns-clause-decides g c =
 
 pub returns-clause-each_once : goal.returns-clause-each_once
 returns-clause-each_once g c =
-    let made = to_value g.T.Pattern.seen _ _ c.self.view_is (λ lists _. IsIndexOf lists c.self.inside.table) c.self.invariant in
+    let made = to_value g.T.Pattern.seen _ _ c.self.view_is (λ lists _. IsIndexOf lists c.self.inside.table) c.self.invariant.index in
     let lists = map (entry_list_of g.T.Pattern.seen) c.args.self.now.lists in
     omega (arith, c.candidates.invariant.counted, rows_count lists c.self.inside.table.rows.items made.made.rows)
 
 pub returns-clause-steps : goal.returns-clause-steps
 returns-clause-steps g c =
-    let made = to_value g.T.Pattern.seen _ _ c.self.view_is (λ lists _. IsIndexOf lists c.self.inside.table) c.self.invariant in
+    let made = to_value g.T.Pattern.seen _ _ c.self.view_is (λ lists _. IsIndexOf lists c.self.inside.table) c.self.invariant.index in
     let lists = map (entry_list_of g.T.Pattern.seen) c.args.self.now.lists in
     omega (arith, c.candidates.invariant.steps, c.next_pair.ensures.looks.steps, steps_from-all lists (length c.args.path.now.bytes) c.candidates.reached.pair)
 
 pub returns-clause-looks : goal.returns-clause-looks
 returns-clause-looks g c =
-    let made = to_value g.T.Pattern.seen _ _ c.self.view_is (λ lists _. IsIndexOf lists c.self.inside.table) c.self.invariant in
+    let made = to_value g.T.Pattern.seen _ _ c.self.view_is (λ lists _. IsIndexOf lists c.self.inside.table) c.self.invariant.index in
     let lists = map (entry_list_of g.T.Pattern.seen) c.args.self.now.lists in
     omega (arith, c.candidates.invariant.looks, c.next_pair.ensures.looks.to, looks_from-all lists (length c.args.path.now.bytes) c.candidates.reached.pair, rows_count lists c.self.inside.table.rows.items made.made.rows)

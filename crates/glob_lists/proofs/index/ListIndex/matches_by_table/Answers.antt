@@ -14,22 +14,22 @@ use Rattle.glob_lists.proofs.index.ListIndex.matches_by_table.Goals as goal
 
 pub ask-requires-clause-folders : goal.ask-requires-clause-folders
 ask-requires-clause-folders g c =
-    let made = to_value g.T.Pattern.seen _ _ c.self.view_is (λ lists _. IsIndexOf lists c.self.inside.table) c.self.invariant in
+    let made = to_value g.T.Pattern.seen _ _ c.self.view_is (λ lists _. IsIndexOf lists c.self.inside.table) c.self.invariant.index in
     made.folders
 
 pub ask-requires-clause-there : goal.ask-requires-clause-there
 ask-requires-clause-there g c =
-    let made = to_value g.T.Pattern.seen _ _ c.self.view_is (λ lists _. IsIndexOf lists c.self.inside.table) c.self.invariant in
+    let made = to_value g.T.Pattern.seen _ _ c.self.view_is (λ lists _. IsIndexOf lists c.self.inside.table) c.self.invariant.index in
     entry_of_next _ _ _ _ _ _ _ made.made.rows c.in-Some.ensures.next
 
 pub ask-requires-clause-before : goal.ask-requires-clause-before
 ask-requires-clause-before g c =
-    let made = to_value g.T.Pattern.seen _ _ c.self.view_is (λ lists _. IsIndexOf lists c.self.inside.table) c.self.invariant in
+    let made = to_value g.T.Pattern.seen _ _ c.self.view_is (λ lists _. IsIndexOf lists c.self.inside.table) c.self.invariant.index in
     next_before _ _ _ _ _ _ c.in-Some.ensures.next _ c.candidates.invariant.before
 
 pub candidates-init : goal.candidates-init
 candidates-init g c =
-    let made = to_value g.T.Pattern.seen _ _ c.self.view_is (λ lists _. IsIndexOf lists c.self.inside.table) c.self.invariant in
+    let made = to_value g.T.Pattern.seen _ _ c.self.view_is (λ lists _. IsIndexOf lists c.self.inside.table) c.self.invariant.index in
     let lists = map (entry_list_of g.T.Pattern.seen) c.args.self.now.lists in
     let whole = to_value g.T.Pattern.seen _ _ c.self.view_is (λ lists _. length lists ≡ length c.self.inside.lists.now) (length-map c.self.inside.lists.now (entry_list_of g.T.Pattern.seen)) in
     record {
@@ -41,7 +41,7 @@ candidates-init g c =
 
 pub candidates-preserved-in-Continue-1 : goal.candidates-preserved-in-Continue-1
 candidates-preserved-in-Continue-1 g c =
-    let made = to_value g.T.Pattern.seen _ _ c.self.view_is (λ lists _. IsIndexOf lists c.self.inside.table) c.self.invariant in
+    let made = to_value g.T.Pattern.seen _ _ c.self.view_is (λ lists _. IsIndexOf lists c.self.inside.table) c.self.invariant.index in
     let lists = map (entry_list_of g.T.Pattern.seen) c.args.self.now.lists in
     record {
       down = c.in-Some.ensures.down;
@@ -56,7 +56,7 @@ candidates-preserved-in-Continue-1 g c =
 
 pub candidates-preserved : goal.candidates-preserved
 candidates-preserved g c =
-    let made = to_value g.T.Pattern.seen _ _ c.self.view_is (λ lists _. IsIndexOf lists c.self.inside.table) c.self.invariant in
+    let made = to_value g.T.Pattern.seen _ _ c.self.view_is (λ lists _. IsIndexOf lists c.self.inside.table) c.self.invariant.index in
     let lists = map (entry_list_of g.T.Pattern.seen) c.args.self.now.lists in
     record {
       down = c.in-Some.ensures.down;
@@ -69,7 +69,7 @@ candidates-preserved g c =
 
 pub returns : goal.returns
 returns g c =
-    let made = to_value g.T.Pattern.seen _ _ c.self.view_is (λ lists _. IsIndexOf lists c.self.inside.table) c.self.invariant in
+    let made = to_value g.T.Pattern.seen _ _ c.self.view_is (λ lists _. IsIndexOf lists c.self.inside.table) c.self.invariant.index in
     let lists = map (entry_list_of g.T.Pattern.seen) c.args.self.now.lists in
     let none : NonePasses c.self.inside.table.rows.items c.probe-probe.result 0 c.candidates.walk.passed_from = rw c.in_default.is at c.next_pair.ensures.next in
     subst (AreMatches lists c.args.path.now.bytes c.args.path.now.is_dir c.args.self.now.case) (sym c.reverse.ensures.items)

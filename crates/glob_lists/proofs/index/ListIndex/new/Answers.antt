@@ -2,8 +2,11 @@
 use Rattle.std.proofs.Common.{◌≡◌, ℕ, length, map, subst, arith}
 use Rattle.std.proofs.lemmas.List.{length-map}
 use Rattle.gix_glob.specs.EntryLists.{entry_list_of}
+use Rattle.glob_lists.specs.Private.Indexes.{AreFolderedBy}
 use Rattle.glob_lists.specs.Private.Tables.{AreRowsUpTo}
 use Rattle.glob_lists.proofs.lemmas.RowLemmas.{rows_none}
+use Rattle.std.specs.Vec.{vec_items}
+use Rattle.glob_lists.proofs.lemmas.Elements.{IfSome-map}
 use Rattle.glob_lists.proofs.index.ListIndex.new.Goals as goal
 
 pub lists-init : goal.lists-init
@@ -13,9 +16,12 @@ pub invariant_of-result : goal.invariant_of-result
 invariant_of-result g c =
     let lists = map (entry_list_of g.T.Pattern.seen) c.args.lists.now in
     let all : c.lists.i ≡ length lists = omega (arith, length-map c.args.lists.now (entry_list_of g.T.Pattern.seen), c.lists-test.false, c.lists.auto.i-end) in record {
-      folders = c.requires.folders;
-      made = record {
-        rows = subst (λ (i : ℕ). AreRowsUpTo lists i 0 c.lists.table.rows.items) all c.lists.invariant.rows;
-        chained = c.lists.invariant.chained;
+      index = record {
+        folders = c.requires.folders;
+        made = record {
+          rows = subst (λ (i : ℕ). AreRowsUpTo lists i 0 c.lists.table.rows.items) all c.lists.invariant.rows;
+          chained = c.lists.invariant.chained;
+        };
       };
+      foldered = IfSome-map vec_items c.in_ok-folders.folders (AreFolderedBy lists) c.in_ok-folders.ensures;
     }

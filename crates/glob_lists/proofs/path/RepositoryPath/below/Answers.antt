@@ -6,11 +6,11 @@ use Rattle.glob_lists.proofs.path.RepositoryPath.below.Goals as goal
 pub strip_base_handle_recompute_basename_pos-requires :
     goal.strip_base_handle_recompute_basename_pos-requires
 strip_base_handle_recompute_basename_pos-requires c =
-    IsPlaced-basename c.positions_lie_past_the_base.ensures _ _ _ _ (ForSome-folder _ c.requires) c.self.invariant.basename
+    IsPlaced-basename c.basename_starts_lie_past_the_base.ensures _ _ _ _ (ForSome-folder _ c.requires) c.self.invariant.basename
 
 pub invariant_of-result : goal.invariant_of-result
 invariant_of-result c =
-    IsKept-rest c.stripped_positions_are_the_rests_own.ensures c.args.case (Some c.args.base.now) c.self.inside.bytes.now c.in-Some.bytes.now c.self.inside.basename_start c.in-Some.basename_start
+    IsKept-rest c.stripped_basename_starts_are_the_rests_own.ensures c.args.case (Some c.args.base.now) c.self.inside.bytes.now c.in-Some.bytes.now c.self.inside.basename_start c.in-Some.basename_start
     (ForSome-folder _ c.requires) c.self.invariant c.in-Some.ensures.0 c.in-Some.ensures.1
 
 pub returns-in_default : goal.returns-in_default

@@ -2,7 +2,7 @@
 use Rattle.glob_matcher.proofs.wildmatch.slices.token_at.Given as goal
 
 abbrev pub ghosts-token_with_counts-S-Ledger : goal.ghosts-token_with_counts-S-Ledger
-ghosts-token_with_counts-S-Ledger a = record { name = a.steps.name; parts = a.steps.parts }
+ghosts-token_with_counts-S-Ledger a = record { name = a.blanks.0.name; parts = a.blanks.0.parts }
 
 abbrev pub ghosts-token_with_counts-L-Ledger : goal.ghosts-token_with_counts-L-Ledger
-ghosts-token_with_counts-L-Ledger a = record { name = a.looks.name; parts = a.looks.parts }
+ghosts-token_with_counts-L-Ledger a = record { name = a.blanks.1.name; parts = a.blanks.1.parts }

@@ -11,14 +11,13 @@ use Rattle.glob_matcher.proofs.lemmas.two_marks.Budget.{allows_less, test_of_tok
 use Rattle.glob_matcher.proofs.lemmas.two_marks.TakenByteCosts.{allows_on}
 use Rattle.glob_matcher.proofs.lemmas.two_marks.Scans.{byte_of}
 use Rattle.glob_matcher.proofs.wildmatch.engine.Engine.literal_turns.Goals as goal
-use Rattle.glob_matcher.proofs.wildmatch.engine.Engine.literal_turns.Goals.{then-byte-eq47-via-then-byte-eq47, then-byte-eq47-via-else-byte-eq47+then-not-stands_for_itself}
 
 pub returns-then-not-fits_byte : goal.returns-then-not-fits_byte
 returns-then-not-fits_byte g c =
     let m = g.M.Texts in
     let same : c.pattern_byte-byte.result ≡ get_or m.pattern c.bytes.place 0 = c.pattern_byte-byte.ensures.here in
     let inside : c.bytes.place < length m.pattern = omega (arith, c.bytes-test.true, c.pattern_len.ensures) in
-    let own = subst StandsForItself same (c.if-not-stands_for_itself.ensures.0 refl) in
+    let own = subst StandsForItself same ((c.if-not-stands_within_component.ensures.0 refl).0) in
     record {
       meaning = record {
         stands = c.bytes.invariant.stands;
@@ -52,19 +51,19 @@ bytes-preserved g c =
     let m = g.M.Texts in
     let same : c.pattern_byte-byte.result ≡ get_or m.pattern c.bytes.place 0 = c.pattern_byte-byte.ensures.here in
     let inside : c.bytes.place < length m.pattern = omega (arith, c.bytes-test.true, c.pattern_len.ensures) in
-    let own = subst StandsForItself same (c.if-not-stands_for_itself.ensures.0 refl) in
+    let own = subst StandsForItself same ((c.if-not-stands_within_component.ensures.0 refl).0) in
     let token = literal_token m.mode m.pattern c.bytes.place inside own in
     let fits = subst (λ (b : ℕ). (c.bytes.at < length m.value) × Fits m.mode (Byte b) (get_or m.value c.bytes.at 0)) same
     (c.if-not-fits_byte.ensures.answer.0 refl) in
     record {
-      stands = stands_on c.bytes.invariant.stands token refl fits.0 fits.1 (λ is. c.if-byte-eq47.false (same ∙ byte_of is));
+      stands = stands_on c.bytes.invariant.stands token refl fits.0 fits.1 (λ is. (c.if-not-stands_within_component.ensures.0 refl).1 (same ∙ byte_of is));
       allows = λ measure s n a.
           let passed = c.bytes.place - c.args.state.place in
           let now = c.bytes.place + 1 - c.args.state.place in
           let price : amount measure now (8 * now) ≤ amount measure passed (8 * passed) + amount measure 1 (8 * (c.bytes.place + 1 - c.bytes.place)) =
           amount-sum measure passed (8 * passed) 1 (8 * (c.bytes.place + 1 - c.bytes.place)) (omega (arith, c.bytes.invariant.low)) (omega (arith, c.bytes.invariant.low)) in
           allows_on {after = s + amount measure now (8 * now)} token refl (omega arith) fits.0 fits.1
-          (inner_of token.token c.bytes.invariant.stands fits.1 (λ is. c.if-byte-eq47.false (same ∙ byte_of is)))
+          (inner_of token.token c.bytes.invariant.stands fits.1 (λ is. (c.if-not-stands_within_component.ensures.0 refl).1 (same ∙ byte_of is)))
           (c.bytes.invariant.allows measure s n a);
       low = omega (arith, c.bytes.invariant.low);
       count =
@@ -95,8 +94,8 @@ returns-after-bytes g c =
       grows = Takes-grows c.bytes.invariant.count;
     }
 
-pub returns-then-byte-eq47 : goal.returns-then-byte-eq47
-returns-then-byte-eq47 g c =
+pub returns-then-not-stands_within_component : goal.returns-then-not-stands_within_component
+returns-then-not-stands_within_component g c =
     let m = g.M.Texts in
     let moved : c.args.state.place < c.bytes.place = elim (cases_lt c.args.state.place c.bytes.place) [
       | inl below ↦ below
@@ -104,11 +103,9 @@ returns-then-byte-eq47 g c =
           let at : c.bytes.place ≡ c.args.state.place = omega (arith, c.bytes.invariant.low) in
           let same : c.pattern_byte-byte.result ≡ get_or m.pattern c.args.state.place 0 =
           c.pattern_byte-byte.ensures.here ∙ ap (λ (i : ℕ). get_or m.pattern i 0) at in
-          absurd (elim c.then-byte-eq47.branch [
-            | then-byte-eq47-via-then-byte-eq47 w ↦ c.requires.other (sym same ∙ w.if-byte-eq47.true)
-            | then-byte-eq47-via-else-byte-eq47+then-not-stands_for_itself w ↦
-                let wrong : false ≡ true = w.if-not-stands_for_itself.ensures.1 (subst StandsForItself (sym same) c.requires.literal) in cc
-          ])
+          let wrong : false ≡ true = c.if-not-stands_within_component.ensures.1
+          (subst StandsForItself (sym same) c.requires.literal, λ is. c.requires.other (sym same ∙ is)) in
+          absurd cc
     ] in
     record {
       meaning = c.bytes.invariant.stands;

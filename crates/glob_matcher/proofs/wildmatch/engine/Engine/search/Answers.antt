@@ -1,7 +1,5 @@
 use Rattle.std.proofs.Common.{arith}
 use Rattle.glob_matcher.specs.Private.Prices.{Steps, amount, amount_of}
-use Rattle.glob_matcher.proofs.lemmas.two_marks.States.{stands_start}
-use Rattle.glob_matcher.proofs.lemmas.two_marks.Prices.{NeverFall-same}
 use Rattle.glob_matcher.proofs.lemmas.two_marks.Budget.{allows_one, allows_start, within_limits}
 use Rattle.glob_matcher.proofs.wildmatch.engine.Engine.search.Goals as goal
 
@@ -9,9 +7,9 @@ pub turns-init : goal.turns-init
 turns-init g c =
     let m = g.M.Texts in
     record {
-      stands = stands_start m.mode m.pattern m.value;
-      allows = λ measure. allows_start measure m.mode m.pattern m.value c.args.self.now;
-      grows = NeverFall-same;
+      stands = c.front-front.ensures.meaning;
+      allows = λ measure. c.front-front.ensures.allows measure _ (allows_start measure m.mode m.pattern m.value c.args.self.now);
+      grows = c.front-front.ensures.grows;
     }
 
 pub turns-smaller-in-On : goal.turns-smaller-in-On

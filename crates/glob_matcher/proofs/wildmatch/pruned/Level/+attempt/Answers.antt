@@ -1,7 +1,6 @@
 use Rattle.std.proofs.Common.{◌≡◌, ◌≢◌, ◌⊎◌, ◌+◌, ◌≤◌, inl, inr, length, refl, arith, rules}
 use Rattle.glob_matcher.specs.declared.wildmatch.pruned.Answer.{Answer}
 use Rattle.glob_matcher.specs.declared.wildmatch.pruned.Answer.TheVariants.{Match, NoMatch, AbortToStarStar}
-use Rattle.glob_matcher.specs.Pruning.{IsStart}
 use Rattle.glob_matcher.specs.Tokens.{Free, Local, Dirs, TokenAt}
 use Rattle.glob_matcher.proofs.lemmas.reading.Starts.{start_next, start_inside, boundary_next}
 use Rattle.glob_matcher.proofs.lemmas.reading.TokenKinds.{is_free, is_local, is_dirs, is_nothing, is_one, dirs_boundary}
@@ -118,18 +117,14 @@ try_component-returns t c =
 
 pub attempt-try_everywhere-requires : goal.attempt-try_everywhere-requires
 attempt-try_everywhere-requires t c =
-    let p = c.args.self.now.pattern.now in
-    let s = c.token_at-token in
-    let here : TokenAt c.args.self.now.mode p c.tokens.place Free s.result.end = is_free s.ensures c.in-Free.is in
-    let start : IsStart p s.result.end c.args.self.now.mode = record { place = inl (start_next Free s.result.end c.tokens.invariant.start here) } in
+    let here = is_free c.token_at-token.ensures c.in-Free.is in
+    let start = start_next Free c.token_at-token.result.end c.tokens.invariant.start here in
     (search rules, (start, (here.0.whole, (c.tokens.invariant.value_high, omega arith))))
 
 pub attempt-try_component-requires : goal.attempt-try_component-requires
 attempt-try_component-requires t c =
-    let p = c.args.self.now.pattern.now in
-    let s = c.token_at-token in
-    let here : TokenAt c.args.self.now.mode p c.tokens.place Local s.result.end = is_local s.ensures c.in-Local.is in
-    let start : IsStart p s.result.end c.args.self.now.mode = record { place = inl (start_next Local s.result.end c.tokens.invariant.start here) } in
+    let here = is_local c.token_at-token.ensures c.in-Local.is in
+    let start = start_next Local c.token_at-token.result.end c.tokens.invariant.start here in
     (search rules, (start, (here.0.whole, (c.tokens.invariant.value_high, omega arith))))
 
 pub attempt-try_directories-requires : goal.attempt-try_directories-requires

@@ -1,0 +1,86 @@
+#!/usr/bin/env python3
+"""Times the binding for Python beside `pathspec`: bench/python.py
+
+It takes Debian's python3-pathspec, and the shared library that GIX_GLOB_LIBRARY names or that `.ci/python` has made. Both sides
+are given the same lists, of `lists.py`, in turns, in one process; what is printed is the shortest of several turns, in
+milliseconds of the processor. The status is 1 where `match_files` isn't as many times as fast as the load's goal."""
+import argparse
+import os
+import subprocess
+import sys
+import tempfile
+import time
+
+HERE = os.path.dirname(os.path.abspath(__file__))
+TOP = os.path.dirname(HERE)
+MADE = os.path.join(TOP, "out", "python", "libgix_glob_c.so.0")
+if os.path.exists(MADE):
+    os.environ.setdefault("GIX_GLOB_LIBRARY", MADE)
+sys.path.insert(0, os.path.join(TOP, "bindings", "python"))
+
+# how many times as fast `match_files` is to be
+GOALS = {"mixture": 10, "no match, 500 folders": 10, "no match": 4}
+
+
+def words():
+    args = argparse.ArgumentParser(description=__doc__, formatter_class=argparse.RawDescriptionHelpFormatter)
+    args.add_argument("--patterns", type=int, default=1000)
+    args.add_argument("--paths", type=int, default=10000)
+    args.add_argument("--seed", type=int, default=5)
+    args.add_argument("--turns", type=int, default=3)
+    return args.parse_args()
+
+
+def drawn(options):
+    """The patterns and the paths of `lists.py`."""
+    with tempfile.TemporaryDirectory() as folder:
+        sizes = ["--sizes", str(options.patterns), "--paths", str(options.paths), "--seed", str(options.seed)]
+        subprocess.run([sys.executable, f"{HERE}/lists.py", "--make", folder, *sizes], check=True)
+        texts = []
+        for name in ("patterns", "paths"):
+            with open(f"{folder}/{name}", encoding="ascii") as file:
+                texts.append(file.read().splitlines())
+        return texts
+
+
+def in_folders(paths, count):
+    """As many paths, in so many folders of theirs."""
+    folders = sorted({os.path.dirname(path) for path in paths} - {""})[:count]
+    return [f"{folders[at % len(folders)]}/{os.path.basename(path)}" for at, path in enumerate(paths)]
+
+
+def turn(make, patterns, paths):
+    """Milliseconds of preparing and of matching, and how many paths match."""
+    start = time.process_time()
+    rules = make(patterns)
+    prepared = time.process_time()
+    matched = len(list(rules.match_files(paths)))
+    return (prepared - start) * 1000, (time.process_time() - prepared) * 1000, matched
+
+
+def main():
+    options = words()
+    # (after the words, so that --help needs neither)
+    import pathspec
+    from gix_glob import IgnoreFile
+
+    patterns, paths = drawn(options)
+    # In upper case no path matches, so each pattern is asked about each path and, here, each folder. Almost each path of the
+    # mixture has folders of its own, 17,018 in all.
+    upper = [path.upper() for path in paths]
+    loads = dict(zip(GOALS, (paths, in_folders(upper, 500), upper)))
+    makers = (pathspec.GitIgnoreSpec.from_lines, IgnoreFile.from_lines)
+    print(f"{len(patterns):,} patterns by {len(paths):,} paths; milliseconds of preparing and of matching, and the paths that match\n")
+    print(f"| Load | pathspec {pathspec.__version__} | Here | Times as fast | Goal |\n|---|---|---|---|---|")
+    missed = 0
+    for load, given in loads.items():
+        turns = [[turn(make, patterns, given) for make in makers] for _ in range(options.turns)]
+        best = [tuple(min(one[side][at] for one in turns) for at in range(3)) for side in range(2)]
+        ratio = best[0][1] / best[1][1]
+        missed += ratio < GOALS[load]
+        cells = [f"{prepared:.1f} + {matched:,.1f} ({count:,})" for prepared, matched, count in best]
+        print(f"| {load} | {cells[0]} | {cells[1]} | {ratio:.1f} | {GOALS[load]} |", flush=True)
+    sys.exit(missed > 0)
+
+
+main()

@@ -1,0 +1,344 @@
+"""Ignore files, and which of their lines decides about a path."""
+
+from __future__ import annotations
+
+import os
+from typing import Any, Dict, Iterable, Iterator, List, NamedTuple, Optional, Sequence, Tuple, TypeVar
+
+from . import _library
+from ._pattern import Pattern
+from ._texts import Path, Text, encoded, folder, split
+
+_P = TypeVar("_P", bound=Path)
+
+#: How many folders a call of `match_files` remembers at most.
+_MOST_FOLDERS = 1 << 16
+
+
+class Decision(NamedTuple):
+    """The line that decides about a path, to ignore it or to keep it.
+
+    >>> decision = IgnoreFile.from_lines(["*.log", "!keep.log"]).decide("keep.log")
+    >>> decision.line, decision.pattern, decision.is_ignored
+    (2, Pattern(b'!keep.log'), False)
+    """
+
+    #: The file that has the line.
+    file: "IgnoreFile"
+    #: The number of the line, from 1.
+    line: int
+    #: What was read of the line.
+    pattern: Pattern
+
+    @property
+    def is_ignored(self) -> bool:
+        """Whether the path is ignored: the line doesn't begin with `!`."""
+        return not self.pattern.is_negative
+
+
+class _Found(NamedTuple):
+    """A pattern that decides: its file, its place there, and whether the path is ignored."""
+
+    file: "IgnoreFile"
+    at: int
+    is_ignored: bool
+
+    def told(self) -> Decision:
+        rules = self.file._rules
+        return Decision(self.file, rules.numbers[self.at], Pattern._of(rules.reading(self.at)))
+
+
+class _Folder(NamedTuple):
+    """What is known of a folder: the files that speak of what lies in it, the last first, and what decides about all of it."""
+
+    files: Sequence["IgnoreFile"]
+    decides: Optional[_Found]
+
+
+def _last_match(files: Sequence["IgnoreFile"], path: bytes, is_dir: bool, fold: bool) -> Optional[_Found]:
+    """What decides about a path, of files that speak of it, the last first."""
+    for file in files:
+        base = len(file._base)
+        at = file._rules.last_match(path[base:] if base else path, is_dir, fold)
+        if at is not None:
+            return _Found(file, at, not file._rules.is_negative(at))
+    return None
+
+
+class _Bases:
+    """Files by the folders that they lie in, with their places in the list."""
+
+    def __init__(self, files: Iterable["IgnoreFile"], fold: bool) -> None:
+        self.fold = fold
+        self._by_base: Dict[bytes, List[Tuple[int, IgnoreFile]]] = {}
+        for place, file in enumerate(files):
+            self._by_base.setdefault(self._key(file._base), []).append((place, file))
+
+    def _key(self, base: bytes) -> bytes:
+        return base.lower() if self.fold else base
+
+    def has_files_of(self, base: bytes) -> bool:
+        """Whether a file lies in the folder itself."""
+        return self._key(base) in self._by_base
+
+    def files_above(self, path: bytes) -> Sequence["IgnoreFile"]:
+        """The files that speak of a path, the last first."""
+        found = list(self._by_base.get(b"", ()))
+        end = path.find(b"/") + 1
+        while end:
+            found += self._by_base.get(self._key(path[:end]), ())
+            end = path.find(b"/", end) + 1
+        return [file for _, file in sorted(found, key=lambda it: -it[0])]
+
+
+class _Tree:
+    """Decides about paths of a tree, and remembers the folders that it has seen."""
+
+    def __init__(self, bases: _Bases) -> None:
+        self._bases = bases
+        self._fold = bases.fold
+        self._top = _Folder(bases.files_above(b""), None)
+        self._folders: Dict[bytes, _Folder] = {}
+
+    def decide(self, path: bytes, is_dir: bool) -> Optional[_Found]:
+        """What decides about a path: the topmost ignored folder above it does so, where there is one."""
+        front = path.rpartition(b"/")[0]
+        known = (self._folders.get(front) or self._enter_all(front)) if front else self._top
+        return known.decides or _last_match(known.files, path, is_dir, self._fold)
+
+    def _enter_all(self, path: bytes) -> _Folder:
+        """What is known of a folder, after those above it."""
+        known, end = self._top, 0
+        while end < len(path):
+            end = path.find(b"/", end + 1)
+            end = len(path) if end < 0 else end
+            known = self._folders.get(path[:end]) or self._enter(path[:end], known)
+        return known
+
+    def _enter(self, path: bytes, above: _Folder) -> _Folder:
+        entered = above
+        if not above.decides:
+            found = _last_match(above.files, path, True, self._fold)
+            if found and found.is_ignored:
+                entered = _Folder((), found)
+            elif self._bases.has_files_of(path + b"/"):
+                entered = _Folder(self._bases.files_above(path + b"/"), None)
+        if len(self._folders) >= _MOST_FOLDERS:
+            self._folders.clear()
+        self._folders[path] = entered
+        return entered
+
+
+class _Decides:
+    """The calls that decide about a path, for one file and for several."""
+
+    __slots__ = ()
+
+    def _bases(self, ignore_case: bool) -> _Bases:
+        raise NotImplementedError
+
+    def decide(self, path: Path, is_dir: bool = False, *, ignore_case: bool = False) -> Optional[Decision]:
+        """The line that decides about a path by itself: the last one that matches it; None where no line does.
+
+        What lies in an ignored folder isn't ignored by this call: ask `decide_in_tree`, as `match_files` does.
+
+        >>> rules = IgnoreFile.from_lines(["build/"])
+        >>> rules.decide("build/").line, rules.decide("build"), rules.decide("build/x")
+        (1, None, None)
+
+        Args:
+            path: the path, from the top of the tree; one that ends in a slash is a directory's.
+            is_dir: whether it is a directory's also without a slash.
+            ignore_case: whether the case of ASCII letters doesn't count.
+
+        Raises:
+            ValueError: the path is empty, begins with a slash, or has two in a row.
+        """
+        text, has_slash = split(path)
+        bases = self._bases(ignore_case)
+        found = _last_match(bases.files_above(text), text, bool(is_dir or has_slash), bases.fold)
+        return found.told() if found else None
+
+    def decide_in_tree(self, path: Path, is_dir: bool = False, *, ignore_case: bool = False) -> Optional[Decision]:
+        """The line that decides about a path of a tree, as `git check-ignore` tells: that of the topmost folder above the path
+        that is ignored, or, where none is, that of the path itself.
+
+        >>> rules = IgnoreFile.from_lines(["build/", "!build/x"])
+        >>> rules.decide_in_tree("build/x").line, rules.decide("build/x").line
+        (1, 2)
+
+        Its arguments and errors are those of `decide`.
+        """
+        text, has_slash = split(path)
+        found = _Tree(self._bases(ignore_case)).decide(text, bool(is_dir or has_slash))
+        return found.told() if found else None
+
+    def match_file(self, path: Path, is_dir: bool = False, *, ignore_case: bool = False) -> bool:
+        """Whether a path of a tree is ignored: by the line that `decide_in_tree` tells.
+
+        >>> IgnoreFile.from_lines(["build/"]).match_file("build/x")
+        True
+        """
+        text, has_slash = split(path)
+        found = _Tree(self._bases(ignore_case)).decide(text, bool(is_dir or has_slash))
+        return found is not None and found.is_ignored
+
+    def match_files(self, paths: Iterable[_P], *, ignore_case: bool = False) -> Iterator[_P]:
+        """The paths that are ignored, of many paths of a tree, in their order; each as `match_file` answers.
+
+        A path that ends in a slash is a directory's, any other one a file's. The paths are taken one by one, and the folders
+        above them are decided about once, so this is the call for many paths.
+
+        >>> rules = IgnoreFile.from_lines(["*.log", "!keep.log", "build/"])
+        >>> list(rules.match_files(["debug.log", "keep.log", "build/x", "src/main.c"]))
+        ['debug.log', 'build/x']
+
+        Raises:
+            TypeError: `paths` is one path, or no iterable.
+            ValueError: when such a path is taken, as `decide` raises it.
+        """
+        if isinstance(paths, (str, bytes, os.PathLike)):
+            raise TypeError(f"the paths are to be an iterable of paths, and not the path {paths!r}")
+        return _matched(_Tree(self._bases(ignore_case)), iter(paths))
+
+
+def _matched(tree: _Tree, paths: Iterator[_P]) -> Iterator[_P]:
+    for path in paths:
+        found = tree.decide(*split(path))
+        if found and found.is_ignored:
+            yield path
+
+
+class IgnoreFile(_Decides):
+    r"""The lines of an ignore file, of which the last one that matches a path decides about it.
+
+    A line that begins with `#` is a comment, one that begins with `!` keeps what it matches, one that ends in a slash is for
+    directories only. `docs/LINES.md` and `docs/PATTERNS.md` of the library have all rules.
+
+    >>> rules = IgnoreFile.from_lines(["# logs", "*.log", "!keep.log"])
+    >>> rules.decide("debug.log").line
+    2
+    >>> [(line, pattern.text) for line, pattern in rules]
+    [(2, b'*.log'), (3, b'keep.log')]
+
+    A file speaks of the folder `base` that it lies in, and paths are told from the top:
+
+    >>> web = IgnoreFile.from_lines(["/dist"], base="web")
+    >>> web.decide("web/dist").line, web.decide("dist")
+    (1, None)
+
+    Args:
+        text: the bytes of the file.
+        base: the folder that the file lies in, from the top of the tree.
+        name: what the file is called, for whoever asks where a line stands.
+    """
+
+    __slots__ = ("_base", "_name", "_rules", "__weakref__")
+    _base: bytes
+    _name: Optional[Path]
+    _rules: _library.Rules
+
+    def __init__(self, text: Text, base: Path = "", name: Optional[Path] = None) -> None:
+        self._base = folder(base)
+        self._name = name
+        self._rules = _library.Rules(encoded(text, "the file's text"))
+
+    def _bases(self, ignore_case: bool) -> _Bases:
+        return _Bases((self,), bool(ignore_case))
+
+    @classmethod
+    def from_lines(cls, lines: Iterable[Text], base: Path = "", name: Optional[Path] = None) -> "IgnoreFile":
+        r"""The file of some lines, each with its line feed or without, as `str.splitlines` and an open file give them.
+
+        >>> len(IgnoreFile.from_lines(["*.o\n", "", "*.a"]))
+        2
+
+        Raises:
+            TypeError: `lines` is one text, or has something else than texts.
+            ValueError: a line has a line feed before its end.
+        """
+        if isinstance(lines, (str, bytes)):
+            raise TypeError("the lines are to be an iterable of lines; IgnoreFile(text) reads a text")
+        texts = []
+        for line in lines:
+            text = encoded(line, "a line")
+            text = text[:-1] if text.endswith(b"\n") else text
+            if b"\n" in text:
+                raise ValueError(f"the line {text[:40]!r} has a line feed before its end")
+            texts.append(text + b"\n")
+        return cls(b"".join(texts), base, name)
+
+    @classmethod
+    def from_file(cls, file: Path, base: Path = "") -> "IgnoreFile":
+        """The file at a path, which is read whole; its name is the path. It raises what reading raises."""
+        with open(os.fspath(file), "rb") as opened:
+            return cls(opened.read(), base, file)
+
+    @property
+    def base(self) -> bytes:
+        """The folder that the file lies in, with a slash at its end; empty for the top."""
+        return self._base
+
+    @property
+    def name(self) -> Optional[Path]:
+        """What the file is called."""
+        return self._name
+
+    def __len__(self) -> int:
+        """The number of patterns."""
+        return len(self._rules.numbers)
+
+    def __bool__(self) -> bool:
+        return True
+
+    def __iter__(self) -> Iterator[Tuple[int, Pattern]]:
+        """Each pattern with the number of its line."""
+        rules = self._rules
+        return ((line, Pattern._of(rules.reading(index))) for index, line in enumerate(rules.numbers))
+
+    def __repr__(self) -> str:
+        name = "" if self._name is None else f" {self._name!r}"
+        return f"<IgnoreFile{name} of {len(self)} patterns, base {self._base!r}>"
+
+    def __reduce__(self) -> Tuple[Any, ...]:
+        return type(self), (self._rules.text, self._base, self._name)
+
+
+class IgnoreList(_Decides):
+    """Several ignore files, of which a later one decides over an earlier one.
+
+    Name them in Git's order: the excludes of the user and of the repository first, then the file at the top, then those of
+    nested folders.
+
+    >>> top = IgnoreFile.from_lines(["*.o"], name=".gitignore")
+    >>> web = IgnoreFile.from_lines(["!web.o"], base="web", name="web/.gitignore")
+    >>> rules = IgnoreList([top, web])
+    >>> list(rules.match_files(["a.o", "web/web.o", "web/a.o"]))
+    ['a.o', 'web/a.o']
+    >>> rules.decide("web/web.o").file.name
+    'web/.gitignore'
+    """
+
+    __slots__ = ("_files", "_in_case", "_folded", "__weakref__")
+
+    def __init__(self, files: Iterable[IgnoreFile]) -> None:
+        self._files: Sequence[IgnoreFile] = tuple(files)
+        for file in self._files:
+            if not isinstance(file, IgnoreFile):
+                raise TypeError(f"the files are to be IgnoreFiles, and no {type(file).__name__}")
+        self._in_case = _Bases(self._files, False)
+        self._folded = _Bases(self._files, True)
+
+    def _bases(self, ignore_case: bool) -> _Bases:
+        return self._folded if ignore_case else self._in_case
+
+    @property
+    def files(self) -> Sequence[IgnoreFile]:
+        """The files, in order."""
+        return self._files
+
+    def __repr__(self) -> str:
+        return f"IgnoreList({list(self._files)!r})"
+
+    def __reduce__(self) -> Tuple[Any, ...]:
+        return type(self), (self._files,)

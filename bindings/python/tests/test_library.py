@@ -1,0 +1,320 @@
+"""The shared library: how it is found, that its calls are declared as in its header, and that its memory is kept."""
+
+import ctypes
+import gc
+import os
+import re
+import subprocess
+import sys
+import tempfile
+import threading
+import unittest
+import weakref
+
+from gix_glob import IgnoreFile, IgnoreList, Pattern, _library, wildmatch
+
+HERE = os.path.dirname(os.path.abspath(__file__))
+PACKAGE = os.path.dirname(HERE)
+HEADER = os.path.join(PACKAGE, "..", "..", "crates", "gix_glob_c", "include", "gix_glob.h")
+
+#: types of the header, and those that declare them here
+TYPES = {
+    "const uint8_t *": (ctypes.c_void_p, ctypes.c_char_p),
+    "const struct gix_glob_pattern *": (ctypes.c_void_p,),
+    "struct gix_glob_pattern *": (ctypes.POINTER(_library.Parts),),
+    "struct gix_glob_lines *": (ctypes.POINTER(_library.Lines),),
+    "bool *": (ctypes.POINTER(ctypes.c_bool),),
+    "bool ": (ctypes.c_bool,),
+    "size_t ": (ctypes.c_size_t,),
+    "uint32_t ": (ctypes.c_uint32,),
+    "uint8_t ": (ctypes.c_uint8,),
+}
+
+
+def run(program, **variables):
+    """What a program of Python says, with other variables than these; None leaves one out."""
+    environment = {**os.environ, "PYTHONPATH": PACKAGE, **variables}
+    environment = {name: value for name, value in environment.items() if value is not None}
+    return subprocess.run(
+        [sys.executable, "-c", program],
+        cwd="/",  # (where -c looks for modules, too)
+        env=environment,
+        stdout=subprocess.PIPE,
+        stderr=subprocess.PIPE,
+        text=True,
+    )
+
+
+def parameters(text):
+    """The types of a list of C parameters."""
+    return [re.sub(r"\w+$", "", one.strip()) for one in re.sub(r"\s+", " ", text).split(",")]
+
+
+class Declarations(unittest.TestCase):
+    @unittest.skipUnless(os.path.exists(HEADER), "there is no header here")
+    def test_calls_are_those_of_the_header(self):
+        with open(HEADER, encoding="utf-8") as file:
+            code = re.sub(r"/\*.*?\*/", "", file.read(), flags=re.S)
+        calls = {name: (words, answer) for answer, name, words in re.findall(r"^(\w+ )(\w+)\(([^)]*)\);", code, re.M)}
+        for name, (types, answer) in _library.CALLS.items():
+            with self.subTest(call=name):
+                wanted = parameters(calls[name][0])
+                self.assertEqual(len(wanted), len(types))
+                for one, it in zip(wanted, types):
+                    self.assertIn(it, TYPES[one])
+                self.assertIn(answer, TYPES[calls[name][1]])
+        for name, struct in (("gix_glob_pattern", _library.Parts), ("gix_glob_lines", _library.Lines)):
+            body = re.search(r"struct %s \{(.*?)\}" % name, code, re.S)[1]
+            fields = re.findall(r"(\S.*?[ *])(\w+);", body)
+            self.assertEqual([field for _, field in fields], [field for field, _ in struct._fields_])
+            for (one, _), (_, it) in zip(fields, struct._fields_):
+                self.assertIn(it, TYPES[one])
+        self.assertEqual(int(re.search(r"GIX_GLOB_NEGATIVE (\d+)u", code)[1]), _library.NEGATIVE)
+        self.assertEqual(_library.NONE, 2**64 - 1)
+
+    def test_the_package_exports_what_it_says(self):
+        said = run(
+            "from gix_glob import *; import gix_glob; print(len([globals()[name] for name in gix_glob.__all__]))"
+        )
+        self.assertEqual(said.stdout, "7\n", said.stderr)
+
+
+class Finding(unittest.TestCase):
+    def assert_told(self, said, *words):
+        self.assertEqual(said.returncode, 1)
+        last = said.stderr.strip().rpartition("\n")[2]
+        for word in ("OSError: ", "examples/c/install PREFIX", "GIX_GLOB_LIBRARY=", *words):
+            self.assertIn(word, last)
+
+    def test_the_variable_names_the_file(self):
+        with tempfile.TemporaryDirectory() as folder:
+            missing, text, other = (os.path.join(folder, name) for name in ("missing.so", "text.so", "other.so"))
+            with open(text, "w", encoding="ascii") as file:
+                file.write("no library")
+            self.assert_told(run("import gix_glob", GIX_GLOB_LIBRARY=missing), missing)
+            self.assert_told(run("import gix_glob", GIX_GLOB_LIBRARY=text), text)
+            self.assert_told(run("import gix_glob", GIX_GLOB_LIBRARY=folder), folder)
+            # a library without the calls
+            os.symlink(sys.modules["_ctypes"].__file__, other)
+            self.assert_told(run("import gix_glob", GIX_GLOB_LIBRARY=other), "gix_glob_parse")
+
+    def test_the_file_beside_the_package_and_the_systems(self):
+        program = "import gix_glob; print(gix_glob.wildmatch('*', 'a'))"
+        with tempfile.TemporaryDirectory() as folder:
+            package, libraries = os.path.join(folder, "gix_glob"), os.path.join(folder, "lib")
+            os.mkdir(package)
+            os.mkdir(libraries)
+            for name in os.listdir(os.path.join(PACKAGE, "gix_glob")):
+                if name.endswith(".py"):
+                    os.symlink(os.path.join(PACKAGE, "gix_glob", name), os.path.join(package, name))
+            loaded = os.path.abspath(_library._c._name)
+            self.assertTrue(os.path.exists(loaded), "run the tests with GIX_GLOB_LIBRARY")
+            system = {"GIX_GLOB_LIBRARY": "", "PYTHONPATH": folder}
+            self.assert_told(run(program, **system), _library.NAME)
+            os.symlink(loaded, os.path.join(libraries, _library.NAME))
+            said = run(program, LD_LIBRARY_PATH=libraries, **system)
+            self.assertEqual(said.stdout, "True\n", said.stderr)
+            os.symlink(loaded, os.path.join(package, _library.NAME))
+            said = run(program, **system)
+            self.assertEqual(said.stdout, "True\n", said.stderr)
+
+
+class Memory(unittest.TestCase):
+    """Run by PYTHONMALLOC=debug, which overwrites memory that is given back."""
+
+    def test_a_pattern_keeps_its_line(self):
+        pattern = Pattern(bytes(bytearray(b"ab*" * 1000)))
+        other = [bytes(3000) for _ in range(1000)]
+        self.assertEqual(pattern.text, b"ab*" * 1000)
+        self.assertTrue(pattern.matches("ab" * 1000))
+        del other
+
+    def test_a_pattern_outlives_its_file(self):
+        file = IgnoreFile(b"\n".join(b"name%d*" % number for number in range(1000)), name="x")
+        gone = weakref.ref(file)
+        patterns = [pattern for _, pattern in file]
+        matched = IgnoreList([file]).match_files(["name7/x", "name8", "other"])
+        del file
+        self.assertEqual(list(matched), ["name7/x", "name8"])
+        del matched
+        gc.collect()
+        self.assertIsNone(gone())
+        other = [bytes(10000) for _ in range(1000)]
+        for number, pattern in enumerate(patterns):
+            self.assertEqual(pattern.text, b"name%d*" % number)
+            self.assertTrue(pattern.matches_path("name%dx" % number))
+        del other
+
+    def test_a_file_is_gone_with_its_last_name(self):
+        # (no cycle keeps it until a collection)
+        gc.disable()
+        try:
+            file = IgnoreFile("a")
+            gone = weakref.ref(file)
+            file.decide("a"), file.match_file("a"), list(file.match_files(["a", "a/b"]))
+            del file
+            self.assertIsNone(gone())
+        finally:
+            gc.enable()
+
+    def test_a_pattern_may_be_made_anew(self):
+        pattern = Pattern("a")
+        pattern.__init__("b*")
+        self.assertEqual((pattern.text, pattern.matches("bc")), (b"b*", True))
+
+    def test_threads_share_objects(self):
+        rules = IgnoreList([IgnoreFile("*.o\n!keep.o\nbuild/"), IgnoreFile("!x.o", "web")])
+        paths = ["a.o", "keep.o", "build/x", "web/x.o", "web/y.o", "c"] * 200
+        wanted, found = ["a.o", "build/x", "web/y.o"] * 200, []
+        threads = [threading.Thread(target=lambda: found.append(list(rules.match_files(paths)))) for _ in range(8)]
+        for thread in threads:
+            thread.start()
+        for thread in threads:
+            thread.join()
+        # (what differs is long, and `assertEqual` would compare it line by line)
+        self.assertEqual(len(found), 8)
+        self.assertTrue(all(one == wanted for one in found))
+
+    def test_other_threads_run_meanwhile(self):
+        # what takes long to match doesn't hold the interpreter
+        done = threading.Event()
+        pattern, value = Pattern("*" + "a" * 3000 + "b*"), b"a" * 100000
+        thread = threading.Thread(target=lambda: (pattern.matches(value), done.set()))
+        thread.start()
+        turns = 0
+        while not done.wait(0.005):
+            turns += 1
+        thread.join()
+        self.assertGreater(turns, 5)
+
+
+class Misuse(unittest.TestCase):
+    def test_types(self):
+        rules = IgnoreFile("a")
+        calls = [
+            lambda it: Pattern(it),
+            lambda it: wildmatch(it, "a"),
+            lambda it: wildmatch("a", it),
+            lambda it: Pattern("a").matches(it),
+            lambda it: Pattern("a").matches_path(it),
+            lambda it: IgnoreFile(it),
+            lambda it: IgnoreFile("a", it),
+            lambda it: IgnoreFile.from_lines(it),
+            lambda it: IgnoreFile.from_lines([it]),
+            lambda it: IgnoreFile.from_file(it),
+            lambda it: IgnoreList(it),
+            lambda it: IgnoreList([it]),
+            lambda it: rules.decide(it),
+            lambda it: rules.decide_in_tree(it),
+            lambda it: rules.match_file(it),
+            lambda it: list(rules.match_files(it)),
+            lambda it: list(rules.match_files([it])),
+        ]
+        for at, call in enumerate(calls):
+            for it in (None, 0, 1.5, object(), [1], bytearray(b"a")):
+                with self.subTest(at=at, it=it), self.assertRaises(TypeError):
+                    call(it)
+        for paths in ("a", b"a", os.fspath("a")):
+            with self.assertRaises(TypeError):
+                rules.match_files(paths)
+            with self.assertRaises(TypeError):
+                IgnoreFile.from_lines(paths)
+        with self.assertRaises(TypeError):
+            wildmatch("a", "a", "1")
+
+    def test_paths_that_are_none(self):
+        rules = IgnoreFile("*\na")
+        for path in ("", "/", "./", "/a", "//", "a//b", "a//", b"/a", ".//a"):
+            for call in (rules.decide, rules.decide_in_tree, rules.match_file, Pattern("*").matches_path):
+                with self.subTest(path=path), self.assertRaisesRegex(ValueError, "is no path"):
+                    call(path)
+            found = rules.match_files(["a", path])
+            self.assertEqual(next(found), "a")
+            with self.assertRaises(ValueError):
+                next(found)
+
+    def test_texts_that_lie(self):
+        class Bytes(bytes):
+            def __len__(self):
+                return 1 << 40
+
+            def __bytes__(self):
+                return b"other"
+
+            def __getitem__(self, at):
+                return self
+
+        class Str(str):
+            def encode(self, *_):
+                return Bytes(b"ab")
+
+        class Path:
+            def __fspath__(self):
+                return Bytes(b"ab")
+
+        for text in (Bytes(b"ab"), Str("ab")):
+            self.assertEqual(Pattern(text).text, b"ab")
+            self.assertTrue(wildmatch(text, text))
+            self.assertEqual([it.text for _, it in IgnoreFile(text)], [b"ab"])
+        for path in (Bytes(b"ab"), Str("ab"), Path()):
+            self.assertEqual(IgnoreFile("/ab").decide(path).line, 1)
+            self.assertEqual(list(IgnoreFile("/ab").match_files([path])), [path])
+            self.assertEqual(IgnoreFile("x", path).base, b"ab/")
+        for call in (_library.parse, _library.Rules, _library.Memory, lambda it: _library.wildmatch(b"", it, 0)):
+            with self.assertRaises(TypeError):
+                call(Bytes(b"ab"))
+        for call in (_library.Rules(b"a").last_match, _library.parse(b"a").matches_path):
+            with self.assertRaises(TypeError):
+                call(Bytes(b"ab"), False, False)
+
+    def test_places_outside_a_file(self):
+        rules = _library.Rules(b"a\nb")
+        for at in (2, -3, 1 << 70):
+            with self.assertRaises(IndexError):
+                rules.reading(at)
+
+    def test_objects_that_were_not_made(self):
+        with self.assertRaises(AttributeError):
+            Pattern.__new__(Pattern).matches("a")
+        with self.assertRaises(AttributeError):
+            IgnoreFile.__new__(IgnoreFile).decide("a")
+
+    def test_bytes_of_all_kinds(self):
+        for number in range(256):
+            byte = bytes([number])
+            if byte != b"/":
+                self.assertEqual(Pattern(b"x" + byte).matches(b"x" + byte), byte not in b"\\[")
+            if byte not in b"/":
+                self.assertTrue(Pattern("a?").matches_path(b"d/a" + byte))
+        self.assertEqual([it.text for _, it in IgnoreFile(b"a\0b\n\0\n\0")], [b"a\0b", b"\0", b"\0"])
+        self.assertEqual(IgnoreFile(b"a\0b").decide("a\0b").line, 1)
+        self.assertIsNone(IgnoreFile(b"a\0b").decide("a"))
+
+    def test_names_that_are_no_text(self):
+        name = os.fsdecode(b"caf\xe9.o")
+        rules = IgnoreFile("caf?.o")
+        self.assertEqual(list(rules.match_files([name, "café.o"])), [name])
+        self.assertEqual(list(IgnoreFile(b"caf\xe9.o").match_files([name])), [name])
+        self.assertEqual(list(IgnoreFile.from_lines([name]).match_files([name])), [name])
+        for call in (rules.decide, Pattern, lambda it: IgnoreFile.from_lines([it])):
+            with self.assertRaises(UnicodeEncodeError):
+                call("\ud800")
+
+    def test_empty_files(self):
+        for text in ("", "\n", "#", "\ufeff", "\ufeff#", " \n!\n"):
+            rules = IgnoreFile(text)
+            self.assertEqual((len(rules), rules.decide("a"), list(rules.match_files(["a/b"]))), (0, None, []))
+        self.assertEqual(list(IgnoreList([]).match_files(["a", "b/c"])), [])
+        self.assertIsNone(IgnoreList([]).decide("a"))
+        self.assertEqual(len(IgnoreFile.from_lines([])), 0)
+
+    def test_long_lines_and_paths(self):
+        long = b"a" * 100_000_000
+        self.assertTrue(Pattern(long).matches(long))
+        self.assertFalse(Pattern(long + b"b").matches(long))
+        rules = IgnoreFile(b"x\n" + long)
+        self.assertEqual((len(rules), rules.decide(long).line, rules.decide(b"d/" + long[1:])), (2, 2, None))
+        self.assertEqual(len(IgnoreFile(b"\n" * 1_000_000 + b"a")), 1)
+        # a path of many folders costs one decision for each
+        deep = "d/" * 2000 + "x"
+        self.assertEqual(list(IgnoreFile("x").match_files([deep, deep])), [deep, deep])

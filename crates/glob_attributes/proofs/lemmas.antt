@@ -1,0 +1,11 @@
+pub mod AssignmentLemmas
+pub mod EntryLemmas
+pub mod FileLemmas
+pub mod HeadLemmas
+pub mod LineLemmas
+pub mod MacroLemmas
+pub mod PatternLemmas
+pub mod PlaceLemmas
+pub mod SpellingLemmas
+pub mod StartLemmas
+pub mod WordsLemmas

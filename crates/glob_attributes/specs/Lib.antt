@@ -1,0 +1,9 @@
+pub mod Assignments
+pub mod Equations
+pub mod Files
+pub mod Heads
+pub mod Macros
+pub mod Names
+pub mod Patterns
+pub mod Readings
+pub mod Words

@@ -1,0 +1,113 @@
+//! Trees whose source fails: the fault is told, and the next call answers right.
+use crate::compare::same;
+use gix_glob::pattern::Case;
+use gix_glob::search::Pattern as _;
+use gix_glob::search::pattern::List;
+use glob_lines::IgnoreLines;
+use glob_lists::RepositoryPath;
+use glob_trees::{FolderLists, Tree, TreeFault, list_in_folder};
+use std::alloc::{AllocError, Global};
+use std::test::Fail;
+
+/// Why the source has no list.
+#[derive(Debug, Clone, Copy, PartialEq, Eq)]
+pub(crate) enum SourceFault {
+    /// It is the call that fails.
+    Broken,
+    /// Memory was refused.
+    Memory,
+}
+
+/// A source of which one call fails.
+#[derive(Drop)]
+pub(crate) struct Failing {
+    alloc: Global,
+    calls: usize,
+    /// The number of the call that fails, from 1.
+    fails_at: usize,
+}
+
+impl Failing {
+    /// A source whose call of this number fails; none does where the number is 0.
+    pub(crate) fn at(alloc: Global, fails_at: usize) -> Failing {
+        Failing {
+            alloc,
+            calls: 0,
+            fails_at,
+        }
+    }
+
+    /// The list of a folder, with the lines of its ignore file.
+    fn read(&self, folder: &[u8]) -> Result<List<IgnoreLines>, AllocError> {
+        let lines: &[u8] = match folder {
+            b"" => b"x\n",
+            b"a" => b"!x\n",
+            b"a/b" => b"x\n",
+            _ => b"",
+        };
+        let mut list = List::empty(self.alloc);
+        list.patterns = IgnoreLines.bytes_to_patterns(self.alloc, lines, "")?;
+        Ok(list)
+    }
+}
+
+impl FolderLists<IgnoreLines> for Failing {
+    type Fault = SourceFault;
+
+    ghost shows = { λ _ _ _ _. Unit {0} };
+
+    fn list_of(&mut self, folder: &[u8]) -> Result<List<IgnoreLines>, SourceFault> {
+        self.calls = self.calls.saturating_add(1);
+        if self.calls == self.fails_at {
+            return Err(SourceFault::Broken);
+        }
+        let Ok(list) = self.read(folder) else {
+            return Err(SourceFault::Memory);
+        };
+        list_in_folder(self.alloc, list, folder).map_err(|_| SourceFault::Memory)
+    }
+}
+
+/// Which pattern decides about the path of a line.
+pub(crate) fn answer_of(
+    tree: &mut Tree<IgnoreLines, Failing>,
+    line: &[u8],
+) -> Result<Option<(usize, usize)>, TreeFault<SourceFault>> {
+    match RepositoryPath::of_line(line) {
+        Some(path) => tree.find(&path),
+        None => Ok(None),
+    }
+}
+
+#[test]
+fn the_call_after_a_fault_answers(rt: HostRuntime) -> Result<(), Fail> {
+    let paths: [(&[u8], Option<(usize, usize)>); 4] = [
+        (b"a/b/x", Some((2, 0))),
+        (b"x", Some((0, 0))),
+        (b"a/x", Some((1, 0))),
+        (b"a/b/c", None),
+    ];
+    for fails_at in 0..5 {
+        let source = Failing::at(rt.alloc(), fails_at);
+        let fronts = Vec::new(rt.alloc());
+        let mut tree = Tree::new(rt.alloc(), source, fronts, Case::Sensitive).ok_or("a tree")?;
+        let mut told = 0u32;
+        for (line, wanted) in paths {
+            let mut answer = answer_of(&mut tree, line);
+            if answer == Err(TreeFault::Source(SourceFault::Broken)) {
+                told = told.saturating_add(1);
+                answer = answer_of(&mut tree, line);
+            }
+            same(&rt, answer.ok(), Some(wanted), "what decides about", line);
+        }
+        let wanted = u32::from((1..4).contains(&fails_at));
+        same(
+            &rt,
+            told,
+            wanted,
+            "how often a fault is told, of call",
+            fails_at,
+        );
+    }
+    Ok(())
+}

@@ -1,0 +1,95 @@
+-- The lists on the way of a path: those whose base begins it.
+use Rattle.std.proofs.lemmas.Bool.{cases_lt}
+use Rattle.std.proofs.Common.{◌≡◌, inl, inr, ℕ, ◌+◌, ◌<◌, Bool, List, length, get_or, map, Some, None, Option, sym, ap, subst, ◌∙◌, arith, take, length-append}
+use Rattle.std.specs.Prelude.{slice_get}
+use Rattle.std.specs.Char.{to_ascii_lowercase}
+use Rattle.std.proofs.lemmas.List.{get_or-map, get_or_past, length-map}
+use Rattle.std.proofs.lemmas.Option.{same_Some, slice_get_within}
+use Rattle.std.proofs.Math.ListN.{get_or-append}
+use Rattle.gix_glob.specs.declared.pattern.Case.{Case}
+use Rattle.gix_glob.specs.declared.pattern.Case.TheVariants.{Sensitive, Fold}
+use Rattle.gix_glob.specs.Entries.{Entry}
+use Rattle.gix_glob.specs.EntryLists.{EntryList}
+use Rattle.gix_glob.specs.Stripping.{Rest, RestOf, folding_by}
+use Rattle.glob_lists.proofs.lemmas.CountLemmas.{entry_count-more_le}
+use Rattle.glob_lists.proofs.lemmas.RowLemmas.{rows_count}
+use Rattle.glob_lists.specs.declared.row.Row.{Row}
+use Rattle.glob_lists.specs.Deciding.{PairAnswers}
+use Rattle.glob_lists.specs.Index.{entry_count}
+use Rattle.glob_lists.specs.Private.Folders.{base_at, base_of, base_text}
+use Rattle.glob_lists.specs.Private.Fronts.{Begins, folded_at}
+use Rattle.glob_lists.specs.Private.Rows.{Asks}
+use Rattle.glob_lists.specs.Private.Tables.{AreRows, IsAtPlace, IsEntryAt}
+
+-- ---- where a base leaves something of a path, it begins the path
+
+folded_is : (text : List ℕ) (j : ℕ) → folded_at text j ≡ get_or (map to_ascii_lowercase text) j 0
+folded_is text j = elim (cases_lt j (length text)) [
+  | inl within ↦ sym (get_or-map to_ascii_lowercase text j 0 0 within)
+  | inr past ↦ ap to_ascii_lowercase (get_or_past text j 0 past) ∙ sym (get_or_past (map to_ascii_lowercase text) j 0 (let same = length-map text to_ascii_lowercase in omega arith))
+]
+
+lower_same : (case : Case) (front base : List ℕ) → folding_by case front ≡ folding_by case base → map to_ascii_lowercase front ≡ map to_ascii_lowercase base
+lower_same Sensitive front base same = ap (map to_ascii_lowercase) same
+lower_same Fold front base same = same
+
+Begins-rest : (case : Case) (base path rest : List ℕ) → Rest case base path rest → Begins base path
+Begins-rest case base path rest is =
+    let same = lower_same case is.front base is.same in
+    let long : length is.front ≡ length base = sym (length-map is.front to_ascii_lowercase) ∙ (ap length same ∙ length-map base to_ascii_lowercase) in
+    let whole : length path ≡ length is.front + length rest = ap length is.joined ∙ length-append is.front rest in
+    record {
+      within = omega arith;
+      inside = omega arith;
+      same = λ j below.
+          folded_is base j ∙ (ap (λ (l : List ℕ). get_or l j 0) (sym same) ∙ (sym (folded_is is.front j)
+          ∙ ap to_ascii_lowercase (sym (get_or-append is.front rest 0 j (omega arith)) ∙ ap (λ (l : List ℕ). get_or l j 0) (sym is.joined))));
+    }
+
+Begins-left : (case : Case) (base : Option (List ℕ)) (path rest : List ℕ) → RestOf case base path rest → Begins (base_text base) path
+Begins-left case None path rest is = record { within = omega arith; inside = omega arith; same = λ j below. absurd (omega arith) }
+Begins-left case (Some base) path rest is = Begins-rest case base path rest is
+
+-- a list that has an answer for a path has a base that begins it
+pub Begins-answers : {V : Type 0} (lists : List (EntryList V)) (path : List ℕ) (is_dir : Bool) (case : Case) (i m : ℕ) → PairAnswers lists path is_dir case i m → Begins (base_at lists i) path
+Begins-answers {V} lists path is_dir case i m h =
+    subst (λ (l : Option (EntryList V)). Begins (base_of l) path) (sym h.there)
+    (Begins-left case h.list.base path h.answers.answers.rest h.answers.answers.left)
+
+-- ---- the row of an entry
+
+module _ {V : Type 0} (lists : List (EntryList V)) (rows : List Row) (are : AreRows lists rows) (i m first : ℕ) (entry : Entry V) (there : IsEntryAt lists i m entry)
+    (begins : first ≡ entry_count (take i lists)) where
+  pub row_at : IsAtPlace rows i m (first + m)
+  row_at =
+      let found = are.all i m (entry, there) (inl (slice_get_within lists i there.list there.there)) in
+      let at = found.1 in
+      let counted = are.places found.0 at.row at.there in
+      let before : entry_count (take at.row.list lists) ≡ entry_count (take i lists) = ap (λ (j : ℕ). entry_count (take j lists)) at.list in
+      let mapping = at.mapping in
+      let place : found.0 ≡ first + m = omega arith in
+      subst (λ (k : ℕ). IsAtPlace rows i m k) place at
+
+  pub row_within : first + m < length rows
+  row_within = (let at = row_at in slice_get_within rows (first + m) at.row at.there)
+
+  -- the row at that place asks for what the entry does
+  pub row_asks : (row : Row) → slice_get rows (first + m) ≡ Some row → Asks entry.text entry.mode row
+  row_asks row got =
+      let at = row_at in
+      let is : at.row ≡ row = same_Some at.row row (sym at.there ∙ got) in
+      let of = are.each (first + m) row got in
+      let list_is : row.list ≡ i = ap (λ (r : Row). r.list) (sym is) ∙ at.list in
+      let mapping_is : row.mapping ≡ m = ap (λ (r : Row). r.mapping) (sym is) ∙ at.mapping in
+      let here : IsEntryAt lists i m of.entry = subst (λ (j : ℕ). IsEntryAt lists j m of.entry) list_is (subst (λ (n : ℕ). IsEntryAt lists row.list n of.entry) mapping_is of.there) in
+      let list_same : here.list ≡ there.list = same_Some here.list there.list (sym here.there ∙ there.there) in
+      let entry_same : of.entry ≡ entry = same_Some of.entry entry (sym here.here ∙ (ap (λ (l : EntryList V). slice_get l.entries m) list_same ∙ there.here)) in
+      subst (λ (e : Entry V). Asks e.text e.mode row) entry_same of.asks
+
+-- the row of each entry of a list is within the rows
+pub row_inside : {V : Type 0} (lists : List (EntryList V)) (rows : List Row) → AreRows lists rows → (i m first : ℕ) (list : EntryList V) → slice_get lists i ≡ Some list → m < length list.entries
+    → first ≡ entry_count (take i lists) → first + m < length rows
+row_inside {V} lists rows are i m first list there inside begins =
+    let more = entry_count-more_le lists i list there in
+    let many = rows_count lists rows are in
+    omega arith

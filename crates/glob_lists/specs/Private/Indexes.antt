@@ -1,0 +1,26 @@
+-- What an index has of its lists: a table of their rows, and where going up from a path can pay, their folders.
+use Rattle.std.specs.Prelude.{◌^◌, ◌<◌, List, Option, IfSome, length}
+use Rattle.gix_glob.specs.EntryLists.{EntryList}
+use Rattle.glob_lists.specs.declared.folders.Folder.{Folder}
+use Rattle.glob_lists.specs.declared.row.Row.{Row}
+use Rattle.glob_lists.specs.declared.table.Table.{Table}
+use Rattle.glob_lists.specs.Deciding.{BasesAreFolders}
+use Rattle.glob_lists.specs.Private.Folders.{HasFolders, IsForest}
+use Rattle.glob_lists.specs.Private.Tables.{AreRows, IsIndexOf}
+
+-- The folders of the lists are a forest, and few enough for links.
+pub record AreFolderedBy {V : Type 0} (lists : List (EntryList V)) (folders : List Folder) : Type 0 where
+  pub few : length folders < 2 ^ 32
+  pub forest : IsForest lists folders
+  pub all : HasFolders lists folders
+
+-- The bases of the lists are those of folders, and these are their rows and their folders.
+pub record AreWays {V : Type 0} (lists : List (EntryList V)) (rows : List Row) (folders : List Folder) : Type 0 where
+  pub bases : BasesAreFolders lists
+  pub made : AreRows lists rows
+  pub foldered : AreFolderedBy lists folders
+
+-- The table is that of the lists, and so are the folders, where there are any.
+pub record IsIndexBy {V : Type 0} (lists : List (EntryList V)) (table : Table) (folders : Option (List Folder)) : Type 0 where
+  pub index : IsIndexOf lists table
+  pub foldered : IfSome folders (AreFolderedBy lists)

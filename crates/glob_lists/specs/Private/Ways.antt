@@ -1,0 +1,33 @@
+-- What a path meets on its way: the last entry of a list that answers, and what it takes to find it.
+use Rattle.std.specs.Prelude.{◌≡◌, ◌↔◌, ℕ, ◌+◌, ◌≤◌, Bool, IsTrue, List, Option, Some, MatchOption, length, slice_get}
+use Rattle.gix_glob.specs.declared.pattern.Case.{Case}
+use Rattle.gix_glob.specs.EntryLists.{EntryList}
+use Rattle.gix_glob.specs.declared.pattern.Mode as pattern
+use Rattle.gix_glob.specs.Patterns.{IsPattern}
+use Rattle.gix_glob.specs.Steps.{Counts, NeverFall}
+use Rattle.gix_glob.specs.Stripping.{RestOf}
+use Rattle.glob_lists.specs.declared.probe.Probe.{Probe}
+use Rattle.glob_lists.specs.declared.row.Row.{Row}
+use Rattle.glob_lists.specs.Deciding.{AnswersFor, PairAnswers}
+use Rattle.glob_lists.specs.DecisionLimits.{list_look_limit, list_step_limit}
+use Rattle.glob_lists.specs.Paths.{Path}
+use Rattle.glob_lists.specs.Private.Rows.{Asks}
+use Rattle.glob_lists.specs.Private.Showing.{Shows}
+
+-- the place of the last entry of the list at place i that answers, where there is one
+abbrev pub IsLastOfList : {V : Type 0} → List (EntryList V) → List ℕ → Bool → Case → ℕ → Option ℕ → Type 0
+IsLastOfList lists path is_dir case i found =
+    MatchOption found ((m : ℕ) → ¬ PairAnswers lists path is_dir case i m)
+    (λ last. PairAnswers lists path is_dir case i last × ((m : ℕ) → PairAnswers lists path is_dir case i m → m ≤ last))
+
+-- The counts rose by at most what the list at place i may take, and a look for each of its rows, v being the length of the path.
+pub record SpendsOn {V : Type 0} (lists : List (EntryList V)) (i v : ℕ) (before after : Counts) : Type 0 where
+  pub steps : (list : EntryList V) → slice_get lists i ≡ Some list → after.steps ≤ before.steps + list_step_limit list v
+  pub looks : (list : EntryList V) → slice_get lists i ≡ Some list → after.looks ≤ before.looks + list_look_limit list v + length list.entries
+  pub grows : NeverFall before after
+
+-- The answer tells whether a pattern of this row answers for what some base leaves of the path that shows the probe.
+abbrev pub TellsBelow : Row → Probe → List ℕ → pattern.Mode → Option ℕ → Path → Case → Bool → Type 0
+TellsBelow row probe text mode place rest case answer =
+    (base : Option (List ℕ)) (path : List ℕ) → Shows path probe → RestOf case base path rest.bytes → Asks text mode row → IsPattern text mode place
+    → IsTrue answer ↔ AnswersFor text mode rest.bytes rest.is_dir case

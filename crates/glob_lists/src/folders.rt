@@ -1,0 +1,301 @@
+//! The folders of lists: their bases in order, each linked to the last one before it that begins it. So the lists whose base a
+//! path begins with lie on one chain.
+ghost use Rattle.std.specs.Prelude.{◌≡◌, ◌↔◌, ◌+◌, ◌*◌, ◌^◌, ◌++◌, ◌∷◌, [], ◌<◌, IfOk, IfSome, IsTrue, OnOk, length, map, take};
+ghost use Rattle.gix_glob.specs.EntryLists.{entry_list_of};
+ghost use Rattle.glob_lists.specs.Index.{AreTooMany, entry_count};
+ghost use Rattle.glob_lists.specs.Private.Folders.{AllUpTo, AreFolders, AreFoldersUpTo, AreSameFolders, IsFolderOf, IsForest, IsLastBeginning, IsLastUpTo, IsSameFolder, base_at};
+ghost use Rattle.glob_lists.specs.Private.Fronts.{IsUpTo, front_key};
+ghost use Rattle.glob_lists.specs.Private.Indexes.{AreFolderedBy};
+ghost use Rattle.glob_lists.specs.Private.Looking.{LooksUpTo};
+
+use crate::chains::Link;
+use crate::fronts::{FRONT, begins, front_key, is_up_to};
+use gix_glob::search;
+use gix_glob::search::pattern::List;
+use gix_glob::wildmatch::Counts;
+use std::alloc::{AllocError, Global};
+use std::cmp::Ordering;
+use std::sync::ledger::Ledger;
+
+/// The fewest lists for which looking up the folder of a path costs less than going through all of them.
+const FEWEST_LISTS: usize = 16;
+
+/// A list that has patterns, at the place of its base among all.
+#[derive(Debug, Copy, Clone)]
+pub(crate) struct Folder {
+    /// The number of the front of the base.
+    key: u64,
+    /// The place of the list.
+    list: u32,
+    /// The place of its first row.
+    first_row: u32,
+    /// The last folder before this one whose base begins the base of this one.
+    above: Link,
+    /// How many rows this list has and those above it, or more than any number of rows.
+    rows: u32,
+}
+
+impl Folder {
+    /// The place of the list.
+    #[inline(always)]
+    pub(crate) fn list(&self) -> usize
+        ensures { result ≡ self.now.list }
+    {
+        self.list as usize
+    }
+
+    /// The place of the first row of the list.
+    #[inline(always)]
+    pub(crate) fn first_row(&self) -> usize
+        ensures { result ≡ self.now.first_row }
+    {
+        self.first_row as usize
+    }
+
+    /// The last folder before this one whose base begins the base of this one.
+    #[inline(always)]
+    pub(crate) fn above(&self) -> Link
+        ensures { result ≡ self.now.above }
+    {
+        self.above
+    }
+
+    /// How many rows a path meets that goes up from here.
+    #[inline(always)]
+    pub(crate) fn rows(&self) -> usize {
+        self.rows as usize
+    }
+}
+
+/// The folders of the lists that have patterns, or none where going up from a folder doesn't pay, or wouldn't meet the later
+/// lists first: a list lies above an earlier one.
+pub(crate) fn folders_of<T: search::Pattern>(
+    alloc: Global,
+    lists: &[List<T>],
+) -> Result<Option<Vec<Folder>>, AllocError>
+    requires fits { ¬ AreTooMany (map (entry_list_of T.seen) lists.now) }
+    ensures { IfOk result (λ found. IfSome found (λ folders. AreFolderedBy (map (entry_list_of T.seen) lists.now) folders.items)) }
+{
+    if lists.len() < FEWEST_LISTS {
+        return Ok(None);
+    }
+    let mut folders = unchained(alloc, lists)?;
+    folders.sort_by(|left, right| order(lists, left, right))?;
+    let found = chained(alloc, lists, &folders)?;
+    Ok(found)
+}
+
+/// Whether a path can meet fewer than half of all rows on its way: the last folder tells, below which all lists lie where they have
+/// one base, or lie one below the other.
+pub(crate) fn can_pay(folders: &[Folder], row_count: usize) -> bool {
+    match folders {
+        [.., last] => last.rows().saturating_mul(2) <= row_count,
+        [] => true,
+    }
+}
+
+/// The folders of the lists that have patterns, in the order of the lists, not chained.
+fn unchained<T: search::Pattern>(
+    alloc: Global,
+    lists: &[List<T>],
+) -> Result<Vec<Folder>, AllocError>
+    requires fits { ¬ AreTooMany (map (entry_list_of T.seen) lists.now) }
+    ensures { IfOk result (λ folders. AreFoldersUpTo (map (entry_list_of T.seen) lists.now) (length lists.now) folders.items) }
+{
+    let mut folders = Vec::new(alloc);
+    let mut first_row: usize = 0;
+    'lists: for i in 0..lists.len() {
+        push_folder(&mut folders, lists, i, first_row)?;
+        first_row += lists[i].patterns.len();
+    }
+    Ok(folders)
+}
+
+/// Adds the folder of the list at place `i`, if it has patterns.
+fn push_folder<T: search::Pattern>(
+    folders: &mut Vec<Folder>,
+    lists: &[List<T>],
+    i: usize,
+    first_row: usize,
+) -> Result<(), AllocError>
+    requires inside { i < length lists.now }
+    requires fits { ¬ AreTooMany (map (entry_list_of T.seen) lists.now) }
+    requires first { first_row ≡ entry_count (take i (map (entry_list_of T.seen) lists.now)) }
+    requires folders { AreFoldersUpTo (map (entry_list_of T.seen) lists.now) i folders.old.items }
+    ensures { OnOk result (AreFoldersUpTo (map (entry_list_of T.seen) lists.now) (i + 1) folders.new.items) }
+{
+    let count = lists[i].patterns.len();
+    if count == 0 {
+        return Ok(());
+    }
+    folders.push(Folder {
+        key: front_key(base_at(lists, i as u32)),
+        list: i as u32,
+        first_row: first_row as u32,
+        above: Link::NONE,
+        rows: count as u32,
+    })?;
+    Ok(())
+}
+
+/// The order of folders by their bases.
+fn order<T: search::Pattern>(lists: &[List<T>], left: &Folder, right: &Folder) -> Ordering {
+    if left.key != right.key {
+        return left.key.cmp(&right.key);
+    }
+    let base = base_at(lists, left.list);
+    let other = base_at(lists, right.list);
+    if !is_up_to(other, base) {
+        return Ordering::Less;
+    }
+    if is_up_to(base, other) {
+        return Ordering::Equal;
+    }
+    Ordering::Greater
+}
+
+/// The folders, each linked to the last one before it that begins it. `None` where they aren't in order, or a list lies above an
+/// earlier one.
+fn chained<T: search::Pattern>(
+    alloc: Global,
+    lists: &[List<T>],
+    folders: &[Folder],
+) -> Result<Option<Vec<Folder>>, AllocError>
+    requires fits { length folders.now < 2 ^ 32 }
+    requires each { AreFolders (map (entry_list_of T.seen) lists.now) folders.now }
+    ensures { IfOk result (λ found. IfSome found (λ chained. IsForest (map (entry_list_of T.seen) lists.now) chained.items
+        × AreSameFolders folders.now (length folders.now) chained.items)) }
+{
+    let mut chained = Vec::with_capacity(alloc, folders.len())?;
+    'folders: for k in 0..folders.len() {
+        let Some(folder) = chained_after(&chained, lists, folders[k]) else {
+            return Ok(None);
+        };
+        chained.push(folder)?;
+    }
+    Ok(Some(chained))
+}
+
+/// A folder, chained to those before it. `None` where it has to come before the last of them, or lies below a later list.
+fn chained_after<T: search::Pattern>(
+    folders: &[Folder],
+    lists: &[List<T>],
+    folder: Folder,
+) -> Option<Folder>
+    requires fits { length folders.now < 2 ^ 32 }
+    requires forest { IsForest (map (entry_list_of T.seen) lists.now) folders.now }
+    requires of { IsFolderOf (map (entry_list_of T.seen) lists.now) folder }
+    ensures { IfSome result (λ chained. IsSameFolder chained folder × IsForest (map (entry_list_of T.seen) lists.now) (folders.now ++ chained ∷ [])) }
+{
+    let base = base_at(lists, folder.list);
+    if !follows(folders, lists, base) {
+        return None;
+    }
+    let above = last_beginning(folders, lists, base);
+    let Some(place) = above.place() else {
+        return Some(Folder { above, ..folder });
+    };
+    if folders[place].list >= folder.list {
+        return None;
+    }
+    let rows = folder.rows.saturating_add(folders[place].rows);
+    Some(Folder {
+        above,
+        rows,
+        ..folder
+    })
+}
+
+/// Whether a base may come after those of all folders.
+fn follows<T: search::Pattern>(folders: &[Folder], lists: &[List<T>], base: &[u8]) -> bool
+    requires forest { IsForest (map (entry_list_of T.seen) lists.now) folders.now }
+    ensures { IsTrue result → AllUpTo (map (entry_list_of T.seen) lists.now) folders.now base.now }
+{
+    match folders {
+        [.., last] => is_up_to(base_at(lists, last.list), base),
+        [] => true,
+    }
+}
+
+/// The last folder whose base begins a text that none of them comes after.
+fn last_beginning<T: search::Pattern>(folders: &[Folder], lists: &[List<T>], text: &[u8]) -> Link
+    requires fits { length folders.now < 2 ^ 32 }
+    requires forest { IsForest (map (entry_list_of T.seen) lists.now) folders.now }
+    requires up_to { AllUpTo (map (entry_list_of T.seen) lists.now) folders.now text.now }
+    ensures { IsLastBeginning (map (entry_list_of T.seen) lists.now) folders.now text.now (length folders.now) result }
+{
+    let mut link = Link::up_to(folders.len());
+    'above: while let Some(place) = link.place() {
+        let folder = &folders[place];
+        if begins(base_at(lists, folder.list), text) {
+            return link;
+        }
+        link = folder.above;
+    }
+    link
+}
+
+/// The last folder whose base doesn't come after a path.
+///
+/// A look is counted at each byte that may be read: eight of the path once, and for each base that is compared as many as both have.
+pub(crate) fn last_up_to<T: search::Pattern, S: Ledger, L: Ledger>(
+    folders: &[Folder],
+    lists: &[List<T>],
+    path: &[u8],
+    counts: &mut Counts<S, L>,
+) -> Link
+    requires fits { length folders.now < 2 ^ 32 }
+    requires forest { IsForest (map (entry_list_of T.seen) lists.now) folders.now }
+    ensures last { IsLastUpTo (map (entry_list_of T.seen) lists.now) folders.now path.now result }
+    ensures looks { LooksUpTo counts.old counts.new (65 * length path.now) }
+{
+    counts.looks(path.len().min(FRONT));
+    let key = front_key(path);
+    let mut low: usize = 0;
+    let mut size = folders.len();
+    'halves: while size > 0 {
+        let half = size / 2;
+        if is_folder_up_to(&folders[low + half], lists, path, key, counts) {
+            low += half + 1;
+            size -= half + 1;
+        } else {
+            size = half;
+        }
+    }
+    Link::up_to(low)
+}
+
+/// Whether the base of a folder doesn't come after a path, whose front has this number.
+#[inline(always)]
+fn is_folder_up_to<T: search::Pattern, S: Ledger, L: Ledger>(
+    folder: &Folder,
+    lists: &[List<T>],
+    path: &[u8],
+    key: u64,
+    counts: &mut Counts<S, L>,
+) -> bool
+    requires of { IsFolderOf (map (entry_list_of T.seen) lists.now) folder.now }
+    requires key { key ≡ front_key path.now FRONT }
+    ensures order { IsTrue result ↔ IsUpTo (base_at (map (entry_list_of T.seen) lists.now) folder.now.list) path.now }
+    ensures looks { LooksUpTo counts.old counts.new (2 * length path.now) }
+{
+    if folder.key != key {
+        return folder.key < key;
+    }
+    let base = base_at(lists, folder.list);
+    counts.looks(2 * base.len().min(path.len()));
+    is_up_to(base, path)
+}
+
+/// The base of the list at a place; empty where it has none, or there is no such list.
+fn base_at<T: search::Pattern>(lists: &[List<T>], place: u32) -> &[u8]
+    ensures { result.now ≡ base_at (map (entry_list_of T.seen) lists.now) place }
+{
+    match lists.get(place as usize) {
+        Some(list) => match &list.base {
+            Some(base) => base.as_slice(),
+            None => b"",
+        },
+        None => b"",
+    }
+}

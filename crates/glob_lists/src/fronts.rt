@@ -1,0 +1,63 @@
+//! The order of texts by their bytes, in which the case of letters doesn't count, and which text begins another.
+ghost use Rattle.std.specs.Prelude.{◌≡◌, ◌↔◌, ◌≤◌, IsTrue, length};
+ghost use Rattle.glob_lists.specs.Private.Fronts.{AreBytes, Begins, IsUpTo, folded_at, front_key};
+
+/// How many bytes at the front of a text make its number.
+pub(crate) const FRONT: usize = 8;
+
+/// The number that the first bytes of a text make, as many as [`FRONT`] says, the first byte first; past its end a text has zeros.
+pub(crate) fn front_key(text: &[u8]) -> u64
+    ensures number { result ≡ front_key text.now FRONT }
+    ensures bytes { AreBytes text.now }
+{
+    let mut key = 0;
+    'bytes: for n in 0..FRONT {
+        key = key * 256 + u64::from(folded_at(text, n));
+    }
+    key
+}
+
+/// The byte at a place, letters as small ones; 0 past the end.
+#[inline(always)]
+fn folded_at(text: &[u8], place: usize) -> u8
+    ensures { result ≡ folded_at text.now place }
+{
+    match text.get(place) {
+        Some(byte) => byte.to_ascii_lowercase(),
+        None => 0,
+    }
+}
+
+/// Whether a text comes before another one or is the same.
+pub(crate) fn is_up_to(left: &[u8], right: &[u8]) -> bool
+    ensures { IsTrue result ↔ IsUpTo left.now right.now }
+{
+    let most = left.len().min(right.len());
+    'bytes: for n in 0..most {
+        // most bytes that are alike are the same, which costs less to see
+        if left[n] == right[n] {
+            continue;
+        }
+        let byte = left[n].to_ascii_lowercase();
+        let other = right[n].to_ascii_lowercase();
+        if byte != other {
+            return byte < other;
+        }
+    }
+    left.len() <= right.len()
+}
+
+/// Whether a text begins with another one, or is the same.
+pub(crate) fn begins(front: &[u8], text: &[u8]) -> bool
+    ensures { IsTrue result ↔ Begins front.now text.now }
+{
+    if front.len() > text.len() {
+        return false;
+    }
+    'bytes: for n in 0..front.len() {
+        if front[n].to_ascii_lowercase() != text[n].to_ascii_lowercase() {
+            return false;
+        }
+    }
+    true
+}

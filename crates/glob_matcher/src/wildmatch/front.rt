@@ -1,0 +1,96 @@
+//! The front of a long pattern: its literal bytes are compared apart from the turns, by one place for both texts.
+ghost use Rattle.std.specs.Prelude.{◌≡◌, ◌↔◌, ◌<◌, IsTrue, length, slice_index};
+ghost use Rattle.glob_matcher.specs.Tokens.{Byte};
+ghost use Rattle.glob_matcher.specs.Private.Fitting.{Fits};
+ghost use Rattle.glob_matcher.specs.Private.Takes.{TakesExactly};
+ghost use Rattle.glob_matcher.specs.Private.Turns.{IsFront};
+
+use super::counted_text::CountedText;
+use super::counted_texts::CountedTexts;
+use super::counts::Counts;
+use super::engine::Engine;
+use super::mode::Mode;
+use super::needle::stands_within_component;
+use super::texts::Texts;
+use std::marker::Brand;
+use std::sync::ledger::Ledger;
+
+/// A pattern of so many bytes has its front compared apart.
+const LONG: usize = 64;
+
+impl<'c, 'a, S: Ledger, L: Ledger, M: Texts> Engine<'c, 'a, S, L, M> {
+    /// How many bytes at the front of both texts are passed before the first turn. A short pattern has none passed.
+    #[inline(always)]
+    pub fn front(&mut self) -> usize
+        ensures { IsFront M.mode M.pattern M.value result self.old self.new }
+    {
+        if self.pattern_len() < LONG {
+            return 0;
+        }
+        let mode = self.mode();
+        let texts = &mut self.texts;
+        let (pattern, value) = (texts.pattern.again(), texts.value.again());
+        compare_fronts::<S, L, Brand>(pattern, value, mode, &mut *texts.counts).0
+    }
+
+    /// Whether the value has a byte at a place inside it, up to folding, in one look.
+    #[inline(always)]
+    fn value_has(&mut self, at: usize, wanted: u8) -> bool
+        requires { at < length M.value }
+        ensures answer { IsTrue result ↔ Fits M.mode (Byte wanted) (slice_index M.value at) }
+        ensures count { TakesExactly self.old self.new 0 1 }
+    {
+        self.mode().alike(self.texts.value_byte(at), wanted)
+    }
+
+    /// Counts the test of a byte that is passed: a step, whose looks were counted.
+    #[inline(always)]
+    fn count_passed(&mut self)
+        ensures { TakesExactly self.old self.new 1 0 }
+    {
+        self.texts.step();
+    }
+
+    /// Passes the bytes at the front of the pattern that are tokens by themselves, up to a slash, and that the value has too.
+    #[inline(always)]
+    fn pass_front(&mut self) -> usize
+        ensures { IsFront M.mode M.pattern M.value result self.old self.new }
+    {
+        let most = self.texts.pattern_len().min(self.texts.value_len());
+        let mut passed = 0;
+        'bytes: while passed < most {
+            let byte = self.pattern_byte(passed);
+            if !stands_within_component(byte) {
+                break;
+            }
+            if !self.value_has(passed, byte) {
+                break;
+            }
+            self.count_passed();
+            passed += 1;
+        }
+        passed
+    }
+}
+
+/// How many bytes at the fronts are passed, by an engine of its own, and the counts of what it took.
+#[cold]
+#[inline(never)]
+fn compare_fronts<'c, 'a, S: Ledger, L: Ledger, M: Texts>(
+    pattern: CountedText<'a, S, L>,
+    value: CountedText<'a, S, L>,
+    mode: Mode,
+    counts: &'c mut Counts<S, L>,
+) -> (usize, &'c mut Counts<S, L>)
+    requires pattern { pattern ≡ M.pattern }
+    requires value { value ≡ M.value }
+    requires mode { mode ≡ M.mode }
+    requires counts { counts.ghost_name ≡ M.counts }
+    ensures front { IsFront M.mode M.pattern M.value result.0 counts.old result.1.now }
+    ensures same { result.1.ghost_name ≡ counts.entry.ghost_name }
+{
+    let texts = CountedTexts::<'c, 'a, S, L, M>::of(pattern, value, counts);
+    let mut engine = Engine::new(texts, mode);
+    let passed = engine.pass_front();
+    (passed, engine.into_counts())
+}

@@ -1,0 +1,31 @@
+-- The last record is the one that has begun.
+use Rattle.std.proofs.Common.{◌≢◌, [], inr, rules}
+use Rattle.std.proofs.lemmas.Result.{on_err_weaker, on_ok_weaker}
+use Rattle.glob_trees.specs.Records.{TextOf, last_record}
+use Rattle.glob_trees.proofs.lemmas.RecordLemmas.{TextOf-added}
+use Rattle.glob_trees.proofs.lemmas.StreamLemmas.{nothing_of_last, on_any_err}
+use Rattle.glob_trees.proofs.buffers.Buffers.finish.Given.{Over}
+use Rattle.glob_trees.proofs.buffers.Buffers.finish.Goals as goal
+use Rattle.glob_trees.proofs.buffers.Buffers.finish.Goals.{In_ok-append_answer}
+
+pub returns-in_err-append_answer-clause-cut : goal.returns-in_err-append_answer-clause-cut
+returns-in_err-append_answer-clause-cut g c = on_any_err _ (nothing_of_last _ _ _)
+
+-- a record has begun
+has_begun : (g : Over) (c : In_ok-append_answer g) → c.args.self.now.begun.items ≢ []
+has_begun g c = λ none. let empty = c.is_empty.ensures in let isnt = c.if-is_empty.false in search rules
+
+-- the text that is held is that of the last record
+last_text : (g : Over) (c : In_ok-append_answer g) →
+    TextOf (g.A.Answerer.answers c.append_answer.new.answerer) (last_record c.args.self.now.begun.items) c.append_answer.new.self.text.items
+last_text g c = TextOf-added _ c.args.self.now.begun.items _ _ (has_begun g c) c.requires.none c.in_ok-append_answer.ensures.ok
+
+pub returns-clause-ok : goal.returns-clause-ok
+returns-clause-ok g c =
+    let at = (goal.at.returns-clause-ok g c).In_ok-append_answer in
+    on_ok_weaker c.write_out.result (λ out. record { text = c.append_answer.new.self.text.items; allowed = last_text g at; written = out }) c.write_out.ensures.ok
+
+pub returns-clause-cut : goal.returns-clause-cut
+returns-clause-cut g c =
+    let at = (goal.at.returns-clause-cut g c).In_ok-append_answer in
+    on_err_weaker c.write_out.result (λ out. record { text = c.append_answer.new.self.text.items; allowed = inr (last_text g at); written = out }) c.write_out.ensures.err

@@ -1,0 +1,13 @@
+pub mod Emptied
+pub mod Entering
+pub mod Folders
+pub mod Ignoring
+pub mod InTree
+pub mod Kept
+pub mod OneMore
+pub mod RecordLemmas
+pub mod RunLemmas
+pub mod Stepping
+pub mod StreamLemmas
+pub mod Topmost
+pub mod WayLemmas

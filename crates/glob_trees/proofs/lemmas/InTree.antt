@@ -1,0 +1,75 @@
+-- What decides about a path in a work tree: one pair, and not by a list that is off the way.
+use Rattle.std.proofs.Common.{◌≡◌, ◌⊎◌, inl, inr, ⊎_elim, ℕ, ◌<◌, ◌≤◌, true, Bool, List, ◌∷◌, ◌++◌, length, Option, Some, sym, ap, subst, ◌∙◌, length-append, arith}
+use Rattle.std.proofs.lemmas.Bool.{cases_lt}
+use Rattle.std.proofs.lemmas.Option.{same_Some}
+use Rattle.gix_glob.specs.declared.pattern.Case.{Case}
+use Rattle.gix_glob.specs.Bytes.{slash}
+use Rattle.gix_glob.specs.EntryLists.{EntryList}
+use Rattle.gix_glob.specs.Stripping.{NothingLeft}
+use Rattle.glob_lists.specs.Deciding.{Decides}
+use Rattle.glob_trees.specs.Laws.Emptying.{EmptiesList}
+use Rattle.glob_trees.specs.Trees.{DecidesInTree, HasNoneIgnored, Ignores, IsAbove, IsBelowIgnored}
+use Rattle.glob_trees.proofs.lemmas.Emptied.{decides_before, ignores_after, ignores_before, nothing_left_above, nothing_left_shorter}
+use Rattle.glob_trees.proofs.lemmas.Folders.{as_long_is_same, shorter_is_above}
+
+-- ---- one answer
+
+-- the law `decides_one_pair`, restated: a lemma can't cite a clause
+abbrev pub DecidesOnePair : Type 0 → Type 0
+DecidesOnePair V =
+    (lists : List (EntryList V)) (path : List ℕ) (is_dir : Bool) (case : Case) (pair other : Option (ℕ × ℕ)) → Decides lists path is_dir case pair → Decides lists path is_dir case other → pair ≡ other
+
+module _ {V : Type 0} (lists : List (EntryList V)) (path : List ℕ) (case : Case) where
+  -- the topmost ignored folder isn't below another ignored one
+  not_below : (folder : List ℕ) (pair by : ℕ × ℕ) → IsAbove folder path → Ignores lists case folder pair → (h : IsBelowIgnored lists case path by) → length h.folder ≤ length folder
+  not_below folder pair by above ignored h = ⊎_elim
+      (λ (less : length folder < length h.folder). absurd (h.topmost folder pair (shorter_is_above folder h.folder path above h.above less) ignored))
+      (λ (up_to : length h.folder ≤ length folder). up_to)
+      (cases_lt (length folder) (length h.folder))
+
+  ignored_once : DecidesOnePair V → (pair other : ℕ × ℕ) → IsBelowIgnored lists case path pair → IsBelowIgnored lists case path other → pair ≡ other
+  ignored_once law pair other h k =
+      let low : length h.folder ≤ length k.folder = not_below k.folder other pair k.above k.ignored h in
+      let high : length k.folder ≤ length h.folder = not_below h.folder pair other h.above h.ignored k in
+      let same : h.folder ≡ k.folder = as_long_is_same h.folder k.folder path h.above k.above (omega (arith, low, high)) in
+      same_Some pair other (law lists k.folder true case (Some pair) (Some other) (subst (λ f. Decides lists f true case (Some pair)) same h.ignored.0) k.ignored.0)
+
+  pub decides_in_tree_once : DecidesOnePair V → (is_dir : Bool) (pair other : Option (ℕ × ℕ)) → DecidesInTree lists path is_dir case pair → DecidesInTree lists path is_dir case other → pair ≡ other
+  decides_in_tree_once law is_dir pair other (inl x) (inl y) = x.2 ∙ ap Some (ignored_once law x.0 y.0 x.1 y.1) ∙ sym y.2
+  decides_in_tree_once law is_dir pair other (inl x) (inr y) = absurd (y.0 x.1.folder x.0 x.1.above x.1.ignored)
+  decides_in_tree_once law is_dir pair other (inr x) (inl y) = absurd (x.0 y.1.folder y.0 y.1.above y.1.ignored)
+  decides_in_tree_once law is_dir pair other (inr x) (inr y) = law lists path is_dir case pair other x.1 y.1
+
+-- ---- lists that say nothing
+
+module _ {V : Type 0} (lists : List (EntryList V)) (base : List ℕ) (emptied : List (EntryList V)) (e : EmptiesList lists base emptied) (case : Case) where
+  none_ignored_before : (path : List ℕ) → NothingLeft case (Some base) path → HasNoneIgnored emptied case path → HasNoneIgnored lists case path
+  none_ignored_before path none kept folder pair above ignored =
+      kept folder pair above (ignores_after lists base emptied e case folder (nothing_left_above case base folder path above none) pair ignored)
+
+  -- where nothing is left of the folder, the lists ignore it as well
+  below_ignored_before : (path : List ℕ) (by : ℕ × ℕ) (h : IsBelowIgnored emptied case path by) → NothingLeft case (Some base) h.folder → IsBelowIgnored lists case path by
+  below_ignored_before path by h none = record {
+    folder = h.folder;
+    above = h.above;
+    ignored = ignores_before lists base emptied e case h.folder none by h.ignored;
+    topmost = none_ignored_before h.folder none h.topmost;
+  }
+
+  pub off_the_way : (path : List ℕ) (is_dir : Bool) (pair : Option (ℕ × ℕ)) → NothingLeft case (Some base) path → DecidesInTree emptied path is_dir case pair → DecidesInTree lists path is_dir case pair
+  off_the_way path is_dir pair none (inl x) = inl (x.0, below_ignored_before path x.0 x.1 (nothing_left_above case base x.1.folder path x.1.above none), x.2)
+  off_the_way path is_dir pair none (inr x) = inr (none_ignored_before path none x.0, decides_before lists base emptied e path is_dir case none pair x.1)
+
+  -- the base is longer than a folder that is ignored, and so than the topmost one
+  below_ignored : (path : List ℕ) (is_dir : Bool) (pair : Option (ℕ × ℕ)) (folder : List ℕ) (by : ℕ × ℕ) → length folder < length base → Ignores emptied case folder by → IsAbove folder path
+      → DecidesInTree emptied path is_dir case pair → DecidesInTree lists path is_dir case pair
+  below_ignored path is_dir pair folder by longer ignored above (inl x) =
+      let low = not_below emptied path case folder by x.0 above ignored x.1 in
+      inl (x.0, below_ignored_before path x.0 x.1 (nothing_left_shorter case base x.1.folder (omega (arith, low))), x.2)
+  below_ignored path is_dir pair folder by longer ignored above (inr x) = absurd (x.0 folder by above ignored)
+
+  pub below_or_off : (path : List ℕ) (is_dir : Bool) (pair : Option (ℕ × ℕ)) (folder below : List ℕ) (by : ℕ × ℕ) → base ≡ folder ++ slash ∷ below → Ignores emptied case folder by
+      → IsAbove folder path ⊎ NothingLeft case (Some base) path → DecidesInTree emptied path is_dir case pair → DecidesInTree lists path is_dir case pair
+  below_or_off path is_dir pair folder below by joined ignored (inl above) =
+      below_ignored path is_dir pair folder by (omega (arith, ap length joined, length-append folder (slash ∷ below))) ignored above
+  below_or_off path is_dir pair folder below by joined ignored (inr none) = off_the_way path is_dir pair none

@@ -1,0 +1,205 @@
+-- What one call does to the folders that are entered, and what they then say of a path.
+use Rattle.std.proofs.Common.{◌≡◌, ◌⊎◌, ⊎_elim, ℕ, suc, ◌+◌, ◌-◌, ◌<◌, Bool, true, false, if◌then◌else◌, Result, Ok, Err, OnErr, List, [], ◌∷◌, ◌++◌, length, map, take, drop, Option, None, Some, IsSome, Vec, option_map, refl, sym, ap, subst, ◌∙◌, append_assoc, append-nil, length-take-le, take-suc, add-one, arith, slice_index}
+use Rattle.std.specs.Prelude.{slice_get}
+use Rattle.std.specs.List.{AllZip}
+use Rattle.std.specs.Vec.{vec_items}
+use Rattle.std.proofs.lemmas.Bool.{cases_eq}
+use Rattle.std.proofs.lemmas.List.{length-map, map-append}
+use Rattle.std.proofs.lemmas.Option.{same_Some}
+use Rattle.gix_glob.specs.declared.pattern.Case.{Case}
+use Rattle.gix_glob.specs.declared.search.pattern.list.List as patterns
+use Rattle.gix_glob.specs.Bytes.{HasByte, slash}
+use Rattle.gix_glob.specs.EntryLists.{EntryList, entry_list_of}
+use Rattle.glob_lists.specs.Deciding.{BasesAreFolders}
+use Rattle.glob_trees.specs.Private.Entered.{AreEntered, AreOfFolders, IsFrontOf}
+use Rattle.glob_trees.specs.Private.Left.{IsKept, OneMoreIsKept}
+use Rattle.glob_trees.specs.Trees.{Ignores, IsAbove}
+use Rattle.glob_trees.specs.Ways.{AreOnTheWay, IsListOf, folder_before, folders_from, folders_to}
+use Rattle.glob_trees.proofs.lemmas.Entering.{deepest, entered_byte, entered_folder, entered_slash, entered_top, some_entered, topmost}
+use Rattle.glob_trees.proofs.lemmas.WayLemmas.{before_other, folders_more, further, last_same}
+
+-- ---- lists and their ends
+
+some_is : {X : Type 0} (o : Option X) → IsSome o → (x : X) × (o ≡ Some x)
+some_is None some = absurd (cc)
+some_is (Some x) some = (x, refl)
+
+pub last_splits : {X : Type 0} (xs : List X) (x : X) → slice_get xs (length xs - 1) ≡ Some x → (above : List X) × (xs ≡ above ++ x ∷ [])
+last_splits [] x is = absurd (cc)
+last_splits (y ∷ []) x is = let same = same_Some y x is in ([], cc)
+last_splits (y ∷ z ∷ xs) x is =
+    let e : length (y ∷ z ∷ xs) - 1 ≡ suc (length (z ∷ xs) - 1) = omega arith in
+    let rest = last_splits (z ∷ xs) x (subst (λ k. slice_get (y ∷ z ∷ xs) k ≡ Some x) e is) in
+    (y ∷ rest.0, ap (λ l. y ∷ l) rest.1)
+
+pub path_more : (path : List ℕ) (place : ℕ) → place < length path → take (place + 1) path ≡ take place path ++ slice_index path place ∷ []
+path_more path place inside = rw add-one (take-suc path place 0 inside)
+
+module _ (path : List ℕ) (place : ℕ) (here : HasByte path place slash) where
+  pub slash_next : take (place + 1) path ≡ take place path ++ slash ∷ []
+  slash_next = path_more path place here.inside ∙ ap (λ b. take place path ++ b ∷ []) here.is
+
+  some_front : ¬ (place ≡ 0) → ¬ (take place path ≡ [])
+  some_front some none = let inside = here.inside in some (omega (arith, ap length none, length-take-le place path (omega arith)))
+
+module _ {T X V : Type 0} (seen : X → V) (shows : List ℕ → EntryList V → Type 0) (case : Case) (n : ℕ) where
+  abbrev view : List (patterns.List T X) → List (EntryList V)
+  view lists = map (entry_list_of seen) lists
+
+  view_last : (lists above : List (patterns.List T X)) (list : patterns.List T X) → lists ≡ above ++ list ∷ [] → view lists ≡ view above ++ entry_list_of seen list ∷ []
+  view_last lists above list joined = ap view joined ∙ map-append (entry_list_of seen) above (list ∷ [])
+
+  module _ (lists above : List (patterns.List T X)) (list : patterns.List T X) (joined : lists ≡ above ++ list ∷ []) (front : List ℕ) (e : AreEntered shows n (view lists) case front) where
+    at_last : AreEntered shows n (view above ++ entry_list_of seen list ∷ []) case front
+    at_last = subst (λ ls. AreEntered shows n ls case front) (view_last lists above list joined) e
+
+    -- ---- a folder is left
+
+    module _ {Z : Type 0} (entries left : List (Vec ℕ Z × Option (patterns.List T X))) where
+      pub leaving : AreOfFolders seen shows entries → IsSome (option_map vec_items list.base) → OneMoreIsKept (option_map vec_items list.base) list entries left
+          → (folder : List ℕ) × AreEntered shows n (view above) case folder × AreOfFolders seen shows left
+      leaving kept some put =
+          let base = some_is (option_map vec_items list.base) some in
+          let d = deepest shows case n (view above) (entry_list_of seen list) front at_last base.0 base.1 in (
+            d.folder,
+            d.left,
+            λ other l more. ⊎_elim
+                (λ (old : IsKept entries other l). kept other l old)
+                (λ (one : (option_map vec_items list.base ≡ Some other) × (l ≡ list)).
+                let same : base.0 ≡ other = same_Some base.0 other (sym base.1 ∙ one.0) in
+                (d.folder, sym same ∙ d.named, subst (λ l. IsListOf shows d.folder (entry_list_of seen l)) (sym one.1) d.of))
+                (put other l more),
+          )
+
+    -- ---- no folder has to be left
+
+    stays_at : (path : List ℕ) (count : ℕ) (base : Option (List ℕ)) → option_map vec_items list.base ≡ base → IsFrontOf base path count → AreEntered shows n (view above ++ entry_list_of seen list ∷ []) case (take count path)
+    stays_at path count None is zero =
+        subst (λ k. AreEntered shows n (view above ++ entry_list_of seen list ∷ []) case (take k path)) (sym zero) (topmost shows case n (view above) (entry_list_of seen list) front at_last is)
+    stays_at path count (Some base) is begins =
+        let d = deepest shows case n (view above) (entry_list_of seen list) front at_last base is in
+        subst (AreEntered shows n (view above ++ entry_list_of seen list ∷ []) case) begins.0 d.stays
+
+    pub staying : (path : List ℕ) (count : ℕ) → IsFrontOf (option_map vec_items list.base) path count → AreEntered shows n (view lists) case (take count path)
+    staying path count begins =
+        subst (λ ls. AreEntered shows n ls case (take count path)) (sym (view_last lists above list joined)) (stays_at path count (option_map vec_items list.base) refl begins)
+
+  -- ---- a folder is entered
+
+  enters : (lists : List (patterns.List T X)) (list : patterns.List T X) (front : List ℕ) → ¬ (front ≡ []) → AreEntered shows n (view lists) case front → ((pair : ℕ × ℕ) → ¬ Ignores (view lists) case front pair) → IsListOf shows front (entry_list_of seen list)
+      → AreEntered shows n (view (lists ++ list ∷ [])) case (front ++ slash ∷ [])
+  enters lists list [] some e kept of = absurd (some refl)
+  enters lists list (x ∷ xs) some e kept of =
+      subst (λ ls. AreEntered shows n ls case ((x ∷ xs) ++ slash ∷ [])) (sym (map-append (entry_list_of seen) lists (list ∷ [])))
+      (entered_folder shows case n (view lists) x xs (entry_list_of seen list) e kept of)
+
+  module _ (path : List ℕ) (place : ℕ) (here : HasByte path place slash) where
+    pub entering : (lists : List (patterns.List T X)) (list : patterns.List T X) → ¬ (place ≡ 0) → AreEntered shows n (view lists) case (take place path) → ((pair : ℕ × ℕ) → ¬ Ignores (view lists) case (take place path) pair) → IsListOf shows (take place path) (entry_list_of seen list)
+        → AreEntered shows n (view (lists ++ list ∷ [])) case (take (place + 1) path)
+    entering lists list some e kept of =
+        subst (AreEntered shows n (view (lists ++ list ∷ [])) case) (sym (slash_next path place here)) (enters lists list (take place path) (some_front path place here some) e kept of)
+
+    pub entering_slash : (lists : List (patterns.List T X)) → place ≡ 0 → AreEntered shows n (view lists) case (take place path) → ((pair : ℕ × ℕ) → ¬ Ignores (view lists) case (take place path) pair)
+        → AreEntered shows n (view lists) case (take (place + 1) path)
+    entering_slash lists first e kept =
+        let none : take place path ≡ [] = ap (λ k. take k path) first in
+        subst (AreEntered shows n (view lists) case) (sym (slash_next path place here ∙ ap (λ f. f ++ slash ∷ []) none))
+        (entered_slash shows case n (view lists) (subst (AreEntered shows n (view lists) case) none e) (λ pair ignored. kept pair (subst (λ f. Ignores (view lists) case f pair) (sym none) ignored)))
+
+-- the list that is kept under what is named by the slash at a place is that of the folder before it
+pub kept_before : {T X V Z : Type 0} (seen : X → V) (shows : List ℕ → EntryList V → Type 0) (entries : List (Vec ℕ Z × Option (patterns.List T X))) (path : List ℕ) (place : ℕ) (list : patterns.List T X) → HasByte path place slash → AreOfFolders seen shows entries
+    → IsKept entries (take (place + 1) path) list → IsListOf shows (take place path) (entry_list_of seen list)
+kept_before seen shows entries path place list here of kept =
+    let found = of (take (place + 1) path) list kept in
+    let same = last_same found.0 (take place path) slash slash (sym found.1 ∙ slash_next path place here) in
+    subst (λ f. IsListOf shows f (entry_list_of seen list)) same.0 found.2
+
+-- ---- what the source shows on
+
+module _ {V : Type 0} (old new : List ℕ → EntryList V → Type 0) (goes_on : (folder : List ℕ) (list : EntryList V) → old folder list → new folder list) where
+  pub list_goes_on : (folder : List ℕ) (list : EntryList V) → IsListOf old folder list → IsListOf new folder list
+  list_goes_on folder list of = record { shown = goes_on folder list of.shown; based = of.based }
+
+  zip_goes_on : (folders : List (List ℕ)) (lists : List (EntryList V)) → AllZip (IsListOf old) folders lists → AllZip (IsListOf new) folders lists
+  zip_goes_on [] [] zip = zip
+  zip_goes_on [] (l ∷ lists) zip = zip
+  zip_goes_on (f ∷ folders) [] zip = zip
+  zip_goes_on (f ∷ folders) (l ∷ lists) zip = (list_goes_on f l zip.0, zip_goes_on folders lists zip.1)
+
+  pub entered_goes_on : (n : ℕ) (lists : List (EntryList V)) (case : Case) (front : List ℕ) → AreEntered old n lists case front → AreEntered new n lists case front
+  entered_goes_on n lists case front e = record { bases = e.bases; shown = zip_goes_on (folders_to front) (drop n lists) e.shown; none = e.none }
+
+  pub folders_go_on : {T X Z : Type 0} (seen : X → V) (entries : List (Vec ℕ Z × Option (patterns.List T X))) → AreOfFolders seen old entries → AreOfFolders seen new entries
+  folders_go_on seen entries of = λ base list kept. let found = of base list kept in (found.0, found.1, list_goes_on found.0 (entry_list_of seen list) found.2)
+
+-- ---- what is said of a path
+
+first_from : (front rest folder : List ℕ) (below : List (List ℕ)) → folders_from front rest ≡ folder ∷ below → (more : List ℕ) × (folder ≡ front ++ more)
+first_from front [] folder below is = absurd (cc)
+first_from front (b ∷ rest) folder below is = ⊎_elim
+    (λ (here : b ≡ slash).
+    let first : front ∷ folders_from (front ++ b ∷ []) rest ≡ folder ∷ below = ap (λ c. folder_before c front ++ folders_from (front ++ b ∷ []) rest) (sym here) ∙ is in
+    let same : front ≡ folder = cc in
+    ([], sym same ∙ sym (append-nil front)))
+    (λ (other : b ≡ slash → ⊥).
+    let later = first_from (front ++ b ∷ []) rest folder below (ap (λ fs. fs ++ folders_from (front ++ b ∷ []) rest) (sym (before_other b front other)) ∙ is) in
+    (b ∷ later.0, later.1 ∙ append_assoc front (b ∷ []) later.0))
+    (cases_eq b slash)
+
+above_first : (front rest folder : List ℕ) (below : List (List ℕ)) → further front (slash ∷ rest) ≡ folder ∷ below → IsAbove front (folder ++ slash ∷ [])
+above_first [] rest folder below is =
+    let later = first_from (slash ∷ []) rest folder below is in
+    (later.0 ++ slash ∷ [], ap (λ f. f ++ slash ∷ []) later.1)
+above_first (x ∷ xs) rest folder below is =
+    let same : (x ∷ xs) ≡ folder = cc in
+    ([], ap (λ f. f ++ slash ∷ []) (sym same))
+
+module _ {V : Type 0} (shows : List ℕ → EntryList V → Type 0) (n : ℕ) (lists : List (EntryList V)) (case : Case) (path : List ℕ) where
+  pub stopped : (front : List ℕ) (pair : ℕ × ℕ) → AreEntered shows n lists case front → IsAbove front path → Ignores lists case front pair → AreOnTheWay shows n lists case path
+  stopped front pair e above ignored = record {
+    entered = folders_to front;
+    further = further front (slash ∷ above.0);
+    joined = ap folders_to above.1 ∙ folders_more front (slash ∷ above.0);
+    shown = e.shown;
+    ends = λ folder below is. (pair, record { folder = front; above = above_first front above.0 folder below is; ignored = ignored; topmost = e.none });
+  }
+
+  pub arrived : AreEntered shows n lists case path → AreOnTheWay shows n lists case path
+  arrived e = record {
+    entered = folders_to path;
+    further = [];
+    joined = sym (append-nil (folders_to path));
+    shown = e.shown;
+    ends = λ folder below is. absurd (cc);
+  }
+
+-- ---- the same, as calls leave it
+
+pub on_err : {A E : Type 0} (result : Result A E) (P : Type 0) → P → OnErr result P
+on_err (Ok a) P holds = tt
+on_err (Err e) P holds = holds
+
+pub pushed : {X : Type 0} (ok : Bool) (old new more : List X) → ok ≡ true → new ≡ (if ok then more else old) → new ≡ more
+pushed true old new more is items = items
+pushed false old new more is items = absurd (cc)
+
+module _ {T X V : Type 0} (seen : X → V) (shows : List ℕ → EntryList V → Type 0) (case : Case) (n : ℕ) where
+  pub starting : (lists : List (patterns.List T X)) (list : patterns.List T X) → length lists ≡ n → BasesAreFolders (map (entry_list_of seen) lists) → IsListOf shows [] (entry_list_of seen list)
+      → AreEntered shows n (map (entry_list_of seen) (lists ++ list ∷ [])) case []
+  starting lists list count bases of =
+      subst (λ k. AreEntered shows k (map (entry_list_of seen) (lists ++ list ∷ [])) case []) (length-map lists (entry_list_of seen) ∙ count)
+      (subst (λ ls. AreEntered shows (length (map (entry_list_of seen) lists)) ls case []) (sym (map-append (entry_list_of seen) lists (list ∷ [])))
+      (entered_top shows case (map (entry_list_of seen) lists) (entry_list_of seen list) bases of))
+
+  pub none_entered : (lists : List (patterns.List T X)) → ((length lists ≡ n) × BasesAreFolders (map (entry_list_of seen) lists)) ⊎ ((front : List ℕ) × AreEntered shows n (map (entry_list_of seen) lists) case front) → ¬ (n < length lists)
+      → (length lists ≡ n) × BasesAreFolders (map (entry_list_of seen) lists)
+  none_entered lists ready few = ⊎_elim
+      (λ (fresh : (length lists ≡ n) × BasesAreFolders (map (entry_list_of seen) lists)). fresh)
+      (λ (some : (front : List ℕ) × AreEntered shows n (map (entry_list_of seen) lists) case front).
+      absurd (few (subst (λ k. n < k) (length-map lists (entry_list_of seen)) (some_entered shows case (map (entry_list_of seen) lists) some.0 n some.1))))
+      ready
+
+pub passing : {V : Type 0} (shows : List ℕ → EntryList V → Type 0) (case : Case) (n : ℕ) (lists : List (EntryList V)) (path : List ℕ) (place : ℕ) → place < length path → ¬ (slice_index path place ≡ slash)
+    → AreEntered shows n lists case (take place path) → AreEntered shows n lists case (take (place + 1) path)
+passing shows case n lists path place inside other e =
+    subst (AreEntered shows n lists case) (sym (path_more path place inside)) (entered_byte shows case lists (take place path) n (slice_index path place) other e)

@@ -1,0 +1,2 @@
+-- Words that only laws state: no call's contract rests on them.
+pub mod Emptying

@@ -1,0 +1,7 @@
+pub mod RecordFaults
+pub mod Records
+pub mod Trees
+pub mod Ways
+pub mod TreeParts
+pub mod Laws
+pub mod Private

@@ -1,0 +1,48 @@
+-- The folders on the way to a path, and their lists.
+use Rattle.std.specs.Prelude.{◌≡◌, ℕ, ◌==◌, if◌then◌else◌, List, [], ◌∷◌, ◌++◌, drop, Option, None, Some}
+use Rattle.std.specs.List.{AllZip}
+use Rattle.gix_glob.specs.declared.pattern.Case.{Case}
+use Rattle.gix_glob.specs.Bytes.{slash}
+use Rattle.gix_glob.specs.EntryLists.{EntryList}
+use Rattle.glob_trees.specs.Trees.{IsBelowIgnored}
+
+-- a folder, by its path from the top, without a slash at its end; the top is named by no bytes
+abbrev pub Folder : Type 0
+Folder = List ℕ
+
+-- the base of a folder's list: the folder and a slash, and none for the top
+abbrev pub base_of_folder : Folder → Option (List ℕ)
+base_of_folder [] = None
+base_of_folder (b ∷ rest) = Some ((b ∷ rest) ++ slash ∷ [])
+
+-- what stands before a byte, where the byte is a slash
+abbrev pub folder_before : ℕ → List ℕ → List (List ℕ)
+folder_before b front = if b == slash then front ∷ [] else []
+
+-- what stands before each slash of the rest, the front included
+abbrev pub folders_from : List ℕ → List ℕ → List (List ℕ)
+folders_from front [] = []
+folders_from front (b ∷ rest) = folder_before b front ++ folders_from (front ++ b ∷ []) rest
+
+-- the folders on the way to a path, from the top down: the top, and what stands before each slash past the first byte
+abbrev pub folders_to : List ℕ → List (List ℕ)
+folders_to [] = [] ∷ []
+folders_to (b ∷ rest) = [] ∷ folders_from (b ∷ []) rest
+
+-- the list is one that a source shows for the folder, and its base is the folder's
+pub record IsListOf {V : Type 0} (shows : List ℕ → EntryList V → Type 0) (folder : List ℕ) (list : EntryList V) : Type 0 where
+  pub shown : shows folder list
+  pub based : list.base ≡ base_of_folder folder
+
+-- what a source showed, it shows on
+abbrev pub GoesOn : {S V : Type 0} → (S → List ℕ → EntryList V → Type 0) → S → S → Type 0
+GoesOn {S} {V} shows old new = (folder : Folder) (list : EntryList V) → shows old folder list → shows new folder list
+
+-- The lists past the first `front_count` are those of the folders on the way to a path, one for each, from the top down as far as
+-- the first folder that is ignored, by these lists: what lies in that one, and in each further folder, is below an ignored folder.
+pub record AreOnTheWay {V : Type 0} (shows : List ℕ → EntryList V → Type 0) (front_count : ℕ) (lists : List (EntryList V)) (case : Case) (path : List ℕ) : Type 0 where
+  pub entered : List (List ℕ)
+  pub further : List (List ℕ)
+  pub joined : folders_to path ≡ entered ++ further
+  pub shown : AllZip (IsListOf shows) entered (drop front_count lists)
+  pub ends : (folder : List ℕ) (below : List (List ℕ)) → further ≡ folder ∷ below → (pair : ℕ × ℕ) × IsBelowIgnored lists case (folder ++ slash ∷ []) pair

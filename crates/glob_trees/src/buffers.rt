@@ -1,0 +1,199 @@
+//! What a stream of records holds: the record that has begun, and the texts that aren't written yet.
+ghost use Rattle.std.specs.Prelude.{◌≡◌, ◌++◌, [], false, MatchOption, OnErr, OnOk, is_err};
+ghost use Rattle.std.specs.Io.KnownBytes.{Appends, Keeps};
+ghost use Rattle.gix_glob.specs.Watched.{has_failed, inner};
+ghost use Rattle.glob_lines.specs.Lines.{HasNo};
+ghost use Rattle.glob_lines.specs.Transfers.{AppendsFront};
+ghost use Rattle.glob_trees.specs.RecordFaults.{is_endless, is_read_fault, is_write_fault};
+ghost use Rattle.glob_trees.specs.Records.{Adds, AnswersFirst, StaysAllowed, TextOf, last_record};
+ghost use Rattle.glob_trees.specs.Private.Streaming.{CutsRecord, MovesOut, Takes, TextOfLast, WritesSome};
+
+use crate::answering::Answerer;
+use crate::record_fault::RecordFault;
+use gix_glob::search::Watched;
+use memchr::memchr;
+use std::alloc::Global;
+use std::io;
+use std::io::{ErrorKind, Write};
+
+/// From how many bytes on texts are written although more records are there.
+const MUCH: usize = 16 * 1024;
+
+/// The record that has begun, and texts.
+#[derive(Drop)]
+pub(crate) struct Buffers {
+    begun: Vec<u8>,
+    /// The text of one record.
+    answer: Vec<u8>,
+    /// The texts that aren't written yet.
+    text: Vec<u8>,
+}
+
+impl Buffers {
+    /// Nothing is held.
+    pub(crate) fn new(alloc: Global) -> Buffers
+        ensures begun { result.begun.items ≡ [] }
+        ensures text { result.text.items ≡ [] }
+    {
+        Buffers {
+            begun: Vec::new(alloc),
+            answer: Vec::new(alloc),
+            text: Vec::new(alloc),
+        }
+    }
+
+    /// Answers each record that ends in the piece, writes the texts, and holds what follows.
+    pub(crate) fn take<W: Write, A: Answerer>(
+        &mut self,
+        piece: &[u8],
+        end: u8,
+        writer: &mut Watched<W>,
+        answerer: &mut A,
+    ) -> Result<(), RecordFault<A::Fault>>
+        requires writable { has_failed writer.old ≡ false }
+        requires unended { HasNo end self.old.begun.items }
+        requires none { self.old.text.items ≡ [] }
+        ensures stays { StaysAllowed (A.answers answerer.old) (A.answers answerer.new) }
+        ensures ok { OnOk result (Takes (A.answers answerer.new) end (self.old.begun.items ++ piece.now) self.new.begun.items
+            (W.contents (inner writer.old)) (W.contents (inner writer.new))) }
+        ensures none { OnOk result (self.new.text.items ≡ []) }
+        ensures err { OnErr result (has_failed writer.new ≡ false →
+            WritesSome (AnswersFirst (A.answers answerer.new) end (self.old.begun.items ++ piece.now))
+            (Appends (W.contents (inner writer.old)) (W.contents (inner writer.new)))) }
+        ensures cut { OnErr result
+            (WritesSome (AnswersFirst (A.answers answerer.new) end (self.old.begun.items ++ piece.now))
+            (AppendsFront (W.contents (inner writer.old)) (W.contents (inner writer.new)))) }
+        ensures read { is_read_fault result ≡ false }
+        ensures endless { is_endless result ≡ false }
+        ensures write { is_write_fault result ≡ has_failed writer.new }
+    {
+        let mut rest = piece;
+        'records: while let Some((last, behind)) = split_record(rest, end) {
+            if let Err(fault) = self.append_answer(last, answerer) {
+                self.write_out(writer)?;
+                return Err(fault);
+            }
+            self.write_much(writer)?;
+            rest = behind;
+        }
+        self.write_out(writer)?;
+        self.begun.extend_from_slice(rest)?;
+        Ok(())
+    }
+
+    /// Answers the record that has begun, where there is one, as the last one, and writes its text.
+    pub(crate) fn finish<W: Write, A: Answerer>(
+        &mut self,
+        writer: &mut Watched<W>,
+        answerer: &mut A,
+    ) -> Result<(), RecordFault<A::Fault>>
+        requires writable { has_failed writer.old ≡ false }
+        requires none { self.old.text.items ≡ [] }
+        ensures stays { StaysAllowed (A.answers answerer.old) (A.answers answerer.new) }
+        ensures ok { OnOk result
+            (WritesSome (TextOf (A.answers answerer.new) (last_record self.old.begun.items))
+            (Appends (W.contents (inner writer.old)) (W.contents (inner writer.new)))) }
+        ensures err { OnErr result (has_failed writer.new ≡ false → Keeps (W.contents (inner writer.old)) (W.contents (inner writer.new))) }
+        ensures cut { OnErr result
+            (WritesSome (TextOfLast (A.answers answerer.new) self.old.begun.items)
+            (AppendsFront (W.contents (inner writer.old)) (W.contents (inner writer.new)))) }
+        ensures read { is_read_fault result ≡ false }
+        ensures endless { is_endless result ≡ false }
+        ensures write { is_write_fault result ≡ has_failed writer.new }
+    {
+        if self.begun.is_empty() {
+            return Ok(());
+        }
+        self.append_answer(&[], answerer)?;
+        self.write_out(writer)
+    }
+
+    /// Appends the text of the record that ends in these bytes.
+    fn append_answer<A: Answerer>(
+        &mut self,
+        last: &[u8],
+        answerer: &mut A,
+    ) -> Result<(), RecordFault<A::Fault>>
+        ensures stays { StaysAllowed (A.answers answerer.old) (A.answers answerer.new) }
+        ensures ok { OnOk result (Adds (A.answers answerer.new (self.old.begun.items ++ last.now)) self.old.text.items self.new.text.items) }
+        ensures empty { OnOk result (self.new.begun.items ≡ []) }
+        ensures err { OnErr result (self.new.text.items ≡ self.old.text.items) }
+        ensures read { is_read_fault result ≡ false }
+        ensures endless { is_endless result ≡ false }
+        ensures write { is_write_fault result ≡ false }
+    {
+        self.begun.extend_from_slice(last)?;
+        self.answer.clear();
+        if let Err(fault) = answerer.answer(&mut self.answer, &self.begun) {
+            return Err(RecordFault::Answer(fault));
+        }
+        self.text.extend_from_slice(&self.answer)?;
+        self.begun.clear();
+        Ok(())
+    }
+
+    /// Writes the texts where they are long.
+    fn write_much<W: Write, F>(&mut self, writer: &mut Watched<W>) -> Result<(), RecordFault<F>>
+        requires { has_failed writer.old ≡ false }
+        ensures ok { OnOk result (MovesOut (W.contents (inner writer.old)) (W.contents (inner writer.new)) self.old.text.items self.new.text.items) }
+        ensures err { OnErr result (AppendsFront (W.contents (inner writer.old)) (W.contents (inner writer.new)) self.old.text.items) }
+        ensures kept { self.new.begun.items ≡ self.old.begun.items }
+        ensures read { is_read_fault result ≡ false }
+        ensures endless { is_endless result ≡ false }
+        ensures write { is_write_fault result ≡ has_failed writer.new }
+        ensures only { is_err result ≡ has_failed writer.new }
+    {
+        if self.text.len() < MUCH {
+            return Ok(());
+        }
+        self.write_out(writer)
+    }
+
+    /// Writes the texts, and flushes.
+    fn write_out<W: Write, F>(&mut self, writer: &mut Watched<W>) -> Result<(), RecordFault<F>>
+        requires { has_failed writer.old ≡ false }
+        ensures ok { OnOk result (Appends (W.contents (inner writer.old)) (W.contents (inner writer.new)) self.old.text.items) }
+        ensures none { OnOk result (self.new.text.items ≡ []) }
+        ensures err { OnErr result (AppendsFront (W.contents (inner writer.old)) (W.contents (inner writer.new)) self.old.text.items) }
+        ensures kept { self.new.begun.items ≡ self.old.begun.items }
+        ensures read { is_read_fault result ≡ false }
+        ensures endless { is_endless result ≡ false }
+        ensures write { is_write_fault result ≡ has_failed writer.new }
+        ensures only { is_err result ≡ has_failed writer.new }
+    {
+        if let Err(error) = write_whole(writer, &self.text) {
+            return Err(RecordFault::Write(error));
+        }
+        self.text.clear();
+        match writer.flush() {
+            Ok(()) => Ok(()),
+            Err(error) => Err(RecordFault::Write(error)),
+        }
+    }
+}
+
+/// What stands before the first byte that ends a record, and what follows it; `None` where there is none.
+fn split_record(bytes: &[u8], end: u8) -> Option<(&[u8], &[u8])>
+    ensures { MatchOption result (HasNo end bytes.now) (λ parts. CutsRecord end bytes.now parts.0.now parts.1.now) }
+{
+    let at = memchr(end, bytes)?;
+    Some((&bytes[..at], &bytes[at + 1..]))
+}
+
+/// Writes the whole text. A write that fails is not tried again.
+fn write_whole<W: Write>(writer: &mut Watched<W>, text: &[u8]) -> io::Result<()>
+    requires { has_failed writer.old ≡ false }
+    ensures ok { OnOk result (Appends (W.contents (inner writer.old)) (W.contents (inner writer.new)) text.now) }
+    ensures err { OnErr result (AppendsFront (W.contents (inner writer.old)) (W.contents (inner writer.new)) text.now) }
+    ensures flag { has_failed writer.new ≡ is_err result }
+{
+    let mut at = 0;
+    'pieces: while at < text.len() {
+        match writer.write(&text[at..]) {
+            Ok(0) => return Err(io::Error::from(ErrorKind::WriteZero)),
+            Ok(count) => at += count,
+            Err(error) => return Err(error),
+        }
+    }
+    Ok(())
+}

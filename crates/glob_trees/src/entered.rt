@@ -1,0 +1,170 @@
+//! The folders on the way to the path that was asked last, with their lists, and those that were left.
+ghost use Rattle.std.specs.Prelude.{◌≡◌, ◌+◌, ◌<◌, ℕ, IfOk, IsSome, MatchOption, OnErr, OnOk, length, map, option_map, take};
+ghost use Rattle.std.specs.Vec.{vec_items};
+ghost use Rattle.gix_glob.specs.Bytes.{HasByte, slash};
+ghost use Rattle.gix_glob.specs.EntryLists.{entry_list_of};
+ghost use Rattle.glob_trees.specs.Private.Entered.{AreOfFolders, EndsInFolder, IsFrontOf, IsReady, IsSomewhere, IsUnderWay, KeepsOn};
+ghost use Rattle.glob_trees.specs.Trees.{DecidesInTree, Ignores};
+ghost use Rattle.glob_trees.specs.Ways.{AreOnTheWay, GoesOn, IsListOf};
+
+use crate::deciding::ignoring;
+use crate::fault::TreeFault;
+use crate::folders::FolderLists;
+use crate::left::LeftLists;
+use gix_glob::pattern::Case;
+use gix_glob::search;
+use gix_glob::search::pattern::List;
+use glob_lists::{RepositoryPath, decide};
+use std::alloc::Global;
+
+/// A source of lists, and the lists that it was asked for.
+#[derive(Drop)]
+pub(crate) struct Entered<T: search::Pattern, S: FolderLists<T>> {
+    pub(crate) source: S,
+    pub(crate) case: Case,
+    /// How many lists stand before those of all folders.
+    pub(crate) front_count: usize,
+    /// The lists that stand before those of all folders, then those of the folders entered, from the top down.
+    pub(crate) lists: Vec<List<T>>,
+    /// The lists of the folders that were left.
+    pub(crate) left: LeftLists<T>,
+}
+
+impl<T: search::Pattern, S: FolderLists<T>> Entered<T, S> {
+    /// Which pattern decides about a path, as the tree answers it.
+    ///
+    /// # Errors
+    /// Where the source fails, or memory was refused.
+    pub(crate) fn find(
+        &mut self,
+        path: &RepositoryPath<'_>,
+    ) -> Result<Option<(usize, usize)>, TreeFault<S::Fault>>
+        requires ready { IsReady (S.shows T.Seen) T.seen self.old }
+        ensures decides { IfOk result (λ pair. DecidesInTree (map (entry_list_of T.seen) self.new.lists.items) path.now.bytes path.now.is_dir self.new.case pair) }
+        ensures way { OnOk result (AreOnTheWay (S.shows T.Seen self.new.source) self.new.front_count (map (entry_list_of T.seen) self.new.lists.items) self.new.case path.now.bytes) }
+        ensures ready { IsReady (S.shows T.Seen) T.seen self.new }
+        ensures keeps { KeepsOn (S.shows T.Seen) self.old self.new }
+    {
+        self.enter_top()?;
+        let bytes = path.bytes();
+        let start = self.leave_to(bytes);
+        'bytes: for place in start..bytes.len() {
+            if bytes[place] != b'/' {
+                continue;
+            }
+            if let Some(pair) = ignoring(&self.lists, &path.folder_before(place), self.case) {
+                return Ok(Some(pair));
+            }
+            self.enter(bytes, place)?;
+        }
+        Ok(decide(&self.lists, path, self.case))
+    }
+
+    /// Asks for the list of the top, where it wasn't asked for.
+    ///
+    /// # Errors
+    /// Where the source fails, or memory was refused.
+    fn enter_top(&mut self) -> Result<(), TreeFault<S::Fault>>
+        requires ready { IsReady (S.shows T.Seen) T.seen self.old }
+        ensures under { OnOk result (IsSomewhere (S.shows T.Seen) T.seen self.new) }
+        ensures ready { OnErr result (IsReady (S.shows T.Seen) T.seen self.new) }
+        ensures keeps { KeepsOn (S.shows T.Seen) self.old self.new }
+    {
+        if self.lists.len() > self.front_count {
+            return Ok(());
+        }
+        self.lists.reserve(1)?;
+        let list = self.source.list_of(&[]).map_err(TreeFault::Source)?;
+        self.lists.push(list).map_err(|_| TreeFault::Memory)?;
+        Ok(())
+    }
+
+    /// Enters the folder that stands before the slash at a place of a path.
+    ///
+    /// # Errors
+    /// Where the source fails, or memory was refused.
+    fn enter(&mut self, path: &[u8], place: usize) -> Result<(), TreeFault<S::Fault>>
+        requires slash { HasByte path.now place slash }
+        requires under { IsUnderWay (S.shows T.Seen) T.seen self.old (take place path.now) }
+        requires kept { (pair : ℕ × ℕ) → ¬ Ignores (map (entry_list_of T.seen) self.old.lists.items) self.old.case (take place path.now) pair }
+        ensures entered { OnOk result (IsUnderWay (S.shows T.Seen) T.seen self.new (take (place + 1) path.now)) }
+        ensures under { OnErr result (IsUnderWay (S.shows T.Seen) T.seen self.new (take place path.now)) }
+        ensures keeps { KeepsOn (S.shows T.Seen) self.old self.new }
+    {
+        if place == 0 {
+            return Ok(());
+        }
+        self.lists.reserve(1)?;
+        let list = list_before(&mut self.source, &mut self.left, path, place)?;
+        self.lists.push(list).map_err(|_| TreeFault::Memory)?;
+        Ok(())
+    }
+
+    /// Leaves the folders that aren't on the way to a path. The answer is how many of the path's bytes name the folder that is
+    /// entered then, with the slash at its end.
+    fn leave_to(&mut self, path: &[u8]) -> usize
+        requires under { IsSomewhere (S.shows T.Seen) T.seen self.old }
+        ensures under { IsUnderWay (S.shows T.Seen) T.seen self.new (take result path.now) }
+        ensures keeps { KeepsOn (S.shows T.Seen) self.old self.new }
+    {
+        'folders: while let Some(list) = self.lists.last() {
+            if let Some(length) = length_on_the_way(list, path) {
+                return length;
+            }
+            self.leave();
+        }
+        0
+    }
+
+    /// Leaves the folder entered last, which isn't the top.
+    fn leave(&mut self)
+        requires under { IsSomewhere (S.shows T.Seen) T.seen self.old }
+        requires deep { EndsInFolder self.old.lists.items }
+        ensures under { IsSomewhere (S.shows T.Seen) T.seen self.new }
+        ensures less { length self.new.lists.items < length self.old.lists.items }
+        ensures keeps { KeepsOn (S.shows T.Seen) self.old self.new }
+    {
+        if let Some(list) = self.lists.pop() {
+            self.left.put(list);
+        }
+    }
+}
+
+/// How many bytes of a path name the folder of a list, with the slash at its end, and 0 for the top; `None` where the path
+/// doesn't lie in that folder.
+fn length_on_the_way<T: search::Pattern>(list: &List<T>, path: &[u8]) -> Option<usize>
+    ensures { MatchOption result
+        (IsSome (option_map vec_items list.now.base))
+        (IsFrontOf (option_map vec_items list.now.base) path.now) }
+{
+    match &list.base {
+        Some(base) if path.starts_with(base) => Some(base.len()),
+        Some(_) => None,
+        None => Some(0),
+    }
+}
+
+/// The list of the folder that stands before the slash at a place of a path: the one that was left, or else the source's.
+///
+/// # Errors
+/// Where the source fails, or memory was refused.
+fn list_before<T: search::Pattern, S: FolderLists<T>>(
+    source: &mut S,
+    left: &mut LeftLists<T>,
+    path: &[u8],
+    place: usize,
+) -> Result<List<T>, TreeFault<S::Fault>>
+    requires slash { HasByte path.now place slash }
+    requires left { AreOfFolders T.seen (S.shows T.Seen source.old) left.old.lists.entries }
+    ensures list { IfOk result (λ list. IsListOf (S.shows T.Seen source.new) (take place path.now) (entry_list_of T.seen list)) }
+    ensures left { AreOfFolders T.seen (S.shows T.Seen source.new) left.new.lists.entries }
+    ensures goes_on { GoesOn (S.shows T.Seen) source.old source.new }
+{
+    let base = &path[..place + 1];
+    if let Some(list) = left.take(base) {
+        return Ok(list);
+    }
+    left.make_room(base)?;
+    let list = source.list_of(&path[..place]).map_err(TreeFault::Source)?;
+    Ok(list)
+}

@@ -1,0 +1,43 @@
+//! Laws of decisions in work trees: each is a call that does nothing, which a caller makes to know what it ensures.
+ghost use Rattle.std.specs.Prelude.{◌≡◌, ◌⊎◌, ◌++◌, ◌∷◌, ℕ, Bool, List, Option, Some};
+ghost use Rattle.gix_glob.specs.Bytes.{slash};
+ghost use Rattle.gix_glob.specs.declared.pattern.Case.{Case};
+ghost use Rattle.gix_glob.specs.EntryLists.{EntryList};
+ghost use Rattle.gix_glob.specs.Stripping.{NothingLeft};
+ghost use Rattle.glob_trees.specs.Laws.Emptying.{EmptiesList};
+ghost use Rattle.glob_trees.specs.Trees.{DecidesInTree, Ignores, IsAbove, HasNoneIgnored};
+
+use gix_glob::search;
+use glob_lists::laws::decides_one_pair;
+
+/// Each path has one answer in a work tree.
+pub fn decides_one_pair_in_tree<T: search::Pattern>()
+    ensures { (lists : List (EntryList T.Seen)) (path : List ℕ) (is_dir : Bool) (case : Case) (pair other : Option (ℕ × ℕ)) →
+        DecidesInTree lists path is_dir case pair → DecidesInTree lists path is_dir case other → pair ≡ other }
+{
+    decides_one_pair::<T>();
+}
+
+/// What lies below an ignored folder is decided about by the pattern that decides about the folder.
+pub fn ignored_folders_decide_below<T: search::Pattern>()
+    ensures { (lists : List (EntryList T.Seen)) (folder path : List ℕ) (is_dir : Bool) (case : Case) (pair : ℕ × ℕ) →
+        IsAbove folder path → HasNoneIgnored lists case folder → Ignores lists case folder pair
+        → DecidesInTree lists path is_dir case (Some pair) }
+{}
+
+/// A list whose base lies below an ignored folder changes no answer: so files there needn't be read.
+///
+/// It holds for each path below the folder, and for each that doesn't begin with the base.
+pub fn lists_below_ignored_folders_say_nothing<T: search::Pattern>()
+    ensures { (lists emptied : List (EntryList T.Seen)) (folder below path : List ℕ) (is_dir : Bool) (case : Case) (by : ℕ × ℕ)
+        (pair : Option (ℕ × ℕ)) → EmptiesList lists (folder ++ slash ∷ below) emptied → Ignores emptied case folder by
+        → IsAbove folder path ⊎ NothingLeft case (Some (folder ++ slash ∷ below)) path
+        → DecidesInTree emptied path is_dir case pair → DecidesInTree lists path is_dir case pair }
+{}
+
+/// A list whose base isn't above the path changes no answer about it: so only the lists on the way count.
+pub fn lists_off_the_way_say_nothing<T: search::Pattern>()
+    ensures { (lists emptied : List (EntryList T.Seen)) (base path : List ℕ) (is_dir : Bool) (case : Case)
+        (pair : Option (ℕ × ℕ)) → EmptiesList lists base emptied → NothingLeft case (Some base) path
+        → DecidesInTree emptied path is_dir case pair → DecidesInTree lists path is_dir case pair }
+{}

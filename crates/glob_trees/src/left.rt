@@ -1,0 +1,68 @@
+//! The lists of the folders that were left.
+ghost use Rattle.std.specs.Prelude.{IfSome, option_map};
+ghost use Rattle.std.specs.Vec.{vec_items};
+ghost use Rattle.glob_trees.specs.Private.Left.{IsKept, NoMoreAreKept, NoneIsKept, OneMoreIsKept};
+
+use gix_glob::search;
+use gix_glob::search::pattern::List;
+use std::alloc::{AllocError, Global};
+use std::collections::BTreeMap;
+
+/// The lists of folders that were left, each under its base. A folder that is entered again leaves its room here, so that to
+/// leave the folder takes no memory.
+#[derive(Drop)]
+pub(crate) struct LeftLists<T: search::Pattern> {
+    alloc: Global,
+    lists: BTreeMap<Vec<u8>, Option<List<T>>>,
+}
+
+impl<T: search::Pattern> LeftLists<T> {
+    /// No lists.
+    pub(crate) fn new(alloc: Global) -> LeftLists<T>
+        ensures { NoneIsKept result.lists.entries }
+    {
+        LeftLists {
+            alloc,
+            lists: BTreeMap::new(alloc),
+        }
+    }
+
+    /// Makes room for a list under this base, where there is none.
+    ///
+    /// # Errors
+    /// Only where memory was refused.
+    pub(crate) fn make_room(&mut self, base: &[u8]) -> Result<(), AllocError>
+        ensures { NoMoreAreKept self.old.lists.entries self.new.lists.entries }
+    {
+        if self.lists.contains_key(base) {
+            return Ok(());
+        }
+        let mut key = Vec::with_capacity(self.alloc, base.len())?;
+        key.extend_from_slice(base)?;
+        self.lists.insert(key, None)?;
+        Ok(())
+    }
+
+    /// Puts a list under its base, where room was made for it. A list for which none was made is let go.
+    pub(crate) fn put(&mut self, list: List<T>)
+        ensures { OneMoreIsKept (option_map vec_items list.base) list self.old.lists.entries self.new.lists.entries }
+    {
+        let Some(base) = &list.base else {
+            return;
+        };
+        if let Some(room) = self.lists.get_mut(base.as_slice()) {
+            *room = Some(list);
+        }
+    }
+
+    /// Takes the list under this base out, and leaves its room.
+    pub(crate) fn take(&mut self, base: &[u8]) -> Option<List<T>>
+        ensures taken { IfSome result (IsKept self.old.lists.entries base.now) }
+        ensures others { NoMoreAreKept self.old.lists.entries self.new.lists.entries }
+    {
+        match self.lists.get_mut(base) {
+            Some(room) => room.take(),
+            None => None,
+        }
+    }
+}

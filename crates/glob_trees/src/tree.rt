@@ -1,0 +1,132 @@
+//! A work tree whose folders are asked for their lists as paths come by.
+ghost use Rattle.std.specs.Prelude.{◌≡◌, IfOk, IfSome, MatchOption, OnOk, Some, length, map, slice_get, take};
+ghost use Rattle.gix_glob.specs.EntryLists.{entry_list_of};
+ghost use Rattle.glob_lists.specs.Deciding.{BasesAreFolders};
+ghost use Rattle.glob_trees.specs.Trees.{DecidesInTree};
+ghost use Rattle.glob_trees.specs.Ways.{AreOnTheWay, GoesOn};
+
+use crate::entered::Entered;
+use crate::fault::TreeFault;
+use crate::folders::FolderLists;
+use crate::left::LeftLists;
+use gix_glob::pattern::Case;
+use gix_glob::search;
+use gix_glob::search::pattern::{List, Mapping};
+use glob_lists::{RepositoryPath, bases_are_folders};
+use std::alloc::Global;
+use std::marker::Model;
+
+/// A work tree: lists that stand before those of all folders, and a source that has the list of each folder, and is asked for it
+/// when a path first lies there. What the source gave is kept, so that each folder is asked for once, and none below an ignored
+/// folder.
+///
+/// Contracts see the source, the lists that decided about the path asked last, how many of them stand before those of all
+/// folders, and whether the case of letters counts.
+#[derive(Drop)]
+pub struct Tree<T: search::Pattern, S: FolderLists<T>> {
+    entered: Entered<T, S>,
+}
+
+impl<T: search::Pattern, S: FolderLists<T>> Model for Tree<T, S> {
+    ghost use Rattle.glob_trees.specs.TreeParts.{TreeParts};
+    ghost use Rattle.glob_trees.specs.Private.Entered.{IsReady};
+
+    ghost Value = { TreeParts S T T.Value };
+
+    ghost view = { λ tree. record {
+      source = tree.entered.source;
+      front_count = tree.entered.front_count;
+      lists = tree.entered.lists.items;
+      case = tree.entered.case;
+    } };
+
+    ghost invariant = { λ tree. IsReady (S.shows T.Seen) T.seen tree.entered };
+}
+
+/// The pattern that decides about a path, and its list.
+#[derive(Drop)]
+pub struct Decision<'a, T: search::Pattern> {
+    /// The list of the pattern.
+    pub list: &'a List<T>,
+    /// The pattern, with its value and its number.
+    pub mapping: &'a Mapping<T::Value>,
+}
+
+impl<T: search::Pattern, S: FolderLists<T> + Drop> Tree<T, S> {
+    /// A tree of a source, with lists that stand before those of all folders, as files of excludes do; `None` where those don't
+    /// meet [`bases_are_folders`]. The source isn't asked for anything yet.
+    pub fn new(alloc: Global, source: S, fronts: Vec<List<T>>, case: Case) -> Option<Tree<T, S>>
+        ensures { MatchOption result
+            (¬ BasesAreFolders (map (entry_list_of T.seen) fronts.items))
+            (λ tree. tree ≡ record { source = source; front_count = length fronts.items; lists = fronts.items; case = case }) }
+    {
+        if !bases_are_folders(&fronts) {
+            return None;
+        }
+        let entered = Entered {
+            source,
+            case,
+            front_count: fronts.len(),
+            lists: fronts,
+            left: LeftLists::new(alloc),
+        };
+        Some(Tree { entered })
+    }
+
+    /// Which pattern decides about a path, as [`decide_in_tree`](crate::decide_in_tree) answers it over the lists that stand before
+    /// those of all folders, and those of the folders on the way to the path, from the top down as far as the first one that is
+    /// ignored. The answer is the place of the list in [`Tree::lists`] and the place of the mapping in it, both from 0, or `None`
+    /// where no pattern decides. It holds until the next call.
+    ///
+    /// Paths may come in any order. What two paths in a row have in common isn't decided about again, so paths in order cost the
+    /// least. Memory grows with the folders that were asked for, and not with the number of paths.
+    ///
+    /// # Errors
+    /// [`TreeFault::Source`] where the source has no list of a folder, and [`TreeFault::Memory`] where memory was refused. The tree
+    /// stays as good as it was: the next call answers right, and asks for what is missing.
+    pub fn find(
+        &mut self,
+        path: &RepositoryPath<'_>,
+    ) -> Result<Option<(usize, usize)>, TreeFault<S::Fault>>
+        ensures decides { IfOk result (λ pair. DecidesInTree (map (entry_list_of T.seen) self.new.lists) path.now.bytes path.now.is_dir self.new.case pair) }
+        ensures way { OnOk result (AreOnTheWay (S.shows T.Seen self.new.source) self.new.front_count (map (entry_list_of T.seen) self.new.lists) self.new.case path.now.bytes) }
+        ensures fronts { take self.old.front_count self.new.lists ≡ take self.old.front_count self.old.lists }
+        ensures front_count { self.new.front_count ≡ self.old.front_count }
+        ensures case { self.new.case ≡ self.old.case }
+        ensures goes_on { GoesOn (S.shows T.Seen) self.old.source self.new.source }
+    {
+        self.entered.find(path)
+    }
+
+    /// The lists in which the last answer of [`Tree::find`] has its places: those that stand before all folders, and those of the
+    /// folders on the way.
+    pub fn lists(&self) -> &[List<T>]
+        ensures { result.now ≡ self.now.lists }
+    {
+        &self.entered.lists
+    }
+
+    /// The pattern at a pair of places, as [`Tree::find`] answered it last, and its list; `None` where nothing stands there.
+    pub fn decision(&self, pair: (usize, usize)) -> Option<Decision<'_, T>>
+        ensures { IfSome result (λ decision. (slice_get self.now.lists pair.0 ≡ Some decision.list.now)
+            × (slice_get decision.list.now.patterns.items pair.1 ≡ Some decision.mapping.now)) }
+    {
+        let list = self.entered.lists.get(pair.0)?;
+        let mapping = list.patterns.get(pair.1)?;
+        Some(Decision { list, mapping })
+    }
+
+    /// The source.
+    pub fn source(&self) -> &S
+        ensures { result.now ≡ self.now.source }
+    {
+        &self.entered.source
+    }
+
+    /// Gives the source back.
+    pub fn into_source(self) -> S
+        ensures { result ≡ self.source }
+    {
+        self.entered.source
+    }
+}
