@@ -1,5 +1,5 @@
 -- What the words of a text assign, one word after the other.
-use Rattle.std.proofs.Common.{◌≡◌, ⊎_elim, ℕ, ◌+◌, Bool, true, false, cond, List, [], ◌∷◌, ◌++◌, take, drop, map, Option, None, Some, refl, sym, ap, ◌∙◌, append_assoc, append-nil}
+use Rattle.std.proofs.Common.{◌≡◌, ⊎_elim, ℕ, ◌+◌, Bool, true, false, cond, List, [], ◌∷◌, ◌++◌, take, drop, map, Option, None, Some, refl, sym, ap, ◌∙◌, append_assoc}
 use Rattle.std.specs.Prelude.{◌&&◌, nat_eq, option_map, position, codes}
 use Rattle.std.specs.List.{after_first, before_first, list_all, list_any, starts_with}
 use Rattle.std.proofs.lemmas.Bool.{cases_Bool}

@@ -26,9 +26,6 @@ AllZip-weaker R S h (x ∷ xs) (y ∷ ys) p = (h x y p.0, AllZip-weaker R S h xs
 
 -- ---- bytes that begin with records
 
-pub BeginsWith-none : (end : ℕ) (bytes : List ℕ) → BeginsWith end bytes [] bytes
-BeginsWith-none end bytes = record { joined = refl; each = tt }
-
 pub BeginsWith-one : (end : ℕ) (bytes first rest : List ℕ) → HasNo end first → bytes ≡ first ++ end ∷ rest → BeginsWith end bytes (first ∷ []) rest
 BeginsWith-one end bytes first rest none joined = record {
   joined = joined ∙ sym (append_assoc first (end ∷ []) rest) ∙ ap (λ l. l ++ rest) (sym (append-nil (first ++ end ∷ [])));
@@ -54,9 +51,6 @@ module _ (end : ℕ) (bytes left : List ℕ) (records : List (List ℕ)) (begins
 -- ---- the text of records
 
 module _ (Answers : List ℕ → List ℕ → Type 0) where
-  pub TextOf-none : TextOf Answers [] []
-  TextOf-none = record { written = []; each = tt; joined = refl }
-
   pub TextOf-one : (first text : List ℕ) → Answers first text → TextOf Answers (first ∷ []) text
   TextOf-one first text allowed = record { written = text ∷ []; each = (allowed, tt); joined = sym (append-nil text) }
 
@@ -79,41 +73,37 @@ module _ (Answers : List ℕ → List ℕ → Type 0) where
 
 -- ---- the text of the records before a rest
 
-module _ (Answers : List ℕ → List ℕ → Type 0) (end : ℕ) where
-  pub AnswersBefore-none : (bytes : List ℕ) → AnswersBefore Answers end bytes bytes []
-  AnswersBefore-none bytes = record { records = []; begins = BeginsWith-none end bytes; answered = TextOf-none Answers }
+module _ (Answers : List ℕ → List ℕ → Type 0) (end : ℕ) (bytes left text : List ℕ) (before : AnswersBefore Answers end bytes left text) where
+  more_records : (rest next : List ℕ) → AnswersBefore Answers end left rest next → AnswersBefore Answers end bytes rest (text ++ next)
+  more_records rest next after = record {
+    records = before.records ++ after.records;
+    begins = BeginsWith-more end bytes left before.records before.begins after.records rest after.begins;
+    answered = TextOf-more Answers before.records after.records text next before.answered after.answered;
+  }
 
-  module _ (bytes left text : List ℕ) (before : AnswersBefore Answers end bytes left text) where
-    more_records : (rest next : List ℕ) → AnswersBefore Answers end left rest next → AnswersBefore Answers end bytes rest (text ++ next)
-    more_records rest next after = record {
-      records = before.records ++ after.records;
-      begins = BeginsWith-more end bytes left before.records before.begins after.records rest after.begins;
-      answered = TextOf-more Answers before.records after.records text next before.answered after.answered;
-    }
+  -- the record that the rest begins with is answered
+  pub AnswersBefore-more : (first rest answer : List ℕ) → HasNo end first → left ≡ first ++ end ∷ rest → Answers first answer → AnswersBefore Answers end bytes rest (text ++ answer)
+  AnswersBefore-more first rest answer none joined allowed = more_records rest answer (record {
+    records = first ∷ [];
+    begins = BeginsWith-one end left first rest none joined;
+    answered = TextOf-one Answers first answer allowed;
+  })
 
-    -- the record that the rest begins with is answered
-    pub AnswersBefore-more : (first rest answer : List ℕ) → HasNo end first → left ≡ first ++ end ∷ rest → Answers first answer → AnswersBefore Answers end bytes rest (text ++ answer)
-    AnswersBefore-more first rest answer none joined allowed = more_records rest answer (record {
-      records = first ∷ [];
-      begins = BeginsWith-one end left first rest none joined;
-      answered = TextOf-one Answers first answer allowed;
-    })
+  -- a piece comes, and the records that end in it are answered
+  pub AnswersBefore-grown : (piece rest next : List ℕ) → AnswersBefore Answers end (left ++ piece) rest next → AnswersBefore Answers end (bytes ++ piece) rest (text ++ next)
+  AnswersBefore-grown piece rest next after = record {
+    records = before.records ++ after.records;
+    begins = BeginsWith-more end (bytes ++ piece) (left ++ piece) before.records (BeginsWith-grown end bytes left before.records before.begins piece) after.records rest after.begins;
+    answered = TextOf-more Answers before.records after.records text next before.answered after.answered;
+  }
 
-    -- a piece comes, and the records that end in it are answered
-    pub AnswersBefore-grown : (piece rest next : List ℕ) → AnswersBefore Answers end (left ++ piece) rest next → AnswersBefore Answers end (bytes ++ piece) rest (text ++ next)
-    AnswersBefore-grown piece rest next after = record {
-      records = before.records ++ after.records;
-      begins = BeginsWith-more end (bytes ++ piece) (left ++ piece) before.records (BeginsWith-grown end bytes left before.records before.begins piece) after.records rest after.begins;
-      answered = TextOf-more Answers before.records after.records text next before.answered after.answered;
-    }
-
-    -- nothing more comes, and the rest is the last record
-    pub AnswersAll-last : (answer : List ℕ) → HasNo end left → TextOf Answers (last_record left) answer → AnswersAll Answers end bytes (text ++ answer)
-    AnswersAll-last answer unended last = record {
-      records = before.records ++ last_record left;
-      are = record { ended = before.records; rest = left; begins = before.begins; unended = unended; all = refl };
-      answered = TextOf-more Answers before.records (last_record left) text answer before.answered last;
-    }
+  -- nothing more comes, and the rest is the last record
+  pub AnswersAll-last : (answer : List ℕ) → HasNo end left → TextOf Answers (last_record left) answer → AnswersAll Answers end bytes (text ++ answer)
+  AnswersAll-last answer unended last = record {
+    records = before.records ++ last_record left;
+    are = record { ended = before.records; rest = left; begins = before.begins; unended = unended; all = refl };
+    answered = TextOf-more Answers before.records (last_record left) text answer before.answered last;
+  }
 
 -- what was allowed still is
 pub AnswersBefore-stays : (Before After : List ℕ → List ℕ → Type 0) → StaysAllowed Before After → (end : ℕ) (bytes rest text : List ℕ) → AnswersBefore Before end bytes rest text

@@ -16,7 +16,7 @@ use Rattle.glob_trees.specs.Private.Left.{IsKept, OneMoreIsKept}
 use Rattle.glob_trees.specs.Trees.{Ignores, IsAbove}
 use Rattle.glob_trees.specs.Ways.{AreOnTheWay, IsListOf, folder_before, folders_from, folders_to}
 use Rattle.glob_trees.proofs.lemmas.Entering.{deepest, entered_byte, entered_folder, entered_slash, entered_top, some_entered, topmost}
-use Rattle.glob_trees.proofs.lemmas.WayLemmas.{before_other, folders_more, further, last_same}
+use Rattle.glob_trees.proofs.lemmas.WayLemmas.{before_other, folders_more, further}
 
 -- ---- lists and their ends
 
@@ -42,77 +42,68 @@ module _ (path : List ℕ) (place : ℕ) (here : HasByte path place slash) where
   some_front : ¬ (place ≡ 0) → ¬ (take place path ≡ [])
   some_front some none = let inside = here.inside in some (omega (arith, ap length none, length-take-le place path (omega arith)))
 
+abbrev view : {T X V : Type 0} (seen : X → V) → List (patterns.List T X) → List (EntryList V)
+view seen lists = map (entry_list_of seen) lists
+
+view_last : {T X V : Type 0} (seen : X → V) (lists above : List (patterns.List T X)) (list : patterns.List T X) → lists ≡ above ++ list ∷ [] → view seen lists ≡ view seen above ++ entry_list_of seen list ∷ []
+view_last seen lists above list joined = ap (view seen) joined ∙ map-append (entry_list_of seen) above (list ∷ [])
+
+module _ {T X V : Type 0} (seen : X → V) (shows : List ℕ → EntryList V → Type 0) (case : Case) (n : ℕ) (lists above : List (patterns.List T X)) (list : patterns.List T X) (joined : lists ≡ above ++ list ∷ []) (front : List ℕ) (e : AreEntered shows n (view seen lists) case front) where
+  at_last : AreEntered shows n (view seen above ++ entry_list_of seen list ∷ []) case front
+  at_last = subst (λ ls. AreEntered shows n ls case front) (view_last seen lists above list joined) e
+
+  -- ---- a folder is left
+
+  pub leaving : {Z : Type 0} (entries left : List (Vec ℕ Z × Option (patterns.List T X))) → AreOfFolders seen shows entries → IsSome (option_map vec_items list.base) → OneMoreIsKept (option_map vec_items list.base) list entries left
+      → (folder : List ℕ) × AreEntered shows n (view seen above) case folder × AreOfFolders seen shows left
+  leaving entries left kept some put =
+      let base = some_is (option_map vec_items list.base) some in
+      let d = deepest shows case n (view seen above) (entry_list_of seen list) front at_last base.0 base.1 in (
+        d.folder,
+        d.left,
+        λ other l more. ⊎_elim
+            (λ (old : IsKept entries other l). kept other l old)
+            (λ (one : (option_map vec_items list.base ≡ Some other) × (l ≡ list)).
+            let same : base.0 ≡ other = same_Some base.0 other (sym base.1 ∙ one.0) in
+            (d.folder, sym same ∙ d.named, subst (λ l. IsListOf shows d.folder (entry_list_of seen l)) (sym one.1) d.of))
+            (put other l more),
+      )
+
+  -- ---- no folder has to be left
+
+  stays_at : (path : List ℕ) (count : ℕ) (base : Option (List ℕ)) → option_map vec_items list.base ≡ base → IsFrontOf base path count → AreEntered shows n (view seen above ++ entry_list_of seen list ∷ []) case (take count path)
+  stays_at path count None is zero =
+      subst (λ k. AreEntered shows n (view seen above ++ entry_list_of seen list ∷ []) case (take k path)) (sym zero) (topmost shows case n (view seen above) (entry_list_of seen list) front at_last is)
+  stays_at path count (Some base) is begins =
+      let d = deepest shows case n (view seen above) (entry_list_of seen list) front at_last base is in
+      subst (AreEntered shows n (view seen above ++ entry_list_of seen list ∷ []) case) begins.0 d.stays
+
+  pub staying : (path : List ℕ) (count : ℕ) → IsFrontOf (option_map vec_items list.base) path count → AreEntered shows n (view seen lists) case (take count path)
+  staying path count begins =
+      subst (λ ls. AreEntered shows n ls case (take count path)) (sym (view_last seen lists above list joined)) (stays_at path count (option_map vec_items list.base) refl begins)
+
+-- ---- a folder is entered
+
 module _ {T X V : Type 0} (seen : X → V) (shows : List ℕ → EntryList V → Type 0) (case : Case) (n : ℕ) where
-  abbrev view : List (patterns.List T X) → List (EntryList V)
-  view lists = map (entry_list_of seen) lists
-
-  view_last : (lists above : List (patterns.List T X)) (list : patterns.List T X) → lists ≡ above ++ list ∷ [] → view lists ≡ view above ++ entry_list_of seen list ∷ []
-  view_last lists above list joined = ap view joined ∙ map-append (entry_list_of seen) above (list ∷ [])
-
-  module _ (lists above : List (patterns.List T X)) (list : patterns.List T X) (joined : lists ≡ above ++ list ∷ []) (front : List ℕ) (e : AreEntered shows n (view lists) case front) where
-    at_last : AreEntered shows n (view above ++ entry_list_of seen list ∷ []) case front
-    at_last = subst (λ ls. AreEntered shows n ls case front) (view_last lists above list joined) e
-
-    -- ---- a folder is left
-
-    module _ {Z : Type 0} (entries left : List (Vec ℕ Z × Option (patterns.List T X))) where
-      pub leaving : AreOfFolders seen shows entries → IsSome (option_map vec_items list.base) → OneMoreIsKept (option_map vec_items list.base) list entries left
-          → (folder : List ℕ) × AreEntered shows n (view above) case folder × AreOfFolders seen shows left
-      leaving kept some put =
-          let base = some_is (option_map vec_items list.base) some in
-          let d = deepest shows case n (view above) (entry_list_of seen list) front at_last base.0 base.1 in (
-            d.folder,
-            d.left,
-            λ other l more. ⊎_elim
-                (λ (old : IsKept entries other l). kept other l old)
-                (λ (one : (option_map vec_items list.base ≡ Some other) × (l ≡ list)).
-                let same : base.0 ≡ other = same_Some base.0 other (sym base.1 ∙ one.0) in
-                (d.folder, sym same ∙ d.named, subst (λ l. IsListOf shows d.folder (entry_list_of seen l)) (sym one.1) d.of))
-                (put other l more),
-          )
-
-    -- ---- no folder has to be left
-
-    stays_at : (path : List ℕ) (count : ℕ) (base : Option (List ℕ)) → option_map vec_items list.base ≡ base → IsFrontOf base path count → AreEntered shows n (view above ++ entry_list_of seen list ∷ []) case (take count path)
-    stays_at path count None is zero =
-        subst (λ k. AreEntered shows n (view above ++ entry_list_of seen list ∷ []) case (take k path)) (sym zero) (topmost shows case n (view above) (entry_list_of seen list) front at_last is)
-    stays_at path count (Some base) is begins =
-        let d = deepest shows case n (view above) (entry_list_of seen list) front at_last base is in
-        subst (AreEntered shows n (view above ++ entry_list_of seen list ∷ []) case) begins.0 d.stays
-
-    pub staying : (path : List ℕ) (count : ℕ) → IsFrontOf (option_map vec_items list.base) path count → AreEntered shows n (view lists) case (take count path)
-    staying path count begins =
-        subst (λ ls. AreEntered shows n ls case (take count path)) (sym (view_last lists above list joined)) (stays_at path count (option_map vec_items list.base) refl begins)
-
-  -- ---- a folder is entered
-
-  enters : (lists : List (patterns.List T X)) (list : patterns.List T X) (front : List ℕ) → ¬ (front ≡ []) → AreEntered shows n (view lists) case front → ((pair : ℕ × ℕ) → ¬ Ignores (view lists) case front pair) → IsListOf shows front (entry_list_of seen list)
-      → AreEntered shows n (view (lists ++ list ∷ [])) case (front ++ slash ∷ [])
+  enters : (lists : List (patterns.List T X)) (list : patterns.List T X) (front : List ℕ) → ¬ (front ≡ []) → AreEntered shows n (view seen lists) case front → ((pair : ℕ × ℕ) → ¬ Ignores (view seen lists) case front pair) → IsListOf shows front (entry_list_of seen list)
+      → AreEntered shows n (view seen (lists ++ list ∷ [])) case (front ++ slash ∷ [])
   enters lists list [] some e kept of = absurd (some refl)
   enters lists list (x ∷ xs) some e kept of =
       subst (λ ls. AreEntered shows n ls case ((x ∷ xs) ++ slash ∷ [])) (sym (map-append (entry_list_of seen) lists (list ∷ [])))
-      (entered_folder shows case n (view lists) x xs (entry_list_of seen list) e kept of)
+      (entered_folder shows case n (view seen lists) x xs (entry_list_of seen list) e kept of)
 
-  module _ (path : List ℕ) (place : ℕ) (here : HasByte path place slash) where
-    pub entering : (lists : List (patterns.List T X)) (list : patterns.List T X) → ¬ (place ≡ 0) → AreEntered shows n (view lists) case (take place path) → ((pair : ℕ × ℕ) → ¬ Ignores (view lists) case (take place path) pair) → IsListOf shows (take place path) (entry_list_of seen list)
-        → AreEntered shows n (view (lists ++ list ∷ [])) case (take (place + 1) path)
-    entering lists list some e kept of =
-        subst (AreEntered shows n (view (lists ++ list ∷ [])) case) (sym (slash_next path place here)) (enters lists list (take place path) (some_front path place here some) e kept of)
+module _ {T X V : Type 0} (seen : X → V) (shows : List ℕ → EntryList V → Type 0) (case : Case) (n : ℕ) (path : List ℕ) (place : ℕ) (here : HasByte path place slash) where
+  pub entering : (lists : List (patterns.List T X)) (list : patterns.List T X) → ¬ (place ≡ 0) → AreEntered shows n (view seen lists) case (take place path) → ((pair : ℕ × ℕ) → ¬ Ignores (view seen lists) case (take place path) pair) → IsListOf shows (take place path) (entry_list_of seen list)
+      → AreEntered shows n (view seen (lists ++ list ∷ [])) case (take (place + 1) path)
+  entering lists list some e kept of =
+      subst (AreEntered shows n (view seen (lists ++ list ∷ [])) case) (sym (slash_next path place here)) (enters seen shows case n lists list (take place path) (some_front path place here some) e kept of)
 
-    pub entering_slash : (lists : List (patterns.List T X)) → place ≡ 0 → AreEntered shows n (view lists) case (take place path) → ((pair : ℕ × ℕ) → ¬ Ignores (view lists) case (take place path) pair)
-        → AreEntered shows n (view lists) case (take (place + 1) path)
-    entering_slash lists first e kept =
-        let none : take place path ≡ [] = ap (λ k. take k path) first in
-        subst (AreEntered shows n (view lists) case) (sym (slash_next path place here ∙ ap (λ f. f ++ slash ∷ []) none))
-        (entered_slash shows case n (view lists) (subst (AreEntered shows n (view lists) case) none e) (λ pair ignored. kept pair (subst (λ f. Ignores (view lists) case f pair) (sym none) ignored)))
-
--- the list that is kept under what is named by the slash at a place is that of the folder before it
-pub kept_before : {T X V Z : Type 0} (seen : X → V) (shows : List ℕ → EntryList V → Type 0) (entries : List (Vec ℕ Z × Option (patterns.List T X))) (path : List ℕ) (place : ℕ) (list : patterns.List T X) → HasByte path place slash → AreOfFolders seen shows entries
-    → IsKept entries (take (place + 1) path) list → IsListOf shows (take place path) (entry_list_of seen list)
-kept_before seen shows entries path place list here of kept =
-    let found = of (take (place + 1) path) list kept in
-    let same = last_same found.0 (take place path) slash slash (sym found.1 ∙ slash_next path place here) in
-    subst (λ f. IsListOf shows f (entry_list_of seen list)) same.0 found.2
+  pub entering_slash : (lists : List (patterns.List T X)) → place ≡ 0 → AreEntered shows n (view seen lists) case (take place path) → ((pair : ℕ × ℕ) → ¬ Ignores (view seen lists) case (take place path) pair)
+      → AreEntered shows n (view seen lists) case (take (place + 1) path)
+  entering_slash lists first e kept =
+      let none : take place path ≡ [] = ap (λ k. take k path) first in
+      subst (AreEntered shows n (view seen lists) case) (sym (slash_next path place here ∙ ap (λ f. f ++ slash ∷ []) none))
+      (entered_slash shows case n (view seen lists) (subst (AreEntered shows n (view seen lists) case) none e) (λ pair ignored. kept pair (subst (λ f. Ignores (view seen lists) case f pair) (sym none) ignored)))
 
 -- ---- what the source shows on
 

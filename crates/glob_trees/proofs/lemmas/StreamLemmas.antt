@@ -1,5 +1,5 @@
 -- What a writer took of the texts of records, and what a buffer still holds.
-use Rattle.std.proofs.Common.{◌≡◌, ℕ, ◌+◌, List, [], ◌∷◌, ◌++◌, Option, Result, Ok, Err, inl, length, length-append, ◌<◌, take, arith, refl, sym, ap, subst, ◌∙◌, append_assoc, append-nil}
+use Rattle.std.proofs.Common.{◌≡◌, ℕ, ◌+◌, List, [], ◌∷◌, ◌++◌, Option, Result, Ok, Err, inl, length, take, refl, sym, ap, subst, ◌∙◌, append_assoc}
 use Rattle.std.specs.Prelude.{OnErr}
 use Rattle.std.proofs.KnownBytes.{Appends-nil, Appends-trans}
 use Rattle.std.specs.Io.KnownBytes.{Appends}
@@ -7,8 +7,8 @@ use Rattle.std.proofs.Math.Seq.{take-append-add, take-length}
 use Rattle.glob_lines.specs.Lines.{HasNo}
 use Rattle.glob_lines.specs.Transfers.{AppendsFront}
 use Rattle.glob_trees.specs.Records.{Adds, AnswersBefore, AnswersFirst, StaysAllowed}
-use Rattle.glob_trees.specs.Private.Streaming.{CutsRecord, MovesOut, Takes, TextOfLast, WritesSome}
-use Rattle.glob_trees.proofs.lemmas.RecordLemmas.{AllByRecursion-append, AnswersBefore-more, AnswersBefore-none, AnswersBefore-stays}
+use Rattle.glob_trees.specs.Private.Streaming.{CutsRecord, MovesOut, TextOfLast, WritesSome}
+use Rattle.glob_trees.proofs.lemmas.RecordLemmas.{AllByRecursion-append, AnswersBefore-more, AnswersBefore-stays}
 
 -- what holds anyway holds of an error
 pub on_any_err : {T E P : Type 0} (r : Result T E) → P → OnErr r P
@@ -35,14 +35,6 @@ AppendsFront-next a b c text next appended front = record {
   count = length text + front.count;
   appended = subst (Appends a c) (sym (take-append-add text next front.count)) (Appends-trans a b c text (take front.count next) appended front.appended);
 }
-
--- nothing is written yet
-pub MovesOut-none : (a : Option (List ℕ)) (text : List ℕ) → MovesOut a a text text
-MovesOut-none a text = record { written = []; appended = Appends-nil a; joined = refl }
-
--- all is written
-pub MovesOut-whole : (a b : Option (List ℕ)) (text left : List ℕ) → Appends a b text → left ≡ [] → MovesOut a b text left
-MovesOut-whole a b text left appended none = record { written = text; appended = appended; joined = sym (append-nil text) ∙ ap (λ l. text ++ l) (sym none) }
 
 module _ (a b : Option (List ℕ)) (text held : List ℕ) (moves : MovesOut a b text held) where
   -- the buffer takes one more text
@@ -77,38 +69,27 @@ pub record IsTaking (Answers : List ℕ → List ℕ → Type 0) (end : ℕ) (by
   pub before : AnswersBefore Answers end bytes rest text
   pub moves : MovesOut a b text held
 
-module _ (Answers : List ℕ → List ℕ → Type 0) (end : ℕ) (bytes : List ℕ) (a : Option (List ℕ)) where
-  pub IsTaking-none : (held : List ℕ) → held ≡ [] → IsTaking Answers end bytes bytes a a held
-  IsTaking-none held none = record {
-    text = [];
-    before = AnswersBefore-none Answers end bytes;
-    moves = subst (MovesOut a a []) (sym none) (MovesOut-none a []);
+module _ (Answers : List ℕ → List ℕ → Type 0) (end : ℕ) (bytes : List ℕ) (a : Option (List ℕ)) (rest : List ℕ) (b : Option (List ℕ)) (held : List ℕ) (taking : IsTaking Answers end bytes rest a b held) where
+  -- the first record of the rest is answered
+  pub IsTaking-answered : (first behind grown : List ℕ) → HasNo end first → rest ≡ first ++ end ∷ behind → Adds (Answers first) held grown → IsTaking Answers end bytes behind a b grown
+  IsTaking-answered first behind grown none joined adds = record {
+    text = taking.text ++ adds.added;
+    before = AnswersBefore-more Answers end bytes rest taking.text taking.before first behind adds.added none joined adds.allowed;
+    moves = MovesOut-grown a b taking.text held taking.moves adds.added grown adds.grown;
   }
 
-  module _ (rest : List ℕ) (b : Option (List ℕ)) (held : List ℕ) (taking : IsTaking Answers end bytes rest a b held) where
-    -- the first record of the rest is answered
-    pub IsTaking-answered : (first behind grown : List ℕ) → HasNo end first → rest ≡ first ++ end ∷ behind → Adds (Answers first) held grown → IsTaking Answers end bytes behind a b grown
-    IsTaking-answered first behind grown none joined adds = record {
-      text = taking.text ++ adds.added;
-      before = AnswersBefore-more Answers end bytes rest taking.text taking.before first behind adds.added none joined adds.allowed;
-      moves = MovesOut-grown a b taking.text held taking.moves adds.added grown adds.grown;
-    }
+  -- the record that had begun is gone
+  pub IsTaking-emptied : (begun : List ℕ) → begun ≡ [] → IsTaking Answers end bytes (begun ++ rest) a b held
+  IsTaking-emptied begun none = subst (λ l. IsTaking Answers end bytes (l ++ rest) a b held) (sym none) taking
 
-    -- the record that had begun is gone
-    pub IsTaking-emptied : (begun : List ℕ) → begun ≡ [] → IsTaking Answers end bytes (begun ++ rest) a b held
-    IsTaking-emptied begun none = subst (λ l. IsTaking Answers end bytes (l ++ rest) a b held) (sym none) taking
+  pub IsTaking-moved : (c : Option (List ℕ)) (left : List ℕ) → MovesOut b c held left → IsTaking Answers end bytes rest a c left
+  IsTaking-moved c left next = record { text = taking.text; before = taking.before; moves = MovesOut-more a b taking.text held taking.moves c left next }
 
-    pub IsTaking-moved : (c : Option (List ℕ)) (left : List ℕ) → MovesOut b c held left → IsTaking Answers end bytes rest a c left
-    IsTaking-moved c left next = record { text = taking.text; before = taking.before; moves = MovesOut-more a b taking.text held taking.moves c left next }
+  pub IsTaking-stopped : (c : Option (List ℕ)) → Appends b c held → WritesSome (AnswersFirst Answers end bytes) (Appends a c)
+  IsTaking-stopped c out = record { text = taking.text; allowed = (rest, taking.before); written = MovesOut-all a b taking.text held taking.moves c out }
 
-    pub IsTaking-done : (c : Option (List ℕ)) → HasNo end rest → Appends b c held → Takes Answers end bytes rest a c
-    IsTaking-done c unended out = record { unended = unended; text = taking.text; allowed = taking.before; written = MovesOut-all a b taking.text held taking.moves c out }
-
-    pub IsTaking-stopped : (c : Option (List ℕ)) → Appends b c held → WritesSome (AnswersFirst Answers end bytes) (Appends a c)
-    IsTaking-stopped c out = record { text = taking.text; allowed = (rest, taking.before); written = MovesOut-all a b taking.text held taking.moves c out }
-
-    pub IsTaking-cut : (c : Option (List ℕ)) → AppendsFront b c held → WritesSome (AnswersFirst Answers end bytes) (AppendsFront a c)
-    IsTaking-cut c out = record { text = taking.text; allowed = (rest, taking.before); written = MovesOut-front a b taking.text held taking.moves c out }
+  pub IsTaking-cut : (c : Option (List ℕ)) → AppendsFront b c held → WritesSome (AnswersFirst Answers end bytes) (AppendsFront a c)
+  IsTaking-cut c out = record { text = taking.text; allowed = (rest, taking.before); written = MovesOut-front a b taking.text held taking.moves c out }
 
 -- what was allowed still is
 pub IsTaking-stays : (Before After : List ℕ → List ℕ → Type 0) → StaysAllowed Before After → (end : ℕ) (bytes rest : List ℕ) (a b : Option (List ℕ)) (held : List ℕ)
@@ -125,9 +106,3 @@ ends_at end begun piece front behind none cut = (
   AllByRecursion-append _ begun front none cut.none,
   ap (λ l. begun ++ l) cut.joined ∙ sym (append_assoc begun front (end ∷ behind)),
 )
-
--- what follows is shorter
-pub CutsRecord-shorter : (end : ℕ) (bytes front rest : List ℕ) → CutsRecord end bytes front rest → length rest < length bytes
-CutsRecord-shorter end bytes front rest cut =
-    let parts : length bytes ≡ length front + length (end ∷ rest) = ap length cut.joined ∙ length-append front (end ∷ rest) in
-    omega arith
