@@ -6,6 +6,7 @@ cargo with Debian's librust-ignore-dev, are there. Two runs by valgrind's callgr
 the instructions a path; what is left, less an empty run, is reading and preparing, a pattern. `--make FOLDER` writes
 FOLDER/patterns and FOLDER/paths of the first size, and runs nothing."""
 import argparse
+import itertools
 import os
 import random
 import re
@@ -65,7 +66,6 @@ class Load:
         parts = [self.random.choice(self.names) for _ in range(self.random.choice((0, 1, 2, 3, 3, 4, 5)))]
         parts.append(self.word(2) + ("" if self.random.random() < 0.1 else "." + self.ending()))
         return "/".join(parts)
-
 
     def tree(self, count):
         """So many folders, each but the first below an earlier one, at most five deep."""
@@ -142,6 +142,26 @@ def counted(words, size, folder, paths):
     return a_path, (part - start - a_path * len(half)) / size
 
 
+def make_tree(load, tree, count, root):
+    """Makes the folders in a repository, each with an ignore file of ten lines; and so many paths below them, in random order."""
+    patterns = {folder: [load.pattern() for _ in range(10)] for folder in tree}
+    paths = [load.path_below(load.random.choice(tree)) for _ in range(count)]
+    subprocess.run(["git", "init", "-q", root], check=False)
+    for folder in tree:
+        os.makedirs(f"{root}/{folder}", exist_ok=True)
+        write(f"{root}/{folder}.gitignore", patterns[folder])
+    return paths
+
+
+def cost_of_path(words, paths, root):
+    """Instructions a path. Each second one is left out of the other run, so that both go through all folders."""
+    half = paths[::2]
+    write(f"{root}/paths", paths)
+    write(f"{root}/half", half)
+    whole, part = (instructions(words, f"{root}/{name}") for name in ("paths", "half"))
+    return (whole - part) / (len(paths) - len(half))
+
+
 def count_folders(o):
     """What a path costs among the ignore files of many folders, ten lines each: in random order, and sorted."""
     git = shutil.which("git")
@@ -152,24 +172,50 @@ def count_folders(o):
     for count in [int(count) for count in o.folders.split(",")]:
         load = Load(o.seed)
         tree = load.tree(count)
-        patterns = {folder: [load.pattern() for _ in range(10)] for folder in tree}
-        paths = [load.path_below(load.random.choice(tree)) for _ in range(o.paths)]
         with tempfile.TemporaryDirectory() as root:
-            subprocess.run(["git", "init", "-q", root], check=False)
-            for folder in tree:
-                os.makedirs(f"{root}/{folder}", exist_ok=True)
-                write(f"{root}/{folder}.gitignore", patterns[folder])
+            paths = make_tree(load, tree, o.paths, root)
             files = [f"{root}/{folder}.gitignore" for folder in tree]
             for order, ordered in (("random", paths), ("sorted", sorted(paths))):
-                # of sorted paths each second one is left out, so that both runs go through all folders
-                half = ordered[::2]
-                write(f"{root}/paths", ordered)
-                write(f"{root}/half", half)
-                cells = []
-                for words in rows.values():
-                    whole, part = (instructions(words(root, files), f"{root}/{name}") for name in ("paths", "half"))
-                    cells.append(f"{(whole - part) / (len(ordered) - len(half)):,.0f}")
+                cells = [f"{cost_of_path(words(root, files), ordered, root):,.0f}" for words in rows.values()]
                 print(f"| {count:,} | {order} | " + " | ".join(cells) + " |", flush=True)
+
+
+def hostile_stacks(load, root, count):
+    """Stacks on which an index has most to lose, made below a folder: for each its name, how case counts, its files and its paths."""
+
+    def files(folders, patterns):
+        made = []
+        for k, folder in enumerate(folders):
+            os.makedirs(f"{root}/{folder}", exist_ok=True)
+            made.append(f"{root}/{folder}/{k}")
+            write(made[-1], [load.pattern() for _ in range(patterns)])
+        return made
+
+    names = ["".join(letters) for letters in itertools.islice(itertools.product(*[(it, it.upper()) for it in "abcdefghijklmn"]), count)]
+    deep = min(count, 1000)
+    one, below = files(["one"] * count, 1), files(["/".join("d" * k) for k in range(1, deep + 1)], 1)
+    cased, empty = files(names, 1), files([f"e{k}" for k in range(count)], 0)
+    paths = [load.path() for _ in range(40)]
+    yield "one base", "sensitive", one, [f"one/{path}" for path in paths]
+    yield "another base than the paths'", "sensitive", one, [f"other/{path}" for path in paths]
+    yield "one below the other", "sensitive", below, ["d/" * deep + path for path in paths]
+    yield "case alone", "sensitive", cased, [f"{load.random.choice(names)}/{path}" for path in paths]
+    yield "case alone, folded", "fold", cased, [f"{load.random.choice(names)}/{path}" for path in paths]
+    yield "empty lists", "sensitive", empty, [f"e{load.random.randrange(count)}/{path}" for path in paths]
+
+
+def count_hostile(o):
+    """What a path costs among hostile stacks, and of a program that tests each pattern in turn."""
+    print("| Lists | Case | Here | Each in turn | Ratio |\n|---|---|---|---|---|")
+    missed = 0
+    # a thousand folders, one below the other, are removed by recursion
+    sys.setrecursionlimit(10_000)
+    with tempfile.TemporaryDirectory() as root:
+        for name, case, files, paths in hostile_stacks(Load(o.seed), f"{root}/r", o.lists):
+            here, in_turn = (cost_of_path([program, "ignore", case, f"{root}/r", *files], paths, root) for program in (PROGRAM, o.hostile_stacks))
+            missed += here > 1.05 * in_turn
+            print(f"| {name} | {case} | {here:,.0f} | {in_turn:,.0f} | {here / in_turn:.2f} |", flush=True)
+    sys.exit(1 if missed else 0)
 
 
 def main():
@@ -180,7 +226,11 @@ def main():
     args.add_argument("--make", metavar="FOLDER")
     args.add_argument("--draw", metavar="FILE.svg")
     args.add_argument("--folders", metavar="COUNTS", help="count paths among the ignore files of so many folders, as 20,200,2000, and nothing else")
+    args.add_argument("--hostile-stacks", metavar="PROGRAM", help="count paths among hostile stacks of lists, beside a PROGRAM that tests each pattern in turn, and nothing else; status 1 where one takes more than 1.05 of that")
+    args.add_argument("--lists", type=int, default=10000, help="of how many lists a hostile stack is")
     o = args.parse_args()
+    if o.hostile_stacks:
+        return count_hostile(o)
     if o.folders:
         return count_folders(o)
     sizes = [int(size) for size in o.sizes.split(",")]
@@ -212,4 +262,5 @@ def main():
         draw.lists(o.draw, points)
 
 
-main()
+if __name__ == "__main__":
+    main()

@@ -19,7 +19,7 @@ if os.path.exists(MADE):
 sys.path.insert(0, os.path.join(TOP, "bindings", "python"))
 
 # how many times as fast `match_files` is to be
-GOALS = {"mixture": 10, "no match, 500 folders": 10, "no match": 4}
+GOALS = {"mixture": 10, "no match, 500 folders": 10, "no match": 10}
 
 
 def words():

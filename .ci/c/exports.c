@@ -22,6 +22,25 @@ _Static_assert(offsetof(struct gix_glob_list, base_len) == 24, "base_len");
 _Static_assert(sizeof(struct gix_glob_decision) == 16, "the size of a decision");
 _Static_assert(offsetof(struct gix_glob_decision, list) == 0, "list");
 _Static_assert(offsetof(struct gix_glob_decision, pattern) == 8, "pattern");
+_Static_assert(sizeof(struct gix_glob_row) == 16, "the size of a row");
+_Static_assert(offsetof(struct gix_glob_row, asked) == 0, "asked");
+_Static_assert(offsetof(struct gix_glob_row, before) == 8, "before");
+_Static_assert(offsetof(struct gix_glob_row, last) == 12, "last");
+_Static_assert(offsetof(struct gix_glob_row, length) == 13, "length");
+_Static_assert(offsetof(struct gix_glob_row, is_name) == 14, "is_name");
+_Static_assert(sizeof(struct gix_glob_heads) == 2056, "the size of the heads");
+_Static_assert(offsetof(struct gix_glob_heads, links) == 0, "links");
+_Static_assert(offsetof(struct gix_glob_heads, counts) == 1028, "counts");
+_Static_assert(sizeof(struct gix_glob_index) == 40, "the size of an index");
+_Static_assert(offsetof(struct gix_glob_index, patterns) == 0, "patterns");
+_Static_assert(offsetof(struct gix_glob_index, count) == 8, "count");
+_Static_assert(offsetof(struct gix_glob_index, rows) == 16, "rows");
+_Static_assert(offsetof(struct gix_glob_index, row_count) == 24, "row_count");
+_Static_assert(offsetof(struct gix_glob_index, heads) == 32, "heads");
+_Static_assert(sizeof(struct gix_glob_path) == 24, "the size of a path");
+_Static_assert(offsetof(struct gix_glob_path, bytes) == 0, "bytes");
+_Static_assert(offsetof(struct gix_glob_path, len) == 8, "len");
+_Static_assert(offsetof(struct gix_glob_path, is_dir) == 16, "is_dir");
 _Static_assert(GIX_GLOB_VERSION == 100, "the version");
 
 static int failed;
@@ -86,6 +105,54 @@ static void deciding(void)
     CHECK(gix_glob_last_match(list, 0, TEXT("a"), false, false) == GIX_GLOB_NONE);
 }
 
+/* Twelve patterns, of which a row that is read at another place, or chained to another one, gives another answer. */
+static void deciding_by_index(void)
+{
+    const struct gix_glob_pattern patterns[] = {
+        parsed(TEXT("*.o")), parsed(TEXT("a/")), parsed(TEXT("!b")), parsed(TEXT("src/**/x")), parsed(TEXT("*word*")), parsed(TEXT("/c.o")),
+        parsed(TEXT("B")), parsed(TEXT("[ab]c")), parsed(TEXT("y/*")), parsed(TEXT("k.o")), parsed(TEXT("\\*d")), parsed(TEXT("!e.o")),
+    };
+    enum { COUNT = sizeof patterns / sizeof *patterns };
+    struct gix_glob_row rows[COUNT + 1] = {{0}};
+    struct gix_glob_heads heads = {{0}, {0}};
+    const struct gix_glob_index index = {patterns, COUNT, rows, COUNT + 1, &heads}, fewer = {patterns, 3, rows, COUNT + 1, &heads};
+    rows[COUNT].asked = 7;
+    CHECK(!gix_glob_prepare(patterns, COUNT, rows, COUNT - 1, &heads));
+    CHECK(heads.counts[0] == 0);
+    CHECK(gix_glob_prepare(patterns, COUNT, rows, COUNT + 1, &heads));
+    CHECK(heads.counts[0] == 2 && rows[COUNT].asked == 7);
+    CHECK(gix_glob_index_last_match(&index, TEXT("q.o"), false, false) == 0);
+    CHECK(gix_glob_index_last_match(&index, TEXT("c.o"), false, false) == 5);
+    CHECK(gix_glob_index_last_match(&index, TEXT("d/c.o"), false, false) == 0);
+    CHECK(gix_glob_index_last_match(&index, TEXT("E.O"), false, true) == 11);
+    CHECK(gix_glob_index_last_match(&index, TEXT("E.O"), true, false) == GIX_GLOB_NONE);
+    CHECK(gix_glob_index_last_match(&index, TEXT("b"), false, false) == 2);
+    CHECK(gix_glob_index_last_match(&index, TEXT("a"), true, false) == 1);
+    CHECK(gix_glob_index_last_match(&index, TEXT("a"), false, true) == GIX_GLOB_NONE);
+    CHECK(gix_glob_index_last_match(&index, TEXT("y/swords"), false, false) == 8);
+    CHECK(gix_glob_index_last_match(&index, TEXT("y//z"), false, false) == GIX_GLOB_NONE);
+    CHECK(gix_glob_index_last_match(&fewer, TEXT("k.o"), false, false) == 0);
+}
+
+/* Each path is told in its own place, and no place more. */
+static void deciding_about_several(void)
+{
+    const struct gix_glob_pattern patterns[] = {parsed(TEXT("*.o")), parsed(TEXT("a/")), parsed(TEXT("!B"))};
+    const struct gix_glob_path paths[] = {{TEXT("x/c.o"), false}, {TEXT("a"), true}, {TEXT("a"), false}, {TEXT("b"), true}, {TEXT("c//d.o"), false}};
+    enum { COUNT = sizeof paths / sizeof *paths };
+    struct gix_glob_row rows[3] = {{0}};
+    struct gix_glob_heads heads = {{0}, {0}};
+    const struct gix_glob_index index = {patterns, 3, rows, 3, &heads};
+    size_t places[COUNT + 1] = {7, 7, 7, 7, 7, 7};
+    CHECK(gix_glob_prepare(patterns, 3, rows, 3, &heads));
+    CHECK(!gix_glob_index_last_matches(&index, paths, COUNT, false, places, COUNT - 1) && places[0] == 7);
+    CHECK(gix_glob_index_last_matches(&index, paths, COUNT, false, places, COUNT + 1));
+    CHECK(places[0] == 0 && places[1] == 1 && places[2] == GIX_GLOB_NONE && places[3] == GIX_GLOB_NONE && places[4] == GIX_GLOB_NONE);
+    CHECK(gix_glob_index_last_matches(&index, paths + 1, 3, true, places, 3));
+    CHECK(places[0] == 1 && places[1] == GIX_GLOB_NONE && places[2] == 2 && places[3] == GIX_GLOB_NONE && places[COUNT] == 7);
+    CHECK(gix_glob_index_last_matches(&index, paths, 0, false, places, 0) && places[0] == 1);
+}
+
 static void deciding_in_tree(void)
 {
     const struct gix_glob_pattern top[] = {parsed(TEXT("x")), parsed(TEXT("a/"))}, below[] = {parsed(TEXT("!/x/")), parsed(TEXT("Y"))};
@@ -138,6 +205,8 @@ int main(void)
     matching();
     parsing();
     deciding();
+    deciding_by_index();
+    deciding_about_several();
     deciding_in_tree();
     ignore_lines();
     return failed > 0;

@@ -11,7 +11,9 @@ from ._texts import Path, Text, encoded, folder, split
 
 _P = TypeVar("_P", bound=Path)
 
-#: How many folders a call of `match_files` remembers at most.
+#: How many parts the paths have that `match_files` decides about at once, but for the last of them.
+_PARTS_AT_ONCE = 1 << 13
+#: How many folders a call of `match_files` remembers, more than those above the paths that it decides about at once.
 _MOST_FOLDERS = 1 << 16
 
 
@@ -65,6 +67,42 @@ def _last_match(files: Sequence["IgnoreFile"], path: bytes, is_dir: bool, fold: 
     return None
 
 
+class _Question(NamedTuple):
+    """A path that is asked about, and what is known of the folder that it lies in."""
+
+    path: bytes
+    is_dir: bool
+    folder: _Folder
+
+
+def _answers(questions: Sequence[_Question], fold: bool) -> List[Optional[_Found]]:
+    """What decides about each path: its folder, where that decides about all in it, else the files that speak of it."""
+    found = [question.folder.decides for question in questions]
+    asked: Dict[int, List[int]] = {}
+    for place, question in enumerate(questions):
+        if not question.folder.decides:
+            asked.setdefault(id(question.folder.files), []).append(place)
+    for places in asked.values():
+        for file in questions[places[0]].folder.files:
+            places = _ask(file, [(place, questions[place]) for place in places], found, fold)
+    return found
+
+
+def _ask(
+    file: "IgnoreFile", asked: Sequence[Tuple[int, _Question]], found: List[Optional[_Found]], fold: bool
+) -> List[int]:
+    """Puts what the file decides about paths to their places, and answers the places of the others."""
+    base, rules = len(file._base), file._rules
+    paths = [question.path[base:] if base else question.path for _, question in asked]
+    left = []
+    for (place, _), at in zip(asked, rules.last_matches(paths, [question.is_dir for _, question in asked], fold)):
+        if at == _library.NONE:
+            left.append(place)
+        else:
+            found[place] = _Found(file, at, not rules.is_negative(at))
+    return left
+
+
 class _Bases:
     """Files by the folders that they lie in, with their places in the list."""
 
@@ -98,35 +136,48 @@ class _Tree:
         self._bases = bases
         self._fold = bases.fold
         self._top = _Folder(bases.files_above(b""), None)
-        self._folders: Dict[bytes, _Folder] = {}
+        self._folders: Dict[bytes, _Folder] = {b"": self._top}
 
-    def decide(self, path: bytes, is_dir: bool) -> Optional[_Found]:
-        """What decides about a path: the topmost ignored folder above it does so, where there is one."""
-        front = path.rpartition(b"/")[0]
-        known = (self._folders.get(front) or self._enter_all(front)) if front else self._top
-        return known.decides or _last_match(known.files, path, is_dir, self._fold)
+    def decide(self, paths: Sequence[Tuple[bytes, bool]]) -> List[Optional[_Found]]:
+        """What decides about each path, which may be a directory's: the topmost ignored folder above it, where there is one."""
+        fronts = [path.rpartition(b"/")[0] for path, _ in paths]
+        self._enter_all(fronts)
+        folders = self._folders
+        return _answers([_Question(*path, folders[front]) for path, front in zip(paths, fronts)], self._fold)
 
-    def _enter_all(self, path: bytes) -> _Folder:
-        """What is known of a folder, after those above it."""
-        known, end = self._top, 0
-        while end < len(path):
-            end = path.find(b"/", end + 1)
-            end = len(path) if end < 0 else end
-            known = self._folders.get(path[:end]) or self._enter(path[:end], known)
-        return known
+    def _enter_all(self, folders: Iterable[bytes]) -> None:
+        """Learns about folders, after those above them."""
+        levels = self._unknown(folders)
+        if len(self._folders) + sum(map(len, levels.values())) > _MOST_FOLDERS:
+            self._folders = {b"": self._top}
+            levels = self._unknown(folders)
+        for _, level in sorted(levels.items()):
+            self._enter(level)
 
-    def _enter(self, path: bytes, above: _Folder) -> _Folder:
-        entered = above
-        if not above.decides:
-            found = _last_match(above.files, path, True, self._fold)
+    def _unknown(self, folders: Iterable[bytes]) -> Dict[int, Dict[bytes, bytes]]:
+        """The folders that nothing is known of, by how deep they lie, each with the one above it."""
+        levels: Dict[int, Dict[bytes, bytes]] = {}
+        for folder in set(folders):
+            depth = folder.count(b"/")
+            while folder not in self._folders:
+                level = levels.setdefault(depth, {})
+                if folder in level:
+                    break
+                level[folder] = above = folder.rpartition(b"/")[0]
+                folder, depth = above, depth - 1
+        return levels
+
+    def _enter(self, folders: Dict[bytes, bytes]) -> None:
+        """Learns about folders where what is above each is known."""
+        known = self._folders
+        questions = [_Question(folder, True, known[above]) for folder, above in folders.items()]
+        for (path, _, above), found in zip(questions, _answers(questions, self._fold)):
             if found and found.is_ignored:
-                entered = _Folder((), found)
+                known[path] = above if above.decides else _Folder((), found)
             elif self._bases.has_files_of(path + b"/"):
-                entered = _Folder(self._bases.files_above(path + b"/"), None)
-        if len(self._folders) >= _MOST_FOLDERS:
-            self._folders.clear()
-        self._folders[path] = entered
-        return entered
+                known[path] = _Folder(self._bases.files_above(path + b"/"), None)
+            else:
+                known[path] = above
 
 
 class _Decides:
@@ -170,7 +221,7 @@ class _Decides:
         Its arguments and errors are those of `decide`.
         """
         text, has_slash = split(path)
-        found = _Tree(self._bases(ignore_case)).decide(text, bool(is_dir or has_slash))
+        found = _Tree(self._bases(ignore_case)).decide([(text, bool(is_dir or has_slash))])[0]
         return found.told() if found else None
 
     def match_file(self, path: Path, is_dir: bool = False, *, ignore_case: bool = False) -> bool:
@@ -180,14 +231,14 @@ class _Decides:
         True
         """
         text, has_slash = split(path)
-        found = _Tree(self._bases(ignore_case)).decide(text, bool(is_dir or has_slash))
+        found = _Tree(self._bases(ignore_case)).decide([(text, bool(is_dir or has_slash))])[0]
         return found is not None and found.is_ignored
 
     def match_files(self, paths: Iterable[_P], *, ignore_case: bool = False) -> Iterator[_P]:
         """The paths that are ignored, of many paths of a tree, in their order; each as `match_file` answers.
 
-        A path that ends in a slash is a directory's, any other one a file's. The paths are taken one by one, and the folders
-        above them are decided about once, so this is the call for many paths.
+        A path that ends in a slash is a directory's, any other one a file's. Some thousand paths are taken at a time, and the
+        folders above them are decided about once, so this is the call for many paths.
 
         >>> rules = IgnoreFile.from_lines(["*.log", "!keep.log", "build/"])
         >>> list(rules.match_files(["debug.log", "keep.log", "build/x", "src/main.c"]))
@@ -195,18 +246,40 @@ class _Decides:
 
         Raises:
             TypeError: `paths` is one path, or no iterable.
-            ValueError: when such a path is taken, as `decide` raises it.
+            ValueError: behind the paths before such a one, as `decide` raises it.
         """
         if isinstance(paths, (str, bytes, os.PathLike)):
             raise TypeError(f"the paths are to be an iterable of paths, and not the path {paths!r}")
         return _matched(_Tree(self._bases(ignore_case)), iter(paths))
 
 
+def _take(paths: Iterator[_P]) -> Tuple[List[_P], List[Tuple[bytes, bool]], Optional[Exception]]:
+    """Paths that are decided about at once, with their bytes, and what was raised for the one behind them; at the end, that is a
+    StopIteration."""
+    taken: List[_P] = []
+    texts = []
+    parts = 0
+    try:
+        for path in paths:
+            texts.append(split(path))
+            taken.append(path)
+            parts += texts[-1][0].count(b"/") + 1
+            if parts >= _PARTS_AT_ONCE:
+                return taken, texts, None
+    except Exception as error:
+        return taken, texts, error
+    return taken, texts, StopIteration()
+
+
 def _matched(tree: _Tree, paths: Iterator[_P]) -> Iterator[_P]:
-    for path in paths:
-        found = tree.decide(*split(path))
-        if found and found.is_ignored:
-            yield path
+    error: Optional[Exception] = None
+    while not error:
+        taken, texts, error = _take(paths)
+        for path, found in zip(taken, tree.decide(texts)):
+            if found and found.is_ignored:
+                yield path
+    if not isinstance(error, StopIteration):
+        raise error
 
 
 class IgnoreFile(_Decides):

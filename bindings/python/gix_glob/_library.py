@@ -4,8 +4,8 @@ What the header asks of a caller, and who keeps it:
 
 - A text can be read for its whole length, and isn't written: a call is handed a `bytes` itself (no object of a subclass, whose
   length could be another one), which can't change, and which the call refers to.
-- What C keeps a pointer to stays where it is: a line, or a file, is copied into memory of ctypes' own, which the object that has
-  the pointer refers to.
+- What C keeps a pointer to stays where it is: a line, a file, or the rows of its patterns, are in memory of ctypes' own, which the
+  object that has the pointer refers to.
 - No pointer is NULL, also where a length is 0: neither has one.
 - What a call writes to is initialised, and lies apart from what it reads: each is a ctypes structure of its own.
 
@@ -17,7 +17,8 @@ from __future__ import annotations
 import ctypes
 import os
 from array import array
-from typing import Any, Optional, Sequence
+from itertools import accumulate
+from typing import Any, Iterable, Optional, Sequence
 
 #: The file's name, with the version of its calls.
 NAME = "libgix_glob_c.so.0"
@@ -40,6 +41,42 @@ class Parts(ctypes.Structure):
     ]
 
 
+class Row(ctypes.Structure):
+    """struct gix_glob_row: what a pattern asks of a path, as the library writes it."""
+
+    _fields_ = [
+        ("asked", ctypes.c_uint64),
+        ("before", ctypes.c_uint32),
+        ("last", ctypes.c_uint8),
+        ("length", ctypes.c_uint8),
+        ("is_name", ctypes.c_uint8),
+    ]
+
+
+class Heads(ctypes.Structure):
+    """struct gix_glob_heads: where the chains of rows begin."""
+
+    _fields_ = [("links", ctypes.c_uint32 * 257), ("counts", ctypes.c_uint32 * 257)]
+
+
+class Index(ctypes.Structure):
+    """struct gix_glob_index: patterns that were prepared."""
+
+    _fields_ = [
+        ("patterns", ctypes.c_void_p),
+        ("count", ctypes.c_size_t),
+        ("rows", ctypes.c_void_p),
+        ("row_count", ctypes.c_size_t),
+        ("heads", ctypes.c_void_p),
+    ]
+
+
+class Asked(ctypes.Structure):
+    """struct gix_glob_path: a path that is asked about, in three words."""
+
+    _fields_ = [("bytes", ctypes.c_void_p), ("len", ctypes.c_size_t), ("is_dir", ctypes.c_bool)]
+
+
 class Lines(ctypes.Structure):
     """struct gix_glob_lines: what is left to read of an ignore file."""
 
@@ -53,9 +90,21 @@ CALLS = {
         [ctypes.POINTER(Lines), ctypes.POINTER(Parts), ctypes.POINTER(ctypes.c_bool)],
         ctypes.c_bool,
     ),
-    "gix_glob_last_match": (
-        [ctypes.c_void_p, ctypes.c_size_t, ctypes.c_char_p, ctypes.c_size_t, ctypes.c_bool, ctypes.c_bool],
+    "gix_glob_pattern_matches_path": (
+        [ctypes.POINTER(Parts), ctypes.c_char_p, ctypes.c_size_t, ctypes.c_bool, ctypes.c_bool],
+        ctypes.c_bool,
+    ),
+    "gix_glob_prepare": (
+        [ctypes.c_void_p, ctypes.c_size_t, ctypes.c_void_p, ctypes.c_size_t, ctypes.POINTER(Heads)],
+        ctypes.c_bool,
+    ),
+    "gix_glob_index_last_match": (
+        [ctypes.POINTER(Index), ctypes.c_char_p, ctypes.c_size_t, ctypes.c_bool, ctypes.c_bool],
         ctypes.c_size_t,
+    ),
+    "gix_glob_index_last_matches": (
+        [ctypes.POINTER(Index), ctypes.c_void_p, ctypes.c_size_t, ctypes.c_bool, ctypes.c_void_p, ctypes.c_size_t],
+        ctypes.c_bool,
     ),
     "gix_glob_wildmatch": (
         [ctypes.c_char_p, ctypes.c_size_t, ctypes.c_char_p, ctypes.c_size_t, ctypes.c_uint8],
@@ -135,7 +184,7 @@ class Reading:
 
     def matches_path(self, path: bytes, is_dir: bool, fold: bool) -> bool:
         _check(path)
-        return bool(_c.gix_glob_last_match(ctypes.addressof(self._parts), 1, path, len(path), is_dir, fold) == 0)
+        return bool(_c.gix_glob_pattern_matches_path(self._parts, path, len(path), is_dir, fold))
 
     def matches(self, value: bytes, mode: int) -> bool:
         _check(value)
@@ -159,9 +208,9 @@ def parse(line: bytes) -> Optional[Reading]:
 
 
 class Rules:
-    """The patterns of an ignore file, in order, each with the number of its line."""
+    """The patterns of an ignore file, in order and prepared, each with the number of its line."""
 
-    __slots__ = ("_address", "_count", "_memory", "_patterns", "numbers")
+    __slots__ = ("_heads", "_index", "_memory", "_patterns", "_pointer", "_rows", "numbers")
 
     def __init__(self, file: bytes) -> None:
         memory = Memory(file)
@@ -177,9 +226,17 @@ class Rules:
         self._memory = memory
         # (this keeps `readings`, and from then on they stay where they are)
         self._patterns = (Parts * (len(numbers) + 1)).from_buffer(readings)
-        self._address = ctypes.addressof(self._patterns)
-        self._count = len(numbers)
         self.numbers: Sequence[int] = numbers
+        self._prepare()
+
+    def _prepare(self) -> None:
+        count = len(self.numbers)
+        self._rows, self._heads = (Row * (count + 1))(), Heads()
+        patterns, rows = ctypes.addressof(self._patterns), ctypes.addressof(self._rows)
+        if not _c.gix_glob_prepare(patterns, count, rows, count, ctypes.byref(self._heads)):
+            raise OverflowError("a file is to have fewer than 2^32 patterns")
+        self._index = Index(patterns, count, rows, count, ctypes.addressof(self._heads))
+        self._pointer = ctypes.pointer(self._index)
 
     @property
     def text(self) -> bytes:
@@ -188,18 +245,36 @@ class Rules:
 
     def reading(self, index: int) -> Reading:
         """The pattern at an index."""
-        return Reading(self._memory, Parts.from_buffer_copy(self._patterns[range(self._count)[index]]))
+        return Reading(self._memory, Parts.from_buffer_copy(self._patterns[range(len(self.numbers))[index]]))
 
     def is_negative(self, index: int) -> bool:
         """Whether the pattern at an index began with `!`."""
-        return bool(self._patterns[range(self._count)[index]].mode & NEGATIVE)
+        return bool(self._patterns[range(len(self.numbers))[index]].mode & NEGATIVE)
 
     def last_match(self, path: bytes, is_dir: bool, fold: bool) -> Optional[int]:
         """The index of the last pattern that matches the path, or None."""
-        if type(path) is not bytes:
-            _check(path)
-        index = _c.gix_glob_last_match(self._address, self._count, path, len(path), is_dir, fold)
+        _check(path)
+        index = _c.gix_glob_index_last_match(self._pointer, path, len(path), is_dir, fold)
         return None if index == NONE else index
+
+    def last_matches(self, paths: Sequence[bytes], are_dirs: Iterable[bool], fold: bool) -> Sequence[int]:
+        """The same for several paths by one call, with NONE for None."""
+        texts, dirs = list(paths), array("Q", map(bool, are_dirs))
+        count = len(texts)
+        if not set(map(type, texts)) <= {bytes}:
+            _check(*texts)
+        if len(dirs) != count:
+            raise ValueError(f"{len(dirs)} answers tell whether {count} paths are directories'")
+        memory, lengths = Memory(b"".join(texts)), array("Q", map(len, texts))
+        # (one more, so that there is an address where there is no path)
+        asked, places = array("Q", bytes(24 * (count + 1))), array("Q", bytes(8 * (count + 1)))
+        asked[0:-3:3] = array("Q", accumulate(lengths, initial=memory.address))[:count]
+        asked[1:-3:3] = lengths
+        asked[2:-3:3] = dirs
+        _c.gix_glob_index_last_matches(
+            self._pointer, asked.buffer_info()[0], count, fold, places.buffer_info()[0], count
+        )
+        return places[:count]
 
 
 def wildmatch(pattern: bytes, value: bytes, mode: int) -> bool:

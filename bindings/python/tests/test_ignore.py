@@ -128,7 +128,7 @@ class Deciding(unittest.TestCase):
         self.assertEqual(found, [paths[at] for at in (0, 1, 2, 4, 6, 7)])
         self.assertTrue(all(any(one is other for other in paths) for one in found))
         self.assertEqual(list(rules.match_files([])), [])
-        # one by one, also without an end
+        # some at a time, also without an end
         self.assertEqual(next(rules.match_files(iter(lambda: "a.o", None))), "a.o")
         self.assertEqual(list(rules.match_files(["A.O", "BUILD/x"])), [])
         self.assertEqual(list(rules.match_files(["A.O", "BUILD/x"], ignore_case=True)), ["A.O", "BUILD/x"])
@@ -136,7 +136,7 @@ class Deciding(unittest.TestCase):
     def test_random_lists_and_paths(self):
         draw = random.Random(1)
         kinds = set()
-        with mock.patch.object(_ignore, "_MOST_FOLDERS", 5):
+        with mock.patch.multiple(_ignore, _MOST_FOLDERS=5, _PARTS_AT_ONCE=9):
             for _ in range(1000):
                 rules, fold = random_list(draw), draw.random() < 0.3
                 paths = [
@@ -158,8 +158,9 @@ class Deciding(unittest.TestCase):
         with mock.patch.object(_ignore, "_MOST_FOLDERS", 5):
             tree = _ignore._Tree(IgnoreFile("x")._bases(False))
             for number in range(100):
-                self.assertIsNotNone(tree.decide(b"d%d/e/x" % number, False))
-                self.assertLessEqual(len(tree._folders), 5)
+                self.assertNotEqual(tree.decide([(b"d%d/e/x" % number, False)]), [None])
+                # (the top is one more)
+                self.assertLessEqual(len(tree._folders), 6)
 
 
 class Lines(unittest.TestCase):

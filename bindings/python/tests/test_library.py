@@ -20,13 +20,21 @@ HEADER = os.path.join(PACKAGE, "..", "..", "crates", "gix_glob_c", "include", "g
 #: types of the header, and those that declare them here
 TYPES = {
     "const uint8_t *": (ctypes.c_void_p, ctypes.c_char_p),
-    "const struct gix_glob_pattern *": (ctypes.c_void_p,),
+    "const struct gix_glob_pattern *": (ctypes.c_void_p, ctypes.POINTER(_library.Parts)),
+    "struct gix_glob_row *": (ctypes.c_void_p,),
+    "const struct gix_glob_row *": (ctypes.c_void_p,),
+    "struct gix_glob_heads *": (ctypes.POINTER(_library.Heads),),
+    "const struct gix_glob_heads *": (ctypes.c_void_p,),
+    "const struct gix_glob_index *": (ctypes.POINTER(_library.Index),),
+    "const struct gix_glob_path *": (ctypes.c_void_p,),
+    "size_t *": (ctypes.c_void_p,),
     "struct gix_glob_pattern *": (ctypes.POINTER(_library.Parts),),
     "struct gix_glob_lines *": (ctypes.POINTER(_library.Lines),),
     "bool *": (ctypes.POINTER(ctypes.c_bool),),
     "bool ": (ctypes.c_bool,),
     "size_t ": (ctypes.c_size_t,),
-    "uint32_t ": (ctypes.c_uint32,),
+    "uint64_t ": (ctypes.c_uint64,),
+    "uint32_t ": (ctypes.c_uint32, ctypes.c_uint32 * 257),
     "uint8_t ": (ctypes.c_uint8,),
 }
 
@@ -63,12 +71,26 @@ class Declarations(unittest.TestCase):
                 for one, it in zip(wanted, types):
                     self.assertIn(it, TYPES[one])
                 self.assertIn(answer, TYPES[calls[name][1]])
-        for name, struct in (("gix_glob_pattern", _library.Parts), ("gix_glob_lines", _library.Lines)):
+        structs = {
+            "gix_glob_pattern": _library.Parts,
+            "gix_glob_row": _library.Row,
+            "gix_glob_heads": _library.Heads,
+            "gix_glob_index": _library.Index,
+            "gix_glob_path": _library.Asked,
+            "gix_glob_lines": _library.Lines,
+        }
+        for name, struct in structs.items():
             body = re.search(r"struct %s \{(.*?)\}" % name, code, re.S)[1]
-            fields = re.findall(r"(\S.*?[ *])(\w+);", body)
-            self.assertEqual([field for _, field in fields], [field for field, _ in struct._fields_])
-            for (one, _), (_, it) in zip(fields, struct._fields_):
-                self.assertIn(it, TYPES[one])
+            fields = [
+                (kind, re.sub(r"\W.*", "", field))
+                for kind, all_fields in re.findall(r"(\S.*?[ *])(\w+(?:\[\d+\])?(?:, \w+(?:\[\d+\])?)*);", body)
+                for field in all_fields.split(", ")
+            ]
+            with self.subTest(struct=name):
+                self.assertEqual([field for _, field in fields], [field for field, _ in struct._fields_])
+                for (one, _), (_, it) in zip(fields, struct._fields_):
+                    self.assertIn(it, TYPES[one])
+        self.assertEqual(ctypes.sizeof(_library.Asked), 24)
         self.assertEqual(int(re.search(r"GIX_GLOB_NEGATIVE (\d+)u", code)[1]), _library.NEGATIVE)
         self.assertEqual(_library.NONE, 2**64 - 1)
 
@@ -263,9 +285,24 @@ class Misuse(unittest.TestCase):
         for call in (_library.parse, _library.Rules, _library.Memory, lambda it: _library.wildmatch(b"", it, 0)):
             with self.assertRaises(TypeError):
                 call(Bytes(b"ab"))
-        for call in (_library.Rules(b"a").last_match, _library.parse(b"a").matches_path):
+        rules = _library.Rules(b"a")
+        for call in (rules.last_match, _library.parse(b"a").matches_path):
             with self.assertRaises(TypeError):
                 call(Bytes(b"ab"), False, False)
+        with self.assertRaises(TypeError):
+            rules.last_matches([Bytes(b"ab")], [False], False)
+
+    def test_several_paths_at_once(self):
+        rules = _library.Rules(b"a\n!b/")
+        found = rules.last_matches([b"x/a", b"b", b"b", b"", b"a\0"], [False, True, False, False, False], False)
+        self.assertEqual(list(found), [0, 1] + [_library.NONE] * 3)
+        self.assertEqual(list(rules.last_matches([], [], False)), [])
+        for paths in (["a"], [b"a", None], [bytearray(b"a")]):
+            with self.assertRaises(TypeError):
+                rules.last_matches(paths, [False] * len(paths), False)
+        for are_dirs in ([], [False, False]):
+            with self.assertRaises(ValueError):
+                rules.last_matches([b"a"], are_dirs, False)
 
     def test_places_outside_a_file(self):
         rules = _library.Rules(b"a\nb")

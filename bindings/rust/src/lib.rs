@@ -39,6 +39,7 @@
 //! - `bitflags`: the two modes are made by the crate `bitflags`. Without it they have the same methods and operators, but for
 //!   iteration, names and number formats.
 
+pub mod decide;
 #[cfg(not(feature = "bitflags"))]
 mod flags;
 mod library;

@@ -5,23 +5,101 @@
 //! has to last longer than the call.
 #![allow(unsafe_code)]
 
+use std::marker::PhantomData;
 use std::ops::Range;
-use std::ptr::NonNull;
 
 /// `GIX_GLOB_NONE`: no place.
 const NONE: usize = usize::MAX;
 
-/// `struct gix_glob_pattern`.
+/// `struct gix_glob_pattern`, and that its text is borrowed.
 #[repr(C)]
-struct Parts {
+#[derive(Debug, Clone, Copy)]
+pub(crate) struct Parts<'a> {
     text: *const u8,
     text_len: usize,
     first_wildcard_pos: usize,
     mode: u32,
+    borrows: PhantomData<&'a [u8]>,
+}
+
+impl<'a> Parts<'a> {
+    /// The parts of a pattern; any may stand together.
+    pub(crate) fn new(text: &'a [u8], mode: u32, place: Option<usize>) -> Self {
+        let first_wildcard_pos = place.unwrap_or(NONE);
+        Parts { text: text.as_ptr(), text_len: text.len(), first_wildcard_pos, mode, borrows: PhantomData }
+    }
+}
+
+/// `struct gix_glob_list`.
+#[repr(C)]
+struct ListParts<'a> {
+    patterns: *const Parts<'a>,
+    count: usize,
+    base: *const u8,
+    base_len: usize,
+}
+
+/// `struct gix_glob_row`; what its numbers mean is the library's.
+#[repr(C)]
+#[derive(Clone, Copy)]
+struct Row {
+    asked: u64,
+    before: u32,
+    bytes: [u8; 3],
+}
+
+/// `struct gix_glob_heads`.
+#[repr(C)]
+struct Heads {
+    links: [u32; 257],
+    counts: [u32; 257],
+}
+
+/// `struct gix_glob_index`.
+#[repr(C)]
+struct IndexParts<'a> {
+    patterns: *const Parts<'a>,
+    count: usize,
+    rows: *const Row,
+    row_count: usize,
+    heads: *const Heads,
+}
+
+/// `struct gix_glob_decision`.
+#[repr(C)]
+struct Place {
+    list: usize,
+    pattern: usize,
 }
 
 unsafe extern "C" {
-    fn gix_glob_parse(line: *const u8, line_len: usize, out: *mut Parts) -> bool;
+    fn gix_glob_parse(line: *const u8, line_len: usize, out: *mut Parts<'_>) -> bool;
+
+    fn gix_glob_prepare(
+        patterns: *const Parts<'_>,
+        count: usize,
+        rows: *mut Row,
+        row_count: usize,
+        heads: *mut Heads,
+    ) -> bool;
+
+    fn gix_glob_index_last_match(
+        index: *const IndexParts<'_>,
+        path: *const u8,
+        path_len: usize,
+        is_dir: bool,
+        fold: bool,
+    ) -> usize;
+
+    fn gix_glob_decide_in_tree(
+        lists: *const ListParts<'_>,
+        count: usize,
+        path: *const u8,
+        path_len: usize,
+        is_dir: bool,
+        fold: bool,
+        out: *mut Place,
+    ) -> bool;
 
     fn gix_glob_wildmatch(pattern: *const u8, pattern_len: usize, value: *const u8, value_len: usize, mode: u8)
     -> bool;
@@ -49,7 +127,7 @@ pub(crate) struct Reading {
 
 /// Reads a pattern line; `None` where it is blank.
 pub(crate) fn parse(line: &[u8]) -> Option<Reading> {
-    let mut parts = Parts { text: NonNull::dangling().as_ptr(), text_len: 0, first_wildcard_pos: NONE, mode: 0 };
+    let mut parts = Parts::new(b"", 0, None);
     // SAFETY: `line` is a slice, and `parts` is initialised, apart from it, and laid out as in the header.
     let has_pattern = unsafe { gix_glob_parse(line.as_ptr(), line.len(), &mut parts) };
     has_pattern.then(|| {
@@ -76,4 +154,86 @@ pub(crate) fn matches(text: &[u8], pattern_mode: u32, place: Option<usize>, valu
     let place = place.unwrap_or(NONE);
     // SAFETY: both are slices; any modes and any place are allowed, also such as don't belong to the text.
     unsafe { gix_glob_matches(text.as_ptr(), text.len(), pattern_mode, place, value.as_ptr(), value.len(), mode) }
+}
+
+/// Lists as the library takes them. Their texts are borrowed.
+pub(crate) struct Lists<'a> {
+    lists: Vec<ListParts<'a>>,
+    /// What `lists` points to: nothing of it is changed or moved any more.
+    _patterns: Vec<Box<[Parts<'a>]>>,
+}
+
+// SAFETY: what the pointers lead to is borrowed or owned for reading alone, so any thread may read it.
+unsafe impl Send for Lists<'_> {}
+unsafe impl Sync for Lists<'_> {}
+
+impl<'a> Lists<'a> {
+    /// The lists of bases and patterns.
+    pub(crate) fn new(lists: impl Iterator<Item = (&'a [u8], Box<[Parts<'a>]>)>) -> Self {
+        let (bases, patterns): (Vec<&[u8]>, Vec<_>) = lists.unzip();
+        let lists = bases.iter().zip(&patterns).map(|(base, patterns)| ListParts {
+            patterns: patterns.as_ptr(),
+            count: patterns.len(),
+            base: base.as_ptr(),
+            base_len: base.len(),
+        });
+        Lists { lists: lists.collect(), _patterns: patterns }
+    }
+
+    /// The places of the list and of the pattern that decide about a path in a work tree.
+    pub(crate) fn decide_in_tree(&self, path: &[u8], is_dir: bool, fold: bool) -> Option<(usize, usize)> {
+        let mut place = Place { list: 0, pattern: 0 };
+        // SAFETY: the lists and the patterns and texts that they lead to live as long as `self`; `path` is a slice; `place` is
+        // initialised, apart from them, and laid out as in the header.
+        let decides = unsafe {
+            gix_glob_decide_in_tree(
+                self.lists.as_ptr(),
+                self.lists.len(),
+                path.as_ptr(),
+                path.len(),
+                is_dir,
+                fold,
+                &mut place,
+            )
+        };
+        decides.then_some((place.list, place.pattern))
+    }
+}
+
+/// Patterns, and what the library wrote for them.
+pub(crate) struct Index<'a> {
+    patterns: Box<[Parts<'a>]>,
+    rows: Box<[Row]>,
+    heads: Box<Heads>,
+}
+
+// SAFETY: as for lists.
+unsafe impl Send for Index<'_> {}
+unsafe impl Sync for Index<'_> {}
+
+impl<'a> Index<'a> {
+    /// Prepares patterns; `None` where there are 2^32 or more.
+    pub(crate) fn new(patterns: Box<[Parts<'a>]>) -> Option<Self> {
+        let mut rows = vec![Row { asked: 0, before: 0, bytes: [0; 3] }; patterns.len()].into_boxed_slice();
+        let mut heads = Box::new(Heads { links: [0; 257], counts: [0; 257] });
+        // SAFETY: patterns, rows and heads are initialised, apart from each other, and laid out as in the header; the texts of the
+        // patterns are borrowed.
+        let has_room =
+            unsafe { gix_glob_prepare(patterns.as_ptr(), patterns.len(), rows.as_mut_ptr(), rows.len(), &mut *heads) };
+        has_room.then_some(Index { patterns, rows, heads })
+    }
+
+    /// The place of the last pattern that matches a path.
+    pub(crate) fn last_match(&self, path: &[u8], is_dir: bool, fold: bool) -> Option<usize> {
+        let index = IndexParts {
+            patterns: self.patterns.as_ptr(),
+            count: self.patterns.len(),
+            rows: self.rows.as_ptr(),
+            row_count: self.rows.len(),
+            heads: &*self.heads,
+        };
+        // SAFETY: what the index names lives as long as `self`, and is laid out as in the header; `path` is a slice.
+        let place = unsafe { gix_glob_index_last_match(&index, path.as_ptr(), path.len(), is_dir, fold) };
+        (place != NONE).then_some(place)
+    }
 }

@@ -1,7 +1,13 @@
-//! A million random patterns, and as many lines, against the rules written plainly. `RANDOM_INPUTS` is another number.
+//! A million random patterns, and as many lines, against the rules written plainly; then lists of them. `RANDOM_INPUTS` is another
+//! number.
+mod lines;
 mod rules;
 
-use gix_glob::{Pattern, pattern, wildmatch};
+use gix_glob::decide::{Index, Lists};
+use gix_glob::pattern::{Case, Mode};
+use gix_glob::search::pattern::List;
+use gix_glob::{Pattern, wildmatch};
+use lines::Lines;
 use rules::{FOLD, PATH};
 
 /// Numbers from a seed, the same at each run.
@@ -129,13 +135,65 @@ fn matches_as_the_rules_say(pattern: &Pattern, value: &[u8], random: &mut Random
         return;
     }
     let start = value.iter().rposition(|&byte| byte == b'/').map(|slash| slash + 1);
-    let (case, folded) = random.of(&[(pattern::Case::Sensitive, 0), (pattern::Case::Fold, FOLD)]);
+    let case = random.of(&[Case::Sensitive, Case::Fold]);
     let is_dir = random.of(&[None, Some(false), Some(true)]);
-    let has = |flag| pattern.mode.contains(flag);
-    let is_whole = !has(pattern::Mode::NO_SUB_DIR) || has(pattern::Mode::ABSOLUTE);
-    let subject = if is_whole { value } else { &value[start.unwrap_or(0)..] };
-    let wanted = (is_dir == Some(true) || !has(pattern::Mode::MUST_BE_DIR))
-        && rules::matches(&pattern.text, subject, bits & PATH | bits & FOLD | folded);
+    let wanted = answers(pattern, value, is_dir, case, bits);
     let answer = pattern.matches_repo_relative_path(value.into(), start, is_dir, case, mode);
     assert_eq!(answer, wanted, "{pattern} on the path {}", value.escape_ascii());
+}
+
+/// Whether a pattern matches a path, by the rules.
+fn answers(pattern: &Pattern, path: &[u8], is_dir: Option<bool>, case: Case, bits: u8) -> bool {
+    let is_for_the_name = pattern.mode.contains(Mode::NO_SUB_DIR) && !pattern.mode.contains(Mode::ABSOLUTE);
+    let name = path.rsplit(|&byte| byte == b'/').next().filter(|_| is_for_the_name);
+    let folded = if case == Case::Fold { FOLD } else { 0 };
+    (is_dir == Some(true) || !pattern.mode.contains(Mode::MUST_BE_DIR))
+        && rules::matches(&pattern.text, name.unwrap_or(path), bits | folded)
+}
+
+/// The place of the last pattern that matches a path, by the rules.
+fn last_match(list: &List<Lines>, path: &[u8], is_dir: bool, case: Case) -> Option<usize> {
+    list.patterns.iter().rposition(|it| answers(&it.pattern, path, Some(is_dir), case, PATH))
+}
+
+/// The place of the pattern that decides about a path in a work tree, by the rules.
+fn decided_in_tree(list: &List<Lines>, path: &[u8], is_dir: bool, case: Case) -> Option<usize> {
+    let folders = (0..path.len()).filter(|&at| path[at] == b'/');
+    let mut above = folders.filter_map(|end| last_match(list, &path[..end], true, case));
+    above.find(|&at| !list.patterns[at].pattern.is_negative()).or_else(|| last_match(list, path, is_dir, case))
+}
+
+/// Whether the calls of `decide` take a path.
+fn is_plain(path: &[u8]) -> bool {
+    path.split(|&byte| byte == b'/').all(|part| !part.is_empty())
+}
+
+#[test]
+fn lists_decide_as_the_rules_say() {
+    let mut random = Random(3);
+    let (mut found, mut differ) = (0, 0);
+    for _ in 0..inputs() / 200 {
+        let (mut file, mut paths) = (Vec::new(), Vec::new());
+        for _ in 0..random.below(40) {
+            let (line, path) = pattern_and_value(&mut random);
+            file.extend([random.of(&["", "", "!", "/", "a"]).as_bytes(), &line, b"\n"].concat());
+            paths.push(path);
+        }
+        let lists = [List::from_bytes(&file, "file".into(), None, Lines)];
+        let (index, laid_out) = (Index::new(&lists[0]).expect("few patterns"), Lists::new(&lists));
+        for path in &paths {
+            let (is_dir, case) = (random.of(&[false, true]), random.of(&[Case::Sensitive, Case::Fold]));
+            let alone = last_match(&lists[0], path, is_dir, case).filter(|_| is_plain(path));
+            let in_tree = decided_in_tree(&lists[0], path, is_dir, case).filter(|_| is_plain(path));
+            let line_at = |at: Option<usize>| at.map(|at| lists[0].patterns[at].sequence_number);
+            let shown = || format!("{} on {}", file.escape_ascii(), path.escape_ascii());
+            let answer = index.last_match(path.as_slice().into(), is_dir, case);
+            assert_eq!(answer.map(|it| it.sequence_number), line_at(alone), "{}", shown());
+            let answer = laid_out.decide_in_tree(path.as_slice().into(), is_dir, case);
+            assert_eq!(answer.map(|(_, it)| it.sequence_number), line_at(in_tree), "{}", shown());
+            found += usize::from(alone.is_some());
+            differ += usize::from(alone != in_tree);
+        }
+    }
+    assert!(found > inputs() / 100 && differ > inputs() / 1000, "{found} found, {differ} differ");
 }

@@ -1,4 +1,4 @@
-/* Git's glob patterns, proved: the static library gix_glob_c.
+/* Git's glob patterns, proved: the C library gix_glob_c, static or shared.
  *
  * Parse a line once, match it against paths, and let the last match of a list decide. Nothing is allocated, nothing is kept
  * after a call, and there is no state: calls may run in any threads at once, as long as no other thread writes what they read.
@@ -113,6 +113,61 @@ bool gix_glob_pattern_matches_path(const struct gix_glob_pattern *pattern,
  *   path ..          as in gix_glob_pattern_matches_path */
 size_t gix_glob_last_match(const struct gix_glob_pattern *patterns, size_t count,
                            const uint8_t *path, size_t path_len, bool is_dir, bool fold);
+
+/* What one pattern asks of a path, in memory of the caller. Only gix_glob_prepare needs to know what its numbers mean. */
+struct gix_glob_row {
+    uint64_t asked;
+    uint32_t before;
+    uint8_t last, length, is_name;
+};
+
+/* Where the chains of rows begin: 2,056 bytes of the caller's. */
+struct gix_glob_heads {
+    uint32_t links[257], counts[257];
+};
+
+/* Patterns that were prepared. All that it names is borrowed. Rows and heads that gix_glob_prepare didn't write for these
+ * patterns may give a wrong answer, and nothing worse, as long as they can be read. */
+struct gix_glob_index {
+    const struct gix_glob_pattern *patterns; /* in the order of their lines; not NULL */
+    size_t count;                            /* how many */
+    const struct gix_glob_row *rows;         /* a row for each; not NULL */
+    size_t row_count;                        /* how many rows there are: `count`, or more, which aren't read */
+    const struct gix_glob_heads *heads;      /* not NULL */
+};
+
+/* Prepares patterns that many paths are asked about. Nothing is allocated: the caller gives a row for each pattern, which takes
+ * 16 bytes, and the heads. Both were initialised, as by `{ 0 }` or calloc.
+ *   patterns, count  the patterns in the order of their lines; not NULL, also where count is 0
+ *   rows, row_count  receives the rows; not NULL, also where row_count is 0
+ *   heads            receives the heads
+ * Answers whether there is room: there are `count` rows or more, and fewer than 2^32 patterns. Else nothing is written. */
+bool gix_glob_prepare(const struct gix_glob_pattern *patterns, size_t count,
+                      struct gix_glob_row *rows, size_t row_count, struct gix_glob_heads *heads);
+
+/* What gix_glob_last_match answers for the patterns of an index. Where few of them can match the path, it tests those alone, so
+ * that a path costs little among a thousand patterns.
+ *   index    what was prepared
+ *   path ..  as in gix_glob_pattern_matches_path */
+size_t gix_glob_index_last_match(const struct gix_glob_index *index,
+                                 const uint8_t *path, size_t path_len, bool is_dir, bool fold);
+
+/* A path that is asked about. */
+struct gix_glob_path {
+    const uint8_t *bytes; /* the path, as in gix_glob_pattern_matches_path; not NULL */
+    size_t len;           /* how many bytes */
+    bool is_dir;          /* whether it is a directory's */
+};
+
+/* What gix_glob_index_last_match answers for each of several paths, by one call: for languages from which a call costs more than
+ * an answer.
+ *   index                what was prepared
+ *   paths, count         the paths; not NULL, also where count is 0
+ *   fold                 as in gix_glob_pattern_matches_path
+ *   places, place_count  receives for each path the index of a pattern, or GIX_GLOB_NONE; not NULL, also where place_count is 0
+ * Answers whether there are `count` places or more. Else nothing is written. */
+bool gix_glob_index_last_matches(const struct gix_glob_index *index, const struct gix_glob_path *paths, size_t count, bool fold,
+                                 size_t *places, size_t place_count);
 
 /* A list of patterns: those of one ignore file, and its folder. The patterns and the base are borrowed. */
 struct gix_glob_list {

@@ -3,3 +3,4 @@ pub mod DecidingLemmas
 pub mod ListsLemmas
 pub mod Numbers
 pub mod Views
+pub mod Zipped

@@ -10,7 +10,9 @@ ghost use Rattle.gix_glob.specs.Patterns.{HasReading, IsPattern, Reads};
 ghost use Rattle.gix_glob_c.specs.Parts.{case_of, place_in};
 
 pub mod ignore_file;
+pub mod index;
 pub mod parsed;
+pub mod paths;
 pub mod tree;
 
 use crate::parsed::GlobPattern;

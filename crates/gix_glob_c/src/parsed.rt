@@ -11,7 +11,7 @@ use gix_glob::pattern::{Mode, PatternView};
 use glob_lists::RepositoryPath;
 
 /// What stands for no place and for no index.
-const NONE: usize = usize::MAX;
+pub(crate) const NONE: usize = usize::MAX;
 
 /// `struct gix_glob_pattern`: the parts of a pattern. Its text is borrowed from the line that was read.
 #[repr(C)]

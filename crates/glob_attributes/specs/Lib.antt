@@ -2,8 +2,12 @@ pub mod Assignments
 pub mod Equations
 pub mod Files
 pub mod Heads
+pub mod Laws
 pub mod Macros
 pub mod Names
 pub mod Patterns
+pub mod Private
 pub mod Readings
+pub mod States
+pub mod Told
 pub mod Words

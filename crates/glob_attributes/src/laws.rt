@@ -1,9 +1,21 @@
 //! Laws of the definitions, each the contract of a function that does nothing.
-ghost use Rattle.std.specs.Prelude.{◌≡◌, ◌↔◌, ℕ, List};
-ghost use Rattle.glob_attributes.specs.Equations.Files.{attributes_of, file_lines};
+ghost use Rattle.std.specs.Prelude.{◌≡◌, ◌↔◌, ◌+◌, ◌++◌, ◌∷◌, ◌≤◌, [], ℕ, List, Some, length, map, true};
+ghost use Rattle.std.specs.List.{filter_map, list_any};
+ghost use Rattle.std.specs.Str.{bytes_eq};
+ghost use Rattle.gix_glob.specs.declared.pattern.Case.{Case};
+ghost use Rattle.gix_glob.specs.EntryLists.{EntryList};
+ghost use Rattle.gix_glob.specs.Stripping.{NothingLeft};
+ghost use Rattle.glob_lists.specs.Paths.{Path};
+ghost use Rattle.glob_attributes.specs.declared.assignment.State.TheVariants.{Unspecified};
+ghost use Rattle.glob_attributes.specs.Equations.Files.{attributes_of, entries_from, file_lines};
 ghost use Rattle.glob_attributes.specs.Equations.Heads.{head_of};
 ghost use Rattle.glob_attributes.specs.Files.{AttributeEntry, Attributes, FileLines};
 ghost use Rattle.glob_attributes.specs.Heads.{IsHead};
+ghost use Rattle.glob_attributes.specs.Laws.Leaving.{SaysNothing, emptied, unnumbered};
+ghost use Rattle.glob_attributes.specs.Laws.Totals.{NoMacroNames, NoneNames, macro_total};
+ghost use Rattle.glob_attributes.specs.Macros.{Definition, definition_given};
+ghost use Rattle.glob_attributes.specs.Readings.{line_gives};
+ghost use Rattle.glob_attributes.specs.States.{Assigned, IsAssigned, IsFilledIn, IsRow, Lists, state_in};
 
 use gix_glob::laws::readings_are_these;
 
@@ -23,3 +35,54 @@ pub fn attributes_are_these()
 {
     readings_are_these();
 }
+
+/// A row is filled in one way, so it gives each attribute one state.
+pub fn rows_are_filled_in_one_way()
+    ensures { (macros : List Definition) (row filled other : List Assigned) →
+        IsFilledIn macros [] row filled → IsFilledIn macros [] row other → filled ≡ other }
+{}
+
+/// Without macros a row is filled in by nothing: the last assignment that names an attribute decides.
+pub fn rows_without_macros_stay()
+    ensures { (row filled : List Assigned) → IsFilledIn [] [] row filled → filled ≡ row }
+{}
+
+/// What a front decides stays, whatever follows.
+pub fn fronts_decide()
+    ensures { (front more : List Assigned) (name : List ℕ) → list_any (λ other. bytes_eq other.name name) front ≡ true →
+        state_in (front ++ more) name ≡ state_in front name }
+{}
+
+/// Each macro is put in once at most: a row gets no longer by macros than all of them are.
+pub fn macros_are_put_in_once()
+    ensures { (macros : List Definition) (row filled : List Assigned) →
+        IsFilledIn macros [] row filled → length filled ≤ length row + macro_total macros }
+{}
+
+/// An attribute that no assignment of the row names, and none of a macro, is unspecified.
+pub fn unnamed_attributes_are_unspecified()
+    ensures { (macros : List Definition) (row filled : List Assigned) (name : List ℕ) →
+        IsFilledIn macros [] row filled → NoneNames name row → NoMacroNames name macros → state_in filled name ≡ Unspecified }
+{}
+
+/// A line that says nothing may be left out: the others have the same entries, but for their numbers, and define the same macros.
+pub fn silent_lines_may_be_left_out()
+    ensures entries { (front rest : List (List ℕ)) (line : List ℕ) (n k : ℕ) → SaysNothing line →
+        map unnumbered (entries_from n (front ++ line ∷ rest)) ≡ map unnumbered (entries_from k (front ++ rest)) }
+    ensures macros { (front rest : List (List ℕ)) (line : List ℕ) → SaysNothing line →
+        filter_map (λ l. definition_given (line_gives true l)) (front ++ line ∷ rest)
+        ≡ filter_map (λ l. definition_given (line_gives true l)) (front ++ rest) }
+{}
+
+/// Each attribute has one state for a path.
+pub fn attributes_have_one_state()
+    ensures { (lists : Lists) (macros : List Definition) (path : Path) (case : Case) (filled other : List Assigned) →
+        IsAssigned lists macros path case filled → IsAssigned lists macros path case other → filled ≡ other }
+{}
+
+/// The list of a folder that isn't on the way of a path changes nothing: without its entries the row is the same.
+pub fn lists_off_the_way_say_nothing()
+    ensures { (front after : Lists) (list : EntryList (List Assigned)) (base : List ℕ) (path : Path) (case : Case) (row : List Assigned) →
+        list.base ≡ Some base → NothingLeft case (Some base) path.bytes →
+        IsRow (front ++ list ∷ after) path case row ↔ IsRow (front ++ emptied list ∷ after) path case row }
+{}

@@ -1,18 +1,28 @@
-//! What Git's attribute files say: the lines of a file, and what each gives.
+//! What Git's attribute files say: the lines of a file, what each gives, and which state an attribute has for a path.
 #![tactic(auto)]
 
 mod assignment;
+mod filling;
 mod head;
 pub mod laws;
 mod line;
+mod macro_table;
 mod macros;
 mod name;
+mod names;
 mod parser;
 mod pattern;
+mod places;
+mod silences;
+mod states;
 mod words;
 
 pub use assignment::{Assignment, State, read_assignment};
 pub use line::{LineReading, Silence, read_line};
+pub use macro_table::MacroTable;
 pub use macros::{Macro, macros_of};
 pub use name::is_name;
+pub use names::AttributeNames;
 pub use parser::AttributeLines;
+pub use silences::{SilentLine, silent_lines};
+pub use states::PathAttributes;

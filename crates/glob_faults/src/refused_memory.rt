@@ -15,6 +15,7 @@ use std::alloc::{AllocError, Global};
 use std::test::Fail;
 use std::{env, fs, process};
 
+mod attributes;
 mod labels;
 mod trees;
 

@@ -56,6 +56,8 @@ impl FolderLists<IgnoreLines> for Failing {
 
     ghost shows = { λ _ _ _ _. Unit {0} };
 
+    ghost gave = { λ _ _. ⊥ };
+
     fn list_of(&mut self, folder: &[u8]) -> Result<List<IgnoreLines>, SourceFault> {
         self.calls = self.calls.saturating_add(1);
         if self.calls == self.fails_at {

@@ -18,7 +18,7 @@ use gix_glob::pattern::Case;
 use gix_glob::search;
 use gix_glob::search::Watched;
 use gix_glob::search::pattern::{List, Mapping};
-use glob_lists::RepositoryPath;
+use glob_lists::{Cursor, RepositoryPath};
 use std::alloc::{AllocError, Global};
 use std::io::{Read, Write};
 
@@ -69,13 +69,15 @@ fn decisions_of<T: search::Pattern>(
     ensures { IfOk result (λ text. DecisionsText (map (entry_list_of T.seen) lists.now) case paths.now text.items) }
 {
     let stack = ListStack::new(alloc, lists, case)?;
-    report_on(alloc, &mut Decision { stack }, paths)
+    let cursor = Cursor::new();
+    report_on(alloc, &mut Decision { stack, cursor }, paths)
 }
 
 /// Reports which pattern decides about a path.
 #[derive(Drop)]
 struct Decision<'a, T: search::Pattern> {
     stack: ListStack<'a, T>,
+    cursor: Cursor,
 }
 
 impl<'a, T: search::Pattern> PathReport for Decision<'a, T> {
@@ -91,7 +93,7 @@ impl<'a, T: search::Pattern> PathReport for Decision<'a, T> {
     ghost writes = { λ stack. WritesDecision (map (entry_list_of T.seen) stack.lists) stack.case };
 
     fn append(&mut self, text: &mut Vec<u8>, path: &RepositoryPath<'_>) -> Result<(), AllocError> {
-        match self.stack.decide(path) {
+        match self.stack.decide_near(path, &mut self.cursor) {
             Some((i, m)) => {
                 let mapping = &self.stack.lists()[i].patterns[m];
                 append_verdict(text, i + 1, mapping)

@@ -7,7 +7,7 @@ ghost use Rattle.glob_lists.specs.Index.{AreMatches, AreTooMany};
 use gix_glob::pattern::Case;
 use gix_glob::search;
 use gix_glob::search::pattern::List;
-use glob_lists::{IndexError, ListIndex, RepositoryPath, decide, matches_into};
+use glob_lists::{Cursor, IndexError, ListIndex, RepositoryPath, decide, matches_into};
 use std::alloc::{AllocError, Global};
 use std::marker::Model;
 
@@ -60,12 +60,17 @@ impl<'a, T: search::Pattern> ListStack<'a, T> {
         self.lists
     }
 
-    /// Which pattern decides about a path, as [`decide`] answers it.
-    pub(crate) fn decide(&self, path: &RepositoryPath<'_>) -> Option<(usize, usize)>
+    /// Which pattern decides about a path, as [`decide`] answers it; where paths come in order, what was found for the path before
+    /// saves a search.
+    pub(crate) fn decide_near(
+        &self,
+        path: &RepositoryPath<'_>,
+        cursor: &mut Cursor,
+    ) -> Option<(usize, usize)>
         ensures { Decides (map (entry_list_of T.seen) self.now.lists) path.now.bytes path.now.is_dir self.now.case result }
     {
         match &self.index {
-            Some(index) => index.decide(path),
+            Some(index) => index.decide_near(path, cursor),
             None => decide(self.lists, path, self.case),
         }
     }

@@ -20,10 +20,14 @@ pub mod LastNumbers
 pub mod ListLemmas
 pub mod Looking
 pub mod MatchesUpTo
+pub mod NearLemmas
+pub mod OneList
 pub mod PathsLemmas
 pub mod PlaceOrder
 pub mod PrefilterLemmas
 pub mod RowLemmas
 pub mod SearchLemmas
+pub mod SightLemmas
 pub mod Spending
+pub mod StoredLemmas
 pub mod StrippingLemmas

@@ -2,4 +2,5 @@ pub mod Paths
 pub mod Deciding
 pub mod DecisionLimits
 pub mod Index
+pub mod Prepared
 pub mod Private

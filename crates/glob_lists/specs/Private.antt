@@ -10,7 +10,9 @@ pub mod Matching
 pub mod Reaching
 pub mod Rows
 pub mod Showing
+pub mod Sights
 pub mod Spending
+pub mod Stored
 pub mod Tables
 pub mod Walking
 pub mod Ways

@@ -29,6 +29,7 @@ impl Class {
 }
 
 /// Where a row stands, or that there is none, in four bytes: the number is one more than its place, or 0.
+#[repr(C)]
 #[derive(Debug, Copy, Clone)]
 pub(crate) struct Link(u32);
 

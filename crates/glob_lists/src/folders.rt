@@ -3,13 +3,13 @@
 ghost use Rattle.std.specs.Prelude.{◌≡◌, ◌↔◌, ◌+◌, ◌*◌, ◌^◌, ◌++◌, ◌∷◌, [], ◌<◌, IfOk, IfSome, IsTrue, OnOk, length, map, take};
 ghost use Rattle.gix_glob.specs.EntryLists.{entry_list_of};
 ghost use Rattle.glob_lists.specs.Index.{AreTooMany, entry_count};
-ghost use Rattle.glob_lists.specs.Private.Folders.{AllUpTo, AreFolders, AreFoldersUpTo, AreSameFolders, IsFolderOf, IsForest, IsLastBeginning, IsLastUpTo, IsSameFolder, base_at};
-ghost use Rattle.glob_lists.specs.Private.Fronts.{IsUpTo, front_key};
+ghost use Rattle.glob_lists.specs.Private.Folders.{AllUpTo, AreAllAfter, AreFolders, AreFoldersUpTo, AreSameFolders, IsFolderOf, IsForest, IsLastBeginning, IsLastUpTo, IsSameFolder, base_at};
+ghost use Rattle.glob_lists.specs.Private.Fronts.{AreSameUpTo, IsUpTo, front_key};
 ghost use Rattle.glob_lists.specs.Private.Indexes.{AreFolderedBy};
 ghost use Rattle.glob_lists.specs.Private.Looking.{LooksUpTo};
 
 use crate::chains::Link;
-use crate::fronts::{FRONT, begins, front_key, is_up_to};
+use crate::fronts::{Compared, FRONT, begins, compare_from, front_key, is_up_to};
 use gix_glob::search;
 use gix_glob::search::pattern::List;
 use gix_glob::wildmatch::Counts;
@@ -253,38 +253,95 @@ pub(crate) fn last_up_to<T: search::Pattern, S: Ledger, L: Ledger>(
     let key = front_key(path);
     let mut low: usize = 0;
     let mut size = folders.len();
+    // what the base before those that are left has in common with the path, and the base after them: those between have it, too
+    let mut low_same: usize = 0;
+    let mut high_same: usize = 0;
     'halves: while size > 0 {
         let half = size / 2;
-        if is_folder_up_to(&folders[low + half], lists, path, key, counts) {
+        let known = low_same.min(high_same);
+        let found = compare_folder(&folders[low + half], lists, path, key, known, counts);
+        let is_up_to = found.is_up_to;
+        if is_up_to {
             low += half + 1;
             size -= half + 1;
+            low_same = found.same;
         } else {
             size = half;
+            high_same = found.same;
         }
     }
     Link::up_to(low)
 }
 
-/// Whether the base of a folder doesn't come after a path, whose front has this number.
+/// Whether a link leads to the last folder whose base doesn't come after a path. Where it leads to none this isn't known.
 #[inline(always)]
-fn is_folder_up_to<T: search::Pattern, S: Ledger, L: Ledger>(
+pub(crate) fn is_last_up_to<T: search::Pattern>(
+    folders: &[Folder],
+    lists: &[List<T>],
+    path: &[u8],
+    link: Link,
+) -> bool
+    requires forest { IsForest (map (entry_list_of T.seen) lists.now) folders.now }
+    ensures { IsTrue result → IsLastUpTo (map (entry_list_of T.seen) lists.now) folders.now path.now link }
+{
+    let Some(place) = link.place() else {
+        return false;
+    };
+    if place >= folders.len() {
+        return false;
+    }
+    if !is_up_to(base_at(lists, folders[place].list), path) {
+        return false;
+    }
+    all_after(folders, lists, path, place + 1)
+}
+
+/// Whether the bases of all folders from a place on come after a path.
+#[inline(always)]
+fn all_after<T: search::Pattern>(
+    folders: &[Folder],
+    lists: &[List<T>],
+    path: &[u8],
+    place: usize,
+) -> bool
+    requires forest { IsForest (map (entry_list_of T.seen) lists.now) folders.now }
+    ensures { IsTrue result → AreAllAfter (map (entry_list_of T.seen) lists.now) folders.now path.now place }
+{
+    if place >= folders.len() {
+        return true;
+    }
+    if is_up_to(base_at(lists, folders[place].list), path) {
+        return false;
+    }
+    true
+}
+
+/// How the base of a folder compares with a path, whose front has this number, and with which it has so many bytes alike.
+#[inline(always)]
+fn compare_folder<T: search::Pattern, S: Ledger, L: Ledger>(
     folder: &Folder,
     lists: &[List<T>],
     path: &[u8],
     key: u64,
+    known: usize,
     counts: &mut Counts<S, L>,
-) -> bool
+) -> Compared
     requires of { IsFolderOf (map (entry_list_of T.seen) lists.now) folder.now }
     requires key { key ≡ front_key path.now FRONT }
-    ensures order { IsTrue result ↔ IsUpTo (base_at (map (entry_list_of T.seen) lists.now) folder.now.list) path.now }
+    requires known { AreSameUpTo (base_at (map (entry_list_of T.seen) lists.now) folder.now.list) path.now known }
+    ensures order { IsTrue result.is_up_to ↔ IsUpTo (base_at (map (entry_list_of T.seen) lists.now) folder.now.list) path.now }
+    ensures same { AreSameUpTo (base_at (map (entry_list_of T.seen) lists.now) folder.now.list) path.now result.same }
     ensures looks { LooksUpTo counts.old counts.new (2 * length path.now) }
 {
     if folder.key != key {
-        return folder.key < key;
+        return Compared {
+            is_up_to: folder.key < key,
+            same: 0,
+        };
     }
     let base = base_at(lists, folder.list);
     counts.looks(2 * base.len().min(path.len()));
-    is_up_to(base, path)
+    compare_from(base, path, known)
 }
 
 /// The base of the list at a place; empty where it has none, or there is no such list.

@@ -1,6 +1,6 @@
 //! The order of texts by their bytes, in which the case of letters doesn't count, and which text begins another.
 ghost use Rattle.std.specs.Prelude.{◌≡◌, ◌↔◌, ◌≤◌, IsTrue, length};
-ghost use Rattle.glob_lists.specs.Private.Fronts.{AreBytes, Begins, IsUpTo, folded_at, front_key};
+ghost use Rattle.glob_lists.specs.Private.Fronts.{AreBytes, AreSameUpTo, Begins, IsUpTo, folded_at, front_key};
 
 /// How many bytes at the front of a text make its number.
 pub(crate) const FRONT: usize = 8;
@@ -25,6 +25,42 @@ fn folded_at(text: &[u8], place: usize) -> u8
     match text.get(place) {
         Some(byte) => byte.to_ascii_lowercase(),
         None => 0,
+    }
+}
+
+/// How two texts compare.
+#[derive(Debug, Copy, Clone)]
+pub(crate) struct Compared {
+    /// Whether the left one comes before the right one or is the same.
+    pub(crate) is_up_to: bool,
+    /// How many bytes from the front both are known to have alike.
+    pub(crate) same: usize,
+}
+
+/// How two texts compare, which are known to have so many bytes from the front alike: these aren't read.
+pub(crate) fn compare_from(left: &[u8], right: &[u8], known: usize) -> Compared
+    requires { AreSameUpTo left.now right.now known }
+    ensures order { IsTrue result.is_up_to ↔ IsUpTo left.now right.now }
+    ensures same { AreSameUpTo left.now right.now result.same }
+{
+    let most = left.len().min(right.len());
+    'bytes: for n in known..most {
+        // most bytes that are alike are the same, which costs less to see
+        if left[n] == right[n] {
+            continue;
+        }
+        let byte = left[n].to_ascii_lowercase();
+        let other = right[n].to_ascii_lowercase();
+        if byte != other {
+            return Compared {
+                is_up_to: byte < other,
+                same: n,
+            };
+        }
+    }
+    Compared {
+        is_up_to: left.len() <= right.len(),
+        same: most,
     }
 }
 

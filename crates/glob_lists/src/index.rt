@@ -18,6 +18,8 @@ use crate::matching::matches_into;
 use crate::path::RepositoryPath;
 use crate::reached::Reached;
 use crate::row::Row;
+use crate::sight::Sight;
+use crate::sights::sights_of;
 use crate::table::Table;
 use crate::way::Ways;
 use gix_glob::pattern::Case;
@@ -28,6 +30,9 @@ use std::alloc::{AllocError, Global};
 use std::marker::{Brand, Model};
 use std::sync::ledger::{Blank, Ledger};
 
+/// How many rows on the way of a path cost as much as one of a table, since most lists on the way are passed over whole.
+const ROWS_ON_THE_WAY: usize = 2;
+
 /// Lists of patterns, and an index of them by what each pattern asks of a path. It is made once, and then tests only the few
 /// patterns that can match a path. Contracts see its lists, and whether the case of letters counts.
 #[derive(Debug, Drop)]
@@ -37,6 +42,8 @@ pub struct ListIndex<'a, T: search::Pattern> {
     table: Table,
     /// The folders of the lists, where going through those on the way of a path can pay.
     folders: Option<Vec<Folder>>,
+    /// What the rows of the list of each folder ask for together.
+    sights: Vec<Sight>,
 }
 
 impl<'a, T: search::Pattern> Model for ListIndex<'a, T> {
@@ -50,7 +57,20 @@ impl<'a, T: search::Pattern> Model for ListIndex<'a, T> {
 
     ghost view = { λ index. record { lists = index.lists.now; case = index.case } };
 
-    ghost invariant = { λ index. IsIndexBy (map (entry_list_of T.seen) index.lists.now) index.table (option_map vec_items index.folders) };
+    ghost invariant = { λ index. IsIndexBy (map (entry_list_of T.seen) index.lists.now) index.table (option_map vec_items index.folders) index.sights.items };
+}
+
+/// What an index found for the path before, for the next one: where paths come in order they share their folders.
+#[derive(Debug, Copy, Clone)]
+pub struct Cursor {
+    last: Link,
+}
+
+impl Cursor {
+    /// Nothing was found yet.
+    pub fn new() -> Cursor {
+        Cursor { last: Link::NONE }
+    }
 }
 
 /// What decides about a path, and what it took to find it.
@@ -64,7 +84,7 @@ pub struct CountedDecision {
 
 impl<'a, T: search::Pattern> ListIndex<'a, T> {
     /// The index of the lists, whose bases have to be those of folders: [`bases_are_folders`](crate::bases_are_folders). It
-    /// takes 24 bytes for each pattern, 24 for each of 16 lists or more, and some 2 KB once.
+    /// takes 24 bytes for each pattern, 48 for each of 16 lists or more, and some 2 KB once.
     ///
     /// # Errors
     /// [`IndexError::TooMany`] where there are 2^32 patterns or more, or more than 2^32 lists, and there alone;
@@ -86,12 +106,22 @@ impl<'a, T: search::Pattern> ListIndex<'a, T> {
         'lists: for i in 0..lists.len() {
             add_list(&mut table, lists, i)?;
         }
-        let folders = folders_of(alloc, lists)?;
+        let Some(folders) = folders_of(alloc, lists)? else {
+            return Ok(ListIndex {
+                lists,
+                case,
+                table,
+                folders: None,
+                sights: Vec::new(alloc),
+            });
+        };
+        let sights = sights_of(alloc, lists, table.rows(), &folders)?;
         Ok(ListIndex {
             lists,
             case,
             table,
-            folders,
+            folders: Some(folders),
+            sights,
         })
     }
 
@@ -134,6 +164,43 @@ impl<'a, T: search::Pattern> ListIndex<'a, T> {
         self.decide_with_counts(path, &mut Counts::<S, L>::new(steps, looks))
     }
 
+    /// Which pattern decides about a path, as [`ListIndex::decide`] answers it, whatever the cursor holds. What was found for the
+    /// path before saves a search where this one lies in the same folder. No memory is taken.
+    pub fn decide_near(
+        &self,
+        path: &RepositoryPath<'_>,
+        cursor: &mut Cursor,
+    ) -> Option<(usize, usize)>
+        ensures { Decides (map (entry_list_of T.seen) self.now.lists) path.now.bytes path.now.is_dir self.now.case result }
+    {
+        self.decide_near_with_new_counts::<Brand, Brand>(path, cursor, Blank::new(1), Blank::new(1))
+    }
+
+    /// Which pattern decides about a path, with new counts that no one asks for.
+    #[inline(always)]
+    fn decide_near_with_new_counts<S: Ledger, L: Ledger>(
+        &self,
+        path: &RepositoryPath<'_>,
+        cursor: &mut Cursor,
+        steps: Blank,
+        looks: Blank,
+    ) -> Option<(usize, usize)>
+        requires steps { IsBlankOf S.name S.parts steps }
+        requires looks { IsBlankOf L.name L.parts looks }
+        ensures { Decides (map (entry_list_of T.seen) self.now.lists) path.now.bytes path.now.is_dir self.now.case result }
+    {
+        let mut counts = Counts::<S, L>::new(steps, looks);
+        let Some(ways) = self.ways() else {
+            return self.decide_among_all(path, &mut counts);
+        };
+        let last = ways.last_near(path, cursor.last, &mut counts);
+        cursor.last = last;
+        if !self.pays_to_go(&ways, last, path) {
+            return self.decide_among_all(path, &mut counts);
+        }
+        ways.decide(path, last, &mut counts)
+    }
+
     /// Which pattern decides about a path, as [`ListIndex::decide`] answers it, with its steps and looks counted. No memory is
     /// taken.
     ///
@@ -167,7 +234,7 @@ impl<'a, T: search::Pattern> ListIndex<'a, T> {
     #[inline(always)]
     fn ways(&self) -> Option<Ways<'_, T>>
         ensures lists { IfSome result (λ ways. (ways.lists.now ≡ self.now.lists) × (ways.case ≡ self.now.case)) }
-        ensures made { IfSome result (λ ways. AreWays (map (entry_list_of T.seen) ways.lists.now) ways.rows.now ways.folders.now) }
+        ensures made { IfSome result (λ ways. AreWays (map (entry_list_of T.seen) ways.lists.now) ways.rows.now ways.folders.now ways.sights.now) }
     {
         match &self.folders {
             Some(folders) => {
@@ -179,13 +246,15 @@ impl<'a, T: search::Pattern> ListIndex<'a, T> {
                     case: self.case,
                     rows: self.table.rows(),
                     folders: folders.as_slice(),
+                    sights: &self.sights,
                 })
             }
             None => None,
         }
     }
 
-    /// Whether a path meets fewer rows on its way than in the table, and fewer than half of all. It reads the last byte.
+    /// Whether a path on its way meets at most half of all rows, and few beside those that it meets in the table. It reads the last
+    /// byte.
     fn pays_to_go(&self, ways: &Ways<'_, T>, last: Link, path: &RepositoryPath<'_>) -> bool
         ensures { IsTrue result → 0 < length path.now.bytes }
     {
@@ -193,7 +262,8 @@ impl<'a, T: search::Pattern> ListIndex<'a, T> {
             return false;
         };
         let rows = ways.row_count(last);
-        rows.saturating_mul(2) <= self.table.len() && rows <= self.table.met(*byte)
+        let met = self.table.met(*byte);
+        rows.saturating_mul(2) <= self.table.len() && rows <= met.saturating_mul(ROWS_ON_THE_WAY)
     }
 
     /// Which pattern decides about a path, by the rows of all lists or by each pattern in turn.

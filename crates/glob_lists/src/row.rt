@@ -8,25 +8,26 @@ use crate::chains::{Class, Link};
 use crate::literals::{end_key, has_all, literal_end, needed_bytes};
 use crate::probe::Probe;
 use gix_glob::Pattern;
+use gix_glob::pattern::PatternView;
 
 /// What a pattern asks of a path, and where its mapping stands.
 #[derive(Debug, Copy, Clone)]
 pub(crate) struct Row {
     /// What is asked for: the number of the text's literal end; in the class [`Class::Always`] the set of the bytes that are
     /// needed.
-    asked: u64,
+    pub(crate) asked: u64,
     /// The row before this one that has its class.
-    before: Link,
+    pub(crate) before: Link,
     /// The place of the list.
-    list: u32,
+    pub(crate) list: u32,
     /// The place of the mapping in its list.
-    mapping: u32,
+    pub(crate) mapping: u32,
     /// How the text ends.
-    class: Class,
+    pub(crate) class: Class,
     /// The length of the literal end, in bytes.
-    length: u8,
+    pub(crate) length: u8,
     /// Whether the pattern looks at the last part of a path alone.
-    is_name: bool,
+    pub(crate) is_name: bool,
 }
 
 impl Row {
@@ -36,9 +37,18 @@ impl Row {
         ensures list { result.list ≡ list }
         ensures mapping { result.mapping ≡ mapping }
     {
-        let text = pattern.text();
+        Row::of_view(pattern.view(), list, mapping)
+    }
+
+    /// The row of a borrowed pattern, not chained to another.
+    pub(crate) fn of_view(pattern: PatternView<'_>, list: u32, mapping: u32) -> Row
+        ensures asks { Asks pattern.entry.text.now pattern.entry.mode result }
+        ensures list { result.list ≡ list }
+        ensures mapping { result.mapping ≡ mapping }
+    {
+        let text = pattern.text;
         let length = literal_end(text);
-        let is_name = pattern.mode().looks_at_name();
+        let is_name = pattern.mode.looks_at_name();
         if length == 0 {
             return Row {
                 asked: needed_bytes(text),
@@ -66,6 +76,30 @@ impl Row {
         ensures { result ≡ self.now.class }
     {
         self.class
+    }
+
+    /// The number of the literal end, or the set of the bytes that are needed.
+    #[inline(always)]
+    pub(crate) fn asked(&self) -> u64
+        ensures { result ≡ self.now.asked }
+    {
+        self.asked
+    }
+
+    /// The length of the literal end, in bytes.
+    #[inline(always)]
+    pub(crate) fn length(&self) -> u8
+        ensures { result ≡ self.now.length }
+    {
+        self.length
+    }
+
+    /// Whether the pattern looks at the last part of a path alone.
+    #[inline(always)]
+    pub(crate) fn is_name(&self) -> bool
+        ensures { result ≡ self.now.is_name }
+    {
+        self.is_name
     }
 
     /// The places of the list and of the mapping.

@@ -31,11 +31,11 @@ pub(crate) struct Table {
 #[derive(Debug, Copy, Clone)]
 pub(crate) struct Walk {
     /// The next row of the path's own class.
-    own: Link,
+    pub(crate) own: Link,
     /// The next row of the class [`Class::Always`].
-    other: Link,
+    pub(crate) other: Link,
     /// The place from which on all rows were passed.
-    passed_from: usize,
+    pub(crate) passed_from: usize,
 }
 
 impl Table {

@@ -1,5 +1,5 @@
 //! The lists on the way of a path, whose base it begins with: they are gone through from the path's own folder up.
-ghost use Rattle.std.specs.Prelude.{◌+◌, ◌*◌, ◌^◌, ◌<◌, ◌≤◌, length, map};
+ghost use Rattle.std.specs.Prelude.{◌≡◌, ◌+◌, ◌*◌, ◌^◌, ◌<◌, ◌≤◌, IsTrue, Some, length, map, slice_get};
 ghost use Rattle.gix_glob.specs.EntryLists.{entry_list_of};
 ghost use Rattle.gix_glob.specs.PatternLimits.{pattern_look_limit};
 ghost use Rattle.gix_glob.specs.Steps.{NeverFall, step_limit};
@@ -9,15 +9,19 @@ ghost use Rattle.glob_lists.specs.Index.{entry_count};
 ghost use Rattle.glob_lists.specs.Private.Folders.{HasFolders, IsFolderOf, IsForest, IsLastUpTo};
 ghost use Rattle.glob_lists.specs.Private.Looking.{LooksUpTo};
 ghost use Rattle.glob_lists.specs.Private.Showing.{Shows};
+ghost use Rattle.glob_lists.specs.Private.Sights.{AreSights, NoRowPasses};
 ghost use Rattle.glob_lists.specs.Private.Tables.{AreRows};
-ghost use Rattle.glob_lists.specs.Private.Ways.{IsLastOfList, SpendsOn, TellsBelow};
+ghost use Rattle.glob_lists.specs.Private.Walking.{NonePasses};
+ghost use Rattle.glob_lists.specs.Private.Ways.{IsLastOfList, IsPastAnswers, SpendsBelow, SpendsOn, TellsBelow};
 
 use crate::chains::Link;
-use crate::folders::{Folder, last_up_to};
+use crate::folders::{Folder, is_last_up_to, last_up_to};
 use crate::laws;
+use crate::literals::LONGEST_END;
 use crate::path::RepositoryPath;
 use crate::probe::Probe;
 use crate::row::Row;
+use crate::sight::{Sight, pair_bit};
 use gix_glob::pattern::{Case, PatternView};
 use gix_glob::search;
 use gix_glob::search::pattern::List;
@@ -31,6 +35,7 @@ pub(crate) struct Ways<'i, T: search::Pattern> {
     pub(crate) case: Case,
     pub(crate) rows: &'i [Row],
     pub(crate) folders: &'i [Folder],
+    pub(crate) sights: &'i [Sight],
 }
 
 impl<'i, T: search::Pattern> Ways<'i, T> {
@@ -47,6 +52,24 @@ impl<'i, T: search::Pattern> Ways<'i, T> {
         ensures looks { LooksUpTo counts.old counts.new (65 * length path.now.bytes) }
     {
         last_up_to(self.folders, self.lists, path.bytes(), counts)
+    }
+
+    /// The last folder whose base doesn't come after a path: one that was found for another path, where it is the same.
+    #[inline(always)]
+    pub(crate) fn last_near<S: Ledger, L: Ledger>(
+        &self,
+        path: &RepositoryPath<'_>,
+        near: Link,
+        counts: &mut Counts<S, L>,
+    ) -> Link
+        requires fits { length self.now.folders.now < 2 ^ 32 }
+        requires forest { IsForest (map (entry_list_of T.seen) self.now.lists.now) self.now.folders.now }
+        ensures { IsLastUpTo (map (entry_list_of T.seen) self.now.lists.now) self.now.folders.now path.now.bytes result }
+    {
+        if is_last_up_to(self.folders, self.lists, path.bytes(), near) {
+            return near;
+        }
+        self.last_up_to(path, counts)
     }
 
     /// How many rows a path meets that goes up from a folder.
@@ -73,6 +96,7 @@ impl<'i, T: search::Pattern> Ways<'i, T> {
         requires rows { AreRows (map (entry_list_of T.seen) self.now.lists.now) self.now.rows.now }
         requires forest { IsForest (map (entry_list_of T.seen) self.now.lists.now) self.now.folders.now }
         requires all { HasFolders (map (entry_list_of T.seen) self.now.lists.now) self.now.folders.now }
+        requires sights { AreSights (map (entry_list_of T.seen) self.now.lists.now) self.now.rows.now self.now.folders.now self.now.sights.now }
         requires last { IsLastUpTo (map (entry_list_of T.seen) self.now.lists.now) self.now.folders.now path.now.bytes last }
         requires some { 0 < length path.now.bytes }
         ensures exact { Decides (map (entry_list_of T.seen) self.now.lists.now) path.now.bytes path.now.is_dir self.now.case result }
@@ -90,12 +114,58 @@ impl<'i, T: search::Pattern> Ways<'i, T> {
         let mut link = last;
         'folders: while let Some(place) = link.place() {
             let folder = &self.folders[place];
-            if let Some(mapping) = self.last_match(folder, path, &probe, counts) {
+            if let Some(mapping) = self.last_at(place, folder, path, &probe, counts) {
                 return Some((folder.list(), mapping));
             }
             link = folder.above();
         }
         None
+    }
+
+    /// What [`Ways::last_match`] answers for the folder at a place, whose list is passed over where none of its rows can pass.
+    #[inline(always)]
+    fn last_at<S: Ledger, L: Ledger>(
+        &self,
+        place: usize,
+        folder: &Folder,
+        path: &RepositoryPath<'_>,
+        probe: &Probe,
+        counts: &mut Counts<S, L>,
+    ) -> Option<usize>
+        requires bases { BasesAreFolders (map (entry_list_of T.seen) self.now.lists.now) }
+        requires rows { AreRows (map (entry_list_of T.seen) self.now.lists.now) self.now.rows.now }
+        requires there { slice_get self.now.folders.now place ≡ Some folder.now }
+        requires of { IsFolderOf (map (entry_list_of T.seen) self.now.lists.now) folder.now }
+        requires sights { AreSights (map (entry_list_of T.seen) self.now.lists.now) self.now.rows.now self.now.folders.now self.now.sights.now }
+        requires shows { Shows path.now.bytes probe.now }
+        ensures last { IsLastOfList (map (entry_list_of T.seen) self.now.lists.now) path.now.bytes path.now.is_dir self.now.case folder.now.list result }
+        ensures spends { SpendsOn (map (entry_list_of T.seen) self.now.lists.now) folder.now.list (length path.now.bytes) counts.old counts.new }
+    {
+        // a law does nothing: it is called for what it ensures
+        laws::answering_patterns_pass();
+        if self.is_passed_over(place, path.bytes(), probe) {
+            return None;
+        }
+        self.last_match(folder, path, probe, counts)
+    }
+
+    /// Whether no row of the list of the folder at a place can pass.
+    #[inline(always)]
+    fn is_passed_over(&self, place: usize, path: &[u8], probe: &Probe) -> bool
+        requires sights { AreSights (map (entry_list_of T.seen) self.now.lists.now) self.now.rows.now self.now.folders.now self.now.sights.now }
+        requires shows { Shows path.now probe.now }
+        ensures { IsTrue result → NoRowPasses (map (entry_list_of T.seen) self.now.lists.now) self.now.rows.now self.now.folders.now place probe.now }
+    {
+        if path.len() < LONGEST_END {
+            return false;
+        }
+        if place >= self.sights.len() {
+            return false;
+        }
+        if self.sights[place].is_seen(probe, pair_bit(probe.key(2))) {
+            return false;
+        }
+        true
     }
 
     /// The place of the last mapping of a list that matches what its base leaves of a path.
@@ -116,9 +186,39 @@ impl<'i, T: search::Pattern> Ways<'i, T> {
         // a law does nothing: it is called for what it ensures
         laws::answering_patterns_pass();
         let list = &self.lists[folder.list()];
+        let first = folder.first_row();
+        let count = list.patterns.len();
+        let end = self.shown_up_to(first, count, probe, counts);
+        if end == 0 {
+            return None;
+        }
+        self.last_match_before(folder, end, path, probe, counts)
+    }
+
+    /// What [`Ways::last_match`] answers, where no mapping from a place on matches.
+    fn last_match_before<S: Ledger, L: Ledger>(
+        &self,
+        folder: &Folder,
+        end: usize,
+        path: &RepositoryPath<'_>,
+        probe: &Probe,
+        counts: &mut Counts<S, L>,
+    ) -> Option<usize>
+        requires bases { BasesAreFolders (map (entry_list_of T.seen) self.now.lists.now) }
+        requires rows { AreRows (map (entry_list_of T.seen) self.now.lists.now) self.now.rows.now }
+        requires of { IsFolderOf (map (entry_list_of T.seen) self.now.lists.now) folder.now }
+        requires shows { Shows path.now.bytes probe.now }
+        requires end { IsPastAnswers (map (entry_list_of T.seen) self.now.lists.now) path.now.bytes path.now.is_dir self.now.case folder.now.list end }
+        ensures last { IsLastOfList (map (entry_list_of T.seen) self.now.lists.now) path.now.bytes path.now.is_dir self.now.case folder.now.list result }
+        ensures spends { SpendsBelow (map (entry_list_of T.seen) self.now.lists.now) folder.now.list (length path.now.bytes) end counts.old counts.new }
+    {
+        // a law does nothing: it is called for what it ensures
+        laws::answering_patterns_pass();
+        let list = &self.lists[folder.list()];
         let rest = path.under_with_counts(list, self.case, counts)?;
         let mappings = list.patterns.as_slice();
-        'mappings: for m in (0..mappings.len()).rev() {
+        let most = end.min(mappings.len());
+        'mappings: for m in (0..most).rev() {
             let row = &self.rows[folder.first_row() + m];
             let pattern = mappings[m].pattern.view();
             if is_answer(row, probe, pattern, &rest, self.case, counts) {
@@ -126,6 +226,33 @@ impl<'i, T: search::Pattern> Ways<'i, T> {
             }
         }
         None
+    }
+
+    /// How many of so many rows from a place on there are up to the last one that asks for what a path shows; 0 where none does. One
+    /// look is counted at each row after that.
+    #[inline(always)]
+    fn shown_up_to<S: Ledger, L: Ledger>(
+        &self,
+        first: usize,
+        count: usize,
+        probe: &Probe,
+        counts: &mut Counts<S, L>,
+    ) -> usize
+        requires { first + count ≤ length self.now.rows.now }
+        ensures few { result ≤ count }
+        ensures none { NonePasses self.now.rows.now probe.now (first + result) (first + count) }
+        ensures steps { counts.new.steps ≡ counts.old.steps }
+        ensures looks { counts.new.looks + result ≡ counts.old.looks + count }
+    {
+        let mut end = count;
+        'rows: while end > 0 {
+            if self.rows[first + (end - 1)].is_shown_by(probe) {
+                return end;
+            }
+            counts.looks(1);
+            end -= 1;
+        }
+        0
     }
 }
 

@@ -1,10 +1,10 @@
 -- The folders on the way to a path, and their lists.
-use Rattle.std.specs.Prelude.{◌≡◌, ℕ, ◌==◌, if◌then◌else◌, List, [], ◌∷◌, ◌++◌, drop, Option, None, Some}
+use Rattle.std.specs.Prelude.{◌≡◌, ◌⊎◌, ℕ, ◌==◌, if◌then◌else◌, List, [], ◌∷◌, ◌++◌, drop, Option, None, Some}
 use Rattle.std.specs.List.{AllZip}
 use Rattle.gix_glob.specs.declared.pattern.Case.{Case}
 use Rattle.gix_glob.specs.Bytes.{slash}
 use Rattle.gix_glob.specs.EntryLists.{EntryList}
-use Rattle.glob_trees.specs.Trees.{IsBelowIgnored}
+use Rattle.glob_trees.specs.Trees.{HasNoneIgnored, IsAbove, IsBelowIgnored}
 
 -- a folder, by its path from the top, without a slash at its end; the top is named by no bytes
 abbrev pub Folder : Type 0
@@ -37,6 +37,14 @@ pub record IsListOf {V : Type 0} (shows : List ℕ → EntryList V → Type 0) (
 -- what a source showed, it shows on
 abbrev pub GoesOn : {S V : Type 0} → (S → List ℕ → EntryList V → Type 0) → S → S → Type 0
 GoesOn {S} {V} shows old new = (folder : Folder) (list : EntryList V) → shows old folder list → shows new folder list
+
+-- of no folder was a list given that wasn't given before, but of one that is allowed
+abbrev pub GivesOnly : (Folder → Type 0) → (Folder → Type 0) → (Folder → Type 0) → Type 0
+GivesOnly Allowed old new = (folder : Folder) → new folder → old folder ⊎ Allowed folder
+
+-- a folder that a path asks for: the top, or one above the path that isn't ignored, and lies below none that is
+abbrev pub IsAskedFor : {V : Type 0} → List (EntryList V) → Case → List ℕ → Folder → Type 0
+IsAskedFor lists case path folder = (folder ≡ []) ⊎ (IsAbove folder path × HasNoneIgnored lists case (folder ++ slash ∷ []))
 
 -- The lists past the first `front_count` are those of the folders on the way to a path, one for each, from the top down as far as
 -- the first folder that is ignored, by these lists: what lies in that one, and in each further folder, is below an ignored folder.

@@ -1,11 +1,13 @@
 //! The folders on the way to the path that was asked last, with their lists, and those that were left.
-ghost use Rattle.std.specs.Prelude.{◌≡◌, ◌+◌, ◌<◌, ℕ, IfOk, IsSome, MatchOption, OnErr, OnOk, length, map, option_map, take};
+ghost use Rattle.std.specs.Prelude.{◌≡◌, ◌+◌, ◌<◌, ℕ, [], IfOk, IsSome, MatchOption, OnErr, OnOk, length, map, option_map, take};
+ghost use Rattle.std.specs.List.{Contains};
 ghost use Rattle.std.specs.Vec.{vec_items};
 ghost use Rattle.gix_glob.specs.Bytes.{HasByte, slash};
 ghost use Rattle.gix_glob.specs.EntryLists.{entry_list_of};
 ghost use Rattle.glob_trees.specs.Private.Entered.{AreOfFolders, EndsInFolder, IsFrontOf, IsReady, IsSomewhere, IsUnderWay, KeepsOn};
+ghost use Rattle.glob_trees.specs.Private.Left.{HasKept, HasRoom, KeepsLists};
 ghost use Rattle.glob_trees.specs.Trees.{DecidesInTree, Ignores};
-ghost use Rattle.glob_trees.specs.Ways.{AreOnTheWay, GoesOn, IsListOf};
+ghost use Rattle.glob_trees.specs.Ways.{AreOnTheWay, GivesOnly, GoesOn, IsAskedFor, IsListOf, folders_to};
 
 use crate::deciding::ignoring;
 use crate::fault::TreeFault;
@@ -39,11 +41,12 @@ impl<T: search::Pattern, S: FolderLists<T>> Entered<T, S> {
         &mut self,
         path: &RepositoryPath<'_>,
     ) -> Result<Option<(usize, usize)>, TreeFault<S::Fault>>
-        requires ready { IsReady (S.shows T.Seen) T.seen self.old }
+        requires ready { IsReady (S.shows T.Seen) S.gave T.seen self.old }
         ensures decides { IfOk result (λ pair. DecidesInTree (map (entry_list_of T.seen) self.new.lists.items) path.now.bytes path.now.is_dir self.new.case pair) }
         ensures way { OnOk result (AreOnTheWay (S.shows T.Seen self.new.source) self.new.front_count (map (entry_list_of T.seen) self.new.lists.items) self.new.case path.now.bytes) }
-        ensures ready { IsReady (S.shows T.Seen) T.seen self.new }
+        ensures ready { IsReady (S.shows T.Seen) S.gave T.seen self.new }
         ensures keeps { KeepsOn (S.shows T.Seen) self.old self.new }
+        ensures asks { GivesOnly (IsAskedFor (map (entry_list_of T.seen) self.new.lists.items) self.new.case path.now.bytes) (S.gave self.old.source) (S.gave self.new.source) }
     {
         self.enter_top()?;
         let bytes = path.bytes();
@@ -65,10 +68,11 @@ impl<T: search::Pattern, S: FolderLists<T>> Entered<T, S> {
     /// # Errors
     /// Where the source fails, or memory was refused.
     fn enter_top(&mut self) -> Result<(), TreeFault<S::Fault>>
-        requires ready { IsReady (S.shows T.Seen) T.seen self.old }
-        ensures under { OnOk result (IsSomewhere (S.shows T.Seen) T.seen self.new) }
-        ensures ready { OnErr result (IsReady (S.shows T.Seen) T.seen self.new) }
+        requires ready { IsReady (S.shows T.Seen) S.gave T.seen self.old }
+        ensures under { OnOk result (IsSomewhere (S.shows T.Seen) S.gave T.seen self.new) }
+        ensures ready { OnErr result (IsReady (S.shows T.Seen) S.gave T.seen self.new) }
         ensures keeps { KeepsOn (S.shows T.Seen) self.old self.new }
+        ensures asks { GivesOnly (λ folder. folder ≡ []) (S.gave self.old.source) (S.gave self.new.source) }
     {
         if self.lists.len() > self.front_count {
             return Ok(());
@@ -85,11 +89,13 @@ impl<T: search::Pattern, S: FolderLists<T>> Entered<T, S> {
     /// Where the source fails, or memory was refused.
     fn enter(&mut self, path: &[u8], place: usize) -> Result<(), TreeFault<S::Fault>>
         requires slash { HasByte path.now place slash }
-        requires under { IsUnderWay (S.shows T.Seen) T.seen self.old (take place path.now) }
+        requires under { IsUnderWay (S.shows T.Seen) S.gave T.seen self.old (take place path.now) }
         requires kept { (pair : ℕ × ℕ) → ¬ Ignores (map (entry_list_of T.seen) self.old.lists.items) self.old.case (take place path.now) pair }
-        ensures entered { OnOk result (IsUnderWay (S.shows T.Seen) T.seen self.new (take (place + 1) path.now)) }
-        ensures under { OnErr result (IsUnderWay (S.shows T.Seen) T.seen self.new (take place path.now)) }
+        ensures entered { OnOk result (IsUnderWay (S.shows T.Seen) S.gave T.seen self.new (take (place + 1) path.now)) }
+        ensures under { OnErr result (IsUnderWay (S.shows T.Seen) S.gave T.seen self.new (take place path.now)) }
         ensures keeps { KeepsOn (S.shows T.Seen) self.old self.new }
+        ensures asks { OnOk result (GivesOnly (Contains (folders_to (take (place + 1) path.now))) (S.gave self.old.source) (S.gave self.new.source)) }
+        ensures fails { OnErr result (GivesOnly (λ _. ⊥) (S.gave self.old.source) (S.gave self.new.source)) }
     {
         if place == 0 {
             return Ok(());
@@ -103,9 +109,10 @@ impl<T: search::Pattern, S: FolderLists<T>> Entered<T, S> {
     /// Leaves the folders that aren't on the way to a path. The answer is how many of the path's bytes name the folder that is
     /// entered then, with the slash at its end.
     fn leave_to(&mut self, path: &[u8]) -> usize
-        requires under { IsSomewhere (S.shows T.Seen) T.seen self.old }
-        ensures under { IsUnderWay (S.shows T.Seen) T.seen self.new (take result path.now) }
+        requires under { IsSomewhere (S.shows T.Seen) S.gave T.seen self.old }
+        ensures under { IsUnderWay (S.shows T.Seen) S.gave T.seen self.new (take result path.now) }
         ensures keeps { KeepsOn (S.shows T.Seen) self.old self.new }
+        ensures source { self.new.source ≡ self.old.source }
     {
         'folders: while let Some(list) = self.lists.last() {
             if let Some(length) = length_on_the_way(list, path) {
@@ -118,11 +125,12 @@ impl<T: search::Pattern, S: FolderLists<T>> Entered<T, S> {
 
     /// Leaves the folder entered last, which isn't the top.
     fn leave(&mut self)
-        requires under { IsSomewhere (S.shows T.Seen) T.seen self.old }
+        requires under { IsSomewhere (S.shows T.Seen) S.gave T.seen self.old }
         requires deep { EndsInFolder self.old.lists.items }
-        ensures under { IsSomewhere (S.shows T.Seen) T.seen self.new }
+        ensures under { IsSomewhere (S.shows T.Seen) S.gave T.seen self.new }
         ensures less { length self.new.lists.items < length self.old.lists.items }
         ensures keeps { KeepsOn (S.shows T.Seen) self.old self.new }
+        ensures source { self.new.source ≡ self.old.source }
     {
         if let Some(list) = self.lists.pop() {
             self.left.put(list);
@@ -156,9 +164,15 @@ fn list_before<T: search::Pattern, S: FolderLists<T>>(
 ) -> Result<List<T>, TreeFault<S::Fault>>
     requires slash { HasByte path.now place slash }
     requires left { AreOfFolders T.seen (S.shows T.Seen source.old) left.old.lists.entries }
+    requires once { S.gave source.old (take place path.now) → HasKept left.old.lists.entries (take (place + 1) path.now) }
     ensures list { IfOk result (λ list. IsListOf (S.shows T.Seen source.new) (take place path.now) (entry_list_of T.seen list)) }
     ensures left { AreOfFolders T.seen (S.shows T.Seen source.new) left.new.lists.entries }
+    ensures kept { KeepsLists (take (place + 1) path.now) left.old.lists.entries left.new.lists.entries }
+    ensures room { OnOk result (HasRoom left.new.lists.entries (take (place + 1) path.now)) }
+    ensures none { OnErr result (¬ HasKept left.old.lists.entries (take (place + 1) path.now)) }
     ensures goes_on { GoesOn (S.shows T.Seen) source.old source.new }
+    ensures gives { OnOk result (GivesOnly (λ given. given ≡ take place path.now) (S.gave source.old) (S.gave source.new)) }
+    ensures fails { OnErr result (GivesOnly (λ _. ⊥) (S.gave source.old) (S.gave source.new)) }
 {
     let base = &path[..place + 1];
     if let Some(list) = left.take(base) {

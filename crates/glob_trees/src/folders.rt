@@ -13,10 +13,10 @@ use std::alloc::{AllocError, Global};
 /// list is the folder's path and a slash, and none for the top, as [`list_in_folder`] gives it. A folder without an ignore file
 /// has a list of no patterns.
 pub trait FolderLists<T: search::Pattern> {
-    ghost use Rattle.std.specs.Prelude.{◌≡◌, IfOk, option_map};
+    ghost use Rattle.std.specs.Prelude.{◌≡◌, IfOk, OnErr, OnOk, option_map};
     ghost use Rattle.std.specs.Vec.{vec_items};
     ghost use Rattle.gix_glob.specs.EntryLists.{EntryList, entry_list_of};
-    ghost use Rattle.glob_trees.specs.Ways.{Folder, GoesOn, base_of_folder};
+    ghost use Rattle.glob_trees.specs.Ways.{Folder, GivesOnly, GoesOn, base_of_folder};
 
     /// Why a list could not be had.
     type Fault: Drop;
@@ -25,14 +25,20 @@ pub trait FolderLists<T: search::Pattern> {
     // files allows each list.
     ghost shows: { (V : Type 0) → Self → Folder → EntryList V → Type 0 };
 
-    /// The list of a folder.
+    // Whether the source gave the list of a folder. One that keeps no account of it may say so of none: `λ _ _. ⊥`.
+    ghost gave: { Self → Folder → Type 0 };
+
+    /// The list of a folder. It is asked for once, and again only where that failed.
     ///
     /// # Errors
     /// Where the list could not be had. A later call may have it.
     fn list_of(&mut self, folder: &[u8]) -> Result<List<T>, Self::Fault>
+        requires once { ¬ gave self.old folder.now }
         ensures shown { IfOk result (λ list. shows T.Seen self.new folder.now (entry_list_of T.seen list)) }
         ensures based { IfOk result (λ list. option_map vec_items list.base ≡ base_of_folder folder.now) }
-        ensures goes_on { GoesOn (shows T.Seen) self.old self.new };
+        ensures goes_on { GoesOn (shows T.Seen) self.old self.new }
+        ensures gives { OnOk result (GivesOnly (λ given. given ≡ folder.now) (gave self.old) (gave self.new)) }
+        ensures fails { OnErr result (GivesOnly (λ _. ⊥) (gave self.old) (gave self.new)) };
 }
 
 /// The list with the base of a folder: the folder's path and a slash, and none for the top, which is named by no bytes.

@@ -1,5 +1,5 @@
 //! Laws of decisions in work trees: each is a call that does nothing, which a caller makes to know what it ensures.
-ghost use Rattle.std.specs.Prelude.{◌≡◌, ◌⊎◌, ◌++◌, ◌∷◌, ℕ, Bool, List, Option, Some};
+ghost use Rattle.std.specs.Prelude.{◌≡◌, ◌++◌, ◌∷◌, ℕ, Bool, List, Option, Some};
 ghost use Rattle.gix_glob.specs.Bytes.{slash};
 ghost use Rattle.gix_glob.specs.declared.pattern.Case.{Case};
 ghost use Rattle.gix_glob.specs.EntryLists.{EntryList};
@@ -26,12 +26,9 @@ pub fn ignored_folders_decide_below<T: search::Pattern>()
 {}
 
 /// A list whose base lies below an ignored folder changes no answer: so files there needn't be read.
-///
-/// It holds for each path below the folder, and for each that doesn't begin with the base.
 pub fn lists_below_ignored_folders_say_nothing<T: search::Pattern>()
     ensures { (lists emptied : List (EntryList T.Seen)) (folder below path : List ℕ) (is_dir : Bool) (case : Case) (by : ℕ × ℕ)
         (pair : Option (ℕ × ℕ)) → EmptiesList lists (folder ++ slash ∷ below) emptied → Ignores emptied case folder by
-        → IsAbove folder path ⊎ NothingLeft case (Some (folder ++ slash ∷ below)) path
         → DecidesInTree emptied path is_dir case pair → DecidesInTree lists path is_dir case pair }
 {}
 

@@ -1,7 +1,7 @@
 //! The lists of the folders that were left.
-ghost use Rattle.std.specs.Prelude.{IfSome, option_map};
+ghost use Rattle.std.specs.Prelude.{MatchOption, None, OnOk, option_map};
 ghost use Rattle.std.specs.Vec.{vec_items};
-ghost use Rattle.glob_trees.specs.Private.Left.{IsKept, NoMoreAreKept, NoneIsKept, OneMoreIsKept};
+ghost use Rattle.glob_trees.specs.Private.Left.{FillsRoom, FillsRoomOf, HasKept, HasMoreRooms, HasRoom, HasRoomOf, HasSameRooms, IsKept, NoneIsKept};
 
 use gix_glob::search;
 use gix_glob::search::pattern::List;
@@ -32,7 +32,8 @@ impl<T: search::Pattern> LeftLists<T> {
     /// # Errors
     /// Only where memory was refused.
     pub(crate) fn make_room(&mut self, base: &[u8]) -> Result<(), AllocError>
-        ensures { NoMoreAreKept self.old.lists.entries self.new.lists.entries }
+        ensures room { OnOk result (HasRoom self.new.lists.entries base.now) }
+        ensures more { HasMoreRooms self.old.lists.entries self.new.lists.entries }
     {
         if self.lists.contains_key(base) {
             return Ok(());
@@ -43,9 +44,10 @@ impl<T: search::Pattern> LeftLists<T> {
         Ok(())
     }
 
-    /// Puts a list under its base, where room was made for it. A list for which none was made is let go.
+    /// Puts a list under its base, where room was made for it.
     pub(crate) fn put(&mut self, list: List<T>)
-        ensures { OneMoreIsKept (option_map vec_items list.base) list self.old.lists.entries self.new.lists.entries }
+        requires room { HasRoomOf (option_map vec_items list.base) self.old.lists.entries }
+        ensures { FillsRoomOf (option_map vec_items list.base) list self.old.lists.entries self.new.lists.entries }
     {
         let Some(base) = &list.base else {
             return;
@@ -57,8 +59,10 @@ impl<T: search::Pattern> LeftLists<T> {
 
     /// Takes the list under this base out, and leaves its room.
     pub(crate) fn take(&mut self, base: &[u8]) -> Option<List<T>>
-        ensures taken { IfSome result (IsKept self.old.lists.entries base.now) }
-        ensures others { NoMoreAreKept self.old.lists.entries self.new.lists.entries }
+        ensures taken { MatchOption result (¬ HasKept self.old.lists.entries base.now) (IsKept self.old.lists.entries base.now) }
+        ensures rooms { MatchOption result
+            (HasSameRooms self.old.lists.entries self.new.lists.entries)
+            (λ _. FillsRoom base.now None self.old.lists.entries self.new.lists.entries) }
     {
         match self.lists.get_mut(base) {
             Some(room) => room.take(),

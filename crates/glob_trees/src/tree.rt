@@ -3,7 +3,7 @@ ghost use Rattle.std.specs.Prelude.{◌≡◌, IfOk, IfSome, MatchOption, OnOk, 
 ghost use Rattle.gix_glob.specs.EntryLists.{entry_list_of};
 ghost use Rattle.glob_lists.specs.Deciding.{BasesAreFolders};
 ghost use Rattle.glob_trees.specs.Trees.{DecidesInTree};
-ghost use Rattle.glob_trees.specs.Ways.{AreOnTheWay, GoesOn};
+ghost use Rattle.glob_trees.specs.Ways.{AreOnTheWay, Folder, GivesOnly, GoesOn, IsAskedFor};
 
 use crate::entered::Entered;
 use crate::fault::TreeFault;
@@ -40,7 +40,7 @@ impl<T: search::Pattern, S: FolderLists<T>> Model for Tree<T, S> {
       case = tree.entered.case;
     } };
 
-    ghost invariant = { λ tree. IsReady (S.shows T.Seen) T.seen tree.entered };
+    ghost invariant = { λ tree. IsReady (S.shows T.Seen) S.gave T.seen tree.entered };
 }
 
 /// The pattern that decides about a path, and its list.
@@ -54,8 +54,9 @@ pub struct Decision<'a, T: search::Pattern> {
 
 impl<T: search::Pattern, S: FolderLists<T> + Drop> Tree<T, S> {
     /// A tree of a source, with lists that stand before those of all folders, as files of excludes do; `None` where those don't
-    /// meet [`bases_are_folders`]. The source isn't asked for anything yet.
+    /// meet [`bases_are_folders`]. The source isn't asked for anything yet, and has given no list before.
     pub fn new(alloc: Global, source: S, fronts: Vec<List<T>>, case: Case) -> Option<Tree<T, S>>
+        requires fresh { (folder : Folder) → ¬ S.gave source folder }
         ensures { MatchOption result
             (¬ BasesAreFolders (map (entry_list_of T.seen) fronts.items))
             (λ tree. tree ≡ record { source = source; front_count = length fronts.items; lists = fronts.items; case = case }) }
@@ -94,6 +95,8 @@ impl<T: search::Pattern, S: FolderLists<T> + Drop> Tree<T, S> {
         ensures front_count { self.new.front_count ≡ self.old.front_count }
         ensures case { self.new.case ≡ self.old.case }
         ensures goes_on { GoesOn (S.shows T.Seen) self.old.source self.new.source }
+        // Each folder that the source is asked for is on the way, and neither ignored nor below an ignored one.
+        ensures asks { GivesOnly (IsAskedFor (map (entry_list_of T.seen) self.new.lists) self.new.case path.now.bytes) (S.gave self.old.source) (S.gave self.new.source) }
     {
         self.entered.find(path)
     }

@@ -1,7 +1,10 @@
 //! Rows of attribute files: what a line gives, which lines a file has, and which paths they match.
 mod files;
+mod hostile;
 mod lines;
 mod matched;
+mod states;
+mod told;
 
 use glob_attributes::{Assignment, LineReading, State};
 use std::alloc::{AllocError, Global};
@@ -49,6 +52,26 @@ pub(crate) fn write_assignments(
             text.extend_from_slice(b"=")?;
             text.extend_from_slice(value)?;
         }
+    }
+    Ok(())
+}
+
+/// Writes a space and a word that assigns a state.
+pub(crate) fn write_state(
+    text: &mut Vec<u8>,
+    name: &[u8],
+    state: &State<&[u8]>,
+) -> Result<(), AllocError> {
+    let sign: &[u8] = match state {
+        State::Unset => b" -",
+        State::Unspecified => b" !",
+        _ => b" ",
+    };
+    text.extend_from_slice(sign)?;
+    text.extend_from_slice(name)?;
+    if let State::Value(value) = state {
+        text.extend_from_slice(b"=")?;
+        text.extend_from_slice(value)?;
     }
     Ok(())
 }

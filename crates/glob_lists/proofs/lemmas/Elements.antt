@@ -1,6 +1,6 @@
 -- Elements of a list with one more, and of a list backwards.
-use Rattle.std.proofs.Common.{◌≡◌, ◌⊎◌, inl, inr, ⊎_elim, ℕ, ◌+◌, ◌-◌, ◌<◌, List, [], ◌∷◌, ◌++◌, length, get_or, reverse, Option, None, Some, sym, ◌∙◌, ap, arith, length-append}
-use Rattle.std.specs.Prelude.{slice_get, IfSome, option_map}
+use Rattle.std.proofs.Common.{◌≡◌, ◌⊎◌, inl, inr, ⊎_elim, ℕ, ◌+◌, ◌-◌, ◌<◌, List, [], ◌∷◌, ◌++◌, length, get_or, reverse, Some, sym, ◌∙◌, ap, arith, length-append}
+use Rattle.std.specs.Prelude.{slice_get}
 use Rattle.std.proofs.Math.Seq.{get_or-append_seam}
 use Rattle.std.proofs.Math.ListN.{get_or-append}
 use Rattle.std.proofs.lemmas.Bool.{cases_eq}
@@ -46,8 +46,3 @@ module _ {X : Type 0} where
       let place : length xs - 1 - (length xs - 1 - k) ≡ k = omega arith in
       slice_get-get_or (reverse xs) (length xs - 1 - k) x (omega arith)
       ∙ ap Some (get_or-reverse xs (length xs - 1 - k) x (omega arith) ∙ (ap (λ (n : ℕ). get_or xs n x) place ∙ get_or_from_slice_get xs k x x got))
-
--- what is known of the value in an option is known of the mapped one
-pub IfSome-map : {X Y : Type 0} (f : X → Y) (found : Option X) (P : Y → Type 0) → IfSome found (λ x. P (f x)) → IfSome (option_map f found) P
-IfSome-map f None P h = tt
-IfSome-map f (Some x) P h = h

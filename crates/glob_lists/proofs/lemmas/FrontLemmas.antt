@@ -52,6 +52,60 @@ Begins-between front middle text low high begins = ⊎_elim
                 high.parts
           ]
 
+pub AreSameUpTo-none : (a b : List ℕ) → AreSameUpTo a b 0
+AreSameUpTo-none a b = record { within = omega arith; inside = omega arith; same = λ j below. absurd (omega arith) }
+
+pub AreSameUpTo-less : (a b : List ℕ) (n k : ℕ) → k ≤ n → AreSameUpTo a b n → AreSameUpTo a b k
+AreSameUpTo-less a b n k low h = (let within = h.within in let inside = h.inside in record { within = omega arith; inside = omega arith; same = λ j below. h.same j (omega arith) })
+
+-- what two texts have in common with a third one, a text between them has, too
+pub AreSameUpTo-between : (front middle end text : List ℕ) (k : ℕ) → IsUpTo front middle → IsUpTo middle end → AreSameUpTo front text k → AreSameUpTo end text k
+    → AreSameUpTo middle text k
+AreSameUpTo-between front middle end text k low high first last = elim (cases_lt low.at k) [
+  | inl near ↦ elim (cases_lt high.at k) [
+    | inl close ↦ absurd (never near close)
+    | inr far ↦ record {
+      within = (let long = high.same.within in omega arith);
+      inside = first.inside;
+      same = λ j below. high.same.same j (omega arith) ∙ last.same j below;
+    }
+  ]
+  | inr far ↦ record {
+    within = (let long = low.same.inside in omega arith);
+    inside = first.inside;
+    same = λ j below. sym (low.same.same j (omega arith)) ∙ first.same j below;
+  }
+] where
+  parted : IsLessAt front middle low.at → low.at < k → high.at < k → ⊥
+  parted less near close =
+      let one = less.less in
+      let here = first.same low.at near in
+      let there = last.same low.at near in
+      elim (cases_order low.at high.at) [
+        | inl same ↦ ⊎_elim
+            (λ (ended : high.at ≡ length middle). let inside = less.inside in omega arith)
+            (λ (other : IsLessAt middle end high.at).
+            let two : folded_at middle low.at < folded_at end low.at = (subst (IsLessAt middle end) (sym same) other).less in
+            omega arith)
+            high.parts
+        | inr (inl below) ↦ (let two = high.same.same low.at below in omega arith)
+        | inr (inr above) ↦ ⊎_elim
+            (λ (ended : high.at ≡ length middle). let inside = low.same.inside in omega arith)
+            (λ (other : IsLessAt middle end high.at).
+            let two = other.less in
+            let equal = low.same.same high.at above in
+            let three = first.same high.at close in
+            let four = last.same high.at close in
+            omega arith)
+            high.parts
+      ]
+
+  never : low.at < k → high.at < k → ⊥
+  never near close = ⊎_elim
+      (λ (ended : low.at ≡ length front). let long = first.within in omega arith)
+      (λ (less : IsLessAt front middle low.at). parted less near close)
+      low.parts
+
 module _ (a b c : List ℕ) (x : IsUpTo a b) (y : IsUpTo b c) where
   both : (n : ℕ) → n ≤ x.at → n ≤ y.at → AreSameUpTo a c n
   both n low high =
@@ -170,7 +224,7 @@ pub front_key-short : (text : List ℕ) → AreBytes text → (n : ℕ) → fron
 front_key-short text bytes zero = omega arith
 front_key-short text bytes (suc n) = let before = front_key-short text bytes n in let here = folded_at-short text n bytes in omega arith
 
-room-le : (n k : ℕ) → n ≤ k → room n ≤ room k
+pub room-le : (n k : ℕ) → n ≤ k → room n ≤ room k
 room-le n zero low = subst (λ m. room m ≤ 1) (let is : 0 ≡ n = omega arith in is) (omega arith)
 room-le n (suc k) low = ⊎_elim
     (λ (same : n ≡ suc k). subst (λ m. room n ≤ room m) same (omega arith))

@@ -1,6 +1,6 @@
 -- The lists on the way of a path: those whose base begins it.
 use Rattle.std.proofs.lemmas.Bool.{cases_lt}
-use Rattle.std.proofs.Common.{◌≡◌, inl, inr, ℕ, ◌+◌, ◌<◌, Bool, List, length, get_or, map, Some, None, Option, sym, ap, subst, ◌∙◌, arith, take, length-append}
+use Rattle.std.proofs.Common.{◌≡◌, inl, inr, ℕ, ◌+◌, ◌<◌, ◌≤◌, Bool, List, length, get_or, map, Some, None, Option, sym, ap, subst, ◌∙◌, arith, take, length-append}
 use Rattle.std.specs.Prelude.{slice_get}
 use Rattle.std.specs.Char.{to_ascii_lowercase}
 use Rattle.std.proofs.lemmas.List.{get_or-map, get_or_past, length-map}
@@ -19,7 +19,12 @@ use Rattle.glob_lists.specs.Index.{entry_count}
 use Rattle.glob_lists.specs.Private.Folders.{base_at, base_of, base_text}
 use Rattle.glob_lists.specs.Private.Fronts.{Begins, folded_at}
 use Rattle.glob_lists.specs.Private.Rows.{Asks}
+use Rattle.glob_lists.specs.Private.Showing.{Shows}
 use Rattle.glob_lists.specs.Private.Tables.{AreRows, IsAtPlace, IsEntryAt}
+use Rattle.glob_lists.specs.Private.Walking.{NonePasses}
+use Rattle.glob_lists.specs.Private.Ways.{IsPastAnswers}
+use Rattle.glob_lists.proofs.lemmas.PrefilterLemmas.{AnsweringPasses}
+use Rattle.glob_lists.specs.declared.probe.Probe.{Probe}
 
 -- ---- where a base leaves something of a path, it begins the path
 
@@ -93,3 +98,30 @@ row_inside {V} lists rows are i m first list there inside begins =
     let more = entry_count-more_le lists i list there in
     let many = rows_count lists rows are in
     omega arith
+
+-- the rows of a list are within the rows
+pub rows_inside : {V : Type 0} (lists : List (EntryList V)) (rows : List Row) → AreRows lists rows → (i first : ℕ) (list : EntryList V) → slice_get lists i ≡ Some list
+    → first ≡ entry_count (take i lists) → first + length list.entries ≤ length rows
+rows_inside {V} lists rows are i first list there begins =
+    let more = entry_count-more_le lists i list there in
+    let many = rows_count lists rows are in
+    omega arith
+
+-- where no row of a list from a place on passes, no entry from there on answers
+pub IsPastAnswers-passed : {V : Type 0} (lists : List (EntryList V)) (rows : List Row) → AreRows lists rows → (path : List ℕ) (is_dir : Bool) (case : Case) (probe : Probe) → AnsweringPasses → Shows path probe
+    → (i first end : ℕ) (list : EntryList V) → slice_get lists i ≡ Some list → first ≡ entry_count (take i lists) → end ≤ length list.entries
+    → NonePasses rows probe (first + end) (first + length list.entries) → IsPastAnswers lists path is_dir case i end
+IsPastAnswers-passed {V} lists rows are path is_dir case probe law shows i first end list there begins few none = record {
+  within = λ other got. (let long : length list.entries ≡ length other.entries = ap (λ (l : EntryList V). length l.entries) (same_Some list other (sym there ∙ got)) in omega arith);
+  none = λ m past answers.
+      let entry = answers.answers.entry in
+      let under = answers.answers.answers in
+      let here : IsEntryAt lists i m entry = record { list = answers.list; there = answers.there; here = answers.answers.there } in
+      let at = row_at lists rows are i m first entry here begins in
+      let asks = row_asks lists rows are i m first entry here begins at.row at.there in
+      let same : answers.list ≡ list = same_Some answers.list list (sym answers.there ∙ there) in
+      let inside = slice_get_within answers.list.entries m entry answers.answers.there in
+      let long : length answers.list.entries ≡ length list.entries = ap (λ (l : EntryList V). length l.entries) same in
+      none (first + m) at.row (omega arith) (omega arith) at.there
+      (law entry.text entry.mode answers.list.base path under.rest is_dir case at.row probe shows asks under.left under.answers);
+}

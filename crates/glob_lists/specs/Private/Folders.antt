@@ -63,6 +63,10 @@ pub record IsLastBeginning {V : Type 0} (lists : List (EntryList V)) (folders : 
 abbrev pub AllUpTo : {V : Type 0} → List (EntryList V) → List Folder → List ℕ → Type 0
 AllUpTo lists folders text = (k : ℕ) (folder : Folder) → slice_get folders k ≡ Some folder → IsUpTo (base_at lists folder.list) text
 
+-- the base of each folder from a place on comes after the text
+abbrev pub AreAllAfter : {V : Type 0} → List (EntryList V) → List Folder → List ℕ → ℕ → Type 0
+AreAllAfter lists folders text k = (m : ℕ) (folder : Folder) → k ≤ m → slice_get folders m ≡ Some folder → ¬ IsUpTo (base_at lists folder.list) text
+
 -- The folders are in the order of their bases, and chained; and a list that lies above another one comes before it.
 pub record IsForest {V : Type 0} (lists : List (EntryList V)) (folders : List Folder) : Type 0 where
   pub each : AreFolders lists folders

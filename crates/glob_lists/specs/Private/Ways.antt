@@ -20,10 +20,21 @@ IsLastOfList lists path is_dir case i found =
     MatchOption found ((m : ℕ) → ¬ PairAnswers lists path is_dir case i m)
     (λ last. PairAnswers lists path is_dir case i last × ((m : ℕ) → PairAnswers lists path is_dir case i m → m ≤ last))
 
+-- the list at place i has so many entries at least, and none from there on answers
+pub record IsPastAnswers {V : Type 0} (lists : List (EntryList V)) (path : List ℕ) (is_dir : Bool) (case : Case) (i end : ℕ) : Type 0 where
+  pub within : (list : EntryList V) → slice_get lists i ≡ Some list → end ≤ length list.entries
+  pub none : (m : ℕ) → end ≤ m → ¬ PairAnswers lists path is_dir case i m
+
 -- The counts rose by at most what the list at place i may take, and a look for each of its rows, v being the length of the path.
 pub record SpendsOn {V : Type 0} (lists : List (EntryList V)) (i v : ℕ) (before after : Counts) : Type 0 where
   pub steps : (list : EntryList V) → slice_get lists i ≡ Some list → after.steps ≤ before.steps + list_step_limit list v
   pub looks : (list : EntryList V) → slice_get lists i ≡ Some list → after.looks ≤ before.looks + list_look_limit list v + length list.entries
+  pub grows : NeverFall before after
+
+-- The same, with a look for each of its rows before place `end` alone.
+pub record SpendsBelow {V : Type 0} (lists : List (EntryList V)) (i v end : ℕ) (before after : Counts) : Type 0 where
+  pub steps : (list : EntryList V) → slice_get lists i ≡ Some list → after.steps ≤ before.steps + list_step_limit list v
+  pub looks : (list : EntryList V) → slice_get lists i ≡ Some list → after.looks ≤ before.looks + list_look_limit list v + end
   pub grows : NeverFall before after
 
 -- The answer tells whether a pattern of this row answers for what some base leaves of the path that shows the probe.

@@ -121,6 +121,9 @@ module _ {V : Type 0} (shows : List ℕ → EntryList V → Type 0) (case : Case
   pub record HasDeepest (base : List ℕ) : Type 0 where
     pub folder : List ℕ
     pub named : base ≡ folder ++ slash ∷ []
+    pub some : ¬ (folder ≡ [])
+    pub listed : folders_to front ≡ folders_to folder ++ folder ∷ []
+    pub same_way : folders_to base ≡ folders_to front
     pub of : IsListOf shows folder list
     pub left : AreEntered shows n lists case folder
     pub stays : AreEntered shows n (lists ++ list ∷ []) case base
@@ -133,6 +136,9 @@ module _ {V : Type 0} (shows : List ℕ → EntryList V → Type 0) (case : Case
       record {
         folder = h.first ∷ h.more;
         named = named;
+        some = λ none. absurd (cc);
+        listed = h.listed;
+        same_way = ap folders_to named ∙ folders_slash h.first h.more ∙ sym h.listed;
         of = of_last h;
         left = last_left h;
         stays = subst (AreEntered shows n (lists ++ list ∷ []) case) (sym named) (last_stays h);
@@ -140,6 +146,12 @@ module _ {V : Type 0} (shows : List ℕ → EntryList V → Type 0) (case : Case
       (last_folder front)
 
   -- the last folder is the top
+  pub topmost_way : list.base ≡ None → folders_to front ≡ [] ∷ []
+  topmost_way is = ⊎_elim
+      (λ (only : folders_to front ≡ [] ∷ []). only)
+      (λ (h : HasLastFolder front). absurd (none_is_some ((h.first ∷ h.more) ++ slash ∷ []) (sym is ∙ (of_last h).based)))
+      (last_folder front)
+
   pub topmost : list.base ≡ None → AreEntered shows n (lists ++ list ∷ []) case []
   topmost is = ⊎_elim
       (λ (only : folders_to front ≡ [] ∷ []). record {

@@ -1,5 +1,5 @@
 -- What decides about a path in a work tree: one pair, and not by a list that is off the way.
-use Rattle.std.proofs.Common.{◌≡◌, ◌⊎◌, inl, inr, ⊎_elim, ℕ, ◌<◌, ◌≤◌, true, Bool, List, ◌∷◌, ◌++◌, length, Option, Some, sym, ap, subst, ◌∙◌, length-append, arith}
+use Rattle.std.proofs.Common.{◌≡◌, inl, inr, ⊎_elim, ℕ, ◌<◌, ◌≤◌, true, Bool, List, ◌∷◌, ◌++◌, length, Option, Some, sym, ap, subst, ◌∙◌, append_assoc, arith}
 use Rattle.std.proofs.lemmas.Bool.{cases_lt}
 use Rattle.std.proofs.lemmas.Option.{same_Some}
 use Rattle.gix_glob.specs.declared.pattern.Case.{Case}
@@ -9,7 +9,9 @@ use Rattle.gix_glob.specs.Stripping.{NothingLeft}
 use Rattle.glob_lists.specs.Deciding.{Decides}
 use Rattle.glob_trees.specs.Laws.Emptying.{EmptiesList}
 use Rattle.glob_trees.specs.Trees.{DecidesInTree, HasNoneIgnored, Ignores, IsAbove, IsBelowIgnored}
-use Rattle.glob_trees.proofs.lemmas.Emptied.{decides_before, ignores_after, ignores_before, nothing_left_above, nothing_left_shorter}
+use Rattle.glob_trees.proofs.lemmas.Emptied.{decides_before, ignores_after, ignores_before, nothing_left_above}
+use Rattle.glob_trees.proofs.lemmas.FoldedPaths.{ignores_as}
+use Rattle.glob_trees.proofs.lemmas.FoldedTexts.{made_by, slash_by}
 use Rattle.glob_trees.proofs.lemmas.Folders.{as_long_is_same, shorter_is_above}
 
 -- ---- one answer
@@ -60,16 +62,18 @@ module _ {V : Type 0} (lists : List (EntryList V)) (base : List ℕ) (emptied : 
   off_the_way path is_dir pair none (inl x) = inl (x.0, below_ignored_before path x.0 x.1 (nothing_left_above case base x.1.folder path x.1.above none), x.2)
   off_the_way path is_dir pair none (inr x) = inr (none_ignored_before path none x.0, decides_before lists base emptied e path is_dir case none pair x.1)
 
-  -- the base is longer than a folder that is ignored, and so than the topmost one
-  below_ignored : (path : List ℕ) (is_dir : Bool) (pair : Option (ℕ × ℕ)) (folder : List ℕ) (by : ℕ × ℕ) → length folder < length base → Ignores emptied case folder by → IsAbove folder path
-      → DecidesInTree emptied path is_dir case pair → DecidesInTree lists path is_dir case pair
-  below_ignored path is_dir pair folder by longer ignored above (inl x) =
-      let low = not_below emptied path case folder by x.0 above ignored x.1 in
-      inl (x.0, below_ignored_before path x.0 x.1 (nothing_left_shorter case base x.1.folder (omega (arith, low))), x.2)
-  below_ignored path is_dir pair folder by longer ignored above (inr x) = absurd (x.0 folder by above ignored)
+-- ---- a list below an ignored folder
 
-  pub below_or_off : (path : List ℕ) (is_dir : Bool) (pair : Option (ℕ × ℕ)) (folder below : List ℕ) (by : ℕ × ℕ) → base ≡ folder ++ slash ∷ below → Ignores emptied case folder by
-      → IsAbove folder path ⊎ NothingLeft case (Some base) path → DecidesInTree emptied path is_dir case pair → DecidesInTree lists path is_dir case pair
-  below_or_off path is_dir pair folder below by joined ignored (inl above) =
-      below_ignored path is_dir pair folder by (omega (arith, ap length joined, length-append folder (slash ∷ below))) ignored above
-  below_or_off path is_dir pair folder below by joined ignored (inr none) = off_the_way path is_dir pair none
+module _ {V : Type 0} (lists : List (EntryList V)) (folder below : List ℕ) (emptied : List (EntryList V)) (e : EmptiesList lists (folder ++ slash ∷ below) emptied) (case : Case) (by : ℕ × ℕ) (ignored : Ignores emptied case folder by) where
+  -- what begins with the base lies below a folder that is the same after folding, and so is ignored
+  nothing_left_unless_below : (path : List ℕ) → HasNoneIgnored emptied case path → NothingLeft case (Some (folder ++ slash ∷ below)) path
+  nothing_left_unless_below path none rest left =
+      let made = made_by case folder (slash ∷ below) left.front (sym left.same) in
+      let parted = slash_by case below made.second made.rests in
+      let joined : path ≡ made.first ++ slash ∷ (parted.0 ++ rest) =
+      left.joined ∙ ap (λ l. l ++ rest) (made.joined ∙ ap (λ l. made.first ++ l) parted.1) ∙ append_assoc made.first (slash ∷ parted.0) rest in
+      none made.first by (parted.0 ++ rest, joined) (ignores_as emptied case folder made.first made.fronts by ignored)
+
+  pub below_ignored : (path : List ℕ) (is_dir : Bool) (pair : Option (ℕ × ℕ)) → DecidesInTree emptied path is_dir case pair → DecidesInTree lists path is_dir case pair
+  below_ignored path is_dir pair (inl x) = inl (x.0, below_ignored_before lists (folder ++ slash ∷ below) emptied e case path x.0 x.1 (nothing_left_unless_below x.1.folder x.1.topmost), x.2)
+  below_ignored path is_dir pair (inr x) = off_the_way lists (folder ++ slash ∷ below) emptied e case path is_dir pair (nothing_left_unless_below path x.0) (inr x)

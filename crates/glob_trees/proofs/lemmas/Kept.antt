@@ -1,80 +1,133 @@
--- What a map of bases keeps after a call: what was kept before, and at most one list more.
-use Rattle.std.proofs.Common.{◌≡◌, ◌⊎◌, inl, inr, ⊎_elim, ℕ, Bool, true, false, cond, List, [], ◌∷◌, Option, None, Some, Ordering, Less, Equal, Greater, Result, Ok, Err, OnOk, OnErr, nat_cmp, is_eq, sym, subst, ◌∙◌, refl, Vec}
+-- What a map of bases has for each base after a call.
+use Rattle.std.proofs.Common.{◌≡◌, inl, inr, ⊎_elim, ℕ, Bool, true, false, cond, List, [], ◌∷◌, Option, None, Some, IsSome, Ordering, Less, Equal, Greater, Result, Ok, Err, OnOk, OnErr, nat_cmp, is_eq, sym, ap, subst, ◌∙◌, refl, Vec}
+use Rattle.std.specs.Prelude.{MatchOption, ◌⊎◌}
+use Rattle.std.specs.Option.{is_some}
 use Rattle.std.specs.Vec.{vec_items}
-use Rattle.std.specs.Option.{IfSome}
 use Rattle.std.specs.Map.{lookup, set_value}
 use Rattle.std.specs.BTreeMap.{insert_entry, is_at}
 use Rattle.std.specs.Cmp.Lexicographic.{slice_cmp}
 use Rattle.std.specs.Ordering.{match_ordering}
+use Rattle.std.specs.Bool.{Decides}
+use Rattle.std.proofs.lemmas.Bool.{false≢true, false_from_ne_true}
+use Rattle.std.proofs.lemmas.Map.Entries.{lookup_head, lookup_tail}
 use Rattle.std.proofs.lemmas.Map.Text.{is_eq-slice_cmp}
 use Rattle.std.proofs.lemmas.Option.{same_Some}
 use Rattle.std.proofs.lemmas.Slice.Eq.{bytes_eq-Decides}
-use Rattle.glob_trees.specs.Private.Left.{IsKept}
+use Rattle.glob_trees.specs.Private.Left.{FillsRoom, HasKept, HasMoreRooms, HasRoom, HasSameRooms, IsKept, room_of}
 
--- the key that a base finds has its bytes
-pub found_bytes : {Z : Type 0} (base : List ℕ) (key : Vec ℕ Z) → is_eq (slice_cmp nat_cmp base (vec_items key)) ≡ true → base ≡ vec_items key
+-- ---- which keys a base finds
+
+-- whether a key has the bytes of a base
+abbrev pub finds : {Z : Type 0} → List ℕ → Vec ℕ Z → Bool
+finds {Z} base = is_at (λ (key : Vec ℕ Z). slice_cmp nat_cmp base (vec_items key))
+
+pub found_bytes : {Z : Type 0} (base : List ℕ) (key : Vec ℕ Z) → finds base key ≡ true → base ≡ vec_items key
 found_bytes base key found = (bytes_eq-Decides base (vec_items key)).0 (sym (is_eq-slice_cmp base (vec_items key)) ∙ found)
+
+pub finds_its_own : {Z : Type 0} (key : Vec ℕ Z) → finds (vec_items key) key ≡ true
+finds_its_own key = is_eq-slice_cmp (vec_items key) (vec_items key) ∙ (bytes_eq-Decides (vec_items key) (vec_items key)).1 refl
+
+finds_one : {Z : Type 0} (base other : List ℕ) → ¬ (other ≡ base) → (key : Vec ℕ Z) → finds base key ≡ true → finds other key ≡ false
+finds_one base other apart key found =
+    false_from_ne_true (finds other key) (λ too. apart (found_bytes other key too ∙ sym (found_bytes base key found)))
+
+cases_by : (b : Bool) (P : Type 0) → Decides b P → P ⊎ (P → ⊥)
+cases_by true P d = inl (d.0 refl)
+cases_by false P d = inr (λ p. false≢true (d.1 p))
+
+pub cases_bytes : (xs ys : List ℕ) → (xs ≡ ys) ⊎ (xs ≡ ys → ⊥)
+cases_bytes xs ys = cases_by _ (xs ≡ ys) (bytes_eq-Decides xs ys)
 
 pub none_is_some : {L : Type 0} (list : L) → ¬ (None ≡ Some list)
 none_is_some list is = absurd (cc)
 
--- a key with these bytes, which the test finds
-pub record Finds {Z : Type 0} (test : Vec ℕ Z → Bool) (base : List ℕ) : Type 0 where
-  pub key : Vec ℕ Z
-  pub found : test key ≡ true
-  pub same : vec_items key ≡ base
+pub none_if : {X : Type 0} (o : Option X) (b : Bool) → b ≡ is_some o → b ≡ false → o ≡ None
+none_if None b is isnt = refl
+none_if (Some x) b is isnt = absurd (false≢true (sym isnt ∙ is))
 
-module _ {L Z : Type 0} (test : Vec ℕ Z → Bool) (now : Option L) (base : List ℕ) (list : L) where
-  abbrev Was : List (Vec ℕ Z × Option L) → Type 0
-  Was es = IsKept es base list ⊎ (Finds test base × (now ≡ Some list))
+-- ---- a value is set
 
-  set_at : (e : Vec ℕ Z × Option L) (es : List (Vec ℕ Z × Option L)) → (IsKept (set_value test es now) base list → Was es) → (b : Bool) → test e.0 ≡ b → IsKept (cond b ((e.0, now) ∷ es) (e ∷ set_value test es now)) base list → Was (e ∷ es)
-  set_at e es rest true is (inl here) = inr (record { key = e.0; found = is; same = here.0 }, here.1)
-  set_at e es rest true is (inr later) = inl (inr later)
-  set_at e es rest false is (inl here) = inl (inl here)
-  set_at e es rest false is (inr later) = ⊎_elim (λ (was : IsKept es base list). inl (inr was)) (λ (found : Finds test base × (now ≡ Some list)). inr found) (rest later)
+module _ {K X : Type 0} (test : K → Bool) (now : X) where
+  set_here_at : (e : K × X) (es : List (K × X)) → (IsSome (lookup test es) → lookup test (set_value test es now) ≡ Some now) → (b : Bool) → test e.0 ≡ b → IsSome (cond b (Some e.1) (lookup test es))
+      → lookup test (cond b ((e.0, now) ∷ es) (e ∷ set_value test es now)) ≡ Some now
+  set_here_at e es rest true is some = lookup_head test (e.0, now) es is
+  set_here_at e es rest false is some = lookup_tail test e (set_value test es now) is ∙ rest some
 
-  pub kept_set : (es : List (Vec ℕ Z × Option L)) → IsKept (set_value test es now) base list → Was es
-  kept_set [] h = absurd h
-  kept_set (e ∷ es) h = set_at e es (kept_set es) (test e.0) refl h
+  set_here : (es : List (K × X)) → IsSome (lookup test es) → lookup test (set_value test es now) ≡ Some now
+  set_here [] some = absurd (false≢true some)
+  set_here (e ∷ es) some = set_here_at e es (set_here es) (test e.0) refl some
 
--- a list that the test finds is kept
-pub record FindsKept {L Z : Type 0} (test : Vec ℕ Z → Bool) (list : L) (es : List (Vec ℕ Z × Option L)) : Type 0 where
-  pub key : Vec ℕ Z
-  pub found : test key ≡ true
-  pub kept : IsKept es (vec_items key) list
+  module _ (other : K → Bool) (apart : (key : K) → test key ≡ true → other key ≡ false) where
+    set_other_at : (e : K × X) (es : List (K × X)) → lookup other (set_value test es now) ≡ lookup other es → (b : Bool) → test e.0 ≡ b
+        → lookup other (cond b ((e.0, now) ∷ es) (e ∷ set_value test es now)) ≡ lookup other (e ∷ es)
+    set_other_at e es rest true is = lookup_tail other (e.0, now) es (apart e.0 is) ∙ sym (lookup_tail other e es (apart e.0 is))
+    set_other_at e es rest false is = ap (λ (o : Option X). cond (other e.0) (Some e.1) o) rest
 
-module _ {L Z : Type 0} (test : Vec ℕ Z → Bool) (list : L) where
-  found_at : (e : Vec ℕ Z × Option L) (es : List (Vec ℕ Z × Option L)) → (lookup test es ≡ Some (Some list) → FindsKept test list es) → (b : Bool) → test e.0 ≡ b → cond b (Some e.1) (lookup test es) ≡ Some (Some list) → FindsKept test list (e ∷ es)
-  found_at e es rest true here is = record { key = e.0; found = here; kept = inl (refl, same_Some e.1 (Some list) is) }
-  found_at e es rest false here is = let later = rest is in record { key = later.key; found = later.found; kept = inr later.kept }
+    set_other : (es : List (K × X)) → lookup other (set_value test es now) ≡ lookup other es
+    set_other [] = refl
+    set_other (e ∷ es) = set_other_at e es (set_other es) (test e.0) refl
 
-  pub kept_found : (es : List (Vec ℕ Z × Option L)) → lookup test es ≡ Some (Some list) → FindsKept test list es
-  kept_found [] is = absurd (none_is_some (Some list) is)
-  kept_found (e ∷ es) is = found_at e es (kept_found es) (test e.0) refl is
+-- ---- an entry is inserted
 
--- room for one more list
-module _ {L Z : Type 0} (cmp : Vec ℕ Z → Vec ℕ Z → Ordering) (key : Vec ℕ Z) (base : List ℕ) (list : L) where
-  inserted_at : (e : Vec ℕ Z × Option L) (es : List (Vec ℕ Z × Option L)) → (IsKept (insert_entry cmp es key None) base list → IsKept es base list) → (o : Ordering) → IsKept (match_ordering o ((key, None) ∷ e ∷ es) ((e.0, None) ∷ es) (e ∷ insert_entry cmp es key None)) base list → IsKept (e ∷ es) base list
-  inserted_at e es rest Less (inl here) = absurd (none_is_some list here.1)
-  inserted_at e es rest Less (inr later) = later
-  inserted_at e es rest Equal (inl here) = absurd (none_is_some list here.1)
-  inserted_at e es rest Equal (inr later) = inr later
-  inserted_at e es rest Greater (inl here) = inl here
-  inserted_at e es rest Greater (inr later) = inr (rest later)
+module _ {K X : Type 0} (cmp : K → K → Ordering) (key : K) (now : X) (test : K → Bool) where
+  module _ (own : test key ≡ true) (same : (k : K) → is_eq (cmp key k) ≡ test k) where
+    inserted_here_at : (e : K × X) (es : List (K × X)) → lookup test (insert_entry cmp es key now) ≡ Some now → (o : Ordering) → cmp key e.0 ≡ o
+        → lookup test (match_ordering o ((key, now) ∷ e ∷ es) ((e.0, now) ∷ es) (e ∷ insert_entry cmp es key now)) ≡ Some now
+    inserted_here_at e es rest Less is = lookup_head test (key, now) (e ∷ es) own
+    inserted_here_at e es rest Equal is = lookup_head test (e.0, now) es (sym (same e.0) ∙ ap is_eq is)
+    inserted_here_at e es rest Greater is = lookup_tail test e (insert_entry cmp es key now) (sym (same e.0) ∙ ap is_eq is) ∙ rest
 
-  pub kept_inserted : (es : List (Vec ℕ Z × Option L)) → IsKept (insert_entry cmp es key None) base list → IsKept es base list
-  kept_inserted [] (inl here) = absurd (none_is_some list here.1)
-  kept_inserted [] (inr later) = absurd later
-  kept_inserted (e ∷ es) h = inserted_at e es (kept_inserted es) (cmp key e.0) h
+    inserted_here : (es : List (K × X)) → lookup test (insert_entry cmp es key now) ≡ Some now
+    inserted_here [] = lookup_head test (key, now) [] own
+    inserted_here (e ∷ es) = inserted_here_at e es (inserted_here es) (cmp key e.0) refl
 
-  pub room_made : {A E : Type 0} (result : Result A E) (old new : List (Vec ℕ Z × Option L)) → OnOk result (new ≡ insert_entry cmp old key None) → OnErr result (new ≡ old) → IsKept new base list → IsKept old base list
-  room_made (Ok a) old new made same kept = kept_inserted old (subst (λ es. IsKept es base list) made kept)
-  room_made (Err e) old new made same kept = subst (λ es. IsKept es base list) same kept
+  module _ (not_own : test key ≡ false) (apart : (k : K) → cmp key k ≡ Equal → test k ≡ false) where
+    inserted_other_at : (e : K × X) (es : List (K × X)) → lookup test (insert_entry cmp es key now) ≡ lookup test es → (o : Ordering) → cmp key e.0 ≡ o
+        → lookup test (match_ordering o ((key, now) ∷ e ∷ es) ((e.0, now) ∷ es) (e ∷ insert_entry cmp es key now)) ≡ lookup test (e ∷ es)
+    inserted_other_at e es rest Less is = lookup_tail test (key, now) (e ∷ es) not_own
+    inserted_other_at e es rest Equal is = lookup_tail test (e.0, now) es (apart e.0 is) ∙ sym (lookup_tail test e es (apart e.0 is))
+    inserted_other_at e es rest Greater is = ap (λ (o : Option X). cond (test e.0) (Some e.1) o) rest
 
--- what is taken was kept
-pub taken : {L Z : Type 0} (base : List ℕ) (es : List (Vec ℕ Z × Option L)) (result : Option L) → lookup (is_at (λ key. slice_cmp nat_cmp base (vec_items key))) es ≡ Some result → IfSome result (IsKept es base)
-taken base es None is = tt
-taken base es (Some list) is =
-    let finds = kept_found (is_at (λ key. slice_cmp nat_cmp base (vec_items key))) list es is in
-    subst (λ bytes. IsKept es bytes list) (sym (found_bytes base finds.key finds.found)) finds.kept
+    inserted_other : (es : List (K × X)) → lookup test (insert_entry cmp es key now) ≡ lookup test es
+    inserted_other [] = lookup_tail test (key, now) [] not_own
+    inserted_other (e ∷ es) = inserted_other_at e es (inserted_other es) (cmp key e.0) refl
+
+-- ---- rooms
+
+module _ {L Z : Type 0} where
+  pub room_filled : (base : List ℕ) (now : Option L) (old new : List (Vec ℕ Z × Option L)) → HasRoom old base → new ≡ set_value (finds base) old now → FillsRoom base now old new
+  room_filled base now old new room writes = record {
+    here = ap (λ es. room_of es base) writes ∙ set_here (finds base) now old room;
+    others = λ other apart. ap (λ es. room_of es other) writes ∙ set_other (finds base) now (finds other) (finds_one base other apart) old;
+  }
+
+  pub room_filled_at : (found base : List ℕ) (now : Option L) (old new : List (Vec ℕ Z × Option L)) → found ≡ base → HasRoom old base → new ≡ set_value (finds found) old now → FillsRoom base now old new
+  room_filled_at found base now old new same room writes = room_filled base now old new room (writes ∙ ap (λ b. set_value (finds b) old now) same)
+
+  pub room_made : (key : Vec ℕ Z) (old new : List (Vec ℕ Z × Option L)) → room_of old (vec_items key) ≡ None → new ≡ insert_entry (λ (a b : Vec ℕ Z). slice_cmp nat_cmp (vec_items a) (vec_items b)) old key None
+      → (room_of new (vec_items key) ≡ Some None) × HasMoreRooms old new
+  room_made key old new none made =
+      let cmp : Vec ℕ Z → Vec ℕ Z → Ordering = λ a b. slice_cmp nat_cmp (vec_items a) (vec_items b) in
+      let here : room_of new (vec_items key) ≡ Some None =
+      ap (λ es. room_of es (vec_items key)) made ∙ inserted_here cmp key None (finds (vec_items key)) (finds_its_own key) (λ k. refl) old in (
+        here,
+        λ other. ⊎_elim
+            (λ (same : other ≡ vec_items key). inr (ap (room_of old) same ∙ none, ap (room_of new) same ∙ here))
+            (λ (apart : other ≡ vec_items key → ⊥). inl (
+            ap (λ es. room_of es other) made ∙
+            inserted_other cmp key None (finds other) (finds_one (vec_items key) other apart key (finds_its_own key)) (λ k equal. finds_one (vec_items key) other apart k (ap is_eq equal)) old
+            ))
+            (cases_bytes other (vec_items key)),
+      )
+
+  -- a list is taken out of its room, or there was none
+  pub taken : (base : List ℕ) (old new : List (Vec ℕ Z × Option L)) (result : Option L) → room_of old base ≡ Some result → FillsRoom base None old new
+      → MatchOption result (¬ HasKept old base) (IsKept old base) × MatchOption result (HasSameRooms old new) (λ _. FillsRoom base None old new)
+  taken base old new None is fills = (
+    (λ kept. none_is_some kept.0 (same_Some None (Some kept.0) (sym is ∙ kept.1))),
+    λ other. ⊎_elim
+        (λ (same : other ≡ base). ap (room_of new) same ∙ fills.here ∙ sym is ∙ ap (room_of old) (sym same))
+        (λ (apart : other ≡ base → ⊥). fills.others other apart)
+        (cases_bytes other base),
+  )
+  taken base old new (Some list) is fills = (is, fills)

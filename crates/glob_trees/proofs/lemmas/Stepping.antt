@@ -1,22 +1,27 @@
 -- What one call does to the folders that are entered, and what they then say of a path.
-use Rattle.std.proofs.Common.{◌≡◌, ◌⊎◌, ⊎_elim, ℕ, suc, ◌+◌, ◌-◌, ◌<◌, Bool, true, false, if◌then◌else◌, Result, Ok, Err, OnErr, List, [], ◌∷◌, ◌++◌, length, map, take, drop, Option, None, Some, IsSome, Vec, option_map, refl, sym, ap, subst, ◌∙◌, append_assoc, append-nil, length-take-le, take-suc, add-one, arith, slice_index}
+use Rattle.std.proofs.Common.{◌≡◌, ◌⊎◌, inl, inr, ⊎_elim, ℕ, suc, ◌+◌, ◌-◌, ◌<◌, Bool, true, false, if◌then◌else◌, Result, Ok, Err, OnErr, List, [], ◌∷◌, ◌++◌, length, map, take, drop, Option, None, Some, IsSome, Vec, option_map, refl, sym, ap, subst, ◌∙◌, append_assoc, append-nil, length-take-le, take-suc, add-one, arith, slice_index}
 use Rattle.std.specs.Prelude.{slice_get}
-use Rattle.std.specs.List.{AllZip}
+use Rattle.std.specs.List.{AllZip, Contains}
 use Rattle.std.specs.Vec.{vec_items}
 use Rattle.std.proofs.lemmas.Bool.{cases_eq}
-use Rattle.std.proofs.lemmas.List.{length-map, map-append}
+use Rattle.std.proofs.lemmas.List.{length-map, map-append, take-append-le}
+use Rattle.std.proofs.lemmas.List.Elements.{Contains-push}
 use Rattle.std.proofs.lemmas.Option.{same_Some}
 use Rattle.gix_glob.specs.declared.pattern.Case.{Case}
 use Rattle.gix_glob.specs.declared.search.pattern.list.List as patterns
 use Rattle.gix_glob.specs.Bytes.{HasByte, slash}
 use Rattle.gix_glob.specs.EntryLists.{EntryList, entry_list_of}
 use Rattle.glob_lists.specs.Deciding.{BasesAreFolders}
-use Rattle.glob_trees.specs.Private.Entered.{AreEntered, AreOfFolders, IsFrontOf}
-use Rattle.glob_trees.specs.Private.Left.{IsKept, OneMoreIsKept}
+use Rattle.glob_trees.specs.declared.entered.Entered.{Entered}
+use Rattle.glob_trees.specs.Private.Entered.{AreAtHand, AreEntered, AreOfFolders, HaveRooms, IsFresh, IsFrontOf, IsReady, IsSomewhere, KeepsOn}
+use Rattle.glob_trees.specs.Private.Left.{FillsRoom, HasRoom, IsKept}
 use Rattle.glob_trees.specs.Trees.{Ignores, IsAbove}
 use Rattle.glob_trees.specs.Ways.{AreOnTheWay, IsListOf, folder_before, folders_from, folders_to}
-use Rattle.glob_trees.proofs.lemmas.Entering.{deepest, entered_byte, entered_folder, entered_slash, entered_top, some_entered, topmost}
-use Rattle.glob_trees.proofs.lemmas.WayLemmas.{before_other, folders_more, further}
+use Rattle.glob_trees.proofs.lemmas.AtHand.{at_hand_left, rooms_left}
+use Rattle.glob_trees.proofs.lemmas.Entering.{deepest, entered_byte, entered_folder, entered_slash, entered_top, some_entered, topmost, topmost_way}
+use Rattle.glob_trees.proofs.lemmas.OnWay.{on_way_more}
+use Rattle.glob_trees.proofs.lemmas.Rooms.{kept_or_put}
+use Rattle.glob_trees.proofs.lemmas.WayLemmas.{before_other, folders_more, folders_other, further}
 
 -- ---- lists and their ends
 
@@ -39,7 +44,7 @@ module _ (path : List ℕ) (place : ℕ) (here : HasByte path place slash) where
   pub slash_next : take (place + 1) path ≡ take place path ++ slash ∷ []
   slash_next = path_more path place here.inside ∙ ap (λ b. take place path ++ b ∷ []) here.is
 
-  some_front : ¬ (place ≡ 0) → ¬ (take place path ≡ [])
+  pub some_front : ¬ (place ≡ 0) → ¬ (take place path ≡ [])
   some_front some none = let inside = here.inside in some (omega (arith, ap length none, length-take-le place path (omega arith)))
 
 abbrev view : {T X V : Type 0} (seen : X → V) → List (patterns.List T X) → List (EntryList V)
@@ -54,20 +59,34 @@ module _ {T X V : Type 0} (seen : X → V) (shows : List ℕ → EntryList V →
 
   -- ---- a folder is left
 
-  pub leaving : {Z : Type 0} (entries left : List (Vec ℕ Z × Option (patterns.List T X))) → AreOfFolders seen shows entries → IsSome (option_map vec_items list.base) → OneMoreIsKept (option_map vec_items list.base) list entries left
-      → (folder : List ℕ) × AreEntered shows n (view seen above) case folder × AreOfFolders seen shows left
-  leaving entries left kept some put =
+  pub room_to_leave : {Z : Type 0} (entries : List (Vec ℕ Z × Option (patterns.List T X))) → HaveRooms entries front → (base : List ℕ) → option_map vec_items list.base ≡ Some base → HasRoom entries base
+  room_to_leave entries rooms base is =
+      let d = deepest shows case n (view seen above) (entry_list_of seen list) front at_last base is in
+      subst (HasRoom entries) (sym d.named) (rooms d.folder (subst (λ fs. Contains fs d.folder) (sym d.listed) (Contains-push (folders_to d.folder) d.folder)) d.some)
+
+  pub record HasLeft {Z : Type 0} (gave : List ℕ → Type 0) (left : List (Vec ℕ Z × Option (patterns.List T X))) : Type 0 where
+    pub folder : List ℕ
+    pub stands : AreEntered shows n (view seen above) case folder
+    pub of : AreOfFolders seen shows left
+    pub rooms : HaveRooms left folder
+    pub at_hand : AreAtHand gave left folder
+
+  pub leaving : {Z : Type 0} (gave : List ℕ → Type 0) (entries left : List (Vec ℕ Z × Option (patterns.List T X))) → AreOfFolders seen shows entries → HaveRooms entries front → AreAtHand gave entries front → IsSome (option_map vec_items list.base)
+      → ((base : List ℕ) → option_map vec_items list.base ≡ Some base → FillsRoom base (Some list) entries left) → HasLeft gave left
+  leaving gave entries left kept rooms at_hand some put =
       let base = some_is (option_map vec_items list.base) some in
-      let d = deepest shows case n (view seen above) (entry_list_of seen list) front at_last base.0 base.1 in (
-        d.folder,
-        d.left,
-        λ other l more. ⊎_elim
+      let d = deepest shows case n (view seen above) (entry_list_of seen list) front at_last base.0 base.1 in
+      let fills = put base.0 base.1 in
+      record {
+        folder = d.folder;
+        stands = d.left;
+        of = λ other l more. ⊎_elim
             (λ (old : IsKept entries other l). kept other l old)
-            (λ (one : (option_map vec_items list.base ≡ Some other) × (l ≡ list)).
-            let same : base.0 ≡ other = same_Some base.0 other (sym base.1 ∙ one.0) in
-            (d.folder, sym same ∙ d.named, subst (λ l. IsListOf shows d.folder (entry_list_of seen l)) (sym one.1) d.of))
-            (put other l more),
-      )
+            (λ (one : (other ≡ base.0) × (l ≡ list)). (d.folder, one.0 ∙ d.named, subst (λ l. IsListOf shows d.folder (entry_list_of seen l)) (sym one.1) d.of))
+            (kept_or_put base.0 entries left list fills other l more);
+        rooms = rooms_left base.0 entries left list fills front d.folder d.named d.listed rooms;
+        at_hand = at_hand_left base.0 entries left list fills front d.folder d.named d.listed gave at_hand;
+      }
 
   -- ---- no folder has to be left
 
@@ -81,6 +100,17 @@ module _ {T X V : Type 0} (seen : X → V) (shows : List ℕ → EntryList V →
   pub staying : (path : List ℕ) (count : ℕ) → IsFrontOf (option_map vec_items list.base) path count → AreEntered shows n (view seen lists) case (take count path)
   staying path count begins =
       subst (λ ls. AreEntered shows n ls case (take count path)) (sym (view_last seen lists above list joined)) (stays_at path count (option_map vec_items list.base) refl begins)
+
+  -- the same folders are on the way
+  way_at : (path : List ℕ) (count : ℕ) (base : Option (List ℕ)) → option_map vec_items list.base ≡ base → IsFrontOf base path count → folders_to (take count path) ≡ folders_to front
+  way_at path count None is zero =
+      ap (λ k. folders_to (take k path)) zero ∙ sym (topmost_way shows case n (view seen above) (entry_list_of seen list) front at_last is)
+  way_at path count (Some base) is begins =
+      let d = deepest shows case n (view seen above) (entry_list_of seen list) front at_last base is in
+      ap folders_to (sym begins.0) ∙ d.same_way
+
+  pub same_way : (path : List ℕ) (count : ℕ) → IsFrontOf (option_map vec_items list.base) path count → folders_to (take count path) ≡ folders_to front
+  same_way path count begins = way_at path count (option_map vec_items list.base) refl begins
 
 -- ---- a folder is entered
 
@@ -182,15 +212,45 @@ module _ {T X V : Type 0} (seen : X → V) (shows : List ℕ → EntryList V →
       (subst (λ ls. AreEntered shows (length (map (entry_list_of seen) lists)) ls case []) (sym (map-append (entry_list_of seen) lists (list ∷ [])))
       (entered_top shows case (map (entry_list_of seen) lists) (entry_list_of seen list) bases of))
 
-  pub none_entered : (lists : List (patterns.List T X)) → ((length lists ≡ n) × BasesAreFolders (map (entry_list_of seen) lists)) ⊎ ((front : List ℕ) × AreEntered shows n (map (entry_list_of seen) lists) case front) → ¬ (n < length lists)
-      → (length lists ≡ n) × BasesAreFolders (map (entry_list_of seen) lists)
-  none_entered lists ready few = ⊎_elim
-      (λ (fresh : (length lists ≡ n) × BasesAreFolders (map (entry_list_of seen) lists)). fresh)
-      (λ (some : (front : List ℕ) × AreEntered shows n (map (entry_list_of seen) lists) case front).
-      absurd (few (subst (λ k. n < k) (length-map lists (entry_list_of seen)) (some_entered shows case (map (entry_list_of seen) lists) some.0 n some.1))))
-      ready
+pub fresh_yet : {S T X F V : Type 0} (shows : S → List ℕ → EntryList V → Type 0) (gave : S → List ℕ → Type 0) (seen : X → V) (entered : Entered T S X F) → IsReady shows gave seen entered → ¬ (entered.front_count < length entered.lists.items)
+    → IsFresh shows gave seen entered
+fresh_yet shows gave seen entered (inl fresh) few = fresh
+fresh_yet shows gave seen entered (inr some) few =
+    absurd (few (subst (λ k. entered.front_count < k) (length-map entered.lists.items (entry_list_of seen)) (some_entered (shows entered.source) entered.case (map (entry_list_of seen) entered.lists.items) some.0 entered.front_count some.1.stands)))
+
+pub entered_yet : {S T X F V : Type 0} (shows : S → List ℕ → EntryList V → Type 0) (gave : S → List ℕ → Type 0) (seen : X → V) (entered : Entered T S X F) → IsReady shows gave seen entered → entered.front_count < length entered.lists.items
+    → IsSomewhere shows gave seen entered
+entered_yet shows gave seen entered (inl fresh) more = absurd (omega (arith, fresh.count))
+entered_yet shows gave seen entered (inr some) more = some
 
 pub passing : {V : Type 0} (shows : List ℕ → EntryList V → Type 0) (case : Case) (n : ℕ) (lists : List (EntryList V)) (path : List ℕ) (place : ℕ) → place < length path → ¬ (slice_index path place ≡ slash)
     → AreEntered shows n lists case (take place path) → AreEntered shows n lists case (take (place + 1) path)
 passing shows case n lists path place inside other e =
     subst (AreEntered shows n lists case) (sym (path_more path place inside)) (entered_byte shows case lists (take place path) n (slice_index path place) other e)
+
+pub passing_way : (path : List ℕ) (place : ℕ) → place < length path → ¬ (slice_index path place ≡ slash) → folders_to (take (place + 1) path) ≡ folders_to (take place path)
+passing_way path place inside other = ap folders_to (path_more path place inside) ∙ folders_other (take place path) (slice_index path place) other
+
+pub first_slash_way : (path : List ℕ) (place : ℕ) → HasByte path place slash → place ≡ 0 → folders_to (take (place + 1) path) ≡ folders_to (take place path)
+first_slash_way path place here first =
+    let none : take place path ≡ [] = ap (λ k. take k path) first in
+    ap folders_to (slash_next path place here) ∙ ap (λ f. folders_to (f ++ slash ∷ [])) none ∙ ap folders_to (sym none)
+
+pub way_grows : (path : List ℕ) (place : ℕ) → place < length path → (folder : List ℕ) → Contains (folders_to (take place path)) folder → Contains (folders_to (take (place + 1) path)) folder
+way_grows path place inside folder h =
+    subst (λ t. Contains (folders_to t) folder) (sym (path_more path place inside)) (on_way_more (take place path) (slice_index path place ∷ []) folder h)
+
+-- the lists that stand before all folders stay where one more is entered
+pub fronts_stay : {T X V : Type 0} (seen : X → V) (shows : List ℕ → EntryList V → Type 0) (case : Case) (n : ℕ) (lists : List (patterns.List T X)) (list : patterns.List T X) (front : List ℕ) → AreEntered shows n (map (entry_list_of seen) lists) case front
+    → take n (lists ++ list ∷ []) ≡ take n lists
+fronts_stay seen shows case n lists list front e =
+    let some = some_entered shows case (map (entry_list_of seen) lists) front n e in
+    take-append-le n lists (list ∷ []) (omega (arith, length-map lists (entry_list_of seen)))
+
+pub keeps_on_further : {S T X F V : Type 0} (shows : S → List ℕ → EntryList V → Type 0) (old mid new : Entered T S X F) → KeepsOn shows old mid → KeepsOn shows mid new → KeepsOn shows old new
+keeps_on_further shows old mid new first next = record {
+  front_count = next.front_count ∙ first.front_count;
+  case = next.case ∙ first.case;
+  fronts = subst (λ k. take k new.lists.items ≡ take k mid.lists.items) first.front_count next.fronts ∙ first.fronts;
+  goes_on = λ folder list shown. next.goes_on folder list (first.goes_on folder list shown);
+}

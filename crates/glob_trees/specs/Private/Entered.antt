@@ -1,6 +1,6 @@
 -- The folders that were entered, and those that were left.
 use Rattle.std.specs.Prelude.{◌≡◌, ◌⊎◌, ℕ, ◌≤◌, List, [], ◌∷◌, ◌++◌, drop, length, map, take, Option, None, Some, IsSome, option_map}
-use Rattle.std.specs.List.{AllZip}
+use Rattle.std.specs.List.{AllZip, Contains}
 use Rattle.std.specs.Vec.{vec_items}
 use Rattle.std.specs.Prelude.{Vec}
 use Rattle.gix_glob.specs.declared.pattern.Case.{Case}
@@ -9,7 +9,7 @@ use Rattle.gix_glob.specs.Bytes.{slash}
 use Rattle.gix_glob.specs.EntryLists.{EntryList, entry_list_of}
 use Rattle.glob_lists.specs.Deciding.{BasesAreFolders}
 use Rattle.glob_trees.specs.declared.entered.Entered.{Entered}
-use Rattle.glob_trees.specs.Private.Left.{IsKept}
+use Rattle.glob_trees.specs.Private.Left.{HasKept, HasRoom, IsKept}
 use Rattle.glob_trees.specs.Trees.{HasNoneIgnored}
 use Rattle.glob_trees.specs.Ways.{GoesOn, IsListOf, folders_to}
 
@@ -25,6 +25,14 @@ abbrev pub AreOfFolders : {T X V Z : Type 0} → (X → V) → (List ℕ → Ent
 AreOfFolders {T} {X} seen shows entries =
     (base : List ℕ) (list : patterns.List T X) → IsKept entries base list → (folder : List ℕ) × (base ≡ folder ++ slash ∷ []) × IsListOf shows folder (entry_list_of seen list)
 
+-- each folder on the way but the top has room for its list
+abbrev pub HaveRooms : {L Z : Type 0} → List (Vec ℕ Z × Option L) → List ℕ → Type 0
+HaveRooms entries front = (folder : List ℕ) → Contains (folders_to front) folder → ¬ (folder ≡ []) → HasRoom entries (folder ++ slash ∷ [])
+
+-- each folder whose list was given is on the way, or its list is kept
+abbrev pub AreAtHand : {L Z : Type 0} → (List ℕ → Type 0) → List (Vec ℕ Z × Option L) → List ℕ → Type 0
+AreAtHand gave entries front = (folder : List ℕ) → gave folder → Contains (folders_to front) folder ⊎ HasKept entries (folder ++ slash ∷ [])
+
 -- the base of a list is how the path begins, up to this place: the folder of the list is on the way to the path
 abbrev pub IsFrontOf : Option (List ℕ) → List ℕ → ℕ → Type 0
 IsFrontOf None path count = count ≡ 0
@@ -34,21 +42,28 @@ IsFrontOf (Some base) path count = (base ≡ take count path) × (count ≤ leng
 abbrev pub EndsInFolder : {T X : Type 0} → List (patterns.List T X) → Type 0
 EndsInFolder {T} {X} lists = (above : List (patterns.List T X)) × (last : patterns.List T X) × (lists ≡ above ++ last ∷ []) × IsSome (option_map vec_items last.base)
 
-module _ {S T X F V : Type 0} (shows : S → List ℕ → EntryList V → Type 0) (seen : X → V) where
+module _ {S T X F V : Type 0} (shows : S → List ℕ → EntryList V → Type 0) (gave : S → List ℕ → Type 0) (seen : X → V) where
   -- the folders on the way to what lies at the front of a path are entered
   pub record IsUnderWay (entered : Entered T S X F) (front : List ℕ) : Type 0 where
     pub stands : AreEntered (shows entered.source) entered.front_count (map (entry_list_of seen) entered.lists.items) entered.case front
     pub left : AreOfFolders seen (shows entered.source) entered.left.lists.entries
+    pub rooms : HaveRooms entered.left.lists.entries front
+    pub at_hand : AreAtHand (gave entered.source) entered.left.lists.entries front
 
-  -- no folder is entered, not even the top, or those on the way to something
-  pub record IsReady (entered : Entered T S X F) : Type 0 where
-    pub stands : ((length entered.lists.items ≡ entered.front_count) × BasesAreFolders (map (entry_list_of seen) entered.lists.items))
-        ⊎ ((front : List ℕ) × AreEntered (shows entered.source) entered.front_count (map (entry_list_of seen) entered.lists.items) entered.case front)
-    pub left : AreOfFolders seen (shows entered.source) entered.left.lists.entries
+  -- the folders on the way to something are entered
+  abbrev pub IsSomewhere : Entered T S X F → Type 0
+  IsSomewhere entered = (front : List ℕ) × IsUnderWay entered front
 
--- the folders on the way to something are entered
-abbrev pub IsSomewhere : {S T X F V : Type 0} → (S → List ℕ → EntryList V → Type 0) → (X → V) → Entered T S X F → Type 0
-IsSomewhere shows seen entered = (front : List ℕ) × IsUnderWay shows seen entered front
+  -- no folder is entered, not even the top, and no list was given
+  pub record IsFresh (entered : Entered T S X F) : Type 0 where
+    pub count : length entered.lists.items ≡ entered.front_count
+    pub bases : BasesAreFolders (map (entry_list_of seen) entered.lists.items)
+    pub none_kept : (base : List ℕ) → ¬ HasKept entered.left.lists.entries base
+    pub none_given : (folder : List ℕ) → ¬ gave entered.source folder
+
+  -- nothing was asked yet, or the folders on the way to something are entered
+  abbrev pub IsReady : Entered T S X F → Type 0
+  IsReady entered = IsFresh entered ⊎ IsSomewhere entered
 
 -- what stays from call to call: the lists that stand before those of all folders, the case, and what the source showed
 pub record KeepsOn {S T X F V : Type 0} (shows : S → List ℕ → EntryList V → Type 0) (old new : Entered T S X F) : Type 0 where

@@ -50,6 +50,8 @@ impl<'a> FolderLists<IgnoreLines> for Table<'a> {
 
     ghost shows = { λ _ _ _ _. Unit {0} };
 
+    ghost gave = { λ _ _. ⊥ };
+
     fn list_of(&mut self, folder: &[u8]) -> Result<List<IgnoreLines>, AllocError> {
         self.note(folder)?;
         let mut list = List::empty(self.alloc);

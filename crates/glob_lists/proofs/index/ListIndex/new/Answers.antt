@@ -1,12 +1,10 @@
 -- The lists' rows are added one list after the other.
-use Rattle.std.proofs.Common.{◌≡◌, ℕ, length, map, subst, arith}
+use Rattle.std.proofs.Common.{◌≡◌, ℕ, length, map, sym, subst, arith}
 use Rattle.std.proofs.lemmas.List.{length-map}
 use Rattle.gix_glob.specs.EntryLists.{entry_list_of}
-use Rattle.glob_lists.specs.Private.Indexes.{AreFolderedBy}
-use Rattle.glob_lists.specs.Private.Tables.{AreRowsUpTo}
+use Rattle.glob_lists.specs.Private.Folders.{AreFolders}
+use Rattle.glob_lists.specs.Private.Tables.{AreRows, AreRowsUpTo}
 use Rattle.glob_lists.proofs.lemmas.RowLemmas.{rows_none}
-use Rattle.std.specs.Vec.{vec_items}
-use Rattle.glob_lists.proofs.lemmas.Elements.{IfSome-map}
 use Rattle.glob_lists.proofs.index.ListIndex.new.Goals as goal
 
 pub lists-init : goal.lists-init
@@ -23,5 +21,31 @@ invariant_of-result g c =
           chained = c.lists.invariant.chained;
         };
       };
-      foldered = IfSome-map vec_items c.in_ok-folders.folders (AreFolderedBy lists) c.in_ok-folders.ensures;
+      foldered = tt;
+      seen = tt;
+    }
+
+pub sights_of-requires-clause-rows : goal.sights_of-requires-clause-rows
+sights_of-requires-clause-rows g c =
+    let lists = map (entry_list_of g.T.Pattern.seen) c.args.lists.now in
+    let all : c.lists.i ≡ length lists = omega (arith, length-map c.args.lists.now (entry_list_of g.T.Pattern.seen), c.lists-test.false, c.lists.auto.i-end) in
+    subst (AreRows lists) (sym c.rows.ensures) (subst (λ (i : ℕ). AreRowsUpTo lists i 0 c.lists.table.rows.items) all c.lists.invariant.rows)
+
+pub sights_of-requires-clause-each : goal.sights_of-requires-clause-each
+sights_of-requires-clause-each g c =
+    subst (AreFolders (map (entry_list_of g.T.Pattern.seen) c.args.lists.now)) (sym c.deref.ensures.value) (rw c.in-Some.is at c.in_ok-folders.ensures).forest.each
+
+pub invariant_of-result-2 : goal.invariant_of-result-2
+invariant_of-result-2 g c =
+    let lists = map (entry_list_of g.T.Pattern.seen) c.args.lists.now in
+    let all : c.lists.i ≡ length lists = omega (arith, length-map c.args.lists.now (entry_list_of g.T.Pattern.seen), c.lists-test.false, c.lists.auto.i-end) in record {
+      index = record {
+        folders = c.requires.folders;
+        made = record {
+          rows = subst (λ (i : ℕ). AreRowsUpTo lists i 0 c.lists.table.rows.items) all c.lists.invariant.rows;
+          chained = c.lists.invariant.chained;
+        };
+      };
+      foldered = rw c.in-Some.is at c.in_ok-folders.ensures;
+      seen = rw c.rows.ensures at (rw c.deref.ensures.value at c.in_ok-sights.ensures);
     }

@@ -20,33 +20,33 @@ folders-init g c =
     (record { steps = (let steps = looked.steps in omega arith); looks = (let from = looked.from in omega arith) })
     (let steps = looked.steps in omega arith) (let to = looked.to in let long = ap length c.bytes-2.ensures in omega arith)
 
-pub last_match-requires-clause-of : goal.last_match-requires-clause-of
-last_match-requires-clause-of g c =
+pub last_at-requires-clause-of : goal.last_at-requires-clause-of
+last_at-requires-clause-of g c =
     let within = c.folders.invariant.within in
     c.requires.forest.each c.in-Some.place _ (slice_get-get_or c.args.self.now.folders.now c.in-Some.place none (omega (arith, c.in-Some.ensures)))
 
-pub returns-in-Some-last_match-clause-exact : goal.returns-in-Some-last_match-clause-exact
-returns-in-Some-last_match-clause-exact g c =
+pub returns-in-Some-last_at-clause-exact : goal.returns-in-Some-last_at-clause-exact
+returns-in-Some-last_at-clause-exact g c =
     let within = c.folders.invariant.within in
     let lists = map (entry_list_of g.T.Pattern.seen) c.args.self.now.lists.now in
-    subst (λ i. IsLastAnswer lists c.args.path.now.bytes c.args.path.now.is_dir c.args.self.now.case (i, c.in-Some-last_match.mapping)) (sym c.list.ensures)
+    subst (λ i. IsLastAnswer lists c.args.path.now.bytes c.args.path.now.is_dir c.args.self.now.case (i, c.in-Some-last_at.mapping)) (sym c.list.ensures)
     (Decides-here lists c.args.self.now.folders.now c.args.path.now.bytes c.args.path.now.is_dir c.args.self.now.case c.requires.forest c.in-Some.place _ c.folders.link c.args.counts.now c.folders.counts
-    c.last_match.new.counts c.folders.invariant c.in-Some.ensures (slice_get-get_or c.args.self.now.folders.now c.in-Some.place none (omega (arith, c.in-Some.ensures)))
-    c.last_match.ensures.spends c.requires.all c.in-Some-last_match.mapping c.in-Some-last_match.ensures.last)
+    c.last_at.new.counts c.folders.invariant c.in-Some.ensures (slice_get-get_or c.args.self.now.folders.now c.in-Some.place none (omega (arith, c.in-Some.ensures)))
+    c.last_at.ensures.spends c.requires.all c.in-Some-last_at.mapping c.in-Some-last_at.ensures.last)
 
-pub returns-in-Some-last_match-clause-steps : goal.returns-in-Some-last_match-clause-steps
-returns-in-Some-last_match-clause-steps g c =
+pub returns-in-Some-last_at-clause-steps : goal.returns-in-Some-last_at-clause-steps
+returns-in-Some-last_at-clause-steps g c =
     let within = c.folders.invariant.within in
     steps_at_end (map (entry_list_of g.T.Pattern.seen) c.args.self.now.lists.now) c.args.self.now.folders.now c.args.path.now.bytes c.args.path.now.is_dir c.args.self.now.case c.requires.forest
-    c.in-Some.place _ c.folders.link c.args.counts.now c.folders.counts c.last_match.new.counts c.folders.invariant c.in-Some.ensures
-    (slice_get-get_or c.args.self.now.folders.now c.in-Some.place none (omega (arith, c.in-Some.ensures))) c.last_match.ensures.spends
+    c.in-Some.place _ c.folders.link c.args.counts.now c.folders.counts c.last_at.new.counts c.folders.invariant c.in-Some.ensures
+    (slice_get-get_or c.args.self.now.folders.now c.in-Some.place none (omega (arith, c.in-Some.ensures))) c.last_at.ensures.spends
 
-pub returns-in-Some-last_match-clause-looks : goal.returns-in-Some-last_match-clause-looks
-returns-in-Some-last_match-clause-looks g c =
+pub returns-in-Some-last_at-clause-looks : goal.returns-in-Some-last_at-clause-looks
+returns-in-Some-last_at-clause-looks g c =
     let within = c.folders.invariant.within in
     looks_at_end (map (entry_list_of g.T.Pattern.seen) c.args.self.now.lists.now) c.args.self.now.folders.now c.args.path.now.bytes c.args.path.now.is_dir c.args.self.now.case c.requires.forest
-    c.in-Some.place _ c.folders.link c.args.counts.now c.folders.counts c.last_match.new.counts c.folders.invariant c.in-Some.ensures
-    (slice_get-get_or c.args.self.now.folders.now c.in-Some.place none (omega (arith, c.in-Some.ensures))) c.last_match.ensures.spends
+    c.in-Some.place _ c.folders.link c.args.counts.now c.folders.counts c.last_at.new.counts c.folders.invariant c.in-Some.ensures
+    (slice_get-get_or c.args.self.now.folders.now c.in-Some.place none (omega (arith, c.in-Some.ensures))) c.last_at.ensures.spends
 
 pub folders-smaller : goal.folders-smaller
 folders-smaller g c =
@@ -59,10 +59,10 @@ pub folders-preserved : goal.folders-preserved
 folders-preserved g c =
     let within = c.folders.invariant.within in
     let lists = map (entry_list_of g.T.Pattern.seen) c.args.self.now.lists.now in
-    subst (λ link. IsOnWay lists c.args.self.now.folders.now c.args.path.now.bytes c.args.path.now.is_dir c.args.self.now.case link c.args.counts.now c.last_match.new.counts) (sym c.above-link.ensures)
+    subst (λ link. IsOnWay lists c.args.self.now.folders.now c.args.path.now.bytes c.args.path.now.is_dir c.args.self.now.case link c.args.counts.now c.last_at.new.counts) (sym c.above-link.ensures)
     (IsOnWay-next lists c.args.self.now.folders.now c.args.path.now.bytes c.args.path.now.is_dir c.args.self.now.case c.requires.forest c.in-Some.place _ c.folders.link c.args.counts.now c.folders.counts
-    c.last_match.new.counts c.folders.invariant c.in-Some.ensures (slice_get-get_or c.args.self.now.folders.now c.in-Some.place none (omega (arith, c.in-Some.ensures)))
-    c.last_match.ensures.spends (rw c.in_default-last_match.is at c.last_match.ensures.last))
+    c.last_at.new.counts c.folders.invariant c.in-Some.ensures (slice_get-get_or c.args.self.now.folders.now c.in-Some.place none (omega (arith, c.in-Some.ensures)))
+    c.last_at.ensures.spends (rw c.in_default-last_at.is at c.last_at.ensures.last))
 
 pub returns-clause-exact : goal.returns-clause-exact
 returns-clause-exact g c =

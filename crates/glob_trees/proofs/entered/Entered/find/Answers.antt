@@ -1,27 +1,39 @@
 -- The slashes are gone through from the front: each folder is entered, as far as the first one that is ignored.
-use Rattle.std.proofs.Common.{◌≡◌, ◌<◌, ℕ, inl, inr, refl, sym, subst, length, map, take, take_all, slice_index, arith}
+use Rattle.std.proofs.Common.{◌≡◌, ◌<◌, ◌+◌, ℕ, List, inl, inr, refl, sym, subst, length, map, take, take_all, slice_index, arith}
+use Rattle.std.specs.List.{Contains}
 use Rattle.gix_glob.specs.Bytes.{HasByte, slash}
 use Rattle.gix_glob.specs.EntryLists.{entry_list_of}
-use Rattle.glob_trees.specs.Private.Entered.{AreEntered}
+use Rattle.glob_trees.specs.Private.Entered.{AreEntered, IsUnderWay}
 use Rattle.glob_trees.specs.Trees.{Ignores}
+use Rattle.glob_trees.specs.Ways.{GivesOnly, IsAskedFor, folders_to}
+use Rattle.glob_trees.proofs.lemmas.Asking.{asked_above, asked_to_path, gives_allowed, gives_further, gives_no_more, gives_same_way, gives_top}
+use Rattle.glob_trees.proofs.lemmas.AtHand.{at_hand_same_way, rooms_same_way}
 use Rattle.glob_trees.proofs.lemmas.Folders.{above_slash}
-use Rattle.glob_trees.proofs.lemmas.Stepping.{arrived, passing, stopped}
+use Rattle.glob_trees.proofs.lemmas.Stepping.{arrived, keeps_on_further, passing, passing_way, stopped, way_grows}
 use Rattle.glob_trees.proofs.entered.Entered.find.Given.{Over}
 use Rattle.glob_trees.proofs.entered.Entered.find.Goals as goal
 use Rattle.glob_trees.proofs.entered.Entered.find.Goals.{After-decide, In-Some}
 
 pub bytes-preserved-then-bytes-place-ne47 : goal.bytes-preserved-then-bytes-place-ne47
 bytes-preserved-then-bytes-place-ne47 g c =
-    let under = c.bytes.invariant.0 in (
+    let path = c.args.path.now.bytes in
+    let under = c.bytes.invariant.0 in
+    let entries = c.bytes.self.left.lists.entries in
+    let gave = g.S.FolderLists.gave in
+    let front = take c.bytes.place path in
+    let longer = take (c.bytes.place + 1) path in
+    let inside = subst (λ l. c.bytes.place < length l) c.bytes-bytes.ensures c.bytes-test.true in
+    let other : ¬ (slice_index path c.bytes.place ≡ slash) = λ here. c.if-bytes-place-ne47.true (subst (λ l. slice_index l c.bytes.place ≡ slash) (sym c.bytes-bytes.ensures) here) in
+    let same = passing_way path c.bytes.place inside other in (
       record {
         stands = passing (g.S.FolderLists.shows g.T.Pattern.Seen c.bytes.self.source) c.bytes.self.case c.bytes.self.front_count (map (entry_list_of g.T.Pattern.seen) c.bytes.self.lists.items)
-            c.args.path.now.bytes c.bytes.place
-            (subst (λ l. c.bytes.place < length l) c.bytes-bytes.ensures c.bytes-test.true)
-            (λ here. c.if-bytes-place-ne47.true (subst (λ l. slice_index l c.bytes.place ≡ slash) (sym c.bytes-bytes.ensures) here))
-            under.stands;
+            path c.bytes.place inside other under.stands;
         left = under.left;
+        rooms = rooms_same_way entries (gave c.bytes.self.source) front longer same under.rooms;
+        at_hand = at_hand_same_way entries (gave c.bytes.self.source) front longer same under.at_hand;
       },
       c.bytes.invariant.1,
+      gives_same_way (gave c.args.self.now.source) (gave c.bytes.self.source) front longer same c.bytes.invariant.2,
     )
 
 -- the byte at the place is a slash
@@ -54,10 +66,16 @@ returns-in-Some-clause-way g c =
     c.args.path.now.bytes (take c.bytes.place c.args.path.now.bytes) c.in-Some.pair c.bytes.invariant.0.stands (above_slash c.args.path.now.bytes c.bytes.place (slash_here g c)) (ignored g c)
 
 pub returns-in-Some-clause-ready : goal.returns-in-Some-clause-ready
-returns-in-Some-clause-ready g c = record {
-  stands = inr (take c.bytes.place c.args.path.now.bytes, c.bytes.invariant.0.stands);
-  left = c.bytes.invariant.0.left;
-}
+returns-in-Some-clause-ready g c = inr (take c.bytes.place c.args.path.now.bytes, c.bytes.invariant.0)
+
+pub returns-in-Some-clause-asks : goal.returns-in-Some-clause-asks
+returns-in-Some-clause-asks g c =
+    let gave = g.S.FolderLists.gave in
+    let front = take c.bytes.place c.args.path.now.bytes in
+    let lists = map (entry_list_of g.T.Pattern.seen) c.bytes.self.lists.items in
+    gives_allowed (gave c.args.self.now.source) (gave c.bytes.self.source) (Contains (folders_to front)) (IsAskedFor lists c.bytes.self.case c.args.path.now.bytes)
+    (λ folder h. asked_above (g.S.FolderLists.shows g.T.Pattern.Seen c.bytes.self.source) c.bytes.self.front_count lists c.bytes.self.case c.args.path.now.bytes front folder c.bytes.invariant.0.stands (above_slash c.args.path.now.bytes c.bytes.place (slash_here g c)) h)
+    c.bytes.invariant.2
 
 pub enter-requires-clause-kept : goal.enter-requires-clause-kept
 enter-requires-clause-kept g c =
@@ -65,9 +83,7 @@ enter-requires-clause-kept g c =
     subst (λ l. (pair : ℕ × ℕ) → ¬ Ignores (map (entry_list_of g.T.Pattern.seen) c.bytes.self.lists.items) c.bytes.self.case (take c.bytes.place l) pair) (sym c.bytes-bytes.ensures) kept
 
 pub returns-in_err-enter-clause-ready : goal.returns-in_err-enter-clause-ready
-returns-in_err-enter-clause-ready g c =
-    let under = c.in_err-enter.ensures.under in
-    record { stands = inr (take c.bytes.place c.bytes-bytes.result.now, under.stands); left = under.left }
+returns-in_err-enter-clause-ready g c = inr (take c.bytes.place c.bytes-bytes.result.now, c.in_err-enter.ensures.under)
 
 -- the whole path was gone through
 whole : (g : Over) (c : After-decide g) → take c.bytes.place c.args.path.now.bytes ≡ c.args.path.now.bytes
@@ -87,4 +103,56 @@ returns-clause-way g c =
     c.args.path.now.bytes (stands g c)
 
 pub returns-clause-ready : goal.returns-clause-ready
-returns-clause-ready g c = record { stands = inr (c.args.path.now.bytes, stands g c); left = c.bytes.invariant.0.left }
+returns-clause-ready g c =
+    inr (c.args.path.now.bytes, subst (IsUnderWay (g.S.FolderLists.shows g.T.Pattern.Seen) g.S.FolderLists.gave g.T.Pattern.seen c.bytes.self) (whole g c) c.bytes.invariant.0)
+
+pub returns-clause-asks : goal.returns-clause-asks
+returns-clause-asks g c =
+    let gave = g.S.FolderLists.gave in
+    let path = c.args.path.now.bytes in
+    let lists = map (entry_list_of g.T.Pattern.seen) c.bytes.self.lists.items in
+    gives_allowed (gave c.args.self.now.source) (gave c.bytes.self.source) (Contains (folders_to path)) (IsAskedFor lists c.bytes.self.case path)
+    (λ folder h. asked_to_path (g.S.FolderLists.shows g.T.Pattern.Seen c.bytes.self.source) c.bytes.self.front_count lists c.bytes.self.case path folder (stands g c) h)
+    (subst (λ front. GivesOnly (Contains (folders_to front)) (gave c.args.self.now.source) (gave c.bytes.self.source)) (whole g c) c.bytes.invariant.2)
+
+pub bytes-init : goal.bytes-init
+bytes-init g c =
+    let shows = g.S.FolderLists.shows g.T.Pattern.Seen in
+    let gave = g.S.FolderLists.gave in
+    let path = c.args.path.now.bytes in
+    let front = take c.leave_to-start.result path in (
+      subst (λ b. IsUnderWay shows gave g.T.Pattern.seen c.leave_to-start.new.self (take c.leave_to-start.result b)) c.bytes-bytes.ensures c.leave_to-start.ensures.under,
+      keeps_on_further shows c.args.self.now c.enter_top.new.self c.leave_to-start.new.self c.enter_top.ensures.keeps c.leave_to-start.ensures.keeps,
+      subst (λ s. GivesOnly (Contains (folders_to front)) (gave c.args.self.now.source) (gave s)) (sym c.leave_to-start.ensures.source)
+          (gives_top (gave c.args.self.now.source) (gave c.enter_top.new.self.source) front c.enter_top.ensures.asks),
+    )
+
+pub returns-in_err-enter-clause-asks : goal.returns-in_err-enter-clause-asks
+returns-in_err-enter-clause-asks g c =
+    let shows = g.S.FolderLists.shows g.T.Pattern.Seen in
+    let gave = g.S.FolderLists.gave in
+    let path = c.args.path.now.bytes in
+    let front = take c.bytes.place path in
+    let lists = map (entry_list_of g.T.Pattern.seen) c.enter.new.self.lists.items in
+    let under = subst (λ b. IsUnderWay shows gave g.T.Pattern.seen c.enter.new.self (take c.bytes.place b)) c.bytes-bytes.ensures c.in_err-enter.ensures.under in
+    let here : HasByte path c.bytes.place slash = record {
+      inside = subst (λ l. c.bytes.place < length l) c.bytes-bytes.ensures c.bytes-test.true;
+      is = subst (λ l. slice_index l c.bytes.place ≡ slash) c.bytes-bytes.ensures c.if-bytes-place-ne47.false;
+    } in
+    gives_allowed (gave c.args.self.now.source) (gave c.enter.new.self.source) (Contains (folders_to front)) (IsAskedFor lists c.enter.new.self.case path)
+    (λ folder h. asked_above (shows c.enter.new.self.source) c.enter.new.self.front_count lists c.enter.new.self.case path front folder under.stands (above_slash path c.bytes.place here) h)
+    (gives_no_more (gave c.args.self.now.source) (gave c.enter.new.self.source) (gave c.bytes.self.source) (Contains (folders_to front)) c.bytes.invariant.2 c.in_err-enter.ensures.fails)
+
+pub bytes-preserved : goal.bytes-preserved
+bytes-preserved g c =
+    let shows = g.S.FolderLists.shows g.T.Pattern.Seen in
+    let gave = g.S.FolderLists.gave in
+    let path = c.args.path.now.bytes in
+    let front = take c.bytes.place path in
+    let longer = take (c.bytes.place + 1) path in
+    let inside = subst (λ l. c.bytes.place < length l) c.bytes-bytes.ensures c.bytes-test.true in (
+      subst (λ b. IsUnderWay shows gave g.T.Pattern.seen c.enter.new.self (take (c.bytes.place + 1) b)) c.bytes-bytes.ensures c.in_ok-enter.ensures.entered,
+      keeps_on_further shows c.args.self.now c.bytes.self c.enter.new.self c.bytes.invariant.1 c.enter.ensures.keeps,
+      gives_further (gave c.args.self.now.source) (gave c.enter.new.self.source) (gave c.bytes.self.source) (Contains (folders_to front)) c.bytes.invariant.2 (Contains (folders_to longer)) (way_grows path c.bytes.place inside)
+          (subst (λ b. GivesOnly (Contains (folders_to (take (c.bytes.place + 1) b))) (gave c.bytes.self.source) (gave c.enter.new.self.source)) c.bytes-bytes.ensures c.in_ok-enter.ensures.asks),
+    )

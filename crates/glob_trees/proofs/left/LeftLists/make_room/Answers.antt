@@ -1,6 +1,12 @@
--- The room for the base is empty.
-use Rattle.glob_trees.proofs.lemmas.Kept.{room_made}
+-- The room for the base is empty, and each other one has what it had.
+use Rattle.std.proofs.Common.{rules, ◌≡◌, None, ap, ◌∙◌}
+use Rattle.glob_trees.specs.Private.Left.{room_of}
+use Rattle.glob_trees.proofs.lemmas.Kept.{none_if, room_made}
 use Rattle.glob_trees.proofs.left.LeftLists.make_room.Goals as goal
 
-pub returns : goal.returns
-returns g c = λ base list kept. room_made _ _ base list c.insert.result _ _ c.insert.ensures.entries c.insert.ensures.err kept
+pub returns-clause-more : goal.returns-clause-more
+returns-clause-more g c =
+    let old = c.args.self.now.lists.entries in
+    let same : c.extend_from_slice.new.self.items ≡ c.args.base.now = search rules in
+    let none : room_of old c.args.base.now ≡ None = none_if (room_of old c.args.base.now) c.contains_key.result c.contains_key.ensures c.if-contains_key.false in
+    (room_made c.extend_from_slice.new.self old c.insert.new.self.entries (ap (room_of old) same ∙ none) c.in_ok-insert.ensures.entries).1

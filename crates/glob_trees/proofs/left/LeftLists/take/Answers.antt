@@ -1,19 +1,18 @@
--- What is taken was kept under the base, and nothing is put in its place.
-use Rattle.std.proofs.Common.{⊎_elim, Some, ap, sym, subst, ◌∙◌}
+-- What is taken was kept under the base, and its room is empty then.
+use Rattle.std.proofs.Common.{Some, IsSome, ap, refl, sym, subst, ◌∙◌}
+use Rattle.std.specs.Map.{set_value}
 use Rattle.std.specs.Option.{option_copied_mut}
-use Rattle.glob_trees.specs.Private.Left.{IsKept}
-use Rattle.glob_trees.proofs.lemmas.Kept.{kept_set, none_is_some, taken}
+use Rattle.glob_trees.proofs.lemmas.Kept.{finds, room_filled, taken}
 use Rattle.glob_trees.proofs.left.LeftLists.take.Goals as goal
 
 pub returns-in-Some-clause-taken : goal.returns-in-Some-clause-taken
 returns-in-Some-clause-taken g c =
-    taken c.args.base.now c.args.self.now.lists.entries c.take.result
-    (sym c.get_mut.ensures.value ∙ ap option_copied_mut c.in-Some.is ∙ ap Some (sym c.take.ensures.value))
+    let is = sym c.get_mut.ensures.value ∙ ap option_copied_mut c.in-Some.is ∙ ap Some (sym c.take.ensures.value) in
+    let writes = (c.get_mut.follows.holds c.take.new.self).0 ∙ ap (λ w. set_value (finds c.args.base.now) c.args.self.now.lists.entries w) c.take.ensures.after in
+    (taken c.args.base.now c.args.self.now.lists.entries _ c.take.result is (room_filled c.args.base.now _ c.args.self.now.lists.entries _ (subst IsSome (sym is) refl) writes)).0
 
-pub returns-in-Some-clause-others : goal.returns-in-Some-clause-others
-returns-in-Some-clause-others g c = λ base list kept.
-    let writes = (c.get_mut.follows.holds c.take.new.self).0 in
-    ⊎_elim
-    (λ old. old)
-    (λ found. absurd (none_is_some list (sym c.take.ensures.after ∙ found.1)))
-    (kept_set _ _ base list _ (subst (λ es. IsKept es base list) writes kept))
+pub returns-in-Some-clause-rooms : goal.returns-in-Some-clause-rooms
+returns-in-Some-clause-rooms g c =
+    let is = sym c.get_mut.ensures.value ∙ ap option_copied_mut c.in-Some.is ∙ ap Some (sym c.take.ensures.value) in
+    let writes = (c.get_mut.follows.holds c.take.new.self).0 ∙ ap (λ w. set_value (finds c.args.base.now) c.args.self.now.lists.entries w) c.take.ensures.after in
+    (taken c.args.base.now c.args.self.now.lists.entries _ c.take.result is (room_filled c.args.base.now _ c.args.self.now.lists.entries _ (subst IsSome (sym is) refl) writes)).1

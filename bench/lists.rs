@@ -1,0 +1,116 @@
+//! Asks a list about paths, by the C library and by the binding for Rust, for rust.py to count: WHAT FOLDER ROUNDS, where FOLDER has
+//! the patterns and the paths that `lists.py --make` writes.
+use gix_glob::decide::{Index, Lists};
+use gix_glob::pattern::Case;
+use gix_glob::search::{self, pattern::{List, Mapping}};
+use std::hint::black_box;
+use std::path::Path;
+
+/// `struct gix_glob_pattern`.
+#[repr(C)]
+struct Parts {
+    text: *const u8,
+    text_len: usize,
+    first_wildcard_pos: usize,
+    mode: u32,
+}
+
+/// `struct gix_glob_row`.
+#[repr(C)]
+#[derive(Clone)]
+struct Row(u64, u32, [u8; 3]);
+
+/// `struct gix_glob_heads`.
+#[repr(C)]
+struct Heads([u32; 257], [u32; 257]);
+
+/// `struct gix_glob_index`.
+#[repr(C)]
+struct Prepared {
+    patterns: *const Parts,
+    count: usize,
+    rows: *const Row,
+    row_count: usize,
+    heads: *const Heads,
+}
+
+/// `struct gix_glob_list`.
+#[repr(C)]
+struct Listed {
+    patterns: *const Parts,
+    count: usize,
+    base: *const u8,
+    base_len: usize,
+}
+
+unsafe extern "C" {
+    fn gix_glob_last_match(patterns: *const Parts, count: usize, path: *const u8, path_len: usize, is_dir: bool, fold: bool) -> usize;
+    fn gix_glob_prepare(patterns: *const Parts, count: usize, rows: *mut Row, row_count: usize, heads: *mut Heads) -> bool;
+    fn gix_glob_index_last_match(index: *const Prepared, path: *const u8, path_len: usize, is_dir: bool, fold: bool) -> usize;
+    fn gix_glob_decide_in_tree(lists: *const Listed, count: usize, path: *const u8, path_len: usize, is_dir: bool, fold: bool, out: *mut [usize; 2]) -> bool;
+}
+
+/// Reads each line as a pattern.
+#[derive(Clone, PartialEq, Eq, Debug, Hash, PartialOrd, Ord, Default)]
+struct Lines;
+
+impl search::Pattern for Lines {
+    type Value = ();
+
+    fn bytes_to_patterns(&self, bytes: &[u8], _source: &Path) -> Vec<Mapping<()>> {
+        let patterns = lines(bytes).filter_map(gix_glob::Pattern::from_bytes);
+        patterns.map(|pattern| Mapping { pattern, value: (), sequence_number: 0 }).collect()
+    }
+}
+
+fn lines(bytes: &[u8]) -> impl Iterator<Item = &[u8]> {
+    bytes.split(|&byte| byte == b'\n').filter(|line| !line.is_empty())
+}
+
+fn main() {
+    let words: Vec<String> = std::env::args().skip(1).collect();
+    let [what, folder, rounds] = words.iter().map(String::as_str).collect::<Vec<_>>()[..] else {
+        panic!("nothing | prepare | c_in_turn | c_index | rust_index | c_tree | rust_tree, FOLDER, ROUNDS")
+    };
+    let [patterns, paths] = ["patterns", "paths"].map(|name| std::fs::read(format!("{folder}/{name}")).expect("a file"));
+    let paths: Vec<&[u8]> = lines(&paths).collect();
+    let list = List::from_bytes(&patterns, "patterns".into(), None, Lines);
+    let parts: Vec<Parts> = list.patterns.iter().map(|it| parts_of(&it.pattern)).collect();
+    let (mut rows, mut heads) = (vec![Row(0, 0, [0; 3]); parts.len()], Heads([0; 257], [0; 257]));
+    let mut prepare = || unsafe { gix_glob_prepare(parts.as_ptr(), parts.len(), rows.as_mut_ptr(), rows.len(), &mut heads) };
+    assert!(prepare());
+    let rounds = rounds.parse::<u32>().expect("a number of rounds");
+    if what == "prepare" {
+        assert!((0..rounds).all(|_| black_box(prepare())));
+        println!("{}", parts.len());
+        return;
+    }
+    let prepared = Prepared { patterns: parts.as_ptr(), count: parts.len(), rows: rows.as_ptr(), row_count: rows.len(), heads: &heads };
+    let listed = Listed { patterns: parts.as_ptr(), count: parts.len(), base: b"".as_ptr(), base_len: 0 };
+    let index = Index::new(&list).expect("an index");
+    let lists = Lists::new(std::slice::from_ref(&list));
+    let ask: &dyn Fn(&[u8]) -> bool = match what {
+        "c_in_turn" => &|it| unsafe { gix_glob_last_match(parts.as_ptr(), parts.len(), it.as_ptr(), it.len(), false, false) } != usize::MAX,
+        "c_index" => &|it| unsafe { gix_glob_index_last_match(&prepared, it.as_ptr(), it.len(), false, false) } != usize::MAX,
+        "rust_index" => &|it| index.last_match(it.into(), false, Case::Sensitive).is_some(),
+        "c_tree" => &|it| unsafe { gix_glob_decide_in_tree(&listed, 1, it.as_ptr(), it.len(), false, false, &mut [0; 2]) },
+        "rust_tree" => &|it| lists.decide_in_tree(it.into(), false, Case::Sensitive).is_some(),
+        _ => &|_| false,
+    };
+    let mut yes = 0;
+    for _ in 0..rounds {
+        yes = paths.iter().filter(|path| ask(black_box(path))).count();
+    }
+    eprintln!("{yes} say yes");
+    println!("{}", paths.len());
+}
+
+/// The parts of a pattern, as C keeps them.
+fn parts_of(pattern: &gix_glob::Pattern) -> Parts {
+    Parts {
+        text: pattern.text.as_ptr(),
+        text_len: pattern.text.len(),
+        first_wildcard_pos: pattern.first_wildcard_pos.unwrap_or(usize::MAX),
+        mode: pattern.mode.bits(),
+    }
+}

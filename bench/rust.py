@@ -1,0 +1,74 @@
+#!/usr/bin/env python3
+"""Counts the binding for Rust beside the C library: bench/rust.py
+
+The library is crates/gix_glob_c/out/libgix_glob_c.a, which `examples/c/install PREFIX` or `rt lib` builds. What is printed is
+instructions a call, by valgrind's callgrind, less what the harness takes: of each load from C and from Rust; then of a list from C,
+each pattern in turn and prepared, by the number of patterns. The status is 1 where a call through the binding takes more than 1.05
+of what it takes from C."""
+import argparse
+import os
+import subprocess
+import sys
+import tempfile
+
+from matcher import HERE, LIBRARY, once, rustc
+
+# what is counted: how a driver calls it, and the loads of matcher.py
+LOADS = (("match", "ignore"), ("match", "ignore_fold"), ("match", "plain"), ("decide", "lines"), ("decide", "lines_fold"))
+# what is asked of a list of 1,000 patterns: by its index, and about each folder on the way
+QUESTIONS = ("index", "tree")
+SIZES = (10, 100, 1000, 10000)
+MOST = 1.05
+
+
+def build(out, library):
+    """Builds the binding, without its dependencies, and the drivers."""
+    os.makedirs(out, exist_ok=True)
+    rustc(out, "gix_glob", f"{HERE}/../bindings/rust/src/lib.rs", "--crate-type=rlib", "--out-dir", out)
+    for name in ("binding", "lists"):
+        rustc(out, name, f"{HERE}/{name}.rs", "--extern", f"gix_glob={out}/libgix_glob.rlib", "-o", f"{out}/{name}", f"-Clink-arg={os.path.abspath(library)}")
+
+
+def counted(*words):
+    """Instructions a call: two rounds less one."""
+    (one, calls), (two, _) = (once([*words, str(rounds)]) for rounds in (1, 2))
+    return (two - one) / calls
+
+
+def make(folder, size):
+    """The patterns and the paths of lists.py."""
+    subprocess.run([sys.executable, f"{HERE}/lists.py", "--make", folder, "--sizes", str(size)], check=True)
+
+
+def compared(load, nothing, c, rust):
+    """Prints what a load takes, and answers whether Rust takes too much."""
+    ratio = (rust - nothing) / (c - nothing)
+    print(f"| `{load}` | {c - nothing:,.1f} | {rust - nothing:,.1f} | {ratio:.3f} |", flush=True)
+    return ratio > MOST
+
+
+def main():
+    args = argparse.ArgumentParser(description=__doc__, formatter_class=argparse.RawDescriptionHelpFormatter)
+    args.add_argument("--library", default=LIBRARY)
+    args.add_argument("--out", default=f"{HERE}/out", help="a folder for what is built")
+    options = args.parse_args()
+    out = os.path.abspath(options.out)
+    build(out, options.library)
+    print("| Load | From C | From Rust | Ratio |\n|---|---|---|---|")
+    missed = 0
+    for kind, load in LOADS:
+        missed += compared(load, *(counted(f"{out}/binding", kind, by, load) for by in ("nothing", "c", "rust")))
+    with tempfile.TemporaryDirectory() as folder:
+        make(folder, 1000)
+        nothing = counted(f"{out}/lists", "nothing", folder)
+        for what in QUESTIONS:
+            missed += compared(what, nothing, *(counted(f"{out}/lists", f"{by}_{what}", folder) for by in ("c", "rust")))
+        print("\n| Patterns | In turn | Prepared | Preparing a pattern |\n|---|---|---|---|")
+        for size in SIZES:
+            make(folder, size)
+            nothing, turns, index, pattern = (counted(f"{out}/lists", what, folder) for what in ("nothing", "c_in_turn", "c_index", "prepare"))
+            print(f"| {size:,} | {turns - nothing:,.0f} | {index - nothing:,.0f} | {pattern:,.0f} |", flush=True)
+    sys.exit(1 if missed else 0)
+
+
+main()

@@ -1,0 +1,111 @@
+//! Which pattern decides about a path: in a work tree, over the lists of several files, or of one list with an index. The other
+//! crate has no such calls.
+//!
+//! ```
+//! use gix_glob::decide::{Index, Lists};
+//! use gix_glob::pattern::Case;
+//! use gix_glob::search::{self, pattern::{List, Mapping}};
+//! use std::path::Path;
+//! # #[derive(Clone, PartialEq, Eq, Debug, Hash, PartialOrd, Ord, Default)]
+//! # struct Lines;
+//! # impl search::Pattern for Lines {
+//! #     type Value = ();
+//! #     fn bytes_to_patterns(&self, bytes: &[u8], _source: &Path) -> Vec<Mapping<()>> {
+//! #         let lines = bytes.split(|&byte| byte == b'\n').zip(1..);
+//! #         lines
+//! #             .filter_map(|(line, sequence_number)| {
+//! #                 let pattern = gix_glob::Pattern::from_bytes(line)?;
+//! #                 Some(Mapping { pattern, value: (), sequence_number })
+//! #             })
+//! #             .collect()
+//! #     }
+//! # }
+//!
+//! let root = Some(Path::new("/repo"));
+//! let lists = [
+//!     List::from_bytes(b"build/\n*.log", "/repo/.gitignore".into(), root, Lines),
+//!     List::from_bytes(b"!keep.log", "/repo/src/.gitignore".into(), root, Lines),
+//! ];
+//! let index = Index::new(&lists[0]).unwrap();
+//! let last = index.last_match("deep/debug.log".into(), false, Case::Sensitive);
+//! assert_eq!(last.unwrap().sequence_number, 2);
+//!
+//! let lists = Lists::new(&lists);
+//! let decided = |path: &str| {
+//!     let found = lists.decide_in_tree(path.into(), false, Case::Sensitive);
+//!     found.map(|(list, mapping)| (list.base.is_some(), mapping.pattern.to_string()))
+//! };
+//! assert_eq!(decided("build/keep.log"), Some((false, "build/".into())));
+//! assert_eq!(decided("src/keep.log"), Some((true, "!keep.log".into())));
+//! assert_eq!(decided("src/main.c"), None);
+//! ```
+use crate::library;
+use crate::pattern::Case;
+use crate::search::Pattern;
+use crate::search::pattern::{List, Mapping};
+use crate::text::BStr;
+
+/// Lists of patterns, laid out once for many questions. A later list comes after an earlier one.
+pub struct Lists<'a, T: Pattern> {
+    lists: &'a [List<T>],
+    laid_out: library::Lists<'a>,
+}
+
+impl<'a, T: Pattern> Lists<'a, T> {
+    /// Lays lists out: files of excludes first, then that of the top, then those of the folders on the way down.
+    pub fn new(lists: &'a [List<T>]) -> Self {
+        let texts = lists.iter().map(|list| {
+            let base = list.base.as_ref().map_or(&b""[..], |base| base.as_slice());
+            (base, parts_of(list))
+        });
+        Lists { lists, laid_out: library::Lists::new(texts) }
+    }
+
+    /// The pattern that decides about a path, as Git has it, and its list; `None` where none does.
+    ///
+    /// The topmost folder above the path that is ignored decides about the path, by the pattern that ignores the folder. Where no
+    /// folder above it is ignored, the last pattern that matches the path decides. The path is ignored unless that pattern is
+    /// negative.
+    ///
+    /// The path is told from the top on, with single slashes between its parts; about one that is empty, or has a slash at its
+    /// front or end, or two in a row, nothing decides. A list whose base is neither empty nor ends in a slash says nothing.
+    pub fn decide_in_tree(
+        &self,
+        path: &BStr,
+        is_dir: bool,
+        case: Case,
+    ) -> Option<(&'a List<T>, &'a Mapping<T::Value>)> {
+        let (list, pattern) = self.laid_out.decide_in_tree(path, is_dir, case == Case::Fold)?;
+        let list = self.lists.get(list)?;
+        Some((list, list.patterns.get(pattern)?))
+    }
+}
+
+/// A list with an index: where few of its patterns can match a path, those alone are tested. It takes 48 bytes a pattern, and 2 KB.
+pub struct Index<'a, T: Pattern> {
+    list: &'a List<T>,
+    prepared: library::Index<'a>,
+}
+
+impl<'a, T: Pattern> Index<'a, T> {
+    /// The index of a list; `None` where it has 2^32 patterns or more.
+    pub fn new(list: &'a List<T>) -> Option<Self> {
+        Some(Index { list, prepared: library::Index::new(parts_of(list))? })
+    }
+
+    /// The last pattern that matches what the base of the list leaves of a path; `None` where none does, or the path doesn't lie
+    /// below the base. It decides about the path by itself: folders above aren't asked about.
+    ///
+    /// The path is told from the root on, as for [`Lists::decide_in_tree`].
+    pub fn last_match(&self, path: &BStr, is_dir: bool, case: Case) -> Option<&'a Mapping<T::Value>> {
+        let (rest, _) = self.list.strip_base_handle_recompute_basename_pos(path, None, case)?;
+        let place = self.prepared.last_match(rest, is_dir, case == Case::Fold)?;
+        self.list.patterns.get(place)
+    }
+}
+
+/// The patterns of a list, as the library takes them.
+fn parts_of<T: Pattern>(list: &List<T>) -> Box<[library::Parts<'_>]> {
+    let patterns = list.patterns.iter().map(|mapping| &mapping.pattern);
+    patterns.map(|it| library::Parts::new(&it.text, it.mode.bits(), it.first_wildcard_pos)).collect()
+}

@@ -1,0 +1,11 @@
+use Rattle.std.proofs.Common.{◌≡◌, length, take}
+use Rattle.std.specs.List.{AllZip}
+use Rattle.gix_glob_c.specs.Indexed.{IsToldOf}
+use Rattle.gix_glob_c.proofs.paths.gix_glob_index_last_matches.Given as goal
+
+-- the paths so far are told
+abbrev pub invariant-paths : goal.invariant-paths
+invariant-paths l = record {
+  long : length l.places ≡ length l.fn.places;
+  told : AllZip (IsToldOf l.index l.fold) (take l.i l.paths) (take l.i l.places);
+}

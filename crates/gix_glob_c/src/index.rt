@@ -1,0 +1,91 @@
+//! Prepared patterns: `struct gix_glob_index` of the header, whose rows and heads lie in memory of the caller.
+ghost use Rattle.std.specs.Prelude.{◌≡◌, ◌↔◌, ◌⊎◌, ◌^◌, ◌<◌, ◌≤◌, ℕ, [], ◌∷◌, All, IfSome, length, map, option_map, take, true, false};
+ghost use Rattle.glob_lists.specs.Deciding.{Decides};
+ghost use Rattle.glob_lists.specs.Prepared.{ArePrepared};
+ghost use Rattle.gix_glob_c.specs.Parsed.{IsLawful, IsPathOfFile, entry_of_parts, list_of};
+ghost use Rattle.gix_glob_c.specs.Indexed.{IsIndex};
+ghost use Rattle.gix_glob_c.specs.Parts.{case_of, none, unless_none};
+
+use crate::case_of;
+use crate::parsed::{GlobPattern, NONE, last_match, path_of_file};
+use gix_glob::pattern::PatternView;
+use glob_lists::RepositoryPath;
+use glob_lists::prepared::{self, Heads, Viewed};
+use glob_lists::stored::StoredRow;
+
+/// `struct gix_glob_index`: patterns, and what `gix_glob_prepare` wrote for them.
+#[repr(C)]
+#[derive(Copy, Clone)]
+pub struct GlobIndex<'a> {
+    /// The patterns, in the order of their lines.
+    pub patterns: &'a [GlobPattern<'a>],
+    /// Their rows; more may follow.
+    pub rows: &'a [StoredRow],
+    /// Where the chains of rows begin.
+    pub heads: &'a Heads,
+}
+
+impl<'a> Viewed for GlobPattern<'a> {
+    ghost use Rattle.gix_glob_c.specs.Parsed.{entry_of_parts};
+
+    ghost seen = { entry_of_parts };
+
+    fn view(&self) -> PatternView<'_> {
+        GlobPattern::view(self)
+    }
+}
+
+/// Prepares patterns, in memory of the caller: a row for each, and the heads. `false` is answered, and nothing written, where there
+/// are fewer rows than patterns, or 2^32 patterns or more.
+#[unsafe(no_mangle)]
+pub extern "C" fn gix_glob_prepare(
+    patterns: &[GlobPattern<'_>],
+    rows: &mut [StoredRow],
+    heads: &mut Heads,
+) -> bool
+    ensures room { (result ≡ false) ↔ ((length rows.old < length patterns.now) ⊎ (2 ^ 32 ≤ length patterns.now)) }
+    ensures kept { result ≡ false → (rows.new ≡ rows.old) × (heads.new ≡ heads.old) }
+    ensures prepared { result ≡ true → ArePrepared (map entry_of_parts patterns.now) (take (length patterns.now) rows.new) heads.new }
+{
+    prepared::prepare(patterns, rows, heads)
+}
+
+/// The index of the last of the patterns that matches a path, as [`gix_glob_last_match`](crate::parsed::gix_glob_last_match)
+/// answers, by their rows where that costs less. Memory that `gix_glob_prepare` didn't write for these patterns may give a wrong
+/// answer, and nothing worse.
+#[unsafe(no_mangle)]
+pub extern "C" fn gix_glob_index_last_match(
+    index: &GlobIndex<'_>,
+    path: &[u8],
+    is_dir: bool,
+    fold: bool,
+) -> usize
+    ensures none { (result ≡ none) ⊎ (result < length index.now.patterns.now) }
+    ensures other { ¬ IsPathOfFile path.now → result ≡ none }
+    ensures exact { All IsLawful index.now.patterns.now → IsIndex index.now → IsPathOfFile path.now
+        → Decides (list_of index.now.patterns.now ∷ []) path.now is_dir (case_of fold) (option_map (λ (index : ℕ). (0, index)) (unless_none result)) }
+{
+    let Some(path) = path_of_file(path, is_dir) else {
+        return NONE;
+    };
+    match last_by_index(index, &path, fold) {
+        Some(place) => place,
+        None => NONE,
+    }
+}
+
+/// The index of the last of the patterns that matches a path.
+fn last_by_index(index: &GlobIndex<'_>, path: &RepositoryPath<'_>, fold: bool) -> Option<usize>
+    ensures inside { IfSome result (λ place. place < length index.now.patterns.now) }
+    ensures some { IfSome result (λ place. place < none) }
+    ensures exact { All IsLawful index.now.patterns.now → IsIndex index.now
+        → Decides (list_of index.now.patterns.now ∷ []) path.now.bytes path.now.is_dir (case_of fold) (option_map (λ (index : ℕ). (0, index)) result) }
+{
+    if !prepared::pays_for(index.patterns.len(), index.rows, index.heads, path) {
+        return last_match(index.patterns, path, fold);
+    }
+    prepared::last_match(index.patterns, index.rows, index.heads, path, case_of(fold))
+}
+
+#[cfg(test)]
+mod tests;

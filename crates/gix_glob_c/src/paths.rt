@@ -1,0 +1,48 @@
+//! Several paths that one call asks about: `struct gix_glob_path` of the header.
+ghost use Rattle.std.specs.Prelude.{◌≡◌, ◌↔◌, ◌<◌, length, take, true, false};
+ghost use Rattle.std.specs.List.{AllZip};
+ghost use Rattle.gix_glob_c.specs.Indexed.{IsToldOf};
+
+use crate::index::{GlobIndex, gix_glob_index_last_match};
+
+/// `struct gix_glob_path`: a path that is asked about.
+#[repr(C)]
+#[derive(Copy, Clone)]
+pub struct GlobPath<'a> {
+    /// The path, from the folder of the patterns on.
+    pub bytes: &'a [u8],
+    /// Whether it is a directory's.
+    pub is_dir: bool,
+}
+
+/// What [`gix_glob_index_last_match`](crate::index::gix_glob_index_last_match) answers for each of several paths, in order.
+/// `false` is answered, and nothing written, where there are fewer places than paths.
+#[unsafe(no_mangle)]
+pub extern "C" fn gix_glob_index_last_matches(
+    index: &GlobIndex<'_>,
+    paths: &[GlobPath<'_>],
+    fold: bool,
+    places: &mut [usize],
+) -> bool
+    ensures room { (result ≡ false) ↔ (length places.old < length paths.now) }
+    ensures kept { result ≡ false → places.new ≡ places.old }
+    ensures told { result ≡ true → AllZip (IsToldOf index.now fold) paths.now (take (length paths.now) places.new) }
+{
+    if places.len() < paths.len() {
+        return false;
+    }
+    'paths: for i in 0..paths.len() {
+        places[i] = last_match_of(index, &paths[i], fold);
+    }
+    true
+}
+
+/// What is told of one path.
+fn last_match_of(index: &GlobIndex<'_>, path: &GlobPath<'_>, fold: bool) -> usize
+    ensures { IsToldOf index.now fold path.now result }
+{
+    gix_glob_index_last_match(index, path.bytes, path.is_dir, fold)
+}
+
+#[cfg(test)]
+mod tests;

@@ -1,0 +1,56 @@
+-- What is told of lines, one line after the other.
+use Rattle.std.proofs.Common.{◌≡◌, ℕ, ◌+◌, Bool, List, [], ◌∷◌, ◌++◌, None, Some, refl, sym, ap, ◌∙◌, append_assoc, take}
+use Rattle.std.specs.Prelude.{Vec, if◌then◌else◌, slice_get}
+use Rattle.std.specs.List.{cons_option, list_any}
+use Rattle.std.specs.Str.{bytes_eq}
+use Rattle.std.proofs.lemmas.List.{take_more}
+use Rattle.std.proofs.lemmas.Option.{get_or_from_slice_get, slice_get_within}
+use Rattle.std.specs.declared.alloc.Global.{Global}
+use Rattle.glob_attributes.specs.declared.assignment.Assignment.{Assignment}
+use Rattle.glob_attributes.specs.declared.line.LineReading.{LineReading}
+use Rattle.glob_attributes.specs.declared.line.LineReading.TheVariants as read
+use Rattle.glob_attributes.specs.declared.line.Silence.{Silence}
+use Rattle.glob_attributes.specs.declared.silences.SilentLine.{SilentLine}
+use Rattle.glob_attributes.specs.Readings.{line_gives, seen_reading}
+use Rattle.glob_attributes.specs.Told.{silence_given, silences_from, with_names}
+
+module _ (is_top : Bool) where
+  -- a line was read that says nothing for a reason
+  pub silent-more : (old new : List SilentLine) (told : SilentLine) (number : ℕ) (lines more : List (List ℕ)) (line : List ℕ) (all : List SilentLine)
+      → new ≡ old ++ told ∷ [] → lines ≡ line ∷ more → silence_given number (line_gives is_top line) ≡ Some told
+      → old ++ silences_from is_top number lines ≡ all → new ++ silences_from is_top (number + 1) more ≡ all
+  silent-more old new told number lines more line all grown is gives meant =
+      let rest = silences_from is_top (number + 1) more in
+      let here : silences_from is_top number lines ≡ told ∷ rest = ap (silences_from is_top number) is ∙ ap (λ o. cons_option o rest) gives in
+      ap (λ l. l ++ rest) grown ∙ append_assoc old (told ∷ []) rest ∙ ap (λ l. old ++ l) (sym here) ∙ meant
+
+  -- another line was read
+  pub silent-other : (old : List SilentLine) (number : ℕ) (lines more : List (List ℕ)) (line : List ℕ) (all : List SilentLine)
+      → lines ≡ line ∷ more → silence_given number (line_gives is_top line) ≡ None
+      → old ++ silences_from is_top number lines ≡ all → old ++ silences_from is_top (number + 1) more ≡ all
+  silent-other old number lines more line all is none meant =
+      let rest = silences_from is_top (number + 1) more in
+      ap (λ l. old ++ l) (sym (ap (silences_from is_top number) is ∙ ap (λ o. cons_option o rest) none)) ∙ meant
+
+pub silence_given-other : (number : ℕ) (given : LineReading) → ((silence : Silence) → given ≡ read.Silent silence → ⊥) → silence_given number (seen_reading given) ≡ None
+silence_given-other number read.Nothing other = refl
+silence_given-other number (read.Silent silence) other = absurd (other silence refl)
+silence_given-other number (read.Macro name assignments) other = refl
+silence_given-other number (read.Pattern pattern assignments) other = refl
+
+-- ---- names
+
+pub with_names-append : (names xs ys : List (List ℕ)) → with_names names (xs ++ ys) ≡ with_names (with_names names xs) ys
+with_names-append names [] ys = refl
+with_names-append names (x ∷ xs) ys = with_names-append (if list_any (λ other. bytes_eq other x) names then names else names ++ x ∷ []) xs ys
+
+-- one name more of those that are added in turn
+pub with_names-one : (old now new all : List (List ℕ)) (i : ℕ) (name : List ℕ) → slice_get all i ≡ Some name
+    → now ≡ with_names old (take i all) → new ≡ with_names now (name ∷ []) → new ≡ with_names old (take (i + 1) all)
+with_names-one old now new all i name there before added =
+    let taken = take_more all i name (slice_get_within all i name there) ∙ ap (λ x. take i all ++ x ∷ []) (get_or_from_slice_get all i name name there) in
+    added ∙ ap (λ l. with_names l (name ∷ [])) before ∙ sym (with_names-append old (take i all) (name ∷ [])) ∙ ap (with_names old) (sym taken)
+
+-- the names of one line more
+pub with_names-line : (now new mine others : List (List ℕ)) → new ≡ with_names now mine → with_names new others ≡ with_names now (mine ++ others)
+with_names-line now new mine others added = ap (λ l. with_names l others) added ∙ sym (with_names-append now mine others)

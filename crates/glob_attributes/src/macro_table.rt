@@ -1,0 +1,104 @@
+//! All macros that count for a path, found by their names.
+ghost use Rattle.std.specs.Prelude.{◌≡◌, ◌++◌, ◌<◌, IfOk, OnErr, OnOk, codes, length, map};
+ghost use Rattle.glob_attributes.specs.Macros.{macros_of, seen_macro};
+ghost use Rattle.glob_attributes.specs.Private.Filling.{HasLastPlaces, assignments_at, last_place};
+ghost use Rattle.glob_attributes.specs.Assignments.{assignment_with};
+ghost use Rattle.std.specs.Vec.{vec_items};
+
+use crate::assignment::Assignment;
+use crate::macros::{Macro, macros_of};
+use crate::places::Places;
+use std::alloc::{AllocError, Global};
+use std::marker::Model;
+
+/// The macros that count for a path, wherever it lies: the one that is built in, and those of the files that define any. Contracts
+/// see them in order; of several of one name the last counts.
+#[derive(Debug, Drop)]
+pub struct MacroTable {
+    macros: Vec<Macro>,
+    /// The place of the last macro of each name.
+    places: Places,
+}
+
+impl Model for MacroTable {
+    ghost use Rattle.std.specs.Prelude.{List, map};
+    ghost use Rattle.glob_attributes.specs.Macros.{Definition, seen_macro};
+    ghost use Rattle.glob_attributes.specs.Private.Filling.{HasLastPlaces};
+
+    ghost Value = { List Definition };
+
+    ghost view = { λ table. map seen_macro table.macros.items };
+
+    ghost invariant = { λ table. HasLastPlaces table.places (map seen_macro table.macros.items) };
+}
+
+impl MacroTable {
+    /// The macro that is built in: `binary`.
+    ///
+    /// # Errors
+    /// Only where memory was refused.
+    pub fn new(alloc: Global) -> Result<MacroTable, AllocError>
+        ensures { IfOk result (λ table. table ≡ macros_of (codes "[attr]binary -diff -merge -text")) }
+    {
+        let macros = macros_of(alloc, b"[attr]binary -diff -merge -text")?;
+        let places = last_places(alloc, &macros)?;
+        Ok(MacroTable { macros, places })
+    }
+
+    /// Adds the macros that an attribute file defines. The files come from the weakest to the strongest, as their lists do; one of a
+    /// folder below the top defines none, and isn't added.
+    ///
+    /// # Errors
+    /// Only where memory was refused: the macros are then as they were.
+    pub fn add_file(&mut self, alloc: Global, bytes: &[u8]) -> Result<(), AllocError>
+        ensures added { OnOk result (self.new ≡ self.old ++ macros_of bytes.now) }
+        ensures err { OnErr result (self.new ≡ self.old) }
+    {
+        let mut more = macros_of(alloc, bytes)?;
+        let count = self.macros.len();
+        self.macros.append(&mut more)?;
+        match last_places(alloc, &self.macros) {
+            Ok(places) => {
+                self.places = places;
+                Ok(())
+            }
+            Err(refused) => {
+                self.macros.truncate(count);
+                Err(refused)
+            }
+        }
+    }
+
+    /// How many macros there are.
+    pub(crate) fn len(&self) -> usize
+        ensures { result ≡ length self.now }
+    {
+        self.macros.len()
+    }
+
+    /// The place of the last macro of a name.
+    pub(crate) fn place_of(&self, name: &[u8]) -> Option<usize>
+        ensures { result ≡ last_place name.now self.now }
+    {
+        self.places.get(name)
+    }
+
+    /// What the macro at a place assigns.
+    pub(crate) fn assignments(&self, place: usize) -> &[Assignment<Vec<u8>>]
+        requires { place < length self.now }
+        ensures { map (assignment_with vec_items) result.now ≡ assignments_at self.now place }
+    {
+        &self.macros[place].assignments
+    }
+}
+
+/// The place of the last macro of each name.
+fn last_places(alloc: Global, macros: &[Macro]) -> Result<Places, AllocError>
+    ensures { IfOk result (λ places. HasLastPlaces places (map seen_macro macros.now)) }
+{
+    let mut places = Places::new(alloc);
+    'macros: for place in 0..macros.len() {
+        places.set(alloc, &macros[place].name, place)?;
+    }
+    Ok(places)
+}

@@ -1,0 +1,169 @@
+//! Which state each attribute has for a path.
+ghost use Rattle.std.specs.Prelude.{◌≡◌, ◌++◌, IfOk, OnOk, map};
+ghost use Rattle.std.specs.List.{flat_map};
+ghost use Rattle.std.specs.Vec.{vec_items};
+ghost use Rattle.gix_glob.specs.EntryLists.{entry_list_of};
+ghost use Rattle.glob_lists.specs.Deciding.{BasesAreFolders};
+ghost use Rattle.glob_attributes.specs.Assignments.{assignment_with, state_with};
+ghost use Rattle.glob_attributes.specs.Private.Filling.{seen_entry};
+ghost use Rattle.glob_attributes.specs.Readings.{seen_assignments};
+ghost use Rattle.glob_attributes.specs.States.{IsAssigned, assigned_at, is_specified, state_in, states_in};
+
+use crate::assignment::{Assignment, State};
+use crate::filling::{fill_in, push_each};
+use crate::macro_table::MacroTable;
+use crate::parser::AttributeLines;
+use gix_glob::pattern::Case;
+use gix_glob::search::pattern::List;
+use glob_lists::{ListIndex, RepositoryPath, matches_into};
+use std::alloc::{AllocError, Global};
+use std::marker::Model;
+
+/// What attribute files assign to a path. Contracts see all of it, with what macros put in, the strongest first.
+#[derive(Debug, Drop)]
+pub struct PathAttributes<'a> {
+    filled: Vec<&'a Assignment<Vec<u8>>>,
+}
+
+impl<'a> Model for PathAttributes<'a> {
+    ghost use Rattle.std.specs.Prelude.{List, map};
+    ghost use Rattle.glob_attributes.specs.Private.Filling.{seen_entry};
+    ghost use Rattle.glob_attributes.specs.States.{Assigned};
+
+    ghost Value = { List Assigned };
+
+    ghost view = { λ attributes. map seen_entry attributes.filled.items };
+}
+
+impl<'a> PathAttributes<'a> {
+    /// What the lists and the macros assign to a path. The lists come from the weakest to the strongest, as the macros do, and have
+    /// to meet [`bases_are_folders`](glob_lists::bases_are_folders).
+    ///
+    /// # Errors
+    /// Only where memory was refused.
+    pub fn new(
+        alloc: Global,
+        lists: &'a [List<AttributeLines>],
+        macros: &'a MacroTable,
+        path: &RepositoryPath<'_>,
+        case: Case,
+    ) -> Result<PathAttributes<'a>, AllocError>
+        requires folders { BasesAreFolders (map (entry_list_of seen_assignments) lists.now) }
+        ensures { IfOk result (λ assigned. IsAssigned (map (entry_list_of seen_assignments) lists.now) macros.now path.now case assigned) }
+    {
+        let mut pairs = Vec::new(alloc);
+        matches_into(lists, path, case, &mut pairs)?;
+        let mut row = Vec::new(alloc);
+        push_row(&mut row, lists, &pairs)?;
+        let filled = fill_in(alloc, row, macros)?;
+        Ok(PathAttributes { filled })
+    }
+
+    /// What the lists of an index, then stronger ones, and the macros assign to a path. The case of letters counts as the index says.
+    /// The stronger lists have to meet [`bases_are_folders`](glob_lists::bases_are_folders).
+    ///
+    /// # Errors
+    /// Only where memory was refused.
+    pub fn with_index(
+        alloc: Global,
+        index: &ListIndex<'a, AttributeLines>,
+        stronger: &'a [List<AttributeLines>],
+        macros: &'a MacroTable,
+        path: &RepositoryPath<'_>,
+    ) -> Result<PathAttributes<'a>, AllocError>
+        requires folders { BasesAreFolders (map (entry_list_of seen_assignments) stronger.now) }
+        ensures { IfOk result (λ assigned. IsAssigned (map (entry_list_of seen_assignments) index.now.lists ++ map (entry_list_of seen_assignments) stronger.now) macros.now path.now index.now.case assigned) }
+    {
+        let mut pairs = Vec::new(alloc);
+        index.matches_into(path, &mut pairs)?;
+        let mut row = Vec::new(alloc);
+        push_row(&mut row, index.lists(), &pairs)?;
+        matches_into(stronger, path, index.case(), &mut pairs)?;
+        push_row(&mut row, stronger, &pairs)?;
+        let filled = fill_in(alloc, row, macros)?;
+        Ok(PathAttributes { filled })
+    }
+
+    /// The state of an attribute: the first assignment that names it decides, and where none does it is unspecified.
+    pub fn state_of(&self, name: &[u8]) -> State<&'a [u8]>
+        ensures { state_with (λ bytes. bytes.now) result ≡ state_in self.now name.now }
+    {
+        for assignment in &self.filled {
+            if *assignment.name == *name {
+                return borrowed(&assignment.state);
+            }
+        }
+        State::Unspecified
+    }
+
+    /// The states of those of the attributes that aren't unspecified, in the order of the names.
+    ///
+    /// # Errors
+    /// Only where memory was refused.
+    pub fn states_of<'s>(
+        &'s self,
+        alloc: Global,
+        names: &'s [Vec<u8>],
+    ) -> Result<Vec<Assignment<&'s [u8]>>, AllocError>
+        ensures { IfOk result (λ states. map (assignment_with (λ bytes. bytes.now)) states.items ≡ states_in self.now (map vec_items names.now)) }
+    {
+        let mut states = Vec::new(alloc);
+        for name in names {
+            let state = self.state_of(name);
+            if is_specified(&state) {
+                let name = name.as_slice();
+                states.push(Assignment { name, state })?;
+            }
+        }
+        Ok(states)
+    }
+}
+
+/// Whether a state says something.
+fn is_specified(state: &State<&[u8]>) -> bool
+    ensures { result ≡ is_specified (state_with (λ bytes. bytes.now) state.now) }
+{
+    !matches!(state, State::Unspecified)
+}
+
+/// Adds what the patterns at pairs of places assign, in their order.
+fn push_row<'a>(
+    row: &mut Vec<&'a Assignment<Vec<u8>>>,
+    lists: &'a [List<AttributeLines>],
+    pairs: &[(usize, usize)],
+) -> Result<(), AllocError>
+    ensures { OnOk result (map seen_entry row.new.items ≡ map seen_entry row.old.items ++ flat_map (assigned_at (map (entry_list_of seen_assignments) lists.now)) pairs.now) }
+{
+    for pair in pairs {
+        push_each(row, assigned_at(lists, *pair))?;
+    }
+    Ok(())
+}
+
+/// What the pattern at a pair of places assigns.
+fn assigned_at<'a>(
+    lists: &'a [List<AttributeLines>],
+    pair: (usize, usize),
+) -> &'a [Assignment<Vec<u8>>]
+    ensures { map (assignment_with vec_items) result.now ≡ assigned_at (map (entry_list_of seen_assignments) lists.now) pair }
+{
+    if let Some(list) = lists.get(pair.0)
+        && let Some(mapping) = list.patterns.get(pair.1)
+    {
+        &mapping.value
+    } else {
+        &[]
+    }
+}
+
+/// The same state, its bytes borrowed.
+fn borrowed(state: &State<Vec<u8>>) -> State<&[u8]>
+    ensures { state_with (λ bytes. bytes.now) result ≡ state_with vec_items state.now }
+{
+    match state {
+        State::Set => State::Set,
+        State::Unset => State::Unset,
+        State::Unspecified => State::Unspecified,
+        State::Value(value) => State::Value(value),
+    }
+}

@@ -1,0 +1,50 @@
+//! Attribute files, which want memory for what their lines assign.
+use gix_glob::pattern::Case;
+use gix_glob::search::has_file_part;
+use gix_glob::search::pattern::List;
+use glob_attributes::{
+    AttributeLines, AttributeNames, MacroTable, PathAttributes, Silence, State, silent_lines,
+};
+use glob_lists::{RepositoryPath, bases_are_folders};
+use std::test::Fail;
+
+const FILE: &[u8] = b"[attr]m a=1 -b\n\"x y\" m c\n!z d\n";
+
+#[test]
+fn attributes_of_a_path(rt: HostRuntime) -> Result<(), Fail> {
+    let alloc = rt.alloc();
+    let source = String::from_str(alloc, "f")?;
+    assert!(rt; has_file_part(source.as_str()));
+    let lists = [List::from_bytes(alloc, FILE, source, None, AttributeLines)?];
+    assert!(rt; bases_are_folders(&lists));
+    let mut macros = MacroTable::new(alloc)?;
+    macros.add_file(alloc, FILE)?;
+    let mut names = AttributeNames::new(alloc)?;
+    names.add_file(alloc, FILE, true)?;
+    let path = RepositoryPath::new(b"x y", false).ok_or("a path")?;
+    let attributes = PathAttributes::new(alloc, &lists, &macros, &path, Case::Sensitive)?;
+    assert!(rt; attributes.state_of(b"a") == State::Value(b"1".as_slice()));
+    let states = attributes.states_of(alloc, names.as_slice())?;
+    assert!(rt; states.len() == 4);
+    Ok(())
+}
+
+#[test]
+fn lines_that_say_nothing(rt: HostRuntime) -> Result<(), Fail> {
+    let lines = silent_lines(rt.alloc(), FILE, true)?;
+    let first = lines.first().ok_or("a line")?;
+    assert!(rt; first.number == 3 && first.silence == Silence::Negative);
+    Ok(())
+}
+
+#[test]
+fn a_table_answers_after_a_refusal(rt: HostRuntime) -> Result<(), Fail> {
+    let mut macros = MacroTable::new(rt.alloc())?;
+    let first = macros.add_file(rt.alloc(), FILE);
+    let path = RepositoryPath::new(b"x", false).ok_or("a path")?;
+    let lists: [List<AttributeLines>; 0] = [];
+    assert!(rt; bases_are_folders(&lists));
+    let attributes = PathAttributes::new(rt.alloc(), &lists, &macros, &path, Case::Sensitive)?;
+    assert!(rt; attributes.state_of(b"a") == State::Unspecified);
+    Ok(first?)
+}

@@ -1,0 +1,39 @@
+-- Rows in memory that a caller keeps, as the rows that they stand for.
+use Rattle.std.specs.Prelude.{ℕ, true, false, ◌==◌, if◌then◌else◌, List, Option, MatchOption, ◌+◌, map}
+use Rattle.glob_lists.specs.declared.chains.Class.{Class}
+use Rattle.glob_lists.specs.declared.chains.Class.TheVariants.{Always, EndsIn}
+use Rattle.glob_lists.specs.declared.chains.Link.{Link}
+use Rattle.glob_lists.specs.declared.probe.Probe.{Probe}
+use Rattle.glob_lists.specs.declared.row.Row.{Row}
+use Rattle.glob_lists.specs.declared.stored.StoredRow.{StoredRow}
+use Rattle.glob_lists.specs.declared.table.Walk.{Walk}
+use Rattle.glob_lists.specs.Private.Chains.{IsChained, classes_of, links_of}
+use Rattle.glob_lists.specs.Private.Walking.{IsWalkDown, NonePasses}
+
+-- the class of a row: one without a literal end is always looked at
+abbrev pub class_of : StoredRow → Class
+class_of row = if row.length == 0 then Always else EndsIn row.last
+
+-- the row that is meant
+abbrev pub row_of : StoredRow → Row
+row_of row = record {
+  asked = row.asked;
+  before = row.before;
+  list = 0;
+  mapping = 0;
+  class = class_of row;
+  length = row.length;
+  is_name = if row.is_name == 0 then false else true;
+}
+
+abbrev pub rows_of : List StoredRow → List Row
+rows_of rows = map row_of rows
+
+-- the rows are chained
+abbrev pub AreLinked : List StoredRow → List Link → Type 0
+AreLinked rows heads = IsChained (classes_of (rows_of rows)) (links_of (rows_of rows)) heads
+
+-- What a walk that stood at the place `from` has come to: a row that passes, or the end, and no row was passed over that does.
+pub record HasCome (rows : List StoredRow) (probe : Probe) (from : ℕ) (walk : Walk) (place : Option ℕ) : Type 0 where
+  pub down : IsWalkDown (rows_of rows) probe.last walk
+  pub none : MatchOption place (NonePasses (rows_of rows) probe 0 from) (λ place. NonePasses (rows_of rows) probe (place + 1) from)

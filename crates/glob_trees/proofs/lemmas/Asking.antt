@@ -1,0 +1,62 @@
+-- What a source was asked for: only for folders on the way, of which none is ignored, and none below an ignored one.
+use Rattle.std.proofs.Common.{◌≡◌, ◌⊎◌, inl, inr, ⊎_elim, ℕ, List, [], ◌∷◌, ◌++◌, sym, subst}
+use Rattle.std.specs.List.{Contains}
+use Rattle.gix_glob.specs.declared.pattern.Case.{Case}
+use Rattle.gix_glob.specs.Bytes.{slash}
+use Rattle.gix_glob.specs.EntryLists.{EntryList}
+use Rattle.glob_trees.specs.Private.Entered.{AreEntered}
+use Rattle.glob_trees.specs.Trees.{HasNoneIgnored, IsAbove}
+use Rattle.glob_trees.specs.Ways.{GivesOnly, IsAskedFor, folders_to}
+use Rattle.glob_trees.proofs.lemmas.Folders.{above_above}
+use Rattle.glob_trees.proofs.lemmas.OnWay.{on_way_is_above, top_on_way}
+use Rattle.glob_trees.proofs.lemmas.WayLemmas.{above_more}
+
+module _ {V : Type 0} (shows : List ℕ → EntryList V → Type 0) (n : ℕ) (lists : List (EntryList V)) (case : Case) (path : List ℕ) where
+  none_ignored : (front folder : List ℕ) → AreEntered shows n lists case front → IsAbove folder front → HasNoneIgnored lists case (folder ++ slash ∷ [])
+  none_ignored front folder e above top pair high = ⊎_elim
+      (λ (here : (top ≡ folder) × (slash ≡ slash)). e.none top pair (subst (λ f. IsAbove f front) (sym here.0) above))
+      (λ (higher : IsAbove top folder). e.none top pair (above_above top folder front higher above))
+      (above_more top folder slash high)
+
+  pub asked_above : (front folder : List ℕ) → AreEntered shows n lists case front → IsAbove front path → Contains (folders_to front) folder → IsAskedFor lists case path folder
+  asked_above front folder e above h = ⊎_elim
+      (λ (top : folder ≡ []). inl top)
+      (λ (higher : IsAbove folder front). inr (above_above folder front path higher above, none_ignored front folder e higher))
+      (on_way_is_above front folder h)
+
+  pub asked_to_path : (folder : List ℕ) → AreEntered shows n lists case path → Contains (folders_to path) folder → IsAskedFor lists case path folder
+  asked_to_path folder e h = ⊎_elim
+      (λ (top : folder ≡ []). inl top)
+      (λ (higher : IsAbove folder path). inr (higher, none_ignored path folder e higher))
+      (on_way_is_above path folder h)
+
+-- ---- of which folders lists were given
+
+module _ (old new : List ℕ → Type 0) where
+  pub gives_allowed : (P Q : List ℕ → Type 0) → ((folder : List ℕ) → P folder → Q folder) → GivesOnly P old new → GivesOnly Q old new
+  gives_allowed P Q weaker gives folder given = ⊎_elim
+      (λ (before : old folder). inl before)
+      (λ (allowed : P folder). inr (weaker folder allowed))
+      (gives folder given)
+
+  pub gives_top : (front : List ℕ) → GivesOnly (λ folder. folder ≡ []) old new → GivesOnly (Contains (folders_to front)) old new
+  gives_top front = gives_allowed (λ folder. folder ≡ []) (Contains (folders_to front)) (λ folder top. subst (Contains (folders_to front)) (sym top) (top_on_way front))
+
+  pub gives_same_way : (front other : List ℕ) → folders_to other ≡ folders_to front → GivesOnly (Contains (folders_to front)) old new → GivesOnly (Contains (folders_to other)) old new
+  gives_same_way front other same = gives_allowed (Contains (folders_to front)) (Contains (folders_to other)) (λ folder h. subst (λ fs. Contains fs folder) (sym same) h)
+
+  module _ (mid : List ℕ → Type 0) (P : List ℕ → Type 0) (first : GivesOnly P old mid) where
+    pub gives_further : (Q : List ℕ → Type 0) → ((folder : List ℕ) → P folder → Q folder) → GivesOnly Q mid new → GivesOnly Q old new
+    gives_further Q weaker then folder given = ⊎_elim
+        (λ (before : mid folder). ⊎_elim
+        (λ (was : old folder). inl was)
+        (λ (allowed : P folder). inr (weaker folder allowed))
+        (first folder before))
+        (λ (allowed : Q folder). inr allowed)
+        (then folder given)
+
+    pub gives_no_more : GivesOnly (λ _. ⊥) mid new → GivesOnly P old new
+    gives_no_more then folder given = ⊎_elim
+        (λ (before : mid folder). first folder before)
+        (λ (never : ⊥). absurd never)
+        (then folder given)

@@ -1,0 +1,9 @@
+pub mod AttributeFlags
+pub mod AttributeText
+pub mod Files
+pub mod Flags
+pub mod Lines
+pub mod Paths
+pub mod Quoting
+pub mod Unquoting
+pub mod Words

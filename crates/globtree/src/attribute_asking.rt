@@ -1,0 +1,127 @@
+//! What answers each told path by the states of its attributes.
+
+use crate::asking::Standpoint;
+use crate::attribute_text::append_answer;
+use crate::fault::CheckFault;
+use crate::folder_attributes::FolderAttributes;
+use crate::record_names::PathAnswerer;
+use glob_attributes::{AttributeLines, MacroTable, PathAttributes, State};
+use glob_lists::{ListIndex, RepositoryPath, bases_are_folders};
+use memchr::memchr;
+use std::alloc::{AllocError, Global};
+use std::rt::Files;
+
+/// What answers each told path by the states of its attributes.
+#[derive(Drop)]
+pub(crate) struct AttributeAsker<'a, R> {
+    pub(crate) alloc: Global,
+    pub(crate) standpoint: Standpoint,
+    /// Whether a NUL ends each field.
+    pub(crate) is_nul: bool,
+    /// The names that are asked for, where not all are.
+    pub(crate) names: &'a [&'a str],
+    /// The lists that are weaker than those of all folders below the top.
+    pub(crate) index: &'a ListIndex<'a, AttributeLines>,
+    pub(crate) folders: FolderAttributes<'a, R>,
+    pub(crate) macros: &'a MacroTable,
+    /// The path that was asked last.
+    pub(crate) path: Vec<u8>,
+}
+
+impl<'a, R: Files + Eprint> PathAnswerer for AttributeAsker<'a, R> {
+    fn answer_path(&mut self, text: &mut Vec<u8>, told: &[u8]) -> Result<(), CheckFault> {
+        let told = before_zero(told);
+        let is_folder = self.lead(told)?;
+        self.append(text, told, is_folder)
+    }
+}
+
+impl<'a, R: Files + Eprint> AttributeAsker<'a, R> {
+    /// Appends what is written about each told path, up to the first that gets no answer: of that nothing is appended.
+    pub(crate) fn append_each(
+        &mut self,
+        text: &mut Vec<u8>,
+        paths: &[&str],
+    ) -> Result<(), CheckFault> {
+        'paths: for path in paths {
+            let whole = text.len();
+            if let Err(fault) = self.answer_path(text, path.as_bytes()) {
+                text.truncate(whole);
+                return Err(fault);
+            }
+        }
+        Ok(())
+    }
+
+    /// Goes where a told path leads, from the top, and to the folder that it lies in. It answers whether the path names a folder.
+    fn lead(&mut self, told: &[u8]) -> Result<bool, CheckFault> {
+        // no bytes lead nowhere else, as a dot does
+        let told = if told.is_empty() { b"." } else { told };
+        let is_folder = self.standpoint.lead(self.alloc, &mut self.path, told)?;
+        self.folders.go_to(&self.path)?;
+        Ok(is_folder)
+    }
+
+    /// Appends what is written about the path that was led to.
+    fn append(&self, text: &mut Vec<u8>, told: &[u8], is_folder: bool) -> Result<(), CheckFault> {
+        let Some(path) = RepositoryPath::new(&self.path, is_folder) else {
+            self.append_nothing(text, told)?;
+            return Ok(());
+        };
+        let stronger = &self.folders.lists;
+        if !bases_are_folders(stronger) {
+            return Err(CheckFault::Base);
+        }
+        let attributes = PathAttributes::with_index(
+            self.alloc,
+            self.index,
+            stronger,
+            self.macros,
+            &path,
+        )?;
+        self.append_states(text, told, &attributes)?;
+        Ok(())
+    }
+
+    /// Appends the states that are asked for.
+    fn append_states(
+        &self,
+        text: &mut Vec<u8>,
+        told: &[u8],
+        attributes: &PathAttributes<'_>,
+    ) -> Result<(), AllocError> {
+        if let Some(all) = &self.folders.reader.names {
+            'all: for assigned in &attributes.states_of(self.alloc, all.as_slice())? {
+                append_answer(text, told, assigned.name, &assigned.state, self.is_nul)?;
+            }
+            return Ok(());
+        }
+        'names: for name in self.names {
+            let name = name.as_bytes();
+            append_answer(text, told, name, &attributes.state_of(name), self.is_nul)?;
+        }
+        Ok(())
+    }
+
+    /// Appends that nothing is said of the attributes that are asked for.
+    fn append_nothing(&self, text: &mut Vec<u8>, told: &[u8]) -> Result<(), AllocError> {
+        'names: for name in self.names {
+            append_answer(
+                text,
+                told,
+                name.as_bytes(),
+                &State::Unspecified,
+                self.is_nul,
+            )?;
+        }
+        Ok(())
+    }
+}
+
+/// What stands before the first NUL, which ends a name wherever it comes from.
+fn before_zero(told: &[u8]) -> &[u8] {
+    match memchr(0, told) {
+        Some(place) => &told[..place],
+        None => told,
+    }
+}

@@ -1,0 +1,121 @@
+//! Reading attribute files: their lists, their names, and the lines that say nothing.
+
+use crate::fault::CheckFault;
+use crate::sources::{file_in, file_list, folder_list, folder_text};
+use gix_glob::search::pattern::List;
+use glob_attributes::{
+    AttributeLines, AttributeNames, MacroTable, Silence, SilentLine, silent_lines,
+};
+use glob_trees::list_in_folder;
+use std::alloc::{AllocError, Global};
+use std::fs;
+use std::rt::Files;
+
+/// The length in bytes from which on a file is passed over.
+const FILE_LIMIT: u64 = 104_857_600;
+
+/// What reads attribute files. It tells what is passed over.
+#[derive(Drop)]
+pub(crate) struct AttributeReader<'a, R> {
+    pub(crate) rt: &'a R,
+    pub(crate) alloc: Global,
+    /// The names of attributes, in the order in which they were first read; `None` where nobody asks for all.
+    pub(crate) names: Option<AttributeNames>,
+    /// The bytes of the file that was read last.
+    pub(crate) bytes: Vec<u8>,
+}
+
+impl<'a, R: Files + Eprint> AttributeReader<'a, R> {
+    /// The list of a file that lies outside all folders, and its macros; no patterns where there is none. A link is followed.
+    pub(crate) fn file(
+        &mut self,
+        file: String,
+        macros: &mut MacroTable,
+    ) -> Result<List<AttributeLines>, AllocError> {
+        if self.is_too_large(file.as_str()) {
+            return Ok(List::empty(self.alloc));
+        }
+        let list = file_list(self.rt, self.alloc, file, &mut self.bytes, AttributeLines)?;
+        macros.add_file(self.alloc, &self.bytes)?;
+        self.note(&list, true)?;
+        Ok(list)
+    }
+
+    /// The list of the top, and its macros.
+    pub(crate) fn top(
+        &mut self,
+        macros: &mut MacroTable,
+    ) -> Result<List<AttributeLines>, AllocError> {
+        let file = String::from_str(self.alloc, ".gitattributes")?;
+        let list = self.own_list(file, true)?;
+        macros.add_file(self.alloc, &self.bytes)?;
+        Ok(list)
+    }
+
+    /// The list of a folder below the top, with the folder as its base.
+    pub(crate) fn list_in(&mut self, folder: &[u8]) -> Result<List<AttributeLines>, CheckFault> {
+        let name = folder_text(self.alloc, folder)?;
+        let file = file_in(self.alloc, name.as_str(), ".gitattributes")?;
+        let list = self.own_list(file, false)?;
+        Ok(list_in_folder(self.alloc, list, folder)?)
+    }
+
+    /// The list of a folder's own file; no patterns where there is none. A link isn't followed.
+    fn own_list(&mut self, file: String, is_top: bool) -> Result<List<AttributeLines>, AllocError> {
+        if self.is_too_large(file.as_str()) {
+            return Ok(List::empty(self.alloc));
+        }
+        let list = folder_list(self.rt, self.alloc, file, &mut self.bytes, AttributeLines)?;
+        self.note(&list, is_top)?;
+        Ok(list)
+    }
+
+    /// Keeps the names of the file that was read, and tells its lines that say nothing.
+    fn note(&mut self, list: &List<AttributeLines>, is_top: bool) -> Result<(), AllocError> {
+        if let Some(names) = &mut self.names {
+            names.add_file(self.alloc, &self.bytes, is_top)?;
+        }
+        let Some(source) = &list.source else {
+            return Ok(());
+        };
+        for line in &silent_lines(self.alloc, &self.bytes, is_top)? {
+            tell_silent(self.rt, source.as_str(), line);
+        }
+        Ok(())
+    }
+
+    /// Whether a file is so large that it is passed over, which is told then. No bytes are left of the file before.
+    fn is_too_large(&mut self, name: &str) -> bool {
+        self.bytes.clear();
+        let Ok(found) = fs::metadata(self.rt, name) else {
+            return false;
+        };
+        if !found.is_file() || found.len() < FILE_LIMIT {
+            return false;
+        }
+        let _ = eprintln!(self.rt;
+            "warning: '{name}' is passed over: it has {FILE_LIMIT} bytes or more"
+        );
+        true
+    }
+}
+
+/// Tells a line that says nothing, and why.
+fn tell_silent<R: Eprint>(rt: &R, source: &str, line: &SilentLine) {
+    let reason = reason(line.silence);
+    let _ = eprintln!(rt;
+        "warning: {source}:{number} says nothing: {reason}",
+        number = line.number
+    );
+}
+
+/// Why a line says nothing, in words.
+fn reason(silence: Silence) -> &'static str {
+    match silence {
+        Silence::TooLong => "it has 2048 bytes or more",
+        Silence::MacroBelowTop => "a macro can't be defined in a folder below the top",
+        Silence::MacroName => "the name of the macro isn't valid",
+        Silence::AttributeName => "the name of an attribute isn't valid",
+        Silence::Negative => "a pattern can't begin with !",
+    }
+}

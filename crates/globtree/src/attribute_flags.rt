@@ -1,0 +1,123 @@
+//! The options of `check-attr`, and which of its words are names of attributes.
+ghost use Rattle.std.specs.Prelude.{◌≡◌, ◌≤◌, IfOk, IfSome};
+ghost use Rattle.globtree.specs.AttributeFlags.{names_among, names_first, with_letter, with_letters, with_option};
+
+/// What the options of `check-attr` ask for.
+#[derive(Clone, Copy, Drop)]
+pub(crate) struct AttributeFlags {
+    /// `-a`: all attributes are told that have a state.
+    pub(crate) all: bool,
+    /// `-z`: records end in a NUL, and no name is quoted.
+    pub(crate) nul: bool,
+    /// `--stdin`: the paths are read.
+    pub(crate) stdin: bool,
+}
+
+/// Why words that are no options don't go together.
+#[derive(Debug, Clone, Copy, Drop)]
+pub(crate) enum Misuse {
+    /// No attribute is asked for.
+    NoAttribute,
+    /// Names of attributes stand beside `-a`.
+    AttributesAndAll,
+    /// There is no path.
+    NoPath,
+    /// Paths stand beside `--stdin`.
+    PathsAndStdin,
+}
+
+impl Misuse {
+    /// What is told about it.
+    pub(crate) fn message(self) -> &'static str {
+        match self {
+            Misuse::NoAttribute => "No attribute specified",
+            Misuse::AttributesAndAll => "Attributes and --all both specified",
+            Misuse::NoPath => "No file specified",
+            Misuse::PathsAndStdin => "Can't specify files with --stdin",
+        }
+    }
+}
+
+impl AttributeFlags {
+    /// None of them.
+    pub(crate) fn none() -> AttributeFlags {
+        AttributeFlags {
+            all: false,
+            nul: false,
+            stdin: false,
+        }
+    }
+
+    /// How many of so many words that are no options are names of attributes: these come first, and the others are paths. `before` is
+    /// how many of them stand before `--`, where that is among the words.
+    pub(crate) fn names_first(self, count: usize, before: Option<usize>) -> Result<usize, Misuse>
+        requires { IfSome before (λ dashes. dashes ≤ count) }
+        ensures names { result ≡ names_first self count before }
+        ensures inside { IfOk result (λ names. names ≤ count) }
+    {
+        let names = self.names_among(count, before)?;
+        if self.stdin && names < count {
+            return Err(Misuse::PathsAndStdin);
+        }
+        if !self.stdin && names >= count {
+            return Err(Misuse::NoPath);
+        }
+        Ok(names)
+    }
+
+    /// The same, whether the paths are as they have to be or not.
+    fn names_among(self, count: usize, before: Option<usize>) -> Result<usize, Misuse>
+        ensures { result ≡ names_among self count before }
+    {
+        match before {
+            Some(0) | None if self.all => Ok(0),
+            Some(_) if self.all => Err(Misuse::AttributesAndAll),
+            Some(0) => Err(Misuse::NoAttribute),
+            Some(names) => Ok(names),
+            None if count == 0 => Err(Misuse::NoAttribute),
+            None if self.stdin => Ok(count),
+            None => Ok(1),
+        }
+    }
+
+    /// These, with those of a word more. `None` where the word is no option.
+    pub(crate) fn with_option(self, word: &str) -> Option<AttributeFlags>
+        ensures { result ≡ with_option self word.now }
+    {
+        if word == "--all" {
+            return Some(AttributeFlags { all: true, ..self });
+        }
+        if word == "--stdin" {
+            return Some(AttributeFlags {
+                stdin: true,
+                ..self
+            });
+        }
+        match word.as_bytes() {
+            [_dash, letters @ ..] => self.with_letters(letters),
+            [] => Some(self),
+        }
+    }
+
+    /// These, with those of the letters behind a dash.
+    fn with_letters(self, letters: &[u8]) -> Option<AttributeFlags>
+        ensures { result ≡ with_letters self letters.now }
+    {
+        let mut flags = self;
+        'letters: for letter in letters {
+            flags = flags.with_letter(*letter)?;
+        }
+        Some(flags)
+    }
+
+    /// These, with that of a letter.
+    fn with_letter(self, letter: u8) -> Option<AttributeFlags>
+        ensures { result ≡ with_letter self letter }
+    {
+        match letter {
+            b'a' => Some(AttributeFlags { all: true, ..self }),
+            b'z' => Some(AttributeFlags { nul: true, ..self }),
+            _ => None,
+        }
+    }
+}

@@ -1,0 +1,68 @@
+//! What is written about an attribute of a path.
+ghost use Rattle.std.specs.Prelude.{◌≡◌, ◌++◌, OnOk};
+ghost use Rattle.glob_attributes.specs.Assignments.{state_with};
+ghost use Rattle.globtree.specs.AttributeText.{answer_of, fields_of, line_of, state_text};
+
+use crate::quoting::append_quoted;
+use glob_attributes::State;
+use std::alloc::AllocError;
+
+/// Appends the path as it was told, the name of the attribute and its state: each with a NUL behind it, or as a line.
+pub(crate) fn append_answer(
+    text: &mut Vec<u8>,
+    told: &[u8],
+    name: &[u8],
+    state: &State<&[u8]>,
+    is_nul: bool,
+) -> Result<(), AllocError>
+    ensures { OnOk result (text.new.items ≡ text.old.items ++ answer_of is_nul told.now name.now (state_with (λ bytes. bytes.now) state.now)) }
+{
+    if is_nul {
+        append_fields(text, told, name, state_text(state))
+    } else {
+        append_line(text, told, name, state_text(state))
+    }
+}
+
+/// Appends the three fields, each with a NUL behind it.
+fn append_fields(
+    text: &mut Vec<u8>,
+    told: &[u8],
+    name: &[u8],
+    state: &[u8],
+) -> Result<(), AllocError>
+    ensures { OnOk result (text.new.items ≡ text.old.items ++ fields_of told.now name.now state.now) }
+{
+    text.extend_from_slice(told)?;
+    text.push(0)?;
+    text.extend_from_slice(name)?;
+    text.push(0)?;
+    text.extend_from_slice(state)?;
+    text.push(0)?;
+    Ok(())
+}
+
+/// Appends the three fields as a line, the path in quotes where a byte of it is unusual.
+fn append_line(text: &mut Vec<u8>, told: &[u8], name: &[u8], state: &[u8]) -> Result<(), AllocError>
+    ensures { OnOk result (text.new.items ≡ text.old.items ++ line_of told.now name.now state.now) }
+{
+    append_quoted(text, told)?;
+    text.extend_from_slice(b": ")?;
+    text.extend_from_slice(name)?;
+    text.extend_from_slice(b": ")?;
+    text.extend_from_slice(state)?;
+    text.push(b'\n')?;
+    Ok(())
+}
+
+/// The text of a state.
+fn state_text<'a>(state: &State<&'a [u8]>) -> &'a [u8]
+    ensures { result.now ≡ state_text (state_with (λ bytes. bytes.now) state.now) }
+{
+    match state {
+        State::Set => b"set",
+        State::Unset => b"unset",
+        State::Unspecified => b"unspecified",
+        State::Value(value) => value,
+    }
+}

@@ -1,0 +1,77 @@
+//! The files that count before those of all folders.
+use crate::sources::file_list;
+use anyhow::{Context, Result};
+use gix_glob::search::pattern::List;
+use glob_lines::IgnoreLines;
+use std::alloc::Global;
+use std::env;
+use std::env::VarError;
+use std::rt::{Env, Files};
+
+/// Pushes the list of the file of excludes: the one that was named, or the user's own, which may be missing.
+pub(crate) fn push_excludes<R: Files + Env + Eprint + AllocGlobal>(
+    rt: &R,
+    alloc: Global,
+    named: Option<&str>,
+    lists: &mut Vec<List<IgnoreLines>>,
+) -> Result<()> {
+    let mut bytes = Vec::new(alloc);
+    let list = match named {
+        Some(name) => {
+            let source = String::from_str(alloc, name)?;
+            List::from_file(rt, alloc, source, None, &mut bytes, IgnoreLines)
+                .context(format_args!("'{name}'"))?
+                .context(format_args!("'{name}' is no file"))?
+        }
+        None => match users_file(rt, "ignore")? {
+            Some(source) => file_list(rt, alloc, source, &mut bytes, IgnoreLines)?,
+            None => List::empty(alloc),
+        },
+    };
+    lists.push(list)?;
+    Ok(())
+}
+
+/// Pushes the list of the repository's own file of excludes. There is none where a top was named.
+pub(crate) fn push_info<R: Files + Eprint>(
+    rt: &R,
+    alloc: Global,
+    is_named: bool,
+    lists: &mut Vec<List<IgnoreLines>>,
+) -> Result<()> {
+    let mut bytes = Vec::new(alloc);
+    let list = if is_named {
+        List::empty(alloc)
+    } else {
+        let source = String::from_str(alloc, ".git/info/exclude")?;
+        file_list(rt, alloc, source, &mut bytes, IgnoreLines)?
+    };
+    lists.push(list)?;
+    Ok(())
+}
+
+/// The name of a file in Git's part of the user's configuration folder, whether it is there or not; `None` where the user has no
+/// such folder.
+pub(crate) fn users_file<R: Env + AllocGlobal>(rt: &R, file: &str) -> Result<Option<String>> {
+    if let Some(mut folder) = variable(rt, "XDG_CONFIG_HOME")? {
+        folder.push_str("/git/")?;
+        folder.push_str(file)?;
+        return Ok(Some(folder));
+    }
+    let Some(mut home) = variable(rt, "HOME")? else {
+        return Ok(None);
+    };
+    home.push_str("/.config/git/")?;
+    home.push_str(file)?;
+    Ok(Some(home))
+}
+
+/// The text of a variable of the environment; none where it is empty.
+fn variable<R: Env + AllocGlobal>(rt: &R, name: &str) -> Result<Option<String>> {
+    match env::var(rt, name) {
+        Ok(text) if text.is_empty() => Ok(None),
+        Ok(text) => Ok(Some(text)),
+        Err(VarError::NotPresent) => Ok(None),
+        Err(fault) => Err(fault).context(format_args!("the variable {name}")),
+    }
+}

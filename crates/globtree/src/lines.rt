@@ -1,0 +1,92 @@
+//! What is written about a path: the path, and with `-v` the line of the file that decides about it.
+ghost use Rattle.std.specs.Prelude.{◌≡◌, ◌++◌, OnOk};
+ghost use Rattle.globtree.specs.Lines.{name_of};
+
+use crate::flags::Flags;
+use crate::quoting::append_quoted;
+use bitflags::Flags as _;
+use gix_glob::Pattern;
+use gix_glob::pattern::Mode;
+use itoa::Buffer;
+use std::alloc::AllocError;
+
+/// The line of a file that decides about a path.
+#[derive(Drop)]
+pub(crate) struct Shown<'a> {
+    /// The name of the file.
+    pub(crate) source: &'a [u8],
+    /// The number of the line, from 1.
+    pub(crate) number: usize,
+    /// The pattern of the line.
+    pub(crate) pattern: &'a Pattern,
+}
+
+/// Appends what is written about a path that is told so.
+pub(crate) fn append_line(
+    text: &mut Vec<u8>,
+    told: &[u8],
+    shown: &Option<Shown<'_>>,
+    flags: Flags,
+) -> Result<(), AllocError> {
+    if flags.verbose {
+        append_decision(text, shown, flags)?;
+    }
+    append_name(text, told, flags)?;
+    text.push(if flags.nul { 0 } else { b'\n' })?;
+    Ok(())
+}
+
+/// Appends the name of the file, the number of the line and its pattern, each with the byte behind it.
+fn append_decision(
+    text: &mut Vec<u8>,
+    shown: &Option<Shown<'_>>,
+    flags: Flags,
+) -> Result<(), AllocError> {
+    let behind = if flags.nul { 0 } else { b':' };
+    let last = if flags.nul { 0 } else { b'\t' };
+    let Some(shown) = shown else {
+        return text.extend_from_slice(&[behind, behind, last]);
+    };
+    append_name(text, shown.source, flags)?;
+    text.push(behind)?;
+    let mut buffer = Buffer::new();
+    text.extend_from_slice(buffer.format(shown.number).as_bytes())?;
+    text.push(behind)?;
+    append_pattern(text, shown.pattern)?;
+    text.push(last)?;
+    Ok(())
+}
+
+/// Appends a name, in quotes where a line needs them.
+fn append_name(text: &mut Vec<u8>, name: &[u8], flags: Flags) -> Result<(), AllocError>
+    ensures { OnOk result (text.new.items ≡ text.old.items ++ name_of flags name.now) }
+{
+    if flags.nul {
+        return text.extend_from_slice(name);
+    }
+    append_quoted(text, name)
+}
+
+/// Appends a pattern as its line has it.
+fn append_pattern(text: &mut Vec<u8>, pattern: &Pattern) -> Result<(), AllocError> {
+    let is_absolute = pattern.mode().contains(Mode::ABSOLUTE);
+    let is_escaped = !pattern.is_negative() && !is_absolute && begins_with_sign(pattern.text());
+    append_if(text, b'\\', is_escaped)?;
+    append_if(text, b'!', pattern.is_negative())?;
+    append_if(text, b'/', is_absolute)?;
+    text.extend_from_slice(pattern.text())?;
+    append_if(text, b'/', pattern.mode().contains(Mode::MUST_BE_DIR))
+}
+
+/// Appends a byte, where it is wanted.
+fn append_if(text: &mut Vec<u8>, byte: u8, is_wanted: bool) -> Result<(), AllocError> {
+    if is_wanted {
+        text.push(byte)?;
+    }
+    Ok(())
+}
+
+/// Whether a text begins with a byte that would mean something else at the front of a line.
+fn begins_with_sign(text: &[u8]) -> bool {
+    text.starts_with(b"!") || text.starts_with(b"#")
+}

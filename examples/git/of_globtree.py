@@ -1,0 +1,314 @@
+"""Compares globtree and Git on trees made at random, byte by byte."""
+import codecs
+import collections
+import os
+import random
+import shutil
+import subprocess
+import sys
+import tempfile
+
+from trees import INFO, Tree, is_text, make_repository, write
+
+HERE = os.path.dirname(os.path.realpath(__file__))
+GLOBTREE = os.environ.get("GLOBTREE") or os.path.join(HERE, "..", "..", "globtree")
+# options that take paths from standard input, and what they print
+FROM_INPUT = ["--stdin", "-z --stdin", "-v --stdin", "-v -z --stdin", "--stdin -n -v", "-z --stdin --verbose --non-matching"]
+FROM_WORDS = ["", "-v", "-v -n", "--verbose", "-n -v --"]
+WRONG = ["-n a", "-q -v a", "-q a b", "--stdin a", "-z a", "", "-q", "--stdin -q", "--unknown a", "-x a", "-v -n ../a", "/ a", "a ../a", "--stdin=a", "-vn"]
+# what stands behind the paths
+BEHIND = [[], [], ["-v"], ["--", "a"]]
+NO_TEXT = b"no UTF-8 text"
+ESCAPES = {7: "a", 8: "b", 9: "t", 10: "n", 11: "v", 12: "f", 13: "r", 34: '"', 92: "\\"}
+
+
+class Told(collections.namedtuple("Told", "status output errors")):
+    """What a run ended with."""
+
+    def is_as(self, other):
+        """Whether all but the words of the errors is the same."""
+        return (self.status, self.output, not self.errors) == (other.status, other.output, not other.errors)
+
+
+class Pair:
+    """Git and globtree in the folder of one tree."""
+
+    def __init__(self, tree, room, with_globtree):
+        self.tree, self.top = tree, os.path.join(room, b"top")
+        self.with_globtree = with_globtree
+        self.excludes = os.path.join(room, b"excludes")
+        home = os.path.join(room, b"home")
+        kept = {name: value for name, value in os.environ.items() if not name.startswith("GIT_")}
+        self.environment = {**kept, "HOME": home, "XDG_CONFIG_HOME": home, "GIT_CONFIG_NOSYSTEM": "1", "GIT_CONFIG_GLOBAL": "/dev/null", "LC_ALL": "C"}
+        os.makedirs(os.path.join(home, b"git"))
+        if tree.excludes is not None:
+            write(self.excludes, tree.excludes)
+        if tree.has_default:
+            write(os.path.join(home, b"git", b"ignore"), b"!a.o\n/default\nx.?\n")
+        tree.make(self.top)
+
+    def git_options(self):
+        options = ["-c", b"core.excludesFile=" + self.excludes] if self.tree.excludes is not None else []
+        return options + ["-c", "core.ignorecase=%s" % ("true" if self.tree.is_folding else "false")]
+
+    def globtree_options(self):
+        options = ["--excludes", self.excludes] if self.tree.excludes is not None else []
+        return options + (["--ignore-case"] if self.tree.is_folding else [])
+
+    def git(self, folder, words, given=b""):
+        return self.run(["git", *self.git_options(), "-C", folder, "check-ignore", "--no-index", *words], given)
+
+    def git_files(self, folder, words):
+        return self.run(["git", "--literal-pathspecs", *self.git_options(), "-C", folder, "ls-files", "-co", "--exclude-standard", *words], b"")
+
+    def globtree(self, folder, words, given=b"", options=(), command="check-ignore"):
+        return self.run([GLOBTREE, "-C", folder, *self.globtree_options(), *options, command, *words], given)
+
+    def run(self, command, given):
+        run = subprocess.run(command, input=given, stdout=subprocess.PIPE, stderr=subprocess.PIPE, env=self.environment)
+        return Told(run.returncode, run.stdout, run.stderr)
+
+
+# ---- answers
+
+def decisions(told):
+    """The answers of a run with -v -n -z: the file, the line, the pattern and the path of each."""
+    return list(zip(*[iter(told.output.split(b"\0")[:-1])] * 4))
+
+
+def kind(answer):
+    return "none" if not answer[0] else "kept" if answer[2].startswith(b"!") else "ignored"
+
+
+def quoted(path):
+    """As C writes a text: so a line can give every path."""
+    if not path.startswith(b'"') and b"\n" not in path and not path.endswith(b"\r"):
+        return path
+    text = "".join("\\" + ESCAPES[byte] if byte in ESCAPES else chr(byte) if 32 <= byte < 127 else "\\%03o" % byte for byte in path)
+    return b'"' + text.encode() + b'"'
+
+
+def unquoted(name):
+    """A name as it stands in a line that Git prints."""
+    return codecs.escape_decode(name[1:-1])[0] if name.startswith(b'"') else name
+
+
+def given(paths, words):
+    """The paths as a run with these words reads them."""
+    return b"".join(path + b"\0" for path in paths) if "-z" in words else b"".join(quoted(path) + b"\n" for path in paths)
+
+
+# ---- the runs of a tree
+
+class Comparison:
+    """The runs over the trees, what Git answered, and what differed."""
+
+    def __init__(self, with_globtree):
+        self.with_globtree = with_globtree
+        self.kinds = collections.Counter()
+        self.answered, self.runs, self.differences, self.named, self.refused = 0, 0, 0, 0, 0
+        self.listings, self.listed, self.unreadable = 0, 0, 0
+
+    def tree(self, seed, room):
+        self.seed, self.random = seed, random.Random(~seed)
+        tree = Tree(seed)
+        self.pair = Pair(tree, room, self.with_globtree)
+        paths = tree.asked()
+        known = self.from_top(paths)
+        self.from_input(paths)
+        self.from_words(paths)
+        self.wrong(paths)
+        self.files()
+        with_slash = [path for path in paths if not tree.is_below_file(path) and path not in tree.links and not path.endswith(b".gitignore")]
+        self.with_slash(with_slash, known)
+
+    def from_top(self, paths):
+        """Each path, as it stands. What Git answers is kept and counted."""
+        told = self.both(self.pair.top, ["-v", "-n", "-z", "--stdin"], paths)
+        answers = decisions(told)
+        if len(answers) != len(paths):
+            sys.exit("compare: tree %d: git answered %d of %d paths" % (self.seed, len(answers), len(paths)))
+        self.kinds.update(kind(answer) for answer in answers)
+        if INFO not in self.pair.tree.files:
+            self.without_repository(paths, told)
+        return {answer[3]: answer[:3] for answer in answers}
+
+    def without_repository(self, paths, expected):
+        """The same where the words alone say which folder is the top."""
+        hidden = os.path.join(os.path.dirname(self.pair.top), b"hidden")
+        words = ["-v", "-n", "-z", "--stdin"]
+        os.rename(os.path.join(self.pair.top, b".git"), hidden)
+        self.compare(self.pair.top, words, given(paths, words), expected, ["--top", self.pair.top])
+        os.rename(hidden, os.path.join(self.pair.top, b".git"))
+
+    def from_input(self, paths):
+        """All paths, told from a folder, with words of each kind."""
+        for words in self.random.sample(FROM_INPUT, 3):
+            folder, told = self.seen_from(paths)
+            self.both(folder, words.split(), told)
+
+    def from_words(self, paths):
+        texts = [path for path in paths if is_text(path)]
+        for words in self.random.sample(FROM_WORDS, 2):
+            folder, told = self.seen_from(self.random.sample(texts, min(len(texts), 40)))
+            told = [os.path.join(b".", path) if path.startswith(b"-") else path for path in told]
+            self.both(folder, words.split(), [], told + ([] if words.endswith("--") else self.random.choice(BEHIND)))
+        folder, told = self.seen_from(self.random.sample(texts, 2))
+        self.both(folder, ["-q", "--"], [], told[:1])
+        self.both(folder, ["--"], [], told[1:])
+
+    def wrong(self, paths):
+        """Words, or paths, that end a run."""
+        words = self.random.choice(WRONG).split()
+        self.both(self.pair.top, words, [])
+        at = self.random.randrange(len(paths))
+        bad = self.random.choice([b"../x", b"/", b"", b"a/../../x"] + [link + b"/x" for link in self.pair.tree.links if not link.startswith(b":")])
+        self.both(self.pair.top, ["-v", "-n", "-z", "--stdin"], paths[:at] + [bad] + paths[at:])
+
+    def files(self):
+        """What isn't ignored below a folder, where some folders are repositories of their own."""
+        tree, top = self.pair.tree, self.pair.top
+        repositories = [os.path.join(top, folder, b".git") for folder in tree.folders if folder and self.random.random() < 0.1]
+        for repository in repositories:
+            make_repository(repository)
+        there = [path for path in list(tree.files) + list(tree.links) + [folder[:-1] for folder in tree.folders if folder] if is_text(path)]
+        self.list_files(top, [])
+        for words in ([], ["-z"], [], ["-z"]):
+            folder, told = self.seen_from(self.random.sample(there, 1))
+            told = [os.path.join(b".", path) if path.startswith(b"-") else path for path in told]
+            self.list_files(folder, words + self.random.choice([[], told, told, ["--"] + told, [b".."], [b"."], [b""]]))
+        for repository in repositories:
+            shutil.rmtree(repository)
+
+    def list_files(self, folder, words):
+        expected = self.pair.git_files(folder, words)
+        end = b"\0" if "-z" in words else b"\n"
+        names = expected.output.split(end)[:-1]
+        self.listings += 1
+        self.listed += len(names)
+        if not self.with_globtree:
+            return
+        found = self.pair.globtree(folder, words, command="files")
+        if found.status == 1 and NO_TEXT in found.errors:
+            # the names that are no text are told, and the others listed
+            left = [name for name in names if is_text(name if "-z" in words else unquoted(name))]
+            expected = Told(1, b"".join(name + end for name in left), found.errors)
+            self.unreadable += len(names) - len(left)
+        self.judge(folder, words, b"", expected, found, "files")
+
+    def with_slash(self, paths, known):
+        """Each path with a slash at its end: answered as the folder that it names, which is made where it isn't there."""
+        asked = b"".join(path + b"/\0" for path in paths)
+        words = ["-v", "-n", "-z", "--stdin"]
+        of_git = decisions(self.pair.git(self.pair.top, words, asked))
+        of_globtree = self.pair.globtree(self.pair.top, words, asked) if self.with_globtree else None
+        folders = {path for path in paths if path + b"/" in self.pair.tree.folders}
+        for path in paths:
+            name = os.path.join(self.pair.top, path)
+            if path in self.pair.tree.files and os.path.isfile(name):
+                os.remove(name)
+            os.makedirs(name, exist_ok=True)
+        answers = decisions(self.pair.git(self.pair.top, words, given(paths, words)))
+        for answer in answers:
+            if answer[3] in folders and known[answer[3]] != answer[:3]:
+                sys.exit("compare: tree %d: git answers twice about %s" % (self.seed, shown(answer[3])))
+        expected = [answer[:3] + (answer[3] + b"/",) for answer in answers]
+        self.named += sum(one != other for one, other in zip(expected, of_git))
+        self.answered += len(expected)
+        if of_globtree is not None:
+            output = b"".join(b"\0".join(answer) + b"\0" for answer in expected)
+            status = 0 if any(answer[0] for answer in expected) else 1
+            self.judge(self.pair.top, words, asked, Told(status, output, of_globtree.errors), of_globtree)
+
+    # ---- paths as they are told
+
+    def seen_from(self, paths):
+        """A folder of the tree, and the paths as they are told from there."""
+        folder = self.random.choice(self.pair.tree.folders) if self.random.random() < 0.6 else b""
+        return os.path.join(self.pair.top, folder), [self.seen(path, folder) for path in paths]
+
+    def seen(self, path, folder):
+        if self.random.random() < 0.02:
+            return os.path.join(self.pair.top, path)
+        front = folder
+        told = path
+        if path.startswith(folder) and self.random.random() < 0.95:
+            told = path[len(folder):]
+        else:
+            told = b"../" * front.count(b"/") + path
+        if self.random.random() < 0.1:
+            told = self.random.choice((b"./", b".//", b"no/../", b"././")) + told
+        if self.random.random() < 0.1:
+            told = told.replace(b"/", self.random.choice((b"//", b"/./", b"/no/../")))
+        # Git takes a colon in front for magic
+        return b"./" + told if told.startswith(b":") else told
+
+    # ---- both
+
+    def both(self, folder, words, paths, more=()):
+        """Runs both with these words, which more paths follow, on paths from standard input."""
+        words = words + list(more)
+        asked = given(paths, words)
+        expected = self.pair.git(folder, words, asked)
+        self.answered += expected.output.count(b"\0" if "-z" in words else b"\n")
+        self.compare(folder, words, asked, expected)
+        return expected
+
+    def compare(self, folder, words, asked, expected, options=()):
+        if self.with_globtree:
+            self.judge(folder, words, asked, expected, self.pair.globtree(folder, words, asked, options))
+
+    def judge(self, folder, words, asked, expected, found, command="check-ignore"):
+        self.runs += 1
+        if found.is_as(expected):
+            return
+        # a file's kind can't be asked for by a name that is no text
+        if found.status == 128 and NO_TEXT in found.errors and expected.output.startswith(found.output):
+            self.refused += 1
+            return
+        self.differences += 1
+        below = os.path.relpath(folder, self.pair.top)
+        print("--seed %d --count 1, in %s: %s %s" % (self.seed, shown(below), command, " ".join(shown(word) for word in words)))
+        ends = b"\0" if "-z" in words else b"\n"
+        if expected.output != found.output:
+            step = 4 if "-z" in words and ("-v" in words or "--verbose" in words) else 1
+            one, other = pieces(expected.output, ends, step), pieces(found.output, ends, step)
+            at = next((at for at in range(min(len(one), len(other))) if one[at] != other[at]), min(len(one), len(other)))
+            print("    expected: %s" % (shown(one[at]) if at < len(one) else "the end, after %d" % at))
+            print("    globtree: %s" % (shown(other[at]) if at < len(other) else "the end, after %d" % at))
+        if expected.status != found.status:
+            print("    status of git %d, of globtree %d" % (expected.status, found.status))
+        if bool(expected.errors) != bool(found.errors):
+            print("    %s alone tells an error: %s" % (("git", shown(expected.errors)) if expected.errors else ("globtree", shown(found.errors))))
+
+
+def pieces(output, ends, step):
+    parts = output.split(ends)
+    return [ends.join(parts[at:at + step]) for at in range(0, len(parts), step)]
+
+
+def shown(text):
+    return ascii(os.fsdecode(text))
+
+
+def compare_trees(count, seed, with_globtree, kept):
+    """Compares so many trees, the first made from the seed. The status is 1 where anything differs."""
+    if with_globtree and not os.access(GLOBTREE, os.X_OK):
+        sys.exit("compare: there is no %s" % GLOBTREE)
+    comparison = Comparison(with_globtree)
+    for number in range(seed, seed + count):
+        room = os.fsencode(tempfile.mkdtemp())
+        try:
+            comparison.tree(number, room)
+        finally:
+            if kept:
+                print("tree %d: %s" % (number, os.fsdecode(room)))
+            else:
+                shutil.rmtree(room)
+    kinds = comparison.kinds
+    print("%d trees, %d paths: %d ignored, %d kept, %d none" % (count, sum(kinds.values()), kinds["ignored"], kinds["kept"], kinds["none"]))
+    print("%d answers of git, %d of them otherwise about a slash at the end" % (comparison.answered, comparison.named))
+    print("%d listings of git, with %d names" % (comparison.listings, comparison.listed))
+    if with_globtree:
+        print("%d runs of globtree, %d ended at a name that is no text, which %d listed names are; %d differences" % (comparison.runs, comparison.refused, comparison.unreadable, comparison.differences))
+    return 1 if comparison.differences else 0
