@@ -8,7 +8,7 @@ use gix_glob::search::pattern::List;
 use glob_attributes::{
     AttributeLines, AttributeNames, MacroTable, PathAttributes, Silence, silent_lines,
 };
-use glob_lists::{RepositoryPath, bases_are_folders};
+use glob_lists::{ListIndex, RepositoryPath, bases_are_folders};
 use std::alloc::AllocError;
 use std::process::Abort;
 use std::test::Fail;
@@ -140,23 +140,39 @@ fn all_states_of_a_path(rt: HostRuntime) -> Result<(), Fail> {
     ];
     for row in rows {
         let (file, stronger, path, wanted) = row;
-        let lists = [list_of(&rt, file)?, list_of(&rt, stronger)?];
         let mut macros = MacroTable::new(rt.alloc())?;
         let mut names = AttributeNames::new(rt.alloc())?;
         for bytes in [file, stronger] {
             macros.add_file(rt.alloc(), bytes)?;
             names.add_file(rt.alloc(), bytes, true)?;
         }
-        let asked = RepositoryPath::of_line(path).ok_or("a path")?;
-        assert!(rt; bases_are_folders(&lists));
-        let assigned = PathAttributes::new(rt.alloc(), &lists, &macros, &asked, Case::Sensitive)?;
-        let mut text = Vec::new(rt.alloc());
-        for told in &assigned.states_of(rt.alloc(), names.as_slice())? {
-            write_state(&mut text, told.name, &told.state)?;
-        }
+        let weak = [list_of(&rt, file)?];
+        let strong = [list_of(&rt, stronger)?];
+        let text = all_states(&rt, (&weak, &strong), &macros, &names, path)?;
         same(&rt, text.as_slice(), wanted, "the files and path", row);
     }
     Ok(())
+}
+
+/// A word for the state of each attribute of a path that isn't unspecified, by an index of weaker lists and by stronger lists.
+fn all_states(
+    rt: &(impl Abort + AllocGlobal),
+    lists: (&[List<AttributeLines>], &[List<AttributeLines>]),
+    macros: &MacroTable,
+    names: &AttributeNames,
+    path: &[u8],
+) -> Result<Vec<u8>, Fail> {
+    let (weaker, stronger) = lists;
+    let path = RepositoryPath::of_line(path).expect(rt, "a path");
+    assert!(rt; bases_are_folders(weaker));
+    assert!(rt; bases_are_folders(stronger));
+    let index = ListIndex::new(rt.alloc(), weaker, Case::Sensitive)?;
+    let assigned = PathAttributes::with_index(rt.alloc(), &index, stronger, macros, &path)?;
+    let mut text = Vec::new(rt.alloc());
+    for told in &assigned.states_of(rt.alloc(), names.as_slice())? {
+        write_state(&mut text, told.name, &told.state)?;
+    }
+    Ok(text)
 }
 
 /// The list of a file at the top.
