@@ -63,3 +63,14 @@ def lists(file, rows):
         axis.plot([size for size, _ in points], [cost for _, cost in points], "-", marker="o", markersize=3, label=name)
     axis.legend(frameon=False)
     save(figure, file)
+
+
+def folders(file, rows):
+    """What a path costs by the number of folders: `rows` gives for each program and order of paths pairs of a number and a cost."""
+    figure, axis = axes("A path among the ignore files of folders", "folders, each with ten lines", "instructions a path")
+    axis.set(xscale="log")
+    for (name, order), points in rows.items():
+        style = "-" if order == "random" else "--"
+        axis.plot([count for count, _ in points], [cost for _, cost in points], style, marker="o", markersize=3, color="C1" if "git" in name else "C0", label=f"{name}, {order}")
+    axis.legend(frameon=False)
+    save(figure, file)

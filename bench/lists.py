@@ -168,6 +168,7 @@ def count_folders(o):
     rows = {"globline ignore": lambda folder, files: [PROGRAM, "ignore", "sensitive", folder, *files]}
     if git:
         rows["git check-ignore"] = lambda folder, files: [git, "-C", folder, "check-ignore", "-v", "-n", "--no-index", "--stdin"]
+    points = {}
     print("| Folders | Order | " + " | ".join(rows) + " |\n|---|---" + "|---" * len(rows) + "|")
     for count in [int(count) for count in o.folders.split(",")]:
         load = Load(o.seed)
@@ -176,8 +177,14 @@ def count_folders(o):
             paths = make_tree(load, tree, o.paths, root)
             files = [f"{root}/{folder}.gitignore" for folder in tree]
             for order, ordered in (("random", paths), ("sorted", sorted(paths))):
-                cells = [f"{cost_of_path(words(root, files), ordered, root):,.0f}" for words in rows.values()]
-                print(f"| {count:,} | {order} | " + " | ".join(cells) + " |", flush=True)
+                costs = {name: cost_of_path(words(root, files), ordered, root) for name, words in rows.items()}
+                for name, cost in costs.items():
+                    points.setdefault((name, order), []).append((count, cost))
+                print(f"| {count:,} | {order} | " + " | ".join(f"{cost:,.0f}" for cost in costs.values()) + " |", flush=True)
+    if o.draw:
+        import draw
+
+        draw.folders(o.draw, points)
 
 
 def hostile_stacks(load, root, count):
