@@ -1,7 +1,7 @@
 //! Reading attribute files: their lists, their names, and the lines that say nothing.
 
 use crate::fault::CheckFault;
-use crate::sources::{Standing, file_in, file_list, folder_text, own_file, standing};
+use crate::sources::{Standing, file_in, file_list, folder_text, own_file, what_stands};
 use gix_glob::search::pattern::List;
 use glob_attributes::{
     AttributeLines, AttributeNames, MacroTable, Silence, SilentLine, silent_lines,
@@ -62,7 +62,7 @@ impl<'a, R: Files + Eprint> AttributeReader<'a, R> {
         folder: &[u8],
     ) -> Result<Option<List<AttributeLines>>, CheckFault> {
         let name = folder_text(self.alloc, folder)?;
-        if let Standing::Nothing = standing(self.rt, name.as_str()) {
+        if let Standing::Nothing = what_stands(self.rt, name.as_str()) {
             return Ok(None);
         }
         let file = file_in(self.alloc, name.as_str(), ".gitattributes")?;

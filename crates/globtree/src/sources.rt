@@ -52,7 +52,7 @@ impl<'a, R: Files + Eprint> FolderFiles<'a, R> {
     /// The list of a folder that isn't known to be missing, without its base.
     fn own_list(&mut self, folder: &[u8]) -> Result<List<IgnoreLines>, CheckFault> {
         let name = folder_text(self.alloc, folder)?;
-        match standing(self.rt, name.as_str()) {
+        match what_stands(self.rt, name.as_str()) {
             Standing::Link => return Err(CheckFault::BeyondLink(name)),
             Standing::Nothing => {
                 self.miss(folder)?;
@@ -98,7 +98,7 @@ pub(crate) enum Standing {
 }
 
 /// What stands in the place of a folder, the top being named by an empty text.
-pub(crate) fn standing<R: Files>(rt: &R, name: &str) -> Standing {
+pub(crate) fn what_stands<R: Files>(rt: &R, name: &str) -> Standing {
     if name.is_empty() {
         return Standing::Folder;
     }
