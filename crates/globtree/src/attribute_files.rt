@@ -1,7 +1,7 @@
 //! Reading attribute files: their lists, their names, and the lines that say nothing.
 
 use crate::fault::CheckFault;
-use crate::sources::{file_in, file_list, folder_list, folder_text};
+use crate::sources::{Standing, file_in, file_list, folder_text, own_file, what_stands};
 use gix_glob::search::pattern::List;
 use glob_attributes::{
     AttributeLines, AttributeNames, MacroTable, Silence, SilentLine, silent_lines,
@@ -9,6 +9,7 @@ use glob_attributes::{
 use glob_trees::list_in_folder;
 use std::alloc::{AllocError, Global};
 use std::fs;
+use std::fs::Metadata;
 use std::rt::Files;
 
 /// The length in bytes from which on a file is passed over.
@@ -32,7 +33,10 @@ impl<'a, R: Files + Eprint> AttributeReader<'a, R> {
         file: String,
         macros: &mut MacroTable,
     ) -> Result<List<AttributeLines>, AllocError> {
-        if self.is_too_large(file.as_str()) {
+        self.bytes.clear();
+        if let Ok(found) = fs::metadata(self.rt, file.as_str())
+            && self.is_too_large(file.as_str(), &found)
+        {
             return Ok(List::empty(self.alloc));
         }
         let list = file_list(self.rt, self.alloc, file, &mut self.bytes, AttributeLines)?;
@@ -52,20 +56,30 @@ impl<'a, R: Files + Eprint> AttributeReader<'a, R> {
         Ok(list)
     }
 
-    /// The list of a folder below the top, with the folder as its base.
-    pub(crate) fn list_in(&mut self, folder: &[u8]) -> Result<List<AttributeLines>, CheckFault> {
+    /// The list of a folder below the top, with the folder as its base; `None` where no folder stands there.
+    pub(crate) fn list_in(
+        &mut self,
+        folder: &[u8],
+    ) -> Result<Option<List<AttributeLines>>, CheckFault> {
         let name = folder_text(self.alloc, folder)?;
+        if let Standing::Nothing = what_stands(self.rt, name.as_str()) {
+            return Ok(None);
+        }
         let file = file_in(self.alloc, name.as_str(), ".gitattributes")?;
         let list = self.own_list(file, false)?;
-        Ok(list_in_folder(self.alloc, list, folder)?)
+        Ok(Some(list_in_folder(self.alloc, list, folder)?))
     }
 
     /// The list of a folder's own file; no patterns where there is none. A link isn't followed.
     fn own_list(&mut self, file: String, is_top: bool) -> Result<List<AttributeLines>, AllocError> {
-        if self.is_too_large(file.as_str()) {
+        self.bytes.clear();
+        let Some(found) = own_file(self.rt, file.as_str()) else {
+            return Ok(List::empty(self.alloc));
+        };
+        if self.is_too_large(file.as_str(), &found) {
             return Ok(List::empty(self.alloc));
         }
-        let list = folder_list(self.rt, self.alloc, file, &mut self.bytes, AttributeLines)?;
+        let list = file_list(self.rt, self.alloc, file, &mut self.bytes, AttributeLines)?;
         self.note(&list, is_top)?;
         Ok(list)
     }
@@ -84,12 +98,8 @@ impl<'a, R: Files + Eprint> AttributeReader<'a, R> {
         Ok(())
     }
 
-    /// Whether a file is so large that it is passed over, which is told then. No bytes are left of the file before.
-    fn is_too_large(&mut self, name: &str) -> bool {
-        self.bytes.clear();
-        let Ok(found) = fs::metadata(self.rt, name) else {
-            return false;
-        };
+    /// Whether a file is so large that it is passed over, which is told then.
+    fn is_too_large(&self, name: &str, found: &Metadata) -> bool {
         if !found.is_file() || found.len() < FILE_LIMIT {
             return false;
         }

@@ -20,7 +20,6 @@ use glob_attributes::{AttributeLines, AttributeNames, MacroTable, is_name};
 use glob_lists::{ListIndex, bases_are_folders};
 use glob_trees::RecordStream;
 use std::alloc::{AllocError, Global};
-use std::collections::BTreeMap;
 use std::io::{Read, Write};
 use std::rt::{Env, Files};
 
@@ -75,11 +74,7 @@ pub(crate) fn check_attr<R: Files + Env + Eprint + AllocGlobal, I: Read, O: Writ
         is_nul: flags.nul,
         names,
         index: &index,
-        folders: FolderAttributes {
-            reader,
-            lists: info,
-            left: BTreeMap::new(alloc),
-        },
+        folders: FolderAttributes::new(reader, info)?,
         macros: &macros,
         path: Vec::new(alloc),
     };

@@ -7,6 +7,7 @@ use gix_glob::search::pattern::List;
 use glob_lines::IgnoreLines;
 use glob_trees::{FolderLists, list_in_folder};
 use std::alloc::{AllocError, Global};
+use std::fs::Metadata;
 use std::io::ErrorKind;
 use std::rt::Files;
 use std::{fs, io};
@@ -18,6 +19,8 @@ pub(crate) struct FolderFiles<'a, R> {
     alloc: Global,
     /// The bytes of the file that was read last.
     bytes: Vec<u8>,
+    /// The folder that was looked for last and isn't there, with a slash behind it; no bytes where each was there.
+    missing: Vec<u8>,
 }
 
 impl<'a, R> FolderFiles<'a, R> {
@@ -27,7 +30,42 @@ impl<'a, R> FolderFiles<'a, R> {
             rt,
             alloc,
             bytes: Vec::new(alloc),
+            missing: Vec::new(alloc),
         }
+    }
+
+    /// Whether a folder lies below one that isn't there.
+    fn is_below_missing(&self, folder: &[u8]) -> bool {
+        !self.missing.is_empty() && folder.starts_with(&self.missing)
+    }
+
+    /// Keeps that a folder isn't there.
+    fn miss(&mut self, folder: &[u8]) -> Result<(), AllocError> {
+        self.missing.clear();
+        self.missing.extend_from_slice(folder)?;
+        self.missing.push(b'/')?;
+        Ok(())
+    }
+}
+
+impl<'a, R: Files + Eprint> FolderFiles<'a, R> {
+    /// The list of a folder that isn't known to be missing, without its base.
+    fn own_list(&mut self, folder: &[u8]) -> Result<List<IgnoreLines>, CheckFault> {
+        let name = folder_text(self.alloc, folder)?;
+        match what_stands(self.rt, name.as_str()) {
+            Standing::Link => return Err(CheckFault::BeyondLink(name)),
+            Standing::Nothing => {
+                self.miss(folder)?;
+                return Ok(List::empty(self.alloc));
+            }
+            Standing::Folder => {}
+        }
+        let file = file_in(self.alloc, name.as_str(), ".gitignore")?;
+        if own_file(self.rt, file.as_str()).is_none() {
+            return Ok(List::empty(self.alloc));
+        }
+        let list = file_list(self.rt, self.alloc, file, &mut self.bytes, IgnoreLines)?;
+        Ok(list)
     }
 }
 
@@ -39,13 +77,37 @@ impl<'a, R: Files + Eprint> FolderLists<IgnoreLines> for FolderFiles<'a, R> {
     ghost gave = { λ _ _. ⊥ };
 
     fn list_of(&mut self, folder: &[u8]) -> Result<List<IgnoreLines>, CheckFault> {
-        let name = folder_text(self.alloc, folder)?;
-        if !folder.is_empty() && is_link(self.rt, name.as_str()) {
-            return Err(CheckFault::BeyondLink(name));
-        }
-        let file = file_in(self.alloc, name.as_str(), ".gitignore")?;
-        let list = folder_list(self.rt, self.alloc, file, &mut self.bytes, IgnoreLines)?;
+        let list = if self.is_below_missing(folder) {
+            List::empty(self.alloc)
+        } else {
+            self.own_list(folder)?
+        };
         Ok(list_in_folder(self.alloc, list, folder)?)
+    }
+}
+
+/// What stands where a folder may be.
+#[derive(Drop)]
+pub(crate) enum Standing {
+    /// A folder, or what can't be looked at.
+    Folder,
+    /// A link, wherever it leads.
+    Link,
+    /// Nothing in which a file could lie.
+    Nothing,
+}
+
+/// What stands in the place of a folder, the top being named by an empty text.
+pub(crate) fn what_stands<R: Files>(rt: &R, name: &str) -> Standing {
+    if name.is_empty() {
+        return Standing::Folder;
+    }
+    match fs::symlink_metadata(rt, name) {
+        Ok(found) if found.is_symlink() => Standing::Link,
+        Ok(found) if found.is_dir() => Standing::Folder,
+        Ok(_file) => Standing::Nothing,
+        Err(error) if is_fault(&error) => Standing::Folder,
+        Err(_missing) => Standing::Nothing,
     }
 }
 
@@ -83,30 +145,19 @@ pub(crate) fn is_folder<R: Files>(rt: &R, name: &str) -> bool {
     }
 }
 
-/// The list of a folder's own file of patterns; no patterns where there is none. A link isn't followed.
-pub(crate) fn folder_list<T: search::Pattern, R: Files + Eprint>(
-    rt: &R,
-    alloc: Global,
-    file: String,
-    bytes: &mut Vec<u8>,
-    parser: T,
-) -> Result<List<T>, AllocError> {
-    bytes.clear();
-    match fs::symlink_metadata(rt, file.as_str()) {
+/// What is known of a folder's own file, where it is to be read. A link isn't followed, which is told, as is why one can't be read.
+pub(crate) fn own_file<R: Files + Eprint>(rt: &R, file: &str) -> Option<Metadata> {
+    match fs::symlink_metadata(rt, file) {
         Ok(found) if found.is_symlink() => {
-            tell_unread(
-                rt,
-                file.as_str(),
-                io::Error::from(ErrorKind::FilesystemLoop),
-            );
-            Ok(List::empty(alloc))
+            tell_unread(rt, file, io::Error::from(ErrorKind::FilesystemLoop));
+            None
         }
-        Ok(_found) => file_list(rt, alloc, file, bytes, parser),
+        Ok(found) => Some(found),
         Err(error) => {
             if is_fault(&error) {
-                tell_unread(rt, file.as_str(), error);
+                tell_unread(rt, file, error);
             }
-            Ok(List::empty(alloc))
+            None
         }
     }
 }
