@@ -1,7 +1,6 @@
 //! The head of a line: a pattern, or what defines a macro, bare or between quotes.
 ghost use Rattle.std.specs.Prelude.{◌≡◌, IfOk, option_map};
-ghost use Rattle.glob_attributes.specs.Equations.Heads.{head_of, quoted_from, unit_at};
-ghost use Rattle.glob_attributes.specs.Heads.{letter_byte};
+ghost use Rattle.glob_attributes.specs.Equations.Heads.{head_of, letter_byte, quoted_from, unit_at};
 
 use crate::words::split_at_blank;
 use std::alloc::{AllocError, Global};

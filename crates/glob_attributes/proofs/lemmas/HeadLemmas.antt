@@ -6,8 +6,7 @@ use Rattle.std.specs.Option.{option_and_then}
 use Rattle.std.proofs.lemmas.Bool.{cases_Bool}
 use Rattle.std.proofs.lemmas.Bool.Decides.{eqb_tells}
 use Rattle.gix_glob.specs.Bytes.{backslash}
-use Rattle.glob_attributes.specs.Heads.{quote}
-use Rattle.glob_attributes.specs.Equations.Heads.{bare_head, escape_at, head_of, quoted_from, unit_at, with_front}
+use Rattle.glob_attributes.specs.Equations.Heads.{bare_head, escape_at, head_of, quote, quoted_from, unit_at, with_front}
 
 pub quoted_from-skip : (n : ℕ) (bytes : List ℕ) → quoted_from n bytes ≡ quoted_from 0 (drop n bytes)
 quoted_from-skip zero bytes = refl

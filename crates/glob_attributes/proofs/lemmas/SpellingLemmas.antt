@@ -1,15 +1,17 @@
 -- The head of a line: the relation and the equation agree.
-use Rattle.std.proofs.Common.{◌≡◌, ◌≢◌, ◌⊎◌, inl, inr, ⊎_elim, ℕ, zero, suc, ◌+◌, ◌<◌, ◌≤◌, Bool, true, false, cond, List, [], ◌∷◌, ◌++◌, length, take, drop, Option, None, Some, refl, sym, ap, subst, ◌∙◌, append_assoc, le_refl, take-append-drop, drop_at, take_at, arith}
-use Rattle.std.specs.Prelude.{◌==◌, ◌&&◌, ◌↔◌, codes, nat_eq, nat_le, option_map}
-use Rattle.std.specs.List.{AllByRecursion, before_first, position_or_len, starts_with}
-use Rattle.std.proofs.lemmas.Bool.{and_parts, cases_Bool, eqb-true, false≢true, leb-true, ne_eqb}
+use Rattle.std.proofs.Common.{◌≡◌, ◌≢◌, ◌⊎◌, inl, inr, ⊎_elim, ℕ, zero, suc, ◌+◌, ◌-◌, ◌*◌, ◌<◌, ◌≤◌, Bool, true, false, cond, List, [], ◌∷◌, ◌++◌, length, take, drop, Option, None, Some, refl, sym, ap, subst, ◌∙◌, append_assoc, le_refl, take-append-drop, arith}
+use Rattle.std.specs.Prelude.{◌==◌, ◌&&◌, ◌↔◌, codes, nat_eq, nat_le, option_map, slice_index_or}
+use Rattle.std.specs.List.{AllByRecursion, AllZip, IsAmong, before_first, concat, position_or_len, starts_with}
+use Rattle.std.specs.Map.{lookup}
+use Rattle.std.proofs.lemmas.Bool.{and_parts, cases_Bool, eqb-true, false≢true, le-leb, leb-true, ne_eqb}
 use Rattle.std.proofs.lemmas.Bool.Decides.{eqb_tells}
+use Rattle.std.proofs.lemmas.List.{append_cancel_left}
+use Rattle.std.proofs.lemmas.Option.{same_Some}
 use Rattle.gix_glob.specs.Bytes.{backslash}
-use Rattle.glob_attributes.specs.Heads.{IsBareHead, IsHead, IsQuotedHead, Spells, SpellsByte, is_octal, letter_byte, octal_byte, quote}
+use Rattle.glob_attributes.specs.Heads.{IsHead, IsQuotedHead, SpellsByte, escapes}
 use Rattle.glob_attributes.specs.Words.{is_blank}
-use Rattle.glob_attributes.specs.Equations.Heads.{bare_head, escape_at, head_of, quoted_from, unit_at, with_front}
+use Rattle.glob_attributes.specs.Equations.Heads.{bare_head, escape_at, head_of, is_octal, letter_byte, octal_byte, quote, quoted_from, unit_at, with_front}
 use Rattle.glob_attributes.proofs.lemmas.HeadLemmas.{head_of-bare, head_of-quoted, head_of-wrong, quoted_from-end, quoted_from-none, quoted_from-unit}
-use Rattle.glob_attributes.proofs.lemmas.PlaceLemmas.{place-here, place-later}
 
 cases_Option : {A : Type 0} (o : Option A) → (o ≡ None) ⊎ ((x : A) × (o ≡ Some x))
 cases_Option None = inl refl
@@ -41,6 +43,63 @@ same_head a n b m is = let pair : texts a n ≡ texts b m = cc in ap (λ (p : Li
 
 same_rest : (a n b m : List ℕ) → some_texts a n ≡ some_texts b m → n ≡ m
 same_rest a n b m is = let pair : texts a n ≡ texts b m = cc in ap (λ (p : List ℕ × List ℕ). p.1) pair
+
+-- ---- the table of escapes
+
+among-at : {X : Type 0} (P : X → Type 0) (xs : List X) (v : X) (i : ℕ) → AllByRecursion P xs → i < length xs → v ≡ slice_index_or xs i v → P v
+among-at P [] v i all within is = absurd (omega arith)
+among-at P (x ∷ xs) v zero all within is = subst P (sym is) all.0
+among-at P (x ∷ xs) v (suc i) all within is = among-at P xs v i all.1 (omega arith) is
+
+abbrev is_letter : ℕ × ℕ → Type 0
+is_letter pair = letter_byte pair.0 ≡ Some pair.1
+
+each_letter : AllByRecursion is_letter escapes
+each_letter = (refl, (refl, (refl, (refl, (refl, (refl, (refl, (refl, (refl, tt)))))))))
+
+escape_letter : (c b : ℕ) → IsAmong escapes (c, b) → letter_byte c ≡ Some b
+escape_letter c b is = among-at is_letter escapes (c, b) is.0 each_letter is.1.0 is.1.1
+
+looked_up : (table : List (ℕ × ℕ)) (c b : ℕ) → lookup (λ k. c == k) table ≡ Some b → IsAmong table (c, b)
+looked_up [] c b is = absurd (cc)
+looked_up (pair ∷ table) c b is =
+    ⊎_elim
+    (λ yes. let value : pair.1 ≡ b = same_Some pair.1 b (sym (ap (λ t. cond t (Some pair.1) (lookup (λ k. c == k) table)) yes.0) ∙ is) in
+    (0, (omega arith, ap (λ n. (n, b)) yes.1 ∙ ap (λ n. (pair.0, n)) (sym value))))
+    (λ no. let later = looked_up table c b (sym (ap (λ t. cond t (Some pair.1) (lookup (λ k. c == k) table)) no.0) ∙ is) in
+    let within = later.1.0 in
+    (suc later.0, (omega arith, later.1.1)))
+    (eqb_tells c pair.0)
+
+letter_escape : (c b : ℕ) → letter_byte c ≡ Some b → IsAmong escapes (c, b)
+letter_escape c b is = looked_up escapes c b is
+
+-- ---- octal digits
+
+octal_digit : (greatest x : ℕ) → x ≤ greatest → is_octal greatest (48 + x) ≡ true
+octal_digit greatest x low =
+    ap (λ t. t && nat_le (48 + x) (48 + greatest)) (le-leb 48 (48 + x) (omega arith)) ∙ le-leb (48 + x) (48 + greatest) (omega arith)
+
+octal_digits : (x y z : ℕ) → x ≤ 3 → y ≤ 7 → z ≤ 7 → (is_octal 3 (48 + x) && (is_octal 7 (48 + y) && is_octal 7 (48 + z))) ≡ true
+octal_digits x y z first second third =
+    ap (λ t. t && (is_octal 7 (48 + y) && is_octal 7 (48 + z))) (octal_digit 3 x first)
+    ∙ ap (λ t. t && is_octal 7 (48 + z)) (octal_digit 7 y second)
+    ∙ octal_digit 7 z third
+
+octal_value : (x y z : ℕ) → octal_byte (48 + x) (48 + y) (48 + z) ≡ 64 * x + 8 * y + z
+octal_value x y z = omega arith
+
+-- the number of a digit
+record IsDigit (greatest c : ℕ) : Type 0 where
+  low : c - 48 ≤ greatest
+  is : c ≡ 48 + (c - 48)
+
+digit_number : (greatest c : ℕ) → is_octal greatest c ≡ true → IsDigit greatest c
+digit_number greatest c digit =
+    let parts = and_parts (nat_le 48 c) (nat_le c (48 + greatest)) digit in
+    let above : 48 ≤ c = leb-true 48 c parts.0 in
+    let below : c ≤ 48 + greatest = leb-true c (48 + greatest) parts.1 in
+    record { low = omega arith; is = omega arith }
 
 -- ---- one unit
 
@@ -91,28 +150,31 @@ unit_spelled b unit rest (inl itself) =
       behind = refl;
     })
 unit_spelled b unit rest (inr (inl letter)) =
-    subst (λ u. HasUnit b (u ++ rest) rest) (sym letter.2) (record { more = 1; at = escape_at-letter letter.0 b rest letter.1; behind = refl })
+    subst (λ u. HasUnit b (u ++ rest) rest) (sym letter.2)
+    (record { more = 1; at = escape_at-letter letter.0 b rest (escape_letter letter.0 b letter.1); behind = refl })
 unit_spelled b unit rest (inr (inr octal)) =
-    subst (λ u. HasUnit b (u ++ rest) rest) (sym octal.joined) (record {
+    let x = 48 + octal.0 in
+    let spelled = octal_byte x (48 + octal.1) (48 + octal.2) in
+    subst (λ u. HasUnit b (u ++ rest) rest) (sym octal.6) (record {
       more = 3;
-      at = ap (λ t. cond t (Some (octal_byte octal.x octal.y octal.z, 3)) (option_map (λ x. (x, 1)) (letter_byte octal.x))) octal.digits
-          ∙ ap (λ n. Some (n, 3)) (sym octal.is);
+      at = ap (λ t. cond t (Some (spelled, 3)) (option_map (λ l. (l, 1)) (letter_byte x))) (octal_digits octal.0 octal.1 octal.2 octal.3 octal.4 octal.5)
+          ∙ ap (λ n. Some (n, 3)) (octal_value octal.0 octal.1 octal.2 ∙ sym octal.7);
       behind = refl;
     })
 
 -- ---- the quoted head
 
-pub quoted_spelled : (head spelling rest : List ℕ) → Spells head spelling → quoted_from 0 (spelling ++ quote ∷ rest) ≡ Some (head, rest)
-quoted_spelled [] spelling rest none = ap (λ s. quoted_from 0 (s ++ quote ∷ rest)) none ∙ quoted_from-end rest
-quoted_spelled (b ∷ head) spelling rest h =
-    let unit = h.0 in
-    let more = h.1 in
-    let is : spelling ++ quote ∷ rest ≡ unit ++ (more ++ quote ∷ rest) = ap (λ s. s ++ quote ∷ rest) h.2 ∙ append_assoc unit more (quote ∷ rest) in
-    let first = unit_spelled b unit (more ++ quote ∷ rest) h.3 in
-    ap (quoted_from 0) is
-    ∙ quoted_from-unit (unit ++ (more ++ quote ∷ rest)) b first.more first.at
+quoted_spelled : (head : List ℕ) (units : List (List ℕ)) (rest : List ℕ) → AllZip SpellsByte head units → quoted_from 0 (concat units ++ quote ∷ rest) ≡ Some (head, rest)
+quoted_spelled [] [] rest each = quoted_from-end rest
+quoted_spelled [] (unit ∷ units) rest each = absurd each
+quoted_spelled (b ∷ head) [] rest each = absurd each
+quoted_spelled (b ∷ head) (unit ∷ units) rest each =
+    let more = concat units ++ quote ∷ rest in
+    let first = unit_spelled b unit more each.0 in
+    ap (quoted_from 0) (append_assoc unit (concat units) (quote ∷ rest))
+    ∙ quoted_from-unit (unit ++ more) b first.more first.at
     ∙ ap (λ l. option_map (with_front (b ∷ [])) (quoted_from 0 l)) first.behind
-    ∙ ap (option_map (with_front (b ∷ []))) (quoted_spelled head more rest h.4)
+    ∙ ap (option_map (with_front (b ∷ []))) (quoted_spelled head units rest each.1)
 
 -- what a unit at the front spells
 record SpellsFront (b more : ℕ) (text : List ℕ) : Type 0 where
@@ -130,7 +192,7 @@ letter_front c b more rest is =
     let count = same_count some.0 1 b more same in
     subst (λ n. SpellsFront b n (backslash ∷ c ∷ rest)) count (record {
       unit = backslash ∷ c ∷ [];
-      spells = inr (inl (c, some.1 ∙ ap Some byte, refl));
+      spells = inr (inl (c, letter_escape c b (some.1 ∙ ap Some byte), refl));
       joined = refl;
       shorter = omega arith;
     }))
@@ -138,11 +200,19 @@ letter_front c b more rest is =
 
 octal_front : (c y z b more : ℕ) (rest : List ℕ) → (is_octal 3 c && (is_octal 7 y && is_octal 7 z)) ≡ true → some_unit (octal_byte c y z) 3 ≡ some_unit b more → SpellsFront b more (backslash ∷ c ∷ y ∷ z ∷ rest)
 octal_front c y z b more rest digits is =
+    let tests = and_parts (is_octal 3 c) (is_octal 7 y && is_octal 7 z) digits in
+    let later = and_parts (is_octal 7 y) (is_octal 7 z) tests.1 in
+    let first = digit_number 3 c tests.0 in
+    let second = digit_number 7 y later.0 in
+    let third = digit_number 7 z later.1 in
+    let unit : backslash ∷ c ∷ y ∷ z ∷ [] ≡ backslash ∷ (48 + (c - 48)) ∷ (48 + (y - 48)) ∷ (48 + (z - 48)) ∷ [] =
+    ap (λ n. backslash ∷ n ∷ y ∷ z ∷ []) first.is ∙ ap (λ n. backslash ∷ (48 + (c - 48)) ∷ n ∷ z ∷ []) second.is
+    ∙ ap (λ n. backslash ∷ (48 + (c - 48)) ∷ (48 + (y - 48)) ∷ n ∷ []) third.is in
     let byte = same_byte (octal_byte c y z) 3 b more is in
     let count = same_count (octal_byte c y z) 3 b more is in
     subst (λ n. SpellsFront b n (backslash ∷ c ∷ y ∷ z ∷ rest)) count (record {
       unit = backslash ∷ c ∷ y ∷ z ∷ [];
-      spells = inr (inr (record { x = c; y = y; z = z; digits = digits; joined = refl; is = sym byte }));
+      spells = inr (inr (c - 48, y - 48, z - 48, first.low, second.low, third.low, unit, sym byte));
       joined = refl;
       shorter = omega arith;
     })
@@ -177,15 +247,15 @@ unit_front a bytes b more other is =
 
 -- what was read is spelled so
 record IsSpelled (text head rest : List ℕ) : Type 0 where
-  spelling : List ℕ
-  spells : Spells head spelling
-  joined : text ≡ spelling ++ quote ∷ rest
+  units : List (List ℕ)
+  spells : AllZip SpellsByte head units
+  joined : text ≡ concat units ++ quote ∷ rest
 
 spelled_first : (b : ℕ) (unit text left head rest : List ℕ) → SpellsByte b unit → text ≡ unit ++ left → IsSpelled left head rest → IsSpelled text (b ∷ head) rest
 spelled_first b unit text left head rest spells joined h = record {
-  spelling = unit ++ h.spelling;
-  spells = (unit, h.spelling, refl, spells, h.spells);
-  joined = joined ∙ ap (λ l. unit ++ l) h.joined ∙ sym (append_assoc unit h.spelling (quote ∷ rest));
+  units = unit ∷ h.units;
+  spells = (spells, h.spells);
+  joined = joined ∙ ap (λ l. unit ++ l) h.joined ∙ sym (append_assoc unit (concat h.units) (quote ∷ rest));
 }
 
 quoted_is_spelled : (n : ℕ) (text head rest : List ℕ) → length text ≤ n → quoted_from 0 text ≡ Some (head, rest) → IsSpelled text head rest
@@ -196,7 +266,7 @@ quoted_is_spelled (suc n) (a ∷ bytes) head rest low is =
     (λ end. let same : some_texts [] bytes ≡ some_texts head rest = sym (ap (λ x. quoted_from 0 (x ∷ bytes)) end.1 ∙ quoted_from-end bytes) ∙ is in
     let none = same_head [] bytes head rest same in
     let left = same_rest [] bytes head rest same in
-    record { spelling = []; spells = subst (λ h. Spells h []) none refl; joined = ap (λ x. x ∷ bytes) end.1 ∙ ap (λ l. quote ∷ l) left })
+    record { units = []; spells = subst (λ h. AllZip SpellsByte h []) none tt; joined = ap (λ x. x ∷ bytes) end.1 ∙ ap (λ l. quote ∷ l) left })
     (λ other. ⊎_elim
     (λ none. let never : None ≡ Some (head, rest) = sym (quoted_from-none (a ∷ bytes) none (λ behind e. let first : a ≡ quote = cc in other.1 first)) ∙ is in absurd (cc))
     (λ some. let unit = some.0 in
@@ -215,55 +285,6 @@ quoted_is_spelled (suc n) (a ∷ bytes) head rest low is =
     (cases_Option (unit_at (a ∷ bytes))))
     (eqb_tells a quote)
 
--- ---- the bare head
-
-abbrev NoBlank : List ℕ → Type 0
-NoBlank head = AllByRecursion (λ b. is_blank b ≡ false) head
-
-abbrev EndsHead : List ℕ → Type 0
-EndsHead rest = (rest ≡ []) ⊎ ((b : ℕ) × (more : List ℕ) × (rest ≡ b ∷ more) × (is_blank b ≡ true))
-
-place_after : (head rest : List ℕ) → NoBlank head → EndsHead rest → position_or_len is_blank (head ++ rest) ≡ length head
-place_after [] rest whole (inl none) = ap (position_or_len is_blank) none
-place_after [] rest whole (inr blank) = ap (position_or_len is_blank) blank.2 ∙ place-here is_blank blank.0 blank.1 blank.3
-place_after (b ∷ head) rest whole ended =
-    let more = place_after head rest whole.1 ended in
-    place-later is_blank b (head ++ rest) whole.0 ∙ omega arith
-
-bare_head-is : (text head rest : List ℕ) → text ≡ head ++ rest → NoBlank head → EndsHead rest → bare_head text ≡ (head, rest)
-bare_head-is text head rest joined whole ended =
-    let all = head ++ rest in
-    ap bare_head joined
-    ∙ ap (λ n. (take n all, drop n all)) (place_after head rest whole ended)
-    ∙ ap (λ l. (l, drop (length head) all)) (take_at head rest (length head) refl)
-    ∙ ap (λ l. (head, l)) (drop_at head rest (length head) refl)
-
-no_blank_before : (text : List ℕ) → NoBlank (before_first is_blank text)
-no_blank_before [] = tt
-no_blank_before (b ∷ text) =
-    ⊎_elim
-    (λ blank. subst (λ n. NoBlank (take n (b ∷ text))) (sym (place-here is_blank b text blank)) tt)
-    (λ other. let next : 1 + position_or_len is_blank text ≡ suc (position_or_len is_blank text) = omega arith in
-    subst (λ n. NoBlank (take n (b ∷ text))) (sym (place-later is_blank b text other ∙ next)) (other, no_blank_before text))
-    (cases_Bool (is_blank b))
-
-ends_head : (text : List ℕ) → EndsHead (drop (position_or_len is_blank text) text)
-ends_head [] = inl refl
-ends_head (b ∷ text) =
-    ⊎_elim
-    (λ blank. subst (λ n. EndsHead (drop n (b ∷ text))) (sym (place-here is_blank b text blank)) (inr (b, text, refl, blank)))
-    (λ other. let next : 1 + position_or_len is_blank text ≡ suc (position_or_len is_blank text) = omega arith in
-    subst (λ n. EndsHead (drop n (b ∷ text))) (sym (place-later is_blank b text other ∙ next)) (ends_head text))
-    (cases_Bool (is_blank b))
-
-is_bare : (text : List ℕ) → ((head rest : List ℕ) → IsQuotedHead text head rest → ⊥) → IsBareHead text (bare_head text).0 (bare_head text).1
-is_bare text unquoted = record {
-  unquoted = unquoted;
-  joined = sym (take-append-drop (position_or_len is_blank text) text);
-  whole = no_blank_before text;
-  ended = ends_head text;
-}
-
 -- ---- the head
 
 abbrev begins : List ℕ → Bool
@@ -278,16 +299,15 @@ quote_first (b ∷ text) is =
 -- a text that has no quoted head, by equation
 no_quoted : (text : List ℕ) → begins text ≡ true → quoted_from 0 (drop 1 text) ≡ None → (head rest : List ℕ) → IsQuotedHead text head rest → ⊥
 no_quoted text quoted none head rest q =
-    let inner : drop 1 text ≡ q.spelling ++ quote ∷ rest = ap (drop 1) q.joined in
-    let found : None ≡ some_texts head rest = sym none ∙ ap (quoted_from 0) inner ∙ quoted_spelled head q.spelling rest q.spells in absurd (cc)
+    let found : None ≡ some_texts head rest = sym none ∙ ap (λ t. quoted_from 0 (drop 1 t)) q.2 ∙ quoted_spelled head q.0 rest q.1 in absurd (cc)
 
 no_quote : (text : List ℕ) → begins text ≡ false → (head rest : List ℕ) → IsQuotedHead text head rest → ⊥
-no_quote text other head rest q = false≢true (sym other ∙ ap begins q.joined)
+no_quote text other head rest q = false≢true (sym other ∙ ap begins q.2)
 
 quoted_head : (text head rest : List ℕ) → begins text ≡ true → quoted_from 0 (drop 1 text) ≡ Some (head, rest) → IsQuotedHead text head rest
 quoted_head text head rest quoted found =
     let spelled = quoted_is_spelled (length (drop 1 text)) (drop 1 text) head rest (le_refl _) found in
-    record { spelling = spelled.spelling; spells = spelled.spells; joined = quote_first text quoted ∙ ap (λ l. quote ∷ l) spelled.joined }
+    (spelled.units, spelled.spells, quote_first text quoted ∙ ap (λ l. quote ∷ l) spelled.joined)
 
 -- a quoted head is the head, and else the bare one is
 data HeadCase (text : List ℕ) : Type 0 where
@@ -306,16 +326,21 @@ head_case text =
 
 IsHead-by_case : (text : List ℕ) → HeadCase text → IsHead text (head_of text).0 (head_of text).1
 IsHead-by_case text (quoted_case found q is) = subst (λ (f : List ℕ × List ℕ). IsHead text f.0 f.1) (sym is) (inl q)
-IsHead-by_case text (bare_case unquoted is) = subst (λ (f : List ℕ × List ℕ). IsHead text f.0 f.1) (sym is) (inr (is_bare text unquoted))
+IsHead-by_case text (bare_case unquoted is) = subst (λ (f : List ℕ × List ℕ). IsHead text f.0 f.1) (sym is) (inr (unquoted, refl, sym (take-append-drop (position_or_len is_blank text) text)))
 
-bare_only : (text head rest : List ℕ) → IsBareHead text head rest → HeadCase text → (head, rest) ≡ head_of text
-bare_only text head rest b (quoted_case found q is) = absurd (b.unquoted found.0 found.1 q)
-bare_only text head rest b (bare_case unquoted is) = sym (is ∙ bare_head-is text head rest b.joined b.whole b.ended)
+bare_only : (text head rest : List ℕ) → ((other behind : List ℕ) → IsQuotedHead text other behind → ⊥) → head ≡ before_first is_blank text → text ≡ head ++ rest
+    → HeadCase text → (head, rest) ≡ head_of text
+bare_only text head rest unquoted whole joined (quoted_case found q is) = absurd (unquoted found.0 found.1 q)
+bare_only text head rest unquoted whole joined (bare_case none is) =
+    let behind = drop (position_or_len is_blank text) text in
+    let both : head ++ rest ≡ head ++ behind =
+    sym joined ∙ sym (take-append-drop (position_or_len is_blank text) text) ∙ ap (λ h. h ++ behind) (sym whole) in
+    ap (λ h. (h, rest)) whole ∙ ap (λ r. (before_first is_blank text, r)) (append_cancel_left head rest behind both) ∙ sym is
 
 IsHead-only : (text head rest : List ℕ) → IsHead text head rest → (head, rest) ≡ head_of text
 IsHead-only text head rest (inl q) =
-    sym (head_of-quoted text (q.spelling ++ quote ∷ rest) (head, rest) (ap begins q.joined) (sym (ap (drop 1) q.joined)) (quoted_spelled head q.spelling rest q.spells))
-IsHead-only text head rest (inr b) = bare_only text head rest b (head_case text)
+    sym (head_of-quoted text (concat q.0 ++ quote ∷ rest) (head, rest) (ap begins q.2) (sym (ap (drop 1) q.2)) (quoted_spelled head q.0 rest q.1))
+IsHead-only text head rest (inr b) = bare_only text head rest b.0 b.1 b.2 (head_case text)
 
 -- the relation and the equation agree
 pub heads_are_these : (text head rest : List ℕ) → IsHead text head rest ↔ ((head, rest) ≡ head_of text)

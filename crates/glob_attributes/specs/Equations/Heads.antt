@@ -1,10 +1,34 @@
 -- The head of a line by equation.
-use Rattle.std.specs.Prelude.{zero, suc, ℕ, ◌&&◌, ◌==◌, nat_eq, if◌then◌else◌, List, [], ◌∷◌, ◌++◌, drop, Option, None, Some, option_map, codes, unwrap_or}
+use Rattle.std.specs.Prelude.{zero, suc, ℕ, ◌+◌, ◌-◌, ◌*◌, Bool, ◌&&◌, ◌==◌, nat_eq, nat_le, if◌then◌else◌, List, [], ◌∷◌, ◌++◌, drop, Option, None, Some, option_map, codes, unwrap_or}
 use Rattle.std.specs.List.{before_first, position_or_len, starts_with}
 use Rattle.std.specs.Option.{option_and_then}
+use Rattle.std.specs.Str.{byte}
 use Rattle.gix_glob.specs.Bytes.{backslash}
-use Rattle.glob_attributes.specs.Heads.{is_octal, letter_byte, octal_byte, quote}
 use Rattle.glob_attributes.specs.Words.{is_blank}
+
+abbrev pub quote : ℕ
+quote = byte "\""
+
+-- the byte that a backslash and this one spell, where they are an escape
+abbrev pub letter_byte : ℕ → Option ℕ
+letter_byte c =
+    if c == byte "a" then Some 7
+    else (if c == byte "b" then Some 8
+    else (if c == byte "t" then Some 9
+    else (if c == byte "n" then Some 10
+    else (if c == byte "v" then Some 11
+    else (if c == byte "f" then Some 12
+    else (if c == byte "r" then Some 13
+    else (if c == quote then Some quote
+    else (if c == backslash then Some backslash
+    else None))))))))
+
+-- a digit up to this one, and the byte of three octal digits
+abbrev pub is_octal : ℕ → ℕ → Bool
+is_octal greatest c = nat_le 48 c && nat_le c (48 + greatest)
+
+abbrev pub octal_byte : ℕ → ℕ → ℕ → ℕ
+octal_byte x y z = 64 * (x - 48) + 8 * (y - 48) + (z - 48)
 
 -- what follows a backslash: the byte that both spell, and how many bytes behind the backslash belong to it
 abbrev pub escape_at : List ℕ → Option (ℕ × ℕ)
