@@ -18,7 +18,8 @@ SpellsByte b unit =
 
 -- the text is a quote, a spelling of each byte of the head, a quote and the rest
 abbrev pub IsQuotedHead : List ℕ → List ℕ → List ℕ → Type 0
-IsQuotedHead text head rest = (units : List (List ℕ)) × AllZip SpellsByte head units × (text ≡ codes "\"" ++ (concat units ++ (codes "\"" ++ rest)))
+IsQuotedHead text head rest =
+    (units : List (List ℕ)) × AllZip SpellsByte head units × (text ≡ codes "\"" ++ (concat units ++ (codes "\"" ++ rest)))
 
 -- The head of a text, and what follows it: a quoted head, or, where there is none, what stands before the first blank.
 abbrev pub IsHead : List ℕ → List ℕ → List ℕ → Type 0

@@ -10,4 +10,5 @@ pub mod Private
 pub mod Readings
 pub mod States
 pub mod Told
+pub mod Views
 pub mod Words

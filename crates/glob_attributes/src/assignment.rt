@@ -3,7 +3,9 @@ ghost use Rattle.std.specs.Prelude.{◌≡◌, IfOk, None, Some, if◌then◌els
 ghost use Rattle.std.specs.List.{before_first};
 ghost use Rattle.std.specs.Vec.{vec_items};
 ghost use Rattle.glob_attributes.specs.Names.{is_name};
-ghost use Rattle.glob_attributes.specs.Assignments.{assignment_of, assignment_with, is_equals};
+ghost use Rattle.glob_attributes.specs.Assignments.{assignment_of};
+ghost use Rattle.glob_attributes.specs.Private.Readings.{is_equals};
+ghost use Rattle.glob_attributes.specs.Views.{assignment_with};
 
 use crate::name::is_name;
 use std::alloc::{AllocError, Global};

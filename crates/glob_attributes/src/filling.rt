@@ -1,7 +1,7 @@
 //! A row of assignments with what macros put in.
 ghost use Rattle.std.specs.Prelude.{◌≡◌, ◌+◌, ◌++◌, ◌∷◌, ◌≤◌, [], List, IfOk, OnOk, false, length, map, replicate, reverse};
 ghost use Rattle.std.specs.Vec.{vec_items};
-ghost use Rattle.glob_attributes.specs.Assignments.{assignment_with, state_with};
+ghost use Rattle.glob_attributes.specs.Views.{assignment_with, state_with};
 ghost use Rattle.glob_attributes.specs.Private.Filling.{AreMarked, seen_entry, unmarked};
 ghost use Rattle.glob_attributes.specs.States.{Assigned, IsFilledIn, is_set, put_in};
 

@@ -1,8 +1,9 @@
 //! What one line of an attribute file gives.
 ghost use Rattle.std.specs.Prelude.{◌≡◌, ◌≤◌, IfOk, length, option_map, position};
 ghost use Rattle.std.specs.List.{before_first};
-ghost use Rattle.glob_attributes.specs.Assignments.{assignments_of};
-ghost use Rattle.glob_attributes.specs.Readings.{is_macro, is_zero, line_gives, macro_name, macro_reading, pattern_reading, says_nothing, seen_assignments, seen_reading};
+ghost use Rattle.glob_attributes.specs.Private.Readings.{assignments_of, is_macro, is_zero, macro_name, macro_reading, pattern_reading, says_nothing};
+ghost use Rattle.glob_attributes.specs.Readings.{line_gives};
+ghost use Rattle.glob_attributes.specs.Views.{seen_assignments, seen_reading};
 
 use crate::assignment::{Assignment, own_assignment, read_assignment};
 use crate::head::read_head;

@@ -1,8 +1,8 @@
 //! All macros that count for a path, found by their names.
 ghost use Rattle.std.specs.Prelude.{◌≡◌, ◌++◌, ◌<◌, IfOk, OnErr, OnOk, codes, length, map};
-ghost use Rattle.glob_attributes.specs.Macros.{macros_of, seen_macro};
+ghost use Rattle.glob_attributes.specs.Macros.{macros_of};
+ghost use Rattle.glob_attributes.specs.Views.{seen_macro, assignment_with};
 ghost use Rattle.glob_attributes.specs.Private.Filling.{HasLastPlaces, assignments_at, last_place};
-ghost use Rattle.glob_attributes.specs.Assignments.{assignment_with};
 ghost use Rattle.std.specs.Vec.{vec_items};
 
 use crate::assignment::Assignment;
@@ -22,7 +22,8 @@ pub struct MacroTable {
 
 impl Model for MacroTable {
     ghost use Rattle.std.specs.Prelude.{List, map};
-    ghost use Rattle.glob_attributes.specs.Macros.{Definition, seen_macro};
+    ghost use Rattle.glob_attributes.specs.Macros.{Definition};
+    ghost use Rattle.glob_attributes.specs.Views.{seen_macro};
     ghost use Rattle.glob_attributes.specs.Private.Filling.{HasLastPlaces};
 
     ghost Value = { List Definition };

@@ -1,6 +1,7 @@
 //! The macros that an attribute file defines.
 ghost use Rattle.std.specs.Prelude.{◌≡◌, IfOk, map};
-ghost use Rattle.glob_attributes.specs.Macros.{macros_of, seen_macro};
+ghost use Rattle.glob_attributes.specs.Macros.{macros_of};
+ghost use Rattle.glob_attributes.specs.Views.{seen_macro};
 
 use crate::assignment::Assignment;
 use crate::line::{LineReading, read_line};

@@ -2,7 +2,7 @@
 ghost use Rattle.std.specs.Prelude.{◌≡◌, ◌∷◌, [], IfOk, OnOk, codes, map, true};
 ghost use Rattle.std.specs.Vec.{vec_items};
 ghost use Rattle.glob_attributes.specs.Private.Filling.{HasNames};
-ghost use Rattle.glob_attributes.specs.Readings.{seen_assignments, seen_reading};
+ghost use Rattle.glob_attributes.specs.Views.{seen_assignments, seen_reading};
 ghost use Rattle.glob_attributes.specs.Told.{names_given, names_read, with_names};
 
 use crate::assignment::Assignment;

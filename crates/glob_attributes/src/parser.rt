@@ -27,7 +27,7 @@ pub struct AttributeLines;
 impl search::Pattern for AttributeLines {
     ghost use Rattle.std.specs.Prelude.{ℕ, List};
     ghost use Rattle.glob_attributes.specs.declared.assignment.Assignment.{Assignment};
-    ghost use Rattle.glob_attributes.specs.Readings.{seen_assignments};
+    ghost use Rattle.glob_attributes.specs.Views.{seen_assignments};
     ghost use Rattle.glob_attributes.specs.Equations.Files.{attributes_of};
 
     type Value = Vec<Assignment<Vec<u8>>>;

@@ -1,6 +1,6 @@
 //! What is written about an attribute of a path.
 ghost use Rattle.std.specs.Prelude.{◌≡◌, ◌++◌, OnOk};
-ghost use Rattle.glob_attributes.specs.Assignments.{state_with};
+ghost use Rattle.glob_attributes.specs.Views.{state_with};
 ghost use Rattle.globtree.specs.AttributeText.{answer_of, fields_of, line_of, state_text};
 
 use crate::quoting::append_quoted;

@@ -5,7 +5,8 @@ use Rattle.std.specs.List.{after_first, before_first, list_all, list_any, starts
 use Rattle.std.proofs.lemmas.Bool.{cases_Bool}
 use Rattle.glob_attributes.specs.declared.assignment.Assignment.{Assignment}
 use Rattle.glob_attributes.specs.declared.assignment.State.TheVariants.{Set, Value}
-use Rattle.glob_attributes.specs.Assignments.{assignment_of, is_equals}
+use Rattle.glob_attributes.specs.Assignments.{assignment_of}
+use Rattle.glob_attributes.specs.Private.Readings.{is_equals}
 use Rattle.glob_attributes.specs.Names.{is_name}
 use Rattle.glob_attributes.proofs.lemmas.PlaceLemmas.{after-found, any-found, any-none, before-found}
 
@@ -33,7 +34,7 @@ assignment_of-bare word minus negation is = otherwise word false minus negation 
 -- ---- all words
 
 abbrev pub assigned : List (List ℕ) → Option (List Bytes)
-assigned words = cond (list_all (λ word. is_name (assignment_of word).name) words) (Some (map assignment_of words)) None
+assigned words = cond (list_all (λ assignment. is_name assignment.name) (map assignment_of words)) (Some (map assignment_of words)) None
 
 -- what the words so far assign stands before what the others do
 abbrev pub before : List Bytes → Option (List Bytes) → Option (List Bytes)
@@ -49,7 +50,7 @@ before-more front one (Some more) = ap Some (append_assoc front (one ∷ []) mor
 
 pub assigned-more : (front : List Bytes) (word : List ℕ) (words : List (List ℕ)) → is_name (assignment_of word).name ≡ true → before (front ++ assignment_of word ∷ []) (assigned words) ≡ before front (assigned (word ∷ words))
 assigned-more front word words valid =
-    let names = list_all (λ word. is_name (assignment_of word).name) words in
+    let names = list_all (λ assignment. is_name assignment.name) (map assignment_of words) in
     before-more front (assignment_of word) (assigned words)
     ∙ ap (before front) (sym (ap (λ t. cond (t && names) (Some (map assignment_of (word ∷ words))) None) valid ∙ assigned-name names word words))
 

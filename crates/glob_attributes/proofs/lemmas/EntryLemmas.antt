@@ -1,8 +1,8 @@
 -- The entries of an attribute file: the relation and the equation agree.
-use Rattle.std.proofs.Common.{◌≡◌, inl, inr, ⊎_elim, ℕ, ◌+◌, true, false, cond, List, [], ◌∷◌, length, None, Some, refl, sym, ap, subst, ◌∙◌}
+use Rattle.std.proofs.Common.{◌≡◌, inl, inr, ⊎_elim, ℕ, ◌+◌, true, false, cond, List, [], ◌∷◌, length, Option, None, Some, refl, sym, ap, subst, ◌∙◌}
 use Rattle.std.specs.Prelude.{◌↔◌, nat_le}
-use Rattle.std.specs.List.{cons_option}
-use Rattle.std.proofs.lemmas.Bool.{cases_Bool, leb-true, leb-false, le-leb, lt-leb}
+use Rattle.std.specs.List.{AllZip, cons_option, enumerate_from, filter_map}
+use Rattle.std.proofs.lemmas.Bool.{cases_Bool}
 use Rattle.gix_glob.specs.Equations.Entries.{entry_with}
 use Rattle.gix_glob.specs.Equations.Readings.{Reading, lead_of, reading_after_lead, reading_after_sign, reading_of, rest_after}
 use Rattle.gix_glob.specs.Patterns.{is_blank}
@@ -13,9 +13,9 @@ use Rattle.glob_lines.specs.Lines.{Lines}
 use Rattle.glob_lines.proofs.lemmas.EntriesLemmas.{ReadingsAreThese}
 use Rattle.glob_lines.proofs.lemmas.IgnoreLemmas.{TellsLines-ignore}
 use Rattle.glob_lines.proofs.lemmas.LinesLemmas.{Lines-are, Lines-only}
-use Rattle.glob_attributes.specs.declared.assignment.Assignment.{Assignment}
-use Rattle.glob_attributes.specs.Equations.Files.{attributes_of, entries_from, entry_given, file_lines, pattern_of}
-use Rattle.glob_attributes.specs.Files.{AttributeEntry, Attributes, EntriesFrom, FileLines, IsEntryOf}
+use Rattle.glob_attributes.specs.Assignments.{Assigned}
+use Rattle.glob_attributes.specs.Equations.Files.{AttributeEntry, attributes_of, entries_from, entry_given, file_lines, pattern_of}
+use Rattle.glob_attributes.specs.Files.{Attributes, FileLines, IsEntryOf, pattern_given}
 use Rattle.glob_attributes.specs.Patterns.{IsPatternOf}
 use Rattle.glob_attributes.specs.Readings.{Gives, a_macro, a_pattern, line_gives, nothing, silent}
 use Rattle.glob_attributes.proofs.lemmas.FileLemmas.{BlankAreThese, pattern_of-is, reading}
@@ -25,22 +25,22 @@ use Rattle.glob_attributes.proofs.lemmas.FileLemmas.{BlankAreThese, pattern_of-i
 abbrev ignore_lines : List ℕ → List (List ℕ)
 ignore_lines bytes = lines_of (without_returns bytes)
 
-pub FileLines-are : (bytes : List ℕ) → FileLines bytes (file_lines bytes)
-FileLines-are bytes =
+-- the bytes that hold the lines
+abbrev held : List ℕ → List ℕ
+held bytes = cond (nat_le 104857600 (length bytes)) [] (without_mark bytes)
+
+held_lines : (bytes : List ℕ) → ignore_lines (held bytes) ≡ file_lines bytes
+held_lines bytes =
     ⊎_elim
-    (λ long. inl (leb-true _ _ long, ap (λ t. cond t [] (ignore_lines (without_mark bytes))) long))
-    (λ short. inr (
-      leb-false _ _ short,
-      subst (Lines EndsIgnoreLine (without_mark bytes)) (sym (ap (λ t. cond t [] (ignore_lines (without_mark bytes))) short))
-          (Lines-are EndsIgnoreLine ignore_lines TellsLines-ignore (without_mark bytes)),
-    ))
+    (λ long. ap (λ t. ignore_lines (cond t [] (without_mark bytes))) long ∙ sym (ap (λ t. cond t [] (ignore_lines (without_mark bytes))) long))
+    (λ short. ap (λ t. ignore_lines (cond t [] (without_mark bytes))) short ∙ sym (ap (λ t. cond t [] (ignore_lines (without_mark bytes))) short))
     (cases_Bool (nat_le 104857600 (length bytes)))
 
+pub FileLines-are : (bytes : List ℕ) → FileLines bytes (file_lines bytes)
+FileLines-are bytes = subst (Lines EndsIgnoreLine (held bytes)) (held_lines bytes) (Lines-are EndsIgnoreLine ignore_lines TellsLines-ignore (held bytes))
+
 pub FileLines-only : (bytes : List ℕ) (lines : List (List ℕ)) → FileLines bytes lines → lines ≡ file_lines bytes
-FileLines-only bytes lines (inl long) = long.1 ∙ sym (ap (λ t. cond t [] (ignore_lines (without_mark bytes))) (le-leb 104857600 (length bytes) long.0))
-FileLines-only bytes lines (inr short) =
-    Lines-only EndsIgnoreLine ignore_lines TellsLines-ignore (without_mark bytes) lines short.1
-    ∙ sym (ap (λ t. cond t [] (ignore_lines (without_mark bytes))) (lt-leb 104857600 (length bytes) short.0))
+FileLines-only bytes lines h = Lines-only EndsIgnoreLine ignore_lines TellsLines-ignore (held bytes) lines h ∙ held_lines bytes
 
 -- ---- patterns
 
@@ -64,58 +64,50 @@ IsPatternOf-pattern_of readings none bytes =
 
 -- ---- entries
 
-given_is : (number : ℕ) (line : List ℕ) (entry : AttributeEntry) → ReadingsAreThese → BlankAreThese → IsEntryOf line number entry → entry_given number (line_gives true line) ≡ Some entry
-given_is number line entry readings none h =
-    ap (entry_given number) h.gives
-    ∙ ap (λ r. Some (entry_with entry.value number r)) (sym (pattern_of-is readings none h.bytes entry.text entry.mode entry.place h.pattern))
-    ∙ ap (λ n. Some (entry_with entry.value n (reading entry.text entry.mode entry.place))) (sym h.numbered)
-
-no_pattern : (number : ℕ) (given : Gives) → ((bytes : List ℕ) (assignments : List (Assignment (List ℕ))) → given ≡ a_pattern bytes assignments → ⊥) → entry_given number given ≡ None
-no_pattern number nothing none = refl
-no_pattern number (silent silence) none = refl
-no_pattern number (a_macro name assignments) none = refl
-no_pattern number (a_pattern bytes assignments) none = absurd (none bytes assignments refl)
-
--- what a line gives is a pattern, or it isn't
-data GivenCase (given : Gives) : Type 0 where
-  pattern_case : (bytes : List ℕ) (assignments : List (Assignment (List ℕ))) → given ≡ a_pattern bytes assignments → GivenCase given
-  other_case : ((bytes : List ℕ) (assignments : List (Assignment (List ℕ))) → given ≡ a_pattern bytes assignments → ⊥) → GivenCase given
-
-given_case : (given : Gives) → GivenCase given
-given_case nothing = other_case (λ bytes assignments e. cc)
-given_case (silent silence) = other_case (λ bytes assignments e. cc)
-given_case (a_macro name assigned) = other_case (λ bytes assignments e. cc)
-given_case (a_pattern bytes assignments) = pattern_case bytes assignments refl
+-- the lines that give a pattern, where the first line has this number
+abbrev patterns_from : ℕ → List (List ℕ) → List (ℕ × List ℕ × List Assigned)
+patterns_from number lines = filter_map (λ line. pattern_given line.0 (line_gives true line.1)) (enumerate_from number lines)
 
 module _ (readings : ReadingsAreThese) (none : BlankAreThese) where
-  from_case : (number : ℕ) (line : List ℕ) (lines : List (List ℕ)) → EntriesFrom (number + 1) lines (entries_from (number + 1) lines) → GivenCase (line_gives true line) → EntriesFrom number (line ∷ lines) (entries_from number (line ∷ lines))
-  from_case number line lines more (other_case other) =
-      inl (other, subst (EntriesFrom (number + 1) lines) (sym (ap (λ o. cons_option o (entries_from (number + 1) lines)) (no_pattern number (line_gives true line) other))) more)
-  from_case number line lines more (pattern_case bytes assignments is) =
-      let entry = entry_with assignments number (pattern_of bytes) in
-      inr (
-        entry,
-        entries_from (number + 1) lines,
-        ap (λ g. cons_option (entry_given number g) (entries_from (number + 1) lines)) is,
-        record { bytes = bytes; gives = is; pattern = IsPatternOf-pattern_of readings none bytes; numbered = refl },
-        more,
-      )
+  are_given : (number : ℕ) (given : Gives) (lines : List (ℕ × List ℕ × List Assigned)) (entries : List AttributeEntry) → AllZip IsEntryOf lines entries
+      → AllZip IsEntryOf (cons_option (pattern_given number given) lines) (cons_option (entry_given number given) entries)
+  are_given number nothing lines entries h = h
+  are_given number (silent silence) lines entries h = h
+  are_given number (a_macro name assigned) lines entries h = h
+  are_given number (a_pattern bytes assigned) lines entries h = ((refl, IsPatternOf-pattern_of readings none bytes, refl), h)
 
-  EntriesFrom-are : (number : ℕ) (lines : List (List ℕ)) → EntriesFrom number lines (entries_from number lines)
-  EntriesFrom-are number [] = refl
-  EntriesFrom-are number (line ∷ lines) = from_case number line lines (EntriesFrom-are (number + 1) lines) (given_case (line_gives true line))
+  entries-are : (number : ℕ) (lines : List (List ℕ)) → AllZip IsEntryOf (patterns_from number lines) (entries_from number lines)
+  entries-are number [] = tt
+  entries-are number (line ∷ lines) =
+      are_given number (line_gives true line) (patterns_from (number + 1) lines) (entries_from (number + 1) lines) (entries-are (number + 1) lines)
 
-  EntriesFrom-only : (number : ℕ) (lines : List (List ℕ)) (entries : List AttributeEntry) → EntriesFrom number lines entries → entries ≡ entries_from number lines
-  EntriesFrom-only number [] entries h = h
-  EntriesFrom-only number (line ∷ lines) entries (inl h) =
-      EntriesFrom-only (number + 1) lines entries h.1 ∙ sym (ap (λ o. cons_option o (entries_from (number + 1) lines)) (no_pattern number (line_gives true line) h.0))
-  EntriesFrom-only number (line ∷ lines) entries (inr h) =
-      h.2 ∙ ap (λ l. h.0 ∷ l) (EntriesFrom-only (number + 1) lines h.1 h.4)
-      ∙ sym (ap (λ o. cons_option o (entries_from (number + 1) lines)) (given_is number line h.0 readings none h.3))
+  entry_is : (number : ℕ) (bytes : List ℕ) (assigned : List Assigned) (entry : AttributeEntry) → IsEntryOf (number, bytes, assigned) entry
+      → entry ≡ entry_with assigned number (pattern_of bytes)
+  entry_is number bytes assigned entry h =
+      ap (λ n. entry_with entry.value n (reading entry.text entry.mode entry.place)) h.0
+      ∙ ap (λ v. entry_with v number (reading entry.text entry.mode entry.place)) h.2
+      ∙ ap (λ r. entry_with assigned number r) (pattern_of-is readings none bytes entry.text entry.mode entry.place h.1)
 
-  -- the relation and the equation agree
+  only_given : (number : ℕ) (given : Gives) (lines : List (ℕ × List ℕ × List Assigned)) (more entries : List AttributeEntry)
+      → ((others : List AttributeEntry) → AllZip IsEntryOf lines others → others ≡ more)
+      → AllZip IsEntryOf (cons_option (pattern_given number given) lines) entries → entries ≡ cons_option (entry_given number given) more
+  only_given number nothing lines more entries rest h = rest entries h
+  only_given number (silent silence) lines more entries rest h = rest entries h
+  only_given number (a_macro name assigned) lines more entries rest h = rest entries h
+  only_given number (a_pattern bytes assigned) lines more [] rest h = absurd h
+  only_given number (a_pattern bytes assigned) lines more (entry ∷ entries) rest h =
+      ap (λ e. e ∷ entries) (entry_is number bytes assigned entry h.0)
+      ∙ ap (λ l. entry_with assigned number (pattern_of bytes) ∷ l) (rest entries h.1)
+
+  entries-only : (number : ℕ) (lines : List (List ℕ)) (entries : List AttributeEntry) → AllZip IsEntryOf (patterns_from number lines) entries → entries ≡ entries_from number lines
+  entries-only number [] [] h = refl
+  entries-only number [] (entry ∷ entries) h = absurd h
+  entries-only number (line ∷ lines) entries h =
+      only_given number (line_gives true line) (patterns_from (number + 1) lines) (entries_from (number + 1) lines) entries
+      (λ others more. entries-only (number + 1) lines others more) h
+
   pub attributes_are_these : (bytes : List ℕ) (entries : List AttributeEntry) → Attributes bytes entries ↔ (entries ≡ attributes_of bytes)
   attributes_are_these bytes entries = (
-    λ h. EntriesFrom-only 1 h.lines entries h.each ∙ ap (entries_from 1) (FileLines-only bytes h.lines h.cut),
-    λ is. subst (Attributes bytes) (sym is) (record { lines = file_lines bytes; cut = FileLines-are bytes; each = EntriesFrom-are 1 (file_lines bytes) }),
+    entries-only 1 (file_lines bytes) entries,
+    λ is. subst (Attributes bytes) (sym is) (entries-are 1 (file_lines bytes)),
   )

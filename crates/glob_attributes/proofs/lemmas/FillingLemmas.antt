@@ -11,7 +11,14 @@ use Rattle.std.proofs.lemmas.Slice.Eq.{bytes_eq-Decides}
 use Rattle.glob_attributes.specs.Macros.{Definition}
 use Rattle.glob_attributes.specs.Private.Filling.{AreMarked, assignments_at, last_place, unmarked}
 use Rattle.glob_attributes.specs.declared.assignment.State.TheVariants.{Unspecified}
-use Rattle.glob_attributes.specs.States.{Assigned, IsFilledIn, first_named, is_set, last_named, put_in, state_in}
+use Rattle.glob_attributes.specs.States.{Assigned, IsFilledIn, is_set, put_in, state_in}
+
+-- the first that names an attribute, and the last macro of a name
+abbrev pub first_named : List ℕ → List Assigned → Option Assigned
+first_named name = find (λ assigned. bytes_eq assigned.name name)
+
+abbrev pub last_named : List ℕ → List Definition → Option Definition
+last_named name macros = find (λ macro. bytes_eq macro.name name) (reverse macros)
 
 -- the macro at the last place of a name
 pub record IsMacroAt (macros : List Definition) (name : List ℕ) (place : ℕ) : Type 0 where

@@ -9,14 +9,13 @@ use Rattle.std.proofs.lemmas.List.{reverse-append}
 use Rattle.glob_attributes.specs.declared.assignment.State.TheVariants.{Unspecified}
 use Rattle.glob_attributes.specs.Macros.{Definition, definition_given}
 use Rattle.gix_glob.specs.Equations.Entries.{entry_with}
-use Rattle.glob_attributes.specs.Equations.Files.{entries_from, entry_given, pattern_of}
-use Rattle.glob_attributes.specs.Files.{AttributeEntry}
+use Rattle.glob_attributes.specs.Equations.Files.{entries_from, entry_given, pattern_of, AttributeEntry}
 use Rattle.glob_attributes.specs.Laws.Leaving.{SaysNothing, unnumbered}
 use Rattle.glob_attributes.specs.Laws.Totals.{NoMacroNames, NoneNames, macro_total}
 use Rattle.glob_attributes.specs.Private.Filling.{AreMarked, assignments_at, last_place, unmarked}
 use Rattle.glob_attributes.specs.Readings.{Gives, a_macro, a_pattern, line_gives, nothing, silent}
-use Rattle.glob_attributes.specs.States.{Assigned, IsFilledIn, first_named, is_set, last_named, put_in, state_in}
-use Rattle.glob_attributes.proofs.lemmas.FillingLemmas.{marked-more, marked-new, marked-none, marked-same, names, put_in-marked, put_in-none, put_in-set, put_in-unset, unmarked-less}
+use Rattle.glob_attributes.specs.States.{Assigned, IsFilledIn, is_set, put_in, state_in}
+use Rattle.glob_attributes.proofs.lemmas.FillingLemmas.{first_named, last_named, marked-more, marked-new, marked-none, marked-same, names, put_in-marked, put_in-none, put_in-set, put_in-unset, unmarked-less}
 use Rattle.std.proofs.lemmas.List.{length-reverse}
 
 -- ---- how long a row gets

@@ -8,8 +8,9 @@ use Rattle.glob_attributes.specs.declared.assignment.Assignment.{Assignment}
 use Rattle.glob_attributes.specs.declared.line.LineReading.{LineReading}
 use Rattle.glob_attributes.specs.declared.line.LineReading.TheVariants as read
 use Rattle.glob_attributes.specs.declared.macros.Macro.{Macro}
-use Rattle.glob_attributes.specs.Macros.{Definition, definition_given, seen_macro}
-use Rattle.glob_attributes.specs.Readings.{line_gives, seen_reading}
+use Rattle.glob_attributes.specs.Macros.{Definition, definition_given}
+use Rattle.glob_attributes.specs.Views.{seen_macro, seen_reading}
+use Rattle.glob_attributes.specs.Readings.{line_gives}
 
 abbrev pub defined : List ℕ → Option Definition
 defined line = definition_given (line_gives true line)

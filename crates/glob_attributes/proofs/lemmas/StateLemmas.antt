@@ -1,12 +1,18 @@
 -- What follows from a row that is filled in.
-use Rattle.std.proofs.Common.{◌≡◌, ℕ, Bool, true, false, not, ◌&&◌, ◌||◌, List, [], ◌∷◌, ◌++◌, refl, sym, subst, ap, Some, ◌∙◌, arith}
-use Rattle.std.specs.Prelude.{if◌then◌else◌}
-use Rattle.std.specs.List.{list_any}
+use Rattle.std.proofs.Common.{◌≡◌, ℕ, ◌+◌, Bool, true, false, cond, not, ◌&&◌, ◌||◌, List, [], ◌∷◌, ◌++◌, take, refl, sym, subst, ap, Some, ◌∙◌, arith}
+use Rattle.std.specs.Prelude.{if◌then◌else◌, slice_get}
+use Rattle.std.specs.List.{cons_option, list_any}
 use Rattle.std.specs.Option.{option_map_or}
 use Rattle.std.specs.Str.{bytes_eq}
-use Rattle.glob_attributes.specs.declared.assignment.State.TheVariants.{Unspecified}
+use Rattle.std.proofs.lemmas.List.{take_more}
+use Rattle.std.proofs.lemmas.List.Elements.{filter_map-append}
+use Rattle.std.proofs.lemmas.Option.{get_or_from_slice_get, slice_get_within}
+use Rattle.glob_attributes.specs.declared.assignment.State.{State}
+use Rattle.glob_attributes.specs.declared.assignment.State.TheVariants.{Set, Unset, Unspecified, Value}
 use Rattle.glob_attributes.specs.Macros.{Definition}
-use Rattle.glob_attributes.specs.States.{Assigned, IsFilledIn, first_named, is_set, put_in, state_in}
+use Rattle.glob_attributes.specs.Private.Filling.{is_specified}
+use Rattle.glob_attributes.specs.States.{Assigned, IsFilledIn, is_set, put_in, specified, state_in, states_in}
+use Rattle.glob_attributes.proofs.lemmas.FillingLemmas.{first_named}
 
 same_head : (x y : Assigned) (xs ys : List Assigned) → x ∷ xs ≡ y ∷ ys → x ≡ y
 same_head x y xs ys same = grind arith
@@ -55,3 +61,24 @@ state_in-front_more x front more name false is named next =
 pub state_in-front : (front more : List Assigned) (name : List ℕ) → list_any (λ other. bytes_eq other.name name) front ≡ true → state_in (front ++ more) name ≡ state_in front name
 state_in-front [] more name named = let no : ⊥ = grind arith in absurd no
 state_in-front (x ∷ front) more name named = state_in-front_more x front more name (bytes_eq x.name name) refl named (state_in-front front more name)
+
+-- ---- the states of names, one name after the other
+
+taken-more : (all : List (List ℕ)) (i : ℕ) (name : List ℕ) → slice_get all i ≡ Some name → take (i + 1) all ≡ take i all ++ name ∷ []
+taken-more all i name there = take_more all i name (slice_get_within all i name there) ∙ ap (λ x. take i all ++ x ∷ []) (get_or_from_slice_get all i name name there)
+
+specified-if : (name : List ℕ) (state : State (List ℕ)) (b : Bool) → is_specified state ≡ b → cons_option (specified name state) [] ≡ cond b (record { name = name; state = state } ∷ []) []
+specified-if name Set b is = ap (λ t. cond t (record { name = name; state = Set } ∷ []) []) is
+specified-if name Unset b is = ap (λ t. cond t (record { name = name; state = Unset } ∷ []) []) is
+specified-if name Unspecified b is = ap (λ t. cond t (record { name = name; state = Unspecified } ∷ []) []) is
+specified-if name (Value bytes) b is = ap (λ t. cond t (record { name = name; state = Value bytes } ∷ []) []) is
+
+pub states_in-more : (filled told : List Assigned) (all : List (List ℕ)) (i : ℕ) (name : List ℕ) (state : State (List ℕ)) (b : Bool)
+    → slice_get all i ≡ Some name → told ≡ states_in filled (take i all) → state ≡ state_in filled name → is_specified state ≡ b
+    → told ++ cond b (record { name = name; state = state } ∷ []) [] ≡ states_in filled (take (i + 1) all)
+states_in-more filled told all i name state b there before is specifies =
+    let each = λ (other : List ℕ). specified other (state_in filled other) in
+    ap (λ l. l ++ cond b (record { name = name; state = state } ∷ []) []) before
+    ∙ ap (λ l. states_in filled (take i all) ++ l) (sym (specified-if name state b specifies) ∙ ap (λ s. cons_option (specified name s) []) is)
+    ∙ sym (filter_map-append each (take i all) (name ∷ []))
+    ∙ sym (ap (states_in filled) (taken-more all i name there))

@@ -1,7 +1,7 @@
 -- What is told of lines, one line after the other.
 use Rattle.std.proofs.Common.{◌≡◌, ℕ, ◌+◌, Bool, List, [], ◌∷◌, ◌++◌, None, Some, refl, sym, ap, ◌∙◌, append_assoc, take}
 use Rattle.std.specs.Prelude.{Vec, if◌then◌else◌, slice_get}
-use Rattle.std.specs.List.{cons_option, list_any}
+use Rattle.std.specs.List.{cons_option, enumerate_from, filter_map, list_any}
 use Rattle.std.specs.Str.{bytes_eq}
 use Rattle.std.proofs.lemmas.List.{take_more}
 use Rattle.std.proofs.lemmas.Option.{get_or_from_slice_get, slice_get_within}
@@ -11,26 +11,31 @@ use Rattle.glob_attributes.specs.declared.line.LineReading.{LineReading}
 use Rattle.glob_attributes.specs.declared.line.LineReading.TheVariants as read
 use Rattle.glob_attributes.specs.declared.line.Silence.{Silence}
 use Rattle.glob_attributes.specs.declared.silences.SilentLine.{SilentLine}
-use Rattle.glob_attributes.specs.Readings.{line_gives, seen_reading}
-use Rattle.glob_attributes.specs.Told.{silence_given, silences_from, with_names}
+use Rattle.glob_attributes.specs.Readings.{line_gives}
+use Rattle.glob_attributes.specs.Views.{seen_reading}
+use Rattle.glob_attributes.specs.Told.{silence_given, with_names}
 
 module _ (is_top : Bool) where
+  -- those of lines, the first of which has this number
+  abbrev pub silences_from : ℕ → List (List ℕ) → List SilentLine
+  silences_from number lines = filter_map (λ line. silence_given line.0 (line_gives is_top line.1)) (enumerate_from number lines)
+
   -- a line was read that says nothing for a reason
   pub silent-more : (old new : List SilentLine) (told : SilentLine) (number : ℕ) (lines more : List (List ℕ)) (line : List ℕ) (all : List SilentLine)
       → new ≡ old ++ told ∷ [] → lines ≡ line ∷ more → silence_given number (line_gives is_top line) ≡ Some told
-      → old ++ silences_from is_top number lines ≡ all → new ++ silences_from is_top (number + 1) more ≡ all
+      → old ++ silences_from number lines ≡ all → new ++ silences_from (number + 1) more ≡ all
   silent-more old new told number lines more line all grown is gives meant =
-      let rest = silences_from is_top (number + 1) more in
-      let here : silences_from is_top number lines ≡ told ∷ rest = ap (silences_from is_top number) is ∙ ap (λ o. cons_option o rest) gives in
+      let rest = silences_from (number + 1) more in
+      let here : silences_from number lines ≡ told ∷ rest = ap (silences_from number) is ∙ ap (λ o. cons_option o rest) gives in
       ap (λ l. l ++ rest) grown ∙ append_assoc old (told ∷ []) rest ∙ ap (λ l. old ++ l) (sym here) ∙ meant
 
   -- another line was read
   pub silent-other : (old : List SilentLine) (number : ℕ) (lines more : List (List ℕ)) (line : List ℕ) (all : List SilentLine)
       → lines ≡ line ∷ more → silence_given number (line_gives is_top line) ≡ None
-      → old ++ silences_from is_top number lines ≡ all → old ++ silences_from is_top (number + 1) more ≡ all
+      → old ++ silences_from number lines ≡ all → old ++ silences_from (number + 1) more ≡ all
   silent-other old number lines more line all is none meant =
-      let rest = silences_from is_top (number + 1) more in
-      ap (λ l. old ++ l) (sym (ap (silences_from is_top number) is ∙ ap (λ o. cons_option o rest) none)) ∙ meant
+      let rest = silences_from (number + 1) more in
+      ap (λ l. old ++ l) (sym (ap (silences_from number) is ∙ ap (λ o. cons_option o rest) none)) ∙ meant
 
 pub silence_given-other : (number : ℕ) (given : LineReading) → ((silence : Silence) → given ≡ read.Silent silence → ⊥) → silence_given number (seen_reading given) ≡ None
 silence_given-other number read.Nothing other = refl

@@ -2,7 +2,7 @@
 use Rattle.std.specs.Prelude.{◌≡◌, ◌⊎◌, ℕ, true, List, []}
 use Rattle.gix_glob.specs.EntryLists.{EntryList}
 use Rattle.glob_attributes.specs.declared.line.Silence.{Silence}
-use Rattle.glob_attributes.specs.Files.{AttributeEntry}
+use Rattle.glob_attributes.specs.Equations.Files.{AttributeEntry}
 use Rattle.glob_attributes.specs.Readings.{line_gives, nothing, silent}
 use Rattle.glob_attributes.specs.States.{Assigned}
 

@@ -1,5 +1,5 @@
 -- Putting in macros: which of them have their names decided.
-use Rattle.std.specs.Prelude.{◌≡◌, ℕ, ◌+◌, suc, Bool, if◌then◌else◌, List, [], ◌∷◌, length, Option, None, Some, is_some, option_map, slice_get}
+use Rattle.std.specs.Prelude.{◌≡◌, ℕ, ◌+◌, suc, Bool, false, true, if◌then◌else◌, List, [], ◌∷◌, length, Option, None, Some, is_some, option_map, slice_get}
 use Rattle.std.specs.List.{list_any}
 use Rattle.std.specs.Option.{option_map_or, option_or}
 use Rattle.std.specs.Borrow.{Bor}
@@ -9,10 +9,12 @@ use Rattle.std.specs.declared.alloc.Global.{Global}
 use Rattle.std.specs.Prelude.{Vec}
 use Rattle.glob_attributes.specs.declared.assignment.Assignment.{Assignment}
 use Rattle.glob_attributes.specs.declared.places.Places.{Places}
-use Rattle.glob_attributes.specs.Assignments.{assignment_with}
+use Rattle.glob_attributes.specs.Views.{assignment_with}
 use Rattle.glob_attributes.specs.Macros.{Definition}
 use Rattle.glob_attributes.specs.Private.Places.{place_in}
 use Rattle.glob_attributes.specs.States.{Assigned}
+use Rattle.glob_attributes.specs.declared.assignment.State.{State}
+use Rattle.glob_attributes.specs.declared.assignment.State.TheVariants.{Unspecified}
 
 -- the place of the last macro of a name
 abbrev pub last_place : List ℕ → List Definition → Option ℕ
@@ -44,3 +46,8 @@ seen_entry assignment = assignment_with vec_items assignment.now
 
 abbrev pub assignments_at : List Definition → ℕ → List Assigned
 assignments_at macros place = option_map_or (λ macro. macro.assignments) (slice_get macros place) []
+
+-- whether a state says something
+abbrev pub is_specified : State (List ℕ) → Bool
+is_specified Unspecified = false
+is_specified _ = true

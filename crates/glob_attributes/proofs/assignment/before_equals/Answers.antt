@@ -1,5 +1,5 @@
 use Rattle.std.proofs.Common.{sym, ◌∙◌}
-use Rattle.glob_attributes.specs.Assignments.{is_equals}
+use Rattle.glob_attributes.specs.Private.Readings.{is_equals}
 use Rattle.glob_attributes.proofs.lemmas.PlaceLemmas.{before-found, before-none}
 use Rattle.glob_attributes.proofs.assignment.before_equals.Goals as goal
 

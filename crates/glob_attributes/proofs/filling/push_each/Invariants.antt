@@ -1,6 +1,6 @@
 use Rattle.std.proofs.Common.{◌≡◌, ◌++◌, map, take}
 use Rattle.std.specs.Vec.{vec_items}
-use Rattle.glob_attributes.specs.Assignments.{assignment_with}
+use Rattle.glob_attributes.specs.Views.{assignment_with}
 use Rattle.glob_attributes.specs.Private.Filling.{seen_entry}
 use Rattle.glob_attributes.proofs.filling.push_each.Given as goal
 

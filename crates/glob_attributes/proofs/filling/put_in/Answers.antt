@@ -4,7 +4,7 @@ use Rattle.std.specs.Prelude.{slice_get}
 use Rattle.std.specs.Vec.{vec_items}
 use Rattle.std.proofs.lemmas.List.{length-map}
 use Rattle.std.proofs.lemmas.Option.{slice_get-get_or}
-use Rattle.glob_attributes.specs.Assignments.{assignment_with}
+use Rattle.glob_attributes.specs.Views.{assignment_with}
 use Rattle.glob_attributes.specs.Private.Filling.{assignments_at, last_place}
 use Rattle.glob_attributes.proofs.lemmas.FillingLemmas.{marked-more, marked-none, marked-same, place_within, put_in-marked, put_in-none, put_in-set, unmarked-less}
 use Rattle.glob_attributes.proofs.filling.put_in.Goals as goal

@@ -1,5 +1,5 @@
 use Rattle.std.proofs.Common.{sym, ◌∙◌}
-use Rattle.glob_attributes.specs.Readings.{is_zero}
+use Rattle.glob_attributes.specs.Private.Readings.{is_zero}
 use Rattle.glob_attributes.proofs.lemmas.PlaceLemmas.{before-found, before-none}
 use Rattle.glob_attributes.proofs.line.before_zero.Goals as goal
 

@@ -2,7 +2,7 @@
 use Rattle.std.proofs.Common.{◌∷◌, ◌++◌, ◌∙◌, [], ap, sym, map}
 use Rattle.std.specs.Vec.{vec_items}
 use Rattle.std.proofs.lemmas.List.{map_push}
-use Rattle.glob_attributes.specs.Assignments.{assignment_with}
+use Rattle.glob_attributes.specs.Views.{assignment_with}
 use Rattle.glob_attributes.specs.Words.{words_of}
 use Rattle.glob_attributes.proofs.lemmas.AssignmentLemmas.{assigned, assigned-read, before}
 use Rattle.glob_attributes.proofs.line.read_assignments.Goals as goal

@@ -1,6 +1,6 @@
 use Rattle.std.proofs.Common.{◌≡◌}
-use Rattle.glob_attributes.specs.Assignments.{assignments_of}
-use Rattle.glob_attributes.specs.Readings.{seen_assignments}
+use Rattle.glob_attributes.specs.Private.Readings.{assignments_of}
+use Rattle.glob_attributes.specs.Views.{seen_assignments}
 use Rattle.glob_attributes.specs.Words.{words_of}
 use Rattle.glob_attributes.proofs.lemmas.AssignmentLemmas.{assigned, before}
 use Rattle.glob_attributes.proofs.line.read_assignments.Given as goal

@@ -1,7 +1,9 @@
 -- What is left of the line behind its blanks decides what it gives.
 use Rattle.std.proofs.Common.{◌≡◌, ◌∙◌, ap, subst, sym}
 use Rattle.std.specs.Prelude.{IfOk}
-use Rattle.glob_attributes.specs.Readings.{Gives, is_macro, seen_reading}
+use Rattle.glob_attributes.specs.Readings.{Gives}
+use Rattle.glob_attributes.specs.Private.Readings.{is_macro}
+use Rattle.glob_attributes.specs.Views.{seen_reading}
 use Rattle.glob_attributes.proofs.lemmas.LineLemmas.{gives-macro, gives-nothing, gives-pattern, gives-too_long, is_macro-length}
 use Rattle.glob_attributes.proofs.line.read_line.Goals as goal
 

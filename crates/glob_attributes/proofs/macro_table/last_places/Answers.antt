@@ -5,7 +5,7 @@ use Rattle.std.specs.Prelude.{if◌then◌else◌}
 use Rattle.std.specs.Str.{bytes_eq}
 use Rattle.gix_glob.proofs.lemmas.Elements.{slice_get-map_at}
 use Rattle.glob_attributes.specs.declared.macros.Macro.{Macro}
-use Rattle.glob_attributes.specs.Macros.{seen_macro}
+use Rattle.glob_attributes.specs.Views.{seen_macro}
 use Rattle.glob_attributes.specs.Private.Places.{place_in}
 use Rattle.glob_attributes.proofs.lemmas.FillingLemmas.{last_place-take}
 use Rattle.glob_attributes.proofs.macro_table.last_places.Goals as goal

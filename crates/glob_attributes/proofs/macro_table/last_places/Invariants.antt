@@ -1,5 +1,5 @@
 use Rattle.std.proofs.Common.{map, take}
-use Rattle.glob_attributes.specs.Macros.{seen_macro}
+use Rattle.glob_attributes.specs.Views.{seen_macro}
 use Rattle.glob_attributes.specs.Private.Filling.{HasLastPlaces}
 use Rattle.glob_attributes.proofs.macro_table.last_places.Given as goal
 

@@ -2,7 +2,7 @@
 use Rattle.std.proofs.Common.{◌∙◌, ap, sym}
 use Rattle.glob_attributes.specs.declared.macros.Macro.{Macro}
 use Rattle.glob_attributes.specs.Macros.{definition_given}
-use Rattle.glob_attributes.specs.Readings.{seen_reading}
+use Rattle.glob_attributes.specs.Views.{seen_reading}
 use Rattle.glob_attributes.proofs.lemmas.FileLemmas.{lines_of-rest}
 use Rattle.glob_attributes.proofs.lemmas.MacroLemmas.{defined-more, defined-other, definition_given-other}
 use Rattle.glob_attributes.proofs.macros.macros_of.Goals as goal

@@ -2,7 +2,8 @@ use Rattle.std.proofs.Common.{◌≡◌, ◌++◌, length, map}
 use Rattle.std.specs.List.{filter_map}
 use Rattle.glob_lines.specs.Equations.Ignore.{without_returns}
 use Rattle.glob_lines.specs.Equations.Lines.{lines_of}
-use Rattle.glob_attributes.specs.Macros.{macros_of, seen_macro}
+use Rattle.glob_attributes.specs.Macros.{macros_of}
+use Rattle.glob_attributes.specs.Views.{seen_macro}
 use Rattle.glob_attributes.proofs.lemmas.MacroLemmas.{defined}
 use Rattle.glob_attributes.proofs.macros.macros_of.Given as goal
 

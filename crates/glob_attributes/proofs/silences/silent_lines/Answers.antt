@@ -1,6 +1,6 @@
 -- Each line has its number; one that says nothing for a reason is told, and another line isn't.
 use Rattle.std.proofs.Common.{◌+◌, ◌∙◌, length, ap, sym, arith}
-use Rattle.glob_attributes.specs.Readings.{seen_reading}
+use Rattle.glob_attributes.specs.Views.{seen_reading}
 use Rattle.glob_attributes.specs.Told.{silence_given}
 use Rattle.glob_attributes.proofs.lemmas.FileLemmas.{file_lines_shorter, lines_of-rest}
 use Rattle.glob_attributes.proofs.lemmas.ToldLemmas.{silence_given-other, silent-more, silent-other}

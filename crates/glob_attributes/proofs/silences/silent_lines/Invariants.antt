@@ -2,7 +2,8 @@ use Rattle.std.proofs.Common.{◌≡◌, ◌+◌, ◌++◌, length}
 use Rattle.glob_lines.specs.Equations.Ignore.{without_returns}
 use Rattle.glob_lines.specs.Equations.Lines.{lines_of}
 use Rattle.glob_attributes.specs.Equations.Files.{file_lines}
-use Rattle.glob_attributes.specs.Told.{silences_from, silent_lines}
+use Rattle.glob_attributes.specs.Told.{silent_lines}
+use Rattle.glob_attributes.proofs.lemmas.ToldLemmas.{silences_from}
 use Rattle.glob_attributes.proofs.silences.silent_lines.Given as goal
 
 -- the lines so far are counted, and with those of the others theirs are all

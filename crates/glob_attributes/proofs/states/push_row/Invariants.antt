@@ -2,7 +2,7 @@ use Rattle.std.proofs.Common.{◌≡◌, ◌++◌, map, take}
 use Rattle.std.specs.List.{flat_map}
 use Rattle.gix_glob.specs.EntryLists.{entry_list_of}
 use Rattle.glob_attributes.specs.Private.Filling.{seen_entry}
-use Rattle.glob_attributes.specs.Readings.{seen_assignments}
+use Rattle.glob_attributes.specs.Views.{seen_assignments}
 use Rattle.glob_attributes.specs.States.{assigned_at}
 use Rattle.glob_attributes.proofs.states.push_row.Given as goal
 

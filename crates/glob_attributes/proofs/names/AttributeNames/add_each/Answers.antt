@@ -5,8 +5,7 @@ use Rattle.std.specs.Vec.{vec_items}
 use Rattle.std.specs.declared.alloc.Global.{Global}
 use Rattle.std.proofs.lemmas.Option.{slice_get-map, slice_get_read}
 use Rattle.glob_attributes.specs.declared.assignment.Assignment.{Assignment}
-use Rattle.glob_attributes.specs.Assignments.{assignment_with}
-use Rattle.glob_attributes.specs.Readings.{seen_assignments}
+use Rattle.glob_attributes.specs.Views.{assignment_with, seen_assignments}
 use Rattle.glob_attributes.specs.Told.{with_names}
 use Rattle.glob_attributes.proofs.lemmas.ToldLemmas.{with_names-one}
 use Rattle.glob_attributes.proofs.names.AttributeNames.add_each.Goals as goal

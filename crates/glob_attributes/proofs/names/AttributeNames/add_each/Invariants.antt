@@ -1,5 +1,5 @@
 use Rattle.std.proofs.Common.{◌≡◌, map, take}
-use Rattle.glob_attributes.specs.Readings.{seen_assignments}
+use Rattle.glob_attributes.specs.Views.{seen_assignments}
 use Rattle.glob_attributes.specs.Told.{with_names}
 use Rattle.glob_attributes.proofs.names.AttributeNames.add_each.Given as goal
 

@@ -3,7 +3,8 @@ use Rattle.std.proofs.Common.{ℕ, List, ◌++◌, ap, sym, ◌∙◌}
 use Rattle.std.specs.List.{flat_map}
 use Rattle.glob_lines.specs.Equations.Ignore.{without_returns}
 use Rattle.glob_lines.specs.Equations.Lines.{lines_of}
-use Rattle.glob_attributes.specs.Readings.{line_gives, seen_reading}
+use Rattle.glob_attributes.specs.Readings.{line_gives}
+use Rattle.glob_attributes.specs.Views.{seen_reading}
 use Rattle.glob_attributes.specs.Told.{names_given, with_names}
 use Rattle.glob_attributes.proofs.lemmas.FileLemmas.{lines_of-rest}
 use Rattle.glob_attributes.proofs.lemmas.ToldLemmas.{with_names-line}

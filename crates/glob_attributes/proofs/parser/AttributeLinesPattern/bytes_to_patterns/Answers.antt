@@ -2,7 +2,7 @@
 use Rattle.std.proofs.Common.{◌+◌, ◌∙◌, length, ap, refl, subst, sym, arith}
 use Rattle.glob_attributes.specs.Equations.Files.{entry_given}
 use Rattle.glob_attributes.specs.Patterns.{IsPatternOf}
-use Rattle.glob_attributes.specs.Readings.{seen_reading}
+use Rattle.glob_attributes.specs.Views.{seen_reading}
 use Rattle.gix_glob.specs.PatternParts.{mode_of, place_of, text_of}
 use Rattle.glob_attributes.proofs.lemmas.FileLemmas.{Assigning, entry_given-other, file_lines_shorter, lines_of-rest, meant-other, meant-pattern, pattern_of-is}
 use Rattle.glob_attributes.proofs.parser.AttributeLinesPattern.bytes_to_patterns.Goals as goal

@@ -2,7 +2,7 @@ use Rattle.std.proofs.Common.{◌≡◌, ◌+◌, ◌++◌, length, map}
 use Rattle.gix_glob.specs.Entries.{entry_of}
 use Rattle.glob_lines.specs.Equations.Ignore.{without_returns}
 use Rattle.glob_lines.specs.Equations.Lines.{lines_of}
-use Rattle.glob_attributes.specs.Readings.{seen_assignments}
+use Rattle.glob_attributes.specs.Views.{seen_assignments}
 use Rattle.glob_attributes.specs.Equations.Files.{attributes_of, entries_from, file_lines}
 use Rattle.glob_attributes.proofs.parser.AttributeLinesPattern.bytes_to_patterns.Given as goal
 

@@ -4,7 +4,7 @@ use Rattle.std.specs.List.{flat_map}
 use Rattle.gix_glob.specs.EntryLists.{entry_list_of}
 use Rattle.glob_lists.specs.Index.{AreMatches}
 use Rattle.glob_attributes.specs.Private.Filling.{seen_entry}
-use Rattle.glob_attributes.specs.Readings.{seen_assignments}
+use Rattle.glob_attributes.specs.Views.{seen_assignments}
 use Rattle.glob_attributes.specs.States.{IsRow, assigned_at}
 use Rattle.glob_attributes.proofs.lemmas.RowLemmas.{row-both}
 use Rattle.glob_attributes.proofs.states.PathAttributes.with_index.Goals as goal
