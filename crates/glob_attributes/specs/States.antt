@@ -1,5 +1,5 @@
 -- The state of an attribute for a path: what the lines that match it assign, what macros put in, and which of it decides.
-use Rattle.std.specs.Prelude.{◌≡◌, ℕ, Bool, true, false, not, ◌&&◌, if◌then◌else◌, List, [], ◌∷◌, ◌++◌, reverse, slice_get, Option, None, Some}
+use Rattle.std.specs.Prelude.{◌≡◌, ℕ, if◌then◌else◌, List, [], ◌∷◌, ◌++◌, reverse, slice_get, Option, None, Some}
 use Rattle.std.specs.List.{filter_map, find, flat_map, list_any}
 use Rattle.std.specs.Option.{option_and_then, option_map_or}
 use Rattle.std.specs.Str.{bytes_eq}
@@ -22,22 +22,19 @@ assigned_at lists pair =
     option_map_or (λ entry. entry.value) (option_and_then (λ list. slice_get list.entries pair.1) (slice_get lists pair.0)) []
 
 -- The row of a path: what the patterns that match it assign, turned around, so that the strongest stands first.
-pub record IsRow (lists : Lists) (path : Path) (case : Case) (row : List Assigned) : Type 0 where
-  pub pairs : List (ℕ × ℕ)
-  pub matched : AreMatches lists path.bytes path.is_dir case pairs
-  pub turned : row ≡ reverse (flat_map (assigned_at lists) pairs)
+abbrev pub IsRow : Lists → Path → Case → List Assigned → Type 0
+IsRow lists path case row =
+    (pairs : List (ℕ × ℕ)) × AreMatches lists path.bytes path.is_dir case pairs × (row ≡ reverse (flat_map (assigned_at lists) pairs))
 
-abbrev pub is_set : State (List ℕ) → Bool
-is_set Set = true
-is_set _ = false
+-- what the last macro of a name assigns, turned around, if this state sets the name
+abbrev pub given_by : List Definition → List ℕ → State (List ℕ) → List Assigned
+given_by macros name Set = option_map_or (λ macro. reverse macro.assignments) (find (λ macro. bytes_eq macro.name name) (reverse macros)) []
+given_by macros name _ = []
 
--- What stands right behind an assignment: if it is the first of its name, and sets it, then what the last macro of this name assigns,
--- turned around.
+-- What stands right behind an assignment: what its macro gives, or nothing, where one of those before it has the same name.
 abbrev pub put_in : List Definition → List Assigned → Assigned → List Assigned
 put_in macros before assigned =
-    let last = find (λ macro. bytes_eq macro.name assigned.name) (reverse macros) in
-    if is_set assigned.state && not (list_any (λ other. bytes_eq other.name assigned.name) before)
-    then option_map_or (λ macro. reverse macro.assignments) last [] else []
+    if list_any (λ other. bytes_eq other.name assigned.name) before then [] else given_by macros assigned.name assigned.state
 
 -- A row with what macros put in: each of its assignments, and right behind it what it puts in, in the same way.
 abbrev pub IsFilledIn : List Definition → List Assigned → List Assigned → List Assigned → Type 0
@@ -46,10 +43,8 @@ IsFilledIn macros before row (assigned ∷ filled) =
     (rest : List Assigned) × (row ≡ assigned ∷ rest) × IsFilledIn macros (assigned ∷ before) (put_in macros before assigned ++ rest) filled
 
 -- What is assigned to a path: its row, with what macros put in.
-pub record IsAssigned (lists : Lists) (macros : List Definition) (path : Path) (case : Case) (filled : List Assigned) : Type 0 where
-  pub row : List Assigned
-  pub is_row : IsRow lists path case row
-  pub filled_in : IsFilledIn macros [] row filled
+abbrev pub IsAssigned : Lists → List Definition → Path → Case → List Assigned → Type 0
+IsAssigned lists macros path case filled = (row : List Assigned) × IsRow lists path case row × IsFilledIn macros [] row filled
 
 -- the state of an attribute: the first that names it decides
 abbrev pub state_in : List Assigned → List ℕ → State (List ℕ)

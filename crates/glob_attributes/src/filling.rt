@@ -2,8 +2,8 @@
 ghost use Rattle.std.specs.Prelude.{◌≡◌, ◌+◌, ◌++◌, ◌∷◌, ◌≤◌, [], List, IfOk, OnOk, false, length, map, replicate, reverse};
 ghost use Rattle.std.specs.Vec.{vec_items};
 ghost use Rattle.glob_attributes.specs.Views.{assignment_with, state_with};
-ghost use Rattle.glob_attributes.specs.Private.Filling.{AreMarked, seen_entry, unmarked};
-ghost use Rattle.glob_attributes.specs.States.{Assigned, IsFilledIn, is_set, put_in};
+ghost use Rattle.glob_attributes.specs.Private.Filling.{AreMarked, is_set, seen_entry, unmarked};
+ghost use Rattle.glob_attributes.specs.States.{Assigned, IsFilledIn, put_in};
 
 use crate::assignment::{Assignment, State};
 use crate::macro_table::MacroTable;

@@ -9,9 +9,10 @@ use Rattle.std.proofs.lemmas.List.Folds.{find-append}
 use Rattle.std.proofs.lemmas.Option.{get_or_from_slice_get, MatchOption-at_none, MatchOption-at_some, none-some, same_Some, slice_get-get_or, slice_get_within}
 use Rattle.std.proofs.lemmas.Slice.Eq.{bytes_eq-Decides}
 use Rattle.glob_attributes.specs.Macros.{Definition}
-use Rattle.glob_attributes.specs.Private.Filling.{AreMarked, assignments_at, last_place, unmarked}
-use Rattle.glob_attributes.specs.declared.assignment.State.TheVariants.{Unspecified}
-use Rattle.glob_attributes.specs.States.{Assigned, IsFilledIn, is_set, put_in, state_in}
+use Rattle.glob_attributes.specs.Private.Filling.{AreMarked, assignments_at, is_set, last_place, unmarked}
+use Rattle.glob_attributes.specs.declared.assignment.State.{State}
+use Rattle.glob_attributes.specs.declared.assignment.State.TheVariants.{Set, Unset, Unspecified, Value}
+use Rattle.glob_attributes.specs.States.{Assigned, IsFilledIn, given_by, put_in, state_in}
 
 -- the first that names an attribute, and the last macro of a name
 abbrev pub first_named : List ℕ → List Assigned → Option Assigned
@@ -151,6 +152,23 @@ unmarked-less (m ∷ macros) (b ∷ marks) (suc p) there = omega (arith, unmarke
 abbrev given : List Definition → List ℕ → List Assigned
 given macros name = option_map_or (λ (macro : Definition). reverse macro.assignments) (last_named name macros) []
 
+given_by-if : (macros : List Definition) (name : List ℕ) (state : State (List ℕ)) (b : Bool) → is_set state ≡ b → given_by macros name state ≡ (if b then given macros name else [])
+given_by-if macros name Set b is = ap (λ t. if t then given macros name else []) is
+given_by-if macros name Unset b is = ap (λ t. if t then given macros name else []) is
+given_by-if macros name Unspecified b is = ap (λ t. if t then given macros name else []) is
+given_by-if macros name (Value bytes) b is = ap (λ t. if t then given macros name else []) is
+
+both_tests : (named sets : Bool) (gave : List Assigned) → (if named then [] else (if sets then gave else [])) ≡ (if sets && not named then gave else [])
+both_tests true true gave = refl
+both_tests true false gave = refl
+both_tests false true gave = refl
+both_tests false false gave = refl
+
+pub put_in-if : (macros : List Definition) (before : List Assigned) (a : Assigned) → put_in macros before a ≡ (if is_set a.state && not (list_any (names a.name) before) then given macros a.name else [])
+put_in-if macros before a =
+    ap (λ (l : List Assigned). if list_any (names a.name) before then [] else l) (given_by-if macros a.name a.state (is_set a.state) refl)
+    ∙ both_tests (list_any (names a.name) before) (is_set a.state) (given macros a.name)
+
 put_in-nothing : (macros : List Definition) (before : List Assigned) (a : Assigned) → given macros a.name ≡ [] → (b : Bool) → (if b then given macros a.name else []) ≡ []
 put_in-nothing macros before a none true = none
 put_in-nothing macros before a none false = refl
@@ -158,7 +176,7 @@ put_in-nothing macros before a none false = refl
 pub put_in-none : (macros : List Definition) (before : List Assigned) (a : Assigned) → last_place a.name macros ≡ None → put_in macros before a ≡ []
 put_in-none macros before a is =
     let none : last_named a.name macros ≡ None = MatchOption-at_none (last_named a.name macros ≡ None) (IsMacroAt macros a.name) is (last_place-cases a.name macros) in
-    put_in-nothing macros before a (ap (λ o. option_map_or (λ (macro : Definition). reverse macro.assignments) o []) none) (is_set a.state && not (list_any (names a.name) before))
+    put_in-if macros before a ∙ put_in-nothing macros before a (ap (λ o. option_map_or (λ (macro : Definition). reverse macro.assignments) o []) none) (is_set a.state && not (list_any (names a.name) before))
 
 put_in-unset_more : (b : Bool) (given : List Assigned) → (if b && false then given else []) ≡ []
 put_in-unset_more true given = refl
@@ -168,17 +186,17 @@ pub put_in-marked : (macros : List Definition) (before : List Assigned) (marks :
     → slice_get marks p ≡ Some true → put_in macros before a ≡ []
 put_in-marked macros before marks a p marked is there =
     let named : list_any (names a.name) before ≡ true = same_Some _ _ (sym (marked.each a.name p is) ∙ there) in
-    ap (λ b. if is_set a.state && not b then given macros a.name else []) named ∙ put_in-unset_more (is_set a.state) (given macros a.name)
+    put_in-if macros before a ∙ ap (λ b. if is_set a.state && not b then given macros a.name else []) named ∙ put_in-unset_more (is_set a.state) (given macros a.name)
 
 pub put_in-unset : (macros : List Definition) (before : List Assigned) (a : Assigned) → is_set a.state ≡ false → put_in macros before a ≡ []
-put_in-unset macros before a is = ap (λ b. if b && not (list_any (names a.name) before) then given macros a.name else []) is
+put_in-unset macros before a is = put_in-if macros before a ∙ ap (λ b. if b && not (list_any (names a.name) before) then given macros a.name else []) is
 
 pub put_in-set : (macros : List Definition) (before : List Assigned) (marks : List Bool) (a : Assigned) (p : ℕ) → AreMarked macros before marks → last_place a.name macros ≡ Some p
     → slice_get marks p ≡ Some false → is_set a.state ≡ true → put_in macros before a ≡ reverse (assignments_at macros p)
 put_in-set macros before marks a p marked is there set =
     let here = macro_at a.name macros p is in
     let unnamed : list_any (names a.name) before ≡ false = same_Some _ _ (sym (marked.each a.name p is) ∙ there) in
-    ap (λ b. if b && not (list_any (names a.name) before) then given macros a.name else []) set
+    put_in-if macros before a ∙ ap (λ b. if b && not (list_any (names a.name) before) then given macros a.name else []) set
     ∙ ap (λ b. if not b then given macros a.name else []) unnamed
     ∙ ap (λ o. option_map_or (λ (macro : Definition). reverse macro.assignments) o []) here.last
     ∙ sym (ap (λ (o : Option Definition). reverse (option_map_or (λ (macro : Definition). macro.assignments) o [])) here.there)

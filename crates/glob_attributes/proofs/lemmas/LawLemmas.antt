@@ -12,10 +12,10 @@ use Rattle.gix_glob.specs.Equations.Entries.{entry_with}
 use Rattle.glob_attributes.specs.Equations.Files.{entries_from, entry_given, pattern_of, AttributeEntry}
 use Rattle.glob_attributes.specs.Laws.Leaving.{SaysNothing, unnumbered}
 use Rattle.glob_attributes.specs.Laws.Totals.{NoMacroNames, NoneNames, macro_total}
-use Rattle.glob_attributes.specs.Private.Filling.{AreMarked, assignments_at, last_place, unmarked}
+use Rattle.glob_attributes.specs.Private.Filling.{AreMarked, assignments_at, is_set, last_place, unmarked}
 use Rattle.glob_attributes.specs.Readings.{Gives, a_macro, a_pattern, line_gives, nothing, silent}
-use Rattle.glob_attributes.specs.States.{Assigned, IsFilledIn, is_set, put_in, state_in}
-use Rattle.glob_attributes.proofs.lemmas.FillingLemmas.{first_named, last_named, marked-more, marked-new, marked-none, marked-same, names, put_in-marked, put_in-none, put_in-set, put_in-unset, unmarked-less}
+use Rattle.glob_attributes.specs.States.{Assigned, IsFilledIn, put_in, state_in}
+use Rattle.glob_attributes.proofs.lemmas.FillingLemmas.{first_named, last_named, marked-more, marked-new, marked-none, marked-same, names, put_in-if, put_in-marked, put_in-none, put_in-set, put_in-unset, unmarked-less}
 use Rattle.std.proofs.lemmas.List.{length-reverse}
 
 -- ---- how long a row gets
@@ -109,7 +109,8 @@ module _ (name : List ℕ) (macros : List Definition) (unnamed : NoMacroNames na
   put_unnamed_if false other = record {}
 
   put_unnamed : (before : List Assigned) (a : Assigned) → NoneNames name (put_in macros before a)
-  put_unnamed before a = put_unnamed_if (is_set a.state && not (list_any (names a.name) before)) a.name
+  put_unnamed before a =
+      subst (NoneNames name) (sym (put_in-if macros before a)) (put_unnamed_if (is_set a.state && not (list_any (names a.name) before)) a.name)
 
   filled_unnamed : (filled row before : List Assigned) → IsFilledIn macros before row filled → NoneNames name row → NoneNames name filled
   filled_unnamed [] row before h none = record {}

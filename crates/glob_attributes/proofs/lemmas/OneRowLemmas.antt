@@ -109,9 +109,9 @@ module _ {V : Type 0} (lists : List (EntryList V)) (path : List ℕ) (is_dir : B
 pub assigned-one : (lists : Lists) (macros : List Definition) (path : Path) (case : Case) (filled other : List Assigned)
     → IsAssigned lists macros path case filled → IsAssigned lists macros path case other → filled ≡ other
 assigned-one lists macros path case filled other h k =
-    let pairs = matches-one lists path.bytes path.is_dir case h.is_row.pairs k.is_row.pairs h.is_row.matched k.is_row.matched in
-    let rows : h.row ≡ k.row = h.is_row.turned ∙ ap (λ ps. reverse (flat_map (assigned_at lists) ps)) pairs ∙ sym k.is_row.turned in
-    filled-one macros [] h.row filled other h.filled_in (subst (λ r. IsFilledIn macros [] r other) (sym rows) k.filled_in)
+    let pairs = matches-one lists path.bytes path.is_dir case h.1.0 k.1.0 h.1.1 k.1.1 in
+    let rows : h.0 ≡ k.0 = h.1.2 ∙ ap (λ ps. reverse (flat_map (assigned_at lists) ps)) pairs ∙ sym k.1.2 in
+    filled-one macros [] h.0 filled other h.2 (subst (λ r. IsFilledIn macros [] r other) (sym rows) k.2)
 
 -- ---- a list off the way
 
@@ -162,14 +162,14 @@ module _ (list : EntryList (List Assigned)) (after : Lists) (front : Lists) (bas
 
   pub rows-off_the_way : (row : List Assigned) → IsRow full path case row ↔ IsRow less path case row
   rows-off_the_way row = (
-    λ h. record {
-      pairs = h.pairs;
-      matched = record { each = λ x p at. answers_less p.0 p.1 (h.matched.each x p at); rising = h.matched.rising; all = λ i m k. h.matched.all i m (answers_full i m k) };
-      turned = h.turned ∙ ap reverse (sym (same_assigned h.pairs (λ x p at. answers_less p.0 p.1 (h.matched.each x p at))));
-    },
-    λ h. record {
-      pairs = h.pairs;
-      matched = record { each = λ x p at. answers_full p.0 p.1 (h.matched.each x p at); rising = h.matched.rising; all = λ i m k. h.matched.all i m (answers_less i m k) };
-      turned = h.turned ∙ ap reverse (same_assigned h.pairs h.matched.each);
-    },
+    λ h. (
+      h.0,
+      record { each = λ x p at. answers_less p.0 p.1 (h.1.each x p at); rising = h.1.rising; all = λ i m k. h.1.all i m (answers_full i m k) },
+      h.2 ∙ ap reverse (sym (same_assigned h.0 (λ x p at. answers_less p.0 p.1 (h.1.each x p at)))),
+    ),
+    λ h. (
+      h.0,
+      record { each = λ x p at. answers_full p.0 p.1 (h.1.each x p at); rising = h.1.rising; all = λ i m k. h.1.all i m (answers_less i m k) },
+      h.2 ∙ ap reverse (same_assigned h.0 h.1.each),
+    ),
   )

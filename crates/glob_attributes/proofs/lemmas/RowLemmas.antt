@@ -172,11 +172,11 @@ module _ (xs ys : Lists) where
   -- the row of both is made of what is assigned by those in front, and then by the others
   pub row-both : (path : Path) (case : Case) (found more : List (ℕ × ℕ)) → AreMatches xs path.bytes path.is_dir case found → AreMatches ys path.bytes path.is_dir case more
       → IsRow (xs ++ ys) path case (reverse (flat_map (assigned_at xs) found ++ flat_map (assigned_at ys) more))
-  row-both path case found more front back = record {
-    pairs = found ++ map (shifted (length xs)) more;
-    matched = matches-both xs ys path.bytes path.is_dir case found more front back;
-    turned = ap reverse (sym (flat_map-append (assigned_at (xs ++ ys)) found (map (shifted (length xs)) more)
+  row-both path case found more front back = (
+    found ++ map (shifted (length xs)) more,
+    matches-both xs ys path.bytes path.is_dir case found more front back,
+    ap reverse (sym (flat_map-append (assigned_at (xs ++ ys)) found (map (shifted (length xs)) more)
         ∙ ap (λ l. l ++ flat_map (assigned_at (xs ++ ys)) (map (shifted (length xs)) more))
         (assigned-front found (λ x pair at. let h = front.each x pair at in (h.list, h.there)))
-        ∙ ap (λ l. flat_map (assigned_at xs) found ++ l) (assigned-back more)));
-  }
+        ∙ ap (λ l. flat_map (assigned_at xs) found ++ l) (assigned-back more))),
+  )

@@ -10,9 +10,9 @@ use Rattle.std.proofs.lemmas.Option.{get_or_from_slice_get, slice_get_within}
 use Rattle.glob_attributes.specs.declared.assignment.State.{State}
 use Rattle.glob_attributes.specs.declared.assignment.State.TheVariants.{Set, Unset, Unspecified, Value}
 use Rattle.glob_attributes.specs.Macros.{Definition}
-use Rattle.glob_attributes.specs.Private.Filling.{is_specified}
-use Rattle.glob_attributes.specs.States.{Assigned, IsFilledIn, is_set, put_in, specified, state_in, states_in}
-use Rattle.glob_attributes.proofs.lemmas.FillingLemmas.{first_named}
+use Rattle.glob_attributes.specs.Private.Filling.{is_set, is_specified}
+use Rattle.glob_attributes.specs.States.{Assigned, IsFilledIn, put_in, specified, state_in, states_in}
+use Rattle.glob_attributes.proofs.lemmas.FillingLemmas.{first_named, put_in-if}
 
 same_head : (x y : Assigned) (xs ys : List Assigned) → x ∷ xs ≡ y ∷ ys → x ≡ y
 same_head x y xs ys same = grind arith
@@ -42,7 +42,7 @@ nothing false = refl
 pub filled-without_macros : (before row filled : List Assigned) → IsFilledIn [] before row filled → filled ≡ row
 filled-without_macros before row [] a = sym a
 filled-without_macros before row (x ∷ filled) a =
-    let none : put_in [] before x ≡ [] = nothing (is_set x.state && not (list_any (λ other. bytes_eq other.name x.name) before)) in
+    let none : put_in [] before x ≡ [] = put_in-if [] before x ∙ nothing (is_set x.state && not (list_any (λ other. bytes_eq other.name x.name) before)) in
     let there = subst (λ l. IsFilledIn [] (x ∷ before) (l ++ a.0) filled) none a.2 in
     ap (λ l. x ∷ l) (filled-without_macros (x ∷ before) a.0 filled there) ∙ sym a.1
 

@@ -14,7 +14,7 @@ use Rattle.glob_attributes.specs.Macros.{Definition}
 use Rattle.glob_attributes.specs.Private.Places.{place_in}
 use Rattle.glob_attributes.specs.States.{Assigned}
 use Rattle.glob_attributes.specs.declared.assignment.State.{State}
-use Rattle.glob_attributes.specs.declared.assignment.State.TheVariants.{Unspecified}
+use Rattle.glob_attributes.specs.declared.assignment.State.TheVariants.{Set, Unspecified}
 
 -- the place of the last macro of a name
 abbrev pub last_place : List ℕ → List Definition → Option ℕ
@@ -47,7 +47,11 @@ seen_entry assignment = assignment_with vec_items assignment.now
 abbrev pub assignments_at : List Definition → ℕ → List Assigned
 assignments_at macros place = option_map_or (λ macro. macro.assignments) (slice_get macros place) []
 
--- whether a state says something
+-- whether a state is that of an attribute that is set, and whether it says something
+abbrev pub is_set : State (List ℕ) → Bool
+is_set Set = true
+is_set _ = false
+
 abbrev pub is_specified : State (List ℕ) → Bool
 is_specified Unspecified = false
 is_specified _ = true
