@@ -7,7 +7,7 @@ ghost use Rattle.gix_glob.specs.EntryLists.{EntryList};
 ghost use Rattle.gix_glob.specs.Stripping.{NothingLeft};
 ghost use Rattle.glob_lists.specs.Paths.{Path};
 ghost use Rattle.glob_attributes.specs.declared.assignment.State.TheVariants.{Unspecified};
-ghost use Rattle.glob_attributes.specs.Equations.Files.{attributes_of, entries_from, file_lines, AttributeEntry};
+ghost use Rattle.glob_attributes.specs.Equations.Files.{AttributeEntry, attributes_of, entries_from, file_lines};
 ghost use Rattle.glob_attributes.specs.Equations.Heads.{head_of};
 ghost use Rattle.glob_attributes.specs.Files.{Attributes, FileLines};
 ghost use Rattle.glob_attributes.specs.Heads.{IsHead};

@@ -1,7 +1,7 @@
 //! All macros that count for a path, found by their names.
 ghost use Rattle.std.specs.Prelude.{◌≡◌, ◌++◌, ◌<◌, IfOk, OnErr, OnOk, codes, length, map};
 ghost use Rattle.glob_attributes.specs.Macros.{macros_of};
-ghost use Rattle.glob_attributes.specs.Views.{seen_macro, assignment_with};
+ghost use Rattle.glob_attributes.specs.Views.{assignment_with, seen_macro};
 ghost use Rattle.glob_attributes.specs.Private.Filling.{HasLastPlaces, assignments_at, last_place};
 ghost use Rattle.std.specs.Vec.{vec_items};
 

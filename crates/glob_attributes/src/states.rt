@@ -4,8 +4,8 @@ ghost use Rattle.std.specs.List.{flat_map};
 ghost use Rattle.std.specs.Vec.{vec_items};
 ghost use Rattle.gix_glob.specs.EntryLists.{entry_list_of};
 ghost use Rattle.glob_lists.specs.Deciding.{BasesAreFolders};
-ghost use Rattle.glob_attributes.specs.Views.{assignment_with, state_with, seen_assignments};
-ghost use Rattle.glob_attributes.specs.Private.Filling.{seen_entry, is_specified};
+ghost use Rattle.glob_attributes.specs.Views.{assignment_with, seen_assignments, state_with};
+ghost use Rattle.glob_attributes.specs.Private.Filling.{is_specified, seen_entry};
 ghost use Rattle.glob_attributes.specs.States.{IsAssigned, assigned_at, state_in, states_in};
 
 use crate::assignment::{Assignment, State};

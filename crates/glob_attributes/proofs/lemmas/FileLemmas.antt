@@ -21,7 +21,7 @@ use Rattle.glob_lines.proofs.lemmas.IgnoreLemmas.{TellsLines-ignore, length-igno
 use Rattle.glob_attributes.specs.declared.assignment.Assignment.{Assignment}
 use Rattle.glob_attributes.specs.declared.line.LineReading.{LineReading}
 use Rattle.glob_attributes.specs.declared.line.LineReading.TheVariants as read
-use Rattle.glob_attributes.specs.Equations.Files.{entries_from, entry_given, file_lines, pattern_of, AttributeEntry}
+use Rattle.glob_attributes.specs.Equations.Files.{AttributeEntry, entries_from, entry_given, file_lines, pattern_of}
 use Rattle.glob_attributes.specs.Patterns.{IsPatternOf}
 use Rattle.glob_attributes.specs.Readings.{a_pattern, line_gives}
 use Rattle.glob_attributes.specs.Views.{seen_assignments, seen_reading}

@@ -9,7 +9,7 @@ use Rattle.std.proofs.lemmas.List.{reverse-append}
 use Rattle.glob_attributes.specs.declared.assignment.State.TheVariants.{Unspecified}
 use Rattle.glob_attributes.specs.Macros.{Definition, definition_given}
 use Rattle.gix_glob.specs.Equations.Entries.{entry_with}
-use Rattle.glob_attributes.specs.Equations.Files.{entries_from, entry_given, pattern_of, AttributeEntry}
+use Rattle.glob_attributes.specs.Equations.Files.{AttributeEntry, entries_from, entry_given, pattern_of}
 use Rattle.glob_attributes.specs.Laws.Leaving.{SaysNothing, unnumbered}
 use Rattle.glob_attributes.specs.Laws.Totals.{NoMacroNames, NoneNames, macro_total}
 use Rattle.glob_attributes.specs.Private.Filling.{AreMarked, assignments_at, is_set, last_place, unmarked}

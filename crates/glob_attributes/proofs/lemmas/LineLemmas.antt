@@ -34,7 +34,7 @@ head_gives is_top macro head rest =
 
 macro_by : (top named valid negative : Bool) (name : List ℕ) (assigned : List Assigned) (given : Gives)
     → cond (not top) (silent MacroBelowTop) (cond (not named) (silent MacroName) (assigning (cond valid (Some assigned) None) (a_macro name)))
-      ≡ by_reasons true top named valid negative (a_macro name assigned) given
+    ≡ by_reasons true top named valid negative (a_macro name assigned) given
 macro_by false named valid negative name assigned given = refl
 macro_by true false valid negative name assigned given = refl
 macro_by true true false negative name assigned given = refl
@@ -42,7 +42,7 @@ macro_by true true true negative name assigned given = refl
 
 pattern_by : (top named valid negative : Bool) (bytes : List ℕ) (assigned : List Assigned) (defined : Gives)
     → assigning (cond valid (Some assigned) None) (λ all. cond negative (silent Negative) (a_pattern bytes all))
-      ≡ by_reasons false top named valid negative defined (a_pattern bytes assigned)
+    ≡ by_reasons false top named valid negative defined (a_pattern bytes assigned)
 pattern_by top named false negative bytes assigned defined = refl
 pattern_by top named true negative bytes assigned defined = refl
 

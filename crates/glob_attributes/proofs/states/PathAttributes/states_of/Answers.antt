@@ -1,5 +1,5 @@
 -- A name more: its state is added where it is specified.
-use Rattle.std.proofs.Common.{◌≡◌, ◌∷◌, ◌++◌, ◌+◌, ◌∙◌, [], List, ℕ, Some, map, take, ap, sym, true, false}
+use Rattle.std.proofs.Common.{◌≡◌, ◌∷◌, ◌++◌, ◌+◌, ◌∙◌, [], Some, map, take, ap, sym, true, false}
 use Rattle.std.specs.Prelude.{slice_get}
 use Rattle.std.specs.List.{take-map}
 use Rattle.std.specs.Vec.{vec_items}
@@ -8,7 +8,7 @@ use Rattle.gix_glob.proofs.lemmas.Elements.{slice_get-map_at}
 use Rattle.glob_attributes.specs.States.{state_in, states_in}
 use Rattle.glob_attributes.specs.Views.{assignment_with, state_with}
 use Rattle.glob_attributes.proofs.lemmas.StateLemmas.{states_in-more}
-use Rattle.glob_attributes.proofs.states.PathAttributes.states_of.Goals.{then-is_specified+in_ok-push, else-is_specified}
+use Rattle.glob_attributes.proofs.states.PathAttributes.states_of.Goals.{else-is_specified, then-is_specified+in_ok-push}
 use Rattle.glob_attributes.proofs.states.PathAttributes.states_of.Goals as goal
 
 pub loop-name-preserved : goal.loop-name-preserved

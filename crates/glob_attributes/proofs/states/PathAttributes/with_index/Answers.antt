@@ -26,8 +26,7 @@ returns c =
     let joined : map seen_entry c.push_row-2.new.row.items ≡ flat_map (assigned_at xs) found ++ flat_map (assigned_at ys) more =
     c.in_ok-push_row-2.ensures
     ∙ ap (λ l. l ++ flat_map (assigned_at ys) c.deref-2.result.now) first
-    ∙ ap (λ p. flat_map (assigned_at xs) found ++ flat_map (assigned_at ys) p) c.deref-2.ensures.value in
-    (
+    ∙ ap (λ p. flat_map (assigned_at xs) found ++ flat_map (assigned_at ys) p) c.deref-2.ensures.value in (
       reverse (map seen_entry c.push_row-2.new.row.items),
       subst (λ l. IsRow (xs ++ ys) path case (reverse l)) (sym joined) (row-both xs ys path case found more c.in_ok-matches_into.ensures back),
       c.in_ok-filled.ensures,
