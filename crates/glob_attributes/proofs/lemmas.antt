@@ -7,6 +7,9 @@ pub mod LawLemmas
 pub mod LineLemmas
 pub mod MacroLemmas
 pub mod NarrowingLemmas
+pub mod GivenLemmas
+pub mod KeptLemmas
+pub mod WalkLemmas
 pub mod OneRowLemmas
 pub mod PatternLemmas
 pub mod PlaceLemmas
