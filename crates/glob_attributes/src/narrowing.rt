@@ -41,11 +41,7 @@ fn keep_mappings(
 }
 
 /// Whether one of the assignments is to one of the names, or to a macro.
-fn assigns_named(
-    assignments: &[Assignment<Vec<u8>>],
-    names: &[&[u8]],
-    macros: &MacroTable,
-) -> bool
+fn assigns_named(assignments: &[Assignment<Vec<u8>>], names: &[&[u8]], macros: &MacroTable) -> bool
     ensures { result ≡ assigns_named names.now macros.now (map (assignment_with vec_items) assignments.now) }
 {
     assignments

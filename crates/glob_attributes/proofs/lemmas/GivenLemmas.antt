@@ -1,15 +1,13 @@
 -- What lists assign to a path, told entry by entry, without their places.
-use Rattle.std.proofs.Common.{◌≡◌, ◌⊎◌, inl, inr, ⊎_elim, ℕ, zero, suc, ◌+◌, ◌-◌, ◌<◌, ◌≤◌, Bool, true, false, cond, List, [], ◌∷◌, ◌++◌, length, map, reverse, Option, None, Some, refl, sym, subst, ap, ◌∙◌, append_assoc, arith}
-use Rattle.std.specs.Prelude.{filter, slice_get}
+use Rattle.std.proofs.Common.{◌≡◌, ◌⊎◌, inl, inr, ⊎_elim, ℕ, suc, ◌+◌, ◌-◌, ◌≤◌, List, [], ◌∷◌, ◌++◌, reverse, Option, Some, refl, sym, subst, ap, ◌∙◌, append_assoc, arith}
+use Rattle.std.specs.Prelude.{slice_get}
 use Rattle.std.specs.List.{flat_map}
 use Rattle.std.specs.Option.{option_and_then, option_map_or}
-use Rattle.std.proofs.lemmas.Bool.{cases_Bool}
 use Rattle.std.proofs.lemmas.Option.{none-some, same_Some}
 use Rattle.gix_glob.specs.declared.pattern.Case.{Case}
 use Rattle.gix_glob.specs.Entries.{Entry}
 use Rattle.gix_glob.specs.EntryLists.{EntryList}
 use Rattle.glob_lists.specs.Deciding.{AnswersUnder, PairAnswers}
-use Rattle.glob_lists.specs.Index.{AreMatches}
 use Rattle.glob_lists.specs.Paths.{Path}
 use Rattle.glob_attributes.specs.States.{Assigned, IsRow, Lists, assigned_at}
 use Rattle.glob_attributes.proofs.lemmas.WalkLemmas.{AreFrom, ended, first_answers, from_start, is_here, none_left, none_yet, passed, put, taken_at, unended, unpassed}
@@ -52,13 +50,16 @@ module _ (lists : Lists) (path : Path) (case : Case) where
   gives found = flat_map (assigned_at lists) found
 
   module _ (list : EntryList (List Assigned)) (i : ℕ) (there : slice_get lists i ≡ Some list) where
-    answers_here : (m : ℕ) (entry : Entry (List Assigned)) → slice_get list.entries m ≡ Some entry → AnswersUnder list.base entry path.bytes path.is_dir case → Answer i m
+    answers_here : (m : ℕ) (entry : Entry (List Assigned)) → slice_get list.entries m ≡ Some entry
+        → AnswersUnder list.base entry path.bytes path.is_dir case → Answer i m
     answers_here m entry at h = record { list = list; there = there; answers = record { entry = entry; there = at; answers = h } }
 
-    answers_by : (m : ℕ) (entry : Entry (List Assigned)) → slice_get list.entries m ≡ Some entry → Answer i m → AnswersUnder list.base entry path.bytes path.is_dir case
+    answers_by : (m : ℕ) (entry : Entry (List Assigned)) → slice_get list.entries m ≡ Some entry
+        → Answer i m → AnswersUnder list.base entry path.bytes path.is_dir case
     answers_by m entry at h =
         let same : h.list ≡ list = same_Some h.list list (sym h.there ∙ there) in
-        let its : h.answers.entry ≡ entry = same_Some h.answers.entry entry (sym h.answers.there ∙ ap (λ (l : EntryList (List Assigned)). slice_get l.entries m) same ∙ at) in
+        let its : h.answers.entry ≡ entry =
+        same_Some h.answers.entry entry (sym h.answers.there ∙ ap (λ (l : EntryList (List Assigned)). slice_get l.entries m) same ∙ at) in
         subst (λ e. AnswersUnder list.base e path.bytes path.is_dir case) its
         (subst (λ (l : EntryList (List Assigned)). AnswersUnder l.base h.answers.entry path.bytes path.is_dir case) same h.answers.answers)
 
@@ -72,8 +73,8 @@ module _ (lists : Lists) (path : Path) (case : Case) where
         ap (λ o. option_map_or (λ (e : Entry (List Assigned)). e.value) (option_and_then (λ (l : EntryList (List Assigned)). slice_get l.entries m) o) []) there
         ∙ ap (λ o. option_map_or (λ (e : Entry (List Assigned)). e.value) o []) at
 
-    grown : (m : ℕ) (entry : Entry (List Assigned)) (found rest : List (ℕ × ℕ)) (own : List Assigned) → slice_get list.entries m ≡ Some entry → gives found ≡ own ++ gives rest
-        → gives ((i, m) ∷ found) ≡ (entry.value ++ own) ++ gives rest
+    grown : (m : ℕ) (entry : Entry (List Assigned)) (found rest : List (ℕ × ℕ)) (own : List Assigned) → slice_get list.entries m ≡ Some entry
+        → gives found ≡ own ++ gives rest → gives ((i, m) ∷ found) ≡ (entry.value ++ own) ++ gives rest
     grown m entry found rest own at is =
         ap (λ l. l ++ gives found) (value_at m entry at) ∙ ap (λ l. entry.value ++ l) is ∙ sym (append_assoc entry.value own (gives rest))
 
@@ -86,7 +87,8 @@ module _ (lists : Lists) (path : Path) (case : Case) where
       pub from : AreFrom Answer (suc i) 0 rest
       pub is : gives found ≡ own ++ gives rest
 
-    down : (entries : List (Entry (List Assigned))) (m : ℕ) → IsRest list.entries m entries → (found : List (ℕ × ℕ)) → AreFrom Answer i m found → Down m entries found
+    down : (entries : List (Entry (List Assigned))) (m : ℕ) → IsRest list.entries m entries
+        → (found : List (ℕ × ℕ)) → AreFrom Answer i m found → Down m entries found
     down [] m rest found h = record { own = []; rest = found; given = refl; from = ended Answer i m found (none_here m rest) h; is = refl }
     down (entry ∷ entries) m rest found h =
         let at = rest-first list.entries m entry entries rest in

@@ -1,5 +1,5 @@
 -- Lists of which one keeps only what some names need: what is assigned to a path then, and its states.
-use Rattle.std.proofs.Common.{◌≡◌, ◌⊎◌, inl, inr, ⊎_elim, ℕ, zero, suc, ◌<◌, Bool, true, false, cond, ◌||◌, List, [], ◌∷◌, ◌++◌, length, map, reverse, Option, Bor, refl, sym, subst, ap, ◌∙◌, arith}
+use Rattle.std.proofs.Common.{◌≡◌, inl, inr, ⊎_elim, ℕ, zero, suc, ◌<◌, Bool, true, false, cond, ◌||◌, List, [], ◌∷◌, ◌++◌, length, map, reverse, Option, Bor, refl, sym, subst, ap, ◌∙◌, arith}
 use Rattle.std.specs.Prelude.{All, filter, is_some, slice_index_or}
 use Rattle.std.specs.List.{list_any}
 use Rattle.std.specs.Str.{bytes_eq}
@@ -52,8 +52,8 @@ module _ (names : List (Bor (List ℕ))) (macros : List Definition) where
     abbrev Keeps : Option (List ℕ) → List (Entry (List Assigned)) → Type 0
     Keeps base entries = (given : List Assigned) → EntriesGive path case base entries given → KeepsSome base (filter needed entries) given
 
-    entry_kept : (base : Option (List ℕ)) (entry : Entry (List Assigned)) (entries : List (Entry (List Assigned))) → Keeps base entries → (given : List Assigned) → EntriesGive path case base (entry ∷ entries) given
-        → (b : Bool) → needed entry ≡ b → KeepsSome base (cond b (entry ∷ filter needed entries) (filter needed entries)) given
+    entry_kept : (base : Option (List ℕ)) (entry : Entry (List Assigned)) (entries : List (Entry (List Assigned))) → Keeps base entries
+        → (given : List Assigned) → EntriesGive path case base (entry ∷ entries) given → (b : Bool) → needed entry ≡ b → KeepsSome base (cond b (entry ∷ filter needed entries) (filter needed entries)) given
     entry_kept base entry entries next given (inl its) true is =
         let more = next its.1.0 its.1.2 in (
           entry.value ++ more.0,

@@ -1,4 +1,4 @@
--- A row without some of what has neither one of the names nor a macro's: it is filled in alike, and gives the names the same states.
+-- Rows that lack elements whose names are neither asked for nor a macro's: they are filled in alike, and give the asked names the same states.
 use Rattle.std.proofs.Common.{◌≡◌, ◌⊎◌, inl, inr, ⊎_elim, ℕ, Bool, true, false, not, ◌&&◌, ◌||◌, List, [], ◌∷◌, ◌++◌, map, reverse, Option, None, Some, Bor, refl, sym, subst, ap, ◌∙◌, append-nil}
 use Rattle.std.specs.Prelude.{if◌then◌else◌, is_some}
 use Rattle.std.specs.List.{list_any}
@@ -72,7 +72,9 @@ module _ (names : List (Bor (List ℕ))) (macros : List Definition) where
   -- ---- what is put in
 
   no_place : (name : List ℕ) → counts name ≡ false → last_place name macros ≡ None
-  no_place name none = is_none (last_place name macros) (neither (is_some (last_place name macros)) (list_any (λ (other : Bor (List ℕ)). bytes_eq other.now name) names) none).0
+  no_place name none =
+      is_none (last_place name macros)
+      (neither (is_some (last_place name macros)) (list_any (λ (other : Bor (List ℕ)). bytes_eq other.now name) names) none).0
 
   puts_nothing : (before : List Assigned) (a : Assigned) → counts a.name ≡ false → put_in macros before a ≡ []
   puts_nothing before a none = put_in-none macros before a (no_place a.name none)
@@ -80,7 +82,9 @@ module _ (names : List (Bor (List ℕ))) (macros : List Definition) where
   puts_same : (before left : List Assigned) (a : Assigned) → Agree before left → put_in macros before a ≡ put_in macros left a
   puts_same before left a agree =
       ⊎_elim
-      (λ yes. ap (λ b. if is_set a.state && not b then option_map_or (λ (macro : Definition). reverse macro.assignments) (last_named a.name macros) [] else []) (agree a.name yes))
+      (λ yes.
+      ap (λ b. if is_set a.state && not b then option_map_or (λ (macro : Definition). reverse macro.assignments) (last_named a.name macros) [] else [])
+      (agree a.name yes))
       (λ no. puts_nothing before a no ∙ sym (puts_nothing left a no))
       (cases_Bool (counts a.name))
 
@@ -106,8 +110,8 @@ module _ (names : List (Bor (List ℕ))) (macros : List Definition) where
   abbrev Fills : List Assigned → Type 0
   Fills filled = (row kept before left : List Assigned) → IsFilledIn macros before row filled → Agree before left → Thinned row kept → FillsThinned left kept filled
 
-  filled_more : (a : Assigned) (filled : List Assigned) → Fills filled → (rest kept before left : List Assigned) → IsFilledIn macros (a ∷ before) (put_in macros before a ++ rest) filled → Agree before left
-      → Thinned (a ∷ rest) kept → FillsThinned left kept (a ∷ filled)
+  filled_more : (a : Assigned) (filled : List Assigned) → Fills filled → (rest kept before left : List Assigned)
+      → IsFilledIn macros (a ∷ before) (put_in macros before a ++ rest) filled → Agree before left → Thinned (a ∷ rest) kept → FillsThinned left kept (a ∷ filled)
   filled_more a filled next rest kept before left h agree (inl gone) =
       let there = subst (λ l. IsFilledIn macros (a ∷ before) (l ++ rest) filled) (puts_nothing before a gone.0) h in
       let more = next rest kept (a ∷ before) left there (agree-gone before left a gone.0 agree) gone.1 in

@@ -1,5 +1,5 @@
 -- The pairs of places that answer, from a pair on: they are found entry by entry, and list by list.
-use Rattle.std.proofs.Common.{◌≡◌, ◌⊎◌, inl, inr, ⊎_elim, ℕ, zero, suc, ◌+◌, ◌<◌, ◌≤◌, List, [], ◌∷◌, Some, refl, sym, subst, ap, ◌∙◌, arith}
+use Rattle.std.proofs.Common.{◌≡◌, ◌⊎◌, inl, inr, ⊎_elim, ℕ, zero, suc, ◌<◌, ◌≤◌, List, [], ◌∷◌, Some, refl, sym, subst, ap, ◌∙◌, arith}
 use Rattle.std.specs.Prelude.{nat_lt, slice_get}
 use Rattle.std.proofs.lemmas.Bool.{cases_Bool, ltb-true, ltb-false}
 use Rattle.std.proofs.lemmas.Option.{none-some, same_Some}
@@ -72,7 +72,8 @@ module _ (A : ℕ → ℕ → Type 0) where
 
   -- ---- down: the first pair is here, or nothing answers here
 
-  rest_of : (i m j n : ℕ) (rest : List (ℕ × ℕ)) → ComesFrom i (suc m) j n → (x : ℕ) → slice_get ((i, m) ∷ rest) x ≡ Some (j, n) → (y : ℕ) × (slice_get rest y ≡ Some (j, n))
+  rest_of : (i m j n : ℕ) (rest : List (ℕ × ℕ)) → ComesFrom i (suc m) j n → (x : ℕ) → slice_get ((i, m) ∷ rest) x ≡ Some (j, n)
+      → (y : ℕ) × (slice_get rest y ≡ Some (j, n))
   rest_of i m j n rest from zero at =
       let same = same_Some (i, m) (j, n) at in
       absurd (not_here i m (subst (λ (p : ℕ × ℕ). ComesFrom i (suc m) p.0 p.1) (sym same) from))
@@ -125,7 +126,8 @@ module _ (A : ℕ → ℕ → Type 0) where
   abbrev IsHere : ℕ → ℕ → List (ℕ × ℕ) → Type 0
   IsHere i m found = ((rest : List (ℕ × ℕ)) × (found ≡ (i, m) ∷ rest)) ⊎ (A i m → ⊥)
 
-  isn't_later : (i m : ℕ) (pair : ℕ × ℕ) (rest : List (ℕ × ℕ)) → AreFrom i m (pair ∷ rest) → ComesFrom i (suc m) pair.0 pair.1 → (x : ℕ) → slice_get (pair ∷ rest) x ≡ Some (i, m) → ⊥
+  isn't_later : (i m : ℕ) (pair : ℕ × ℕ) (rest : List (ℕ × ℕ)) → AreFrom i m (pair ∷ rest) → ComesFrom i (suc m) pair.0 pair.1
+      → (x : ℕ) → slice_get (pair ∷ rest) x ≡ Some (i, m) → ⊥
   isn't_later i m pair rest h from zero at =
       not_here i m (subst (λ (p : ℕ × ℕ). ComesFrom i (suc m) p.0 p.1) (same_Some pair (i, m) at) from)
   isn't_later i m pair rest h from (suc x) at =
@@ -141,18 +143,20 @@ module _ (A : ℕ → ℕ → Type 0) where
 
   -- ---- up: the pairs are put together again, from the last to the first
 
-  each_put : (i m : ℕ) (rest : List (ℕ × ℕ)) → A i m → AreFrom i (suc m) rest → (x : ℕ) (pair : ℕ × ℕ) → slice_get ((i, m) ∷ rest) x ≡ Some pair → A pair.0 pair.1
+  each_put : (i m : ℕ) (rest : List (ℕ × ℕ)) → A i m → AreFrom i (suc m) rest
+      → (x : ℕ) (pair : ℕ × ℕ) → slice_get ((i, m) ∷ rest) x ≡ Some pair → A pair.0 pair.1
   each_put i m rest its h zero pair at = subst (λ (p : ℕ × ℕ). A p.0 p.1) (same_Some (i, m) pair at) its
   each_put i m rest its h (suc x) pair at = h.each x pair at
 
-  rising_put : (i m : ℕ) (rest : List (ℕ × ℕ)) → AreFrom i (suc m) rest → (x y : ℕ) (a b : ℕ × ℕ) → x < y → slice_get ((i, m) ∷ rest) x ≡ Some a → slice_get ((i, m) ∷ rest) y ≡ Some b
-      → ComesBefore a.0 a.1 b.0 b.1
+  rising_put : (i m : ℕ) (rest : List (ℕ × ℕ)) → AreFrom i (suc m) rest → (x y : ℕ) (a b : ℕ × ℕ) → x < y
+      → slice_get ((i, m) ∷ rest) x ≡ Some a → slice_get ((i, m) ∷ rest) y ≡ Some b → ComesBefore a.0 a.1 b.0 b.1
   rising_put i m rest h x zero a b less at its = absurd (omega (arith, less))
   rising_put i m rest h zero (suc y) a b less at its =
       subst (λ (p : ℕ × ℕ). ComesBefore p.0 p.1 b.0 b.1) (same_Some (i, m) a at) (before_after i m b.0 b.1 (h.later y b its))
   rising_put i m rest h (suc x) (suc y) a b less at its = h.rising x y a b (omega (arith, less)) at its
 
-  later_put : (i m : ℕ) (rest : List (ℕ × ℕ)) → AreFrom i (suc m) rest → (x : ℕ) (pair : ℕ × ℕ) → slice_get ((i, m) ∷ rest) x ≡ Some pair → ComesFrom i m pair.0 pair.1
+  later_put : (i m : ℕ) (rest : List (ℕ × ℕ)) → AreFrom i (suc m) rest
+      → (x : ℕ) (pair : ℕ × ℕ) → slice_get ((i, m) ∷ rest) x ≡ Some pair → ComesFrom i m pair.0 pair.1
   later_put i m rest h zero pair at = subst (λ (p : ℕ × ℕ). ComesFrom i m p.0 p.1) (same_Some (i, m) pair at) (inr (refl, omega arith))
   later_put i m rest h (suc x) pair at = weaker i m pair.0 pair.1 (h.later x pair at)
 

@@ -14,7 +14,11 @@ const ROWS: [Row<'static>; 9] = [
     (b"x a\ny b\nz c", &[b"c", b"a"], &[1, 3]),
     (b"x a\ny b\nz c", &[b"d"], &[]),
     (b"x a\ny b\nz c", &[], &[]),
-    (b"x b a\ny b -a\nz b !a\nw b a=v\nv b=a", &[b"a"], &[1, 2, 3, 4]),
+    (
+        b"x b a\ny b -a\nz b !a\nw b a=v\nv b=a",
+        &[b"a"],
+        &[1, 2, 3, 4],
+    ),
     (b"[attr]m a\n\nx m\ny b\nz -m\nw b m=v", &[b"a"], &[3, 5, 6]),
     (b"[attr]m a\nx m", &[b"b"], &[2]),
     (b"x binary\ny b", &[b"text"], &[1]),

@@ -1,4 +1,4 @@
-use Rattle.std.proofs.Common.{◌≡◌, ◌∙◌, ℕ, Vec, rules, sym, tests}
+use Rattle.std.proofs.Common.{◌∙◌, ℕ, Vec, rules, sym, tests}
 use Rattle.std.specs.Vec.{vec_items}
 use Rattle.std.specs.declared.alloc.Global.{Global}
 use Rattle.std.proofs.lemmas.Iterator.{YieldsList-from_slice}
