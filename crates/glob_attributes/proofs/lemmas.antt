@@ -2,10 +2,13 @@ pub mod AssignmentLemmas
 pub mod EntryLemmas
 pub mod FileLemmas
 pub mod FillingLemmas
+pub mod GivenLemmas
 pub mod HeadLemmas
+pub mod KeptLemmas
 pub mod LawLemmas
 pub mod LineLemmas
 pub mod MacroLemmas
+pub mod NarrowingLemmas
 pub mod OneRowLemmas
 pub mod PatternLemmas
 pub mod PlaceLemmas
@@ -15,4 +18,5 @@ pub mod StartLemmas
 pub mod StateLemmas
 pub mod ToldLemmas
 pub mod TreeLemmas
+pub mod WalkLemmas
 pub mod WordsLemmas
