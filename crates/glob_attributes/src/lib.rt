@@ -1,7 +1,9 @@
 //! What Git's attribute files say: the lines of a file, what each gives, and which state an attribute has for a path.
 #![tactic(auto)]
 
+mod answering;
 mod assignment;
+mod fields;
 mod filling;
 mod head;
 pub mod laws;
@@ -13,16 +15,20 @@ mod names;
 mod parser;
 mod pattern;
 mod places;
+mod query;
 mod silences;
 mod states;
 mod words;
 
+pub use answering::run_attributes;
 pub use assignment::{Assignment, State, read_assignment};
+pub use fields::{append_fields, state_text};
 pub use line::{LineReading, Silence, read_line};
 pub use macro_table::MacroTable;
 pub use macros::{Macro, macros_of};
 pub use name::is_name;
 pub use names::AttributeNames;
 pub use parser::AttributeLines;
+pub use query::AttributeQuery;
 pub use silences::{SilentLine, silent_lines};
 pub use states::PathAttributes;
