@@ -32,8 +32,12 @@ IsAssignedTo query told filled =
     (¬ IsPlainPath told × (filled ≡ []))
     ⊎ (IsPlainPath told × (path : Path) × MarksDirectory told path.bytes path.is_dir × IsAssigned query.lists query.macros path query.case filled)
 
--- The text about a path: for each name, in order, the path as it was told, the name and its state.
+-- the fields for each name, in order: the path as it was told, the name and its state
+abbrev pub states_text : List Assigned → List ℕ → List (List ℕ) → List ℕ
+states_text filled told names = flat_map (λ name. fields_of told name (state_text (state_in filled name))) names
+
+-- The text about a path as it was told.
 pub record IsAnswer (query : Query) (told text : List ℕ) : Type 0 where
   pub filled : List Assigned
   pub assigned : IsAssignedTo query told filled
-  pub fields : text ≡ flat_map (λ name. fields_of told name (state_text (state_in filled name))) query.names
+  pub fields : text ≡ states_text filled told query.names

@@ -1,8 +1,8 @@
 //! What is asked of each path, and what is written about one.
-ghost use Rattle.std.specs.Prelude.{◌≡◌, IfOk, OnOk, map};
+ghost use Rattle.std.specs.Prelude.{◌≡◌, ◌++◌, IfOk, OnOk, map};
 ghost use Rattle.gix_glob.specs.EntryLists.{entry_list_of};
 ghost use Rattle.glob_trees.specs.Records.{Adds};
-ghost use Rattle.glob_attributes.specs.Answers.{IsAnswer, IsAssignedTo};
+ghost use Rattle.glob_attributes.specs.Answers.{IsAnswer, IsAssignedTo, states_text};
 ghost use Rattle.glob_attributes.specs.Readings.{seen_assignments};
 
 use crate::fields::{append_fields, state_text};
@@ -60,10 +60,7 @@ impl<'a> AttributeQuery<'a> {
         ensures { OnOk result (Adds (IsAnswer self.now told.now) text.old.items text.new.items) }
     {
         let assigned = self.assigned_to(alloc, told)?;
-        'names: for name in self.names {
-            append_fields(text, told, name, state_text(&assigned.state_of(name)))?;
-        }
-        Ok(())
+        append_states(text, told, self.names, &assigned)
     }
 
     /// What is assigned to the path that was told.
@@ -75,4 +72,19 @@ impl<'a> AttributeQuery<'a> {
             None => Ok(PathAttributes::none(alloc)),
         }
     }
+}
+
+/// Appends the fields for each of the names.
+fn append_states(
+    text: &mut Vec<u8>,
+    told: &[u8],
+    names: &[&[u8]],
+    assigned: &PathAttributes<'_>,
+) -> Result<(), AllocError>
+    ensures { OnOk result (text.new.items ≡ text.old.items ++ states_text assigned.now told.now (map (λ name. name.now) names.now)) }
+{
+    'names: for name in names {
+        append_fields(text, told, name, state_text(&assigned.state_of(name)))?;
+    }
+    Ok(())
 }
