@@ -1,3 +1,4 @@
+pub mod Answers
 pub mod Assignments
 pub mod Equations
 pub mod Files

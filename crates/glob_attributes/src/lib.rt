@@ -1,7 +1,9 @@
 //! What Git's attribute files say: the lines of a file, what each gives, and which state an attribute has for a path.
 #![tactic(auto)]
 
+mod answering;
 mod assignment;
+mod fields;
 mod filling;
 mod head;
 pub mod laws;
@@ -14,11 +16,14 @@ mod narrowing;
 mod parser;
 mod pattern;
 mod places;
+mod query;
 mod silences;
 mod states;
 mod words;
 
+pub use answering::run_attributes;
 pub use assignment::{Assignment, State, read_assignment};
+pub use fields::{append_fields, state_text};
 pub use line::{LineReading, Silence, read_line};
 pub use macro_table::MacroTable;
 pub use macros::{Macro, macros_of};
@@ -26,5 +31,6 @@ pub use name::is_name;
 pub use names::AttributeNames;
 pub use narrowing::keep_named;
 pub use parser::AttributeLines;
+pub use query::AttributeQuery;
 pub use silences::{SilentLine, silent_lines};
 pub use states::PathAttributes;

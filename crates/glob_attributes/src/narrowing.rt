@@ -5,9 +5,9 @@ ghost use Rattle.std.specs.Vec.{vec_items};
 ghost use Rattle.gix_glob.specs.declared.pattern.Case.{Case};
 ghost use Rattle.gix_glob.specs.EntryLists.{entry_list_of};
 ghost use Rattle.glob_lists.specs.Paths.{Path};
-ghost use Rattle.glob_attributes.specs.Assignments.{assignment_with};
+ghost use Rattle.glob_attributes.specs.Views.{assignment_with};
 ghost use Rattle.glob_attributes.specs.Private.Narrowing.{assigns_named, is_named};
-ghost use Rattle.glob_attributes.specs.Readings.{seen_assignments};
+ghost use Rattle.glob_attributes.specs.Views.{seen_assignments};
 ghost use Rattle.glob_attributes.specs.States.{Assigned, IsAssigned, Lists, state_in};
 
 use crate::assignment::Assignment;

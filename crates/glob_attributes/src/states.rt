@@ -1,5 +1,5 @@
 //! Which state each attribute has for a path.
-ghost use Rattle.std.specs.Prelude.{◌≡◌, ◌++◌, IfOk, OnOk, map};
+ghost use Rattle.std.specs.Prelude.{◌≡◌, ◌++◌, [], IfOk, OnOk, map};
 ghost use Rattle.std.specs.List.{flat_map};
 ghost use Rattle.std.specs.Vec.{vec_items};
 ghost use Rattle.gix_glob.specs.EntryLists.{entry_list_of};
@@ -81,6 +81,15 @@ impl<'a> PathAttributes<'a> {
         push_row(&mut row, stronger, &pairs)?;
         let filled = fill_in(alloc, row, macros)?;
         Ok(PathAttributes { filled })
+    }
+
+    /// Nothing is assigned.
+    pub(crate) fn none(alloc: Global) -> PathAttributes<'a>
+        ensures { result ≡ [] }
+    {
+        PathAttributes {
+            filled: Vec::new(alloc),
+        }
     }
 
     /// The state of an attribute: the first assignment that names it decides, and where none does it is unspecified.

@@ -1,4 +1,5 @@
 //! Streams of records over devices and an answerer that fail: what is told, and what was written then.
+mod attributes;
 mod failing;
 mod in_turn;
 

@@ -1,10 +1,10 @@
 //! What is written about an attribute of a path.
 ghost use Rattle.std.specs.Prelude.{◌≡◌, ◌++◌, OnOk};
 ghost use Rattle.glob_attributes.specs.Views.{state_with};
-ghost use Rattle.globtree.specs.AttributeText.{answer_of, fields_of, line_of, state_text};
+ghost use Rattle.globtree.specs.AttributeText.{answer_of, line_of};
 
 use crate::quoting::append_quoted;
-use glob_attributes::State;
+use glob_attributes::{State, append_fields, state_text};
 use std::alloc::AllocError;
 
 /// Appends the path as it was told, the name of the attribute and its state: each with a NUL behind it, or as a line.
@@ -24,24 +24,6 @@ pub(crate) fn append_answer(
     }
 }
 
-/// Appends the three fields, each with a NUL behind it.
-fn append_fields(
-    text: &mut Vec<u8>,
-    told: &[u8],
-    name: &[u8],
-    state: &[u8],
-) -> Result<(), AllocError>
-    ensures { OnOk result (text.new.items ≡ text.old.items ++ fields_of told.now name.now state.now) }
-{
-    text.extend_from_slice(told)?;
-    text.push(0)?;
-    text.extend_from_slice(name)?;
-    text.push(0)?;
-    text.extend_from_slice(state)?;
-    text.push(0)?;
-    Ok(())
-}
-
 /// Appends the three fields as a line, the path in quotes where a byte of it is unusual.
 fn append_line(text: &mut Vec<u8>, told: &[u8], name: &[u8], state: &[u8]) -> Result<(), AllocError>
     ensures { OnOk result (text.new.items ≡ text.old.items ++ line_of told.now name.now state.now) }
@@ -53,16 +35,4 @@ fn append_line(text: &mut Vec<u8>, told: &[u8], name: &[u8], state: &[u8]) -> Re
     text.extend_from_slice(state)?;
     text.push(b'\n')?;
     Ok(())
-}
-
-/// The text of a state.
-fn state_text<'a>(state: &State<&'a [u8]>) -> &'a [u8]
-    ensures { result.now ≡ state_text (state_with (λ bytes. bytes.now) state.now) }
-{
-    match state {
-        State::Set => b"set",
-        State::Unset => b"unset",
-        State::Unspecified => b"unspecified",
-        State::Value(value) => value,
-    }
 }

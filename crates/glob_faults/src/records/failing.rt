@@ -7,10 +7,10 @@ use std::test::Fail;
 const RECORDS: &[u8] = b"ab\n\nc";
 
 /// A piece that is never too short, and a number of calls after which none is left.
-const WHOLE: usize = usize::MAX;
+pub(super) const WHOLE: usize = usize::MAX;
 
 /// What a failed call may say. One that was interrupted isn't tried again either.
-const KINDS: [ErrorKind; 2] = [ErrorKind::Interrupted, ErrorKind::Other];
+pub(super) const KINDS: [ErrorKind; 2] = [ErrorKind::Interrupted, ErrorKind::Other];
 
 #[test]
 fn each_failed_read_leaves_the_answers_so_far(rt: HostRuntime) -> Result<(), Fail> {

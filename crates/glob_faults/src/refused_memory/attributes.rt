@@ -1,11 +1,15 @@
 //! Attribute files, which want memory for what their lines assign.
 use gix_glob::pattern::Case;
+use gix_glob::search::Watched;
 use gix_glob::search::has_file_part;
 use gix_glob::search::pattern::List;
 use glob_attributes::{
-    AttributeLines, AttributeNames, MacroTable, PathAttributes, Silence, State, silent_lines,
+    AttributeLines, AttributeNames, AttributeQuery, MacroTable, PathAttributes, Silence, State,
+    run_attributes, silent_lines,
 };
-use glob_lists::{RepositoryPath, bases_are_folders};
+use glob_lists::{ListIndex, RepositoryPath, bases_are_folders};
+use glob_trees::RecordFault;
+use std::alloc::AllocError;
 use std::test::Fail;
 
 const FILE: &[u8] = b"[attr]m a=1 -b\n\"x y\" m c\n!z d\n";
@@ -47,4 +51,30 @@ fn a_table_answers_after_a_refusal(rt: HostRuntime) -> Result<(), Fail> {
     let attributes = PathAttributes::new(rt.alloc(), &lists, &macros, &path, Case::Sensitive)?;
     assert!(rt; attributes.state_of(b"a") == State::Unspecified);
     Ok(first?)
+}
+
+#[test]
+fn paths_are_answered_by_attributes(rt: HostRuntime) -> Result<(), Fail> {
+    let alloc = rt.alloc();
+    let source = String::from_str(alloc, "f")?;
+    let lists = [List::from_bytes(alloc, FILE, source, None, AttributeLines)?];
+    assert!(rt; bases_are_folders(&lists));
+    let mut macros = MacroTable::new(alloc)?;
+    macros.add_file(alloc, FILE)?;
+    let index = ListIndex::new(alloc, &lists, Case::Sensitive)?;
+    let names = [b"a".as_slice(), b"c".as_slice()];
+    let query = AttributeQuery::new(&index, &macros, &names);
+    let mut paths = Watched::new(b"x y\0/".as_slice());
+    // with room for all that is written
+    let mut writer = Watched::new(Vec::with_capacity(alloc, 64)?);
+    let answer = run_attributes(alloc, &query, &mut paths, &mut writer);
+    let output = writer.into_inner();
+    let wanted = b"x y\0a\01\0x y\0c\0set\0/\0a\0unspecified\0/\0c\0unspecified\0".as_slice();
+    assert!(rt; wanted.starts_with(&output));
+    match answer {
+        Ok(()) => assert!(rt; output.as_slice() == wanted),
+        Err(RecordFault::Memory) => return Err(AllocError.into()),
+        Err(_) => return Err(Fail::new("no fault of memory")),
+    }
+    Ok(())
 }

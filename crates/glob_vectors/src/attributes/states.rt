@@ -6,6 +6,7 @@ mod lines;
 mod long;
 mod macros;
 mod patterns;
+mod streams;
 mod values;
 
 use super::write_state;

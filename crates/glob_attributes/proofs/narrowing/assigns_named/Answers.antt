@@ -4,7 +4,7 @@ use Rattle.std.specs.declared.alloc.Global.{Global}
 use Rattle.std.proofs.lemmas.Iterator.{YieldsList-from_slice}
 use Rattle.std.proofs.lemmas.Iterator.Search.{any_from_yields_List}
 use Rattle.glob_attributes.specs.declared.assignment.Assignment.{Assignment}
-use Rattle.glob_attributes.specs.Assignments.{assignment_with}
+use Rattle.glob_attributes.specs.Views.{assignment_with}
 use Rattle.glob_attributes.specs.Private.Narrowing.{is_named}
 use Rattle.glob_attributes.specs.States.{Assigned}
 use Rattle.glob_attributes.proofs.lemmas.NarrowingLemmas.{any-map}

@@ -1,7 +1,7 @@
 use Rattle.std.proofs.Common.{◌∙◌, ap, map}
 use Rattle.gix_glob.specs.Entries.{entry_of}
 use Rattle.gix_glob.specs.EntryLists.{entry_list_of}
-use Rattle.glob_attributes.specs.Readings.{seen_assignments}
+use Rattle.glob_attributes.specs.Views.{seen_assignments}
 use Rattle.glob_attributes.proofs.lemmas.KeptLemmas.{filter-map, needed, states_kept}
 use Rattle.glob_attributes.proofs.narrowing.keep_named.Goals as goal
 

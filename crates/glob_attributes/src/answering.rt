@@ -1,0 +1,133 @@
+//! A stream of paths, for each of which it is written which states attributes have.
+ghost use Rattle.std.specs.Prelude.{◌≡◌, ◌-◌, ◌^◌, ◌≤◌, ℕ, List, false, length, IsTrue, OnErr, OnOk};
+ghost use Rattle.std.specs.Io.KnownBytes.{Appends, Consumes};
+ghost use Rattle.gix_glob.specs.Watched.{has_failed, inner};
+ghost use Rattle.glob_lines.specs.Transfers.{AppendsFront, ReadsWhole, Run};
+ghost use Rattle.glob_trees.specs.RecordFaults.{is_endless, is_read_fault, is_write_fault};
+ghost use Rattle.glob_trees.specs.Records.{AnswersAll, AnswersFirst, AnswersSome};
+ghost use Rattle.glob_attributes.specs.Answers.{IsAnswer};
+
+use crate::query::AttributeQuery;
+use gix_glob::search::Watched;
+use glob_trees::{Answerer, RecordFault, RecordStream};
+use std::alloc::{AllocError, Global};
+use std::io::{Read, Write};
+use std::marker::{Brand, PhantomData};
+
+/// Reads paths, each ended by a NUL, to the reader's end, and writes for each path and each attribute that is asked for, in order,
+/// three fields: the path as it came, the name and the state, each with a NUL behind it, as `git check-attr -z --stdin` does. The
+/// last path may lack its NUL where it isn't empty.
+///
+/// A slash at a path's end marks a directory. What isn't a [`plain_path`](glob_lists::plain_path), as no bytes or an absolute path,
+/// has all attributes unspecified.
+///
+/// A path is answered, and its text written and flushed, before a read that comes after its end. No call on the reader or the
+/// writer may have failed before, and none that fails is tried again.
+///
+/// # Errors
+/// The first fault, and [`RecordFault::Write`] before another one; [`RecordFault::Memory`] wherever memory was refused. All paths
+/// that ended before the fault, and got their text, have it written, and nothing else is; but after `RecordFault::Write` what was
+/// written may end anywhere.
+pub fn run_attributes<R: Read, W: Write>(
+    alloc: Global,
+    query: &AttributeQuery<'_>,
+    paths: &mut Watched<R>,
+    writer: &mut Watched<W>,
+) -> Result<(), RecordFault<AllocError>>
+    requires readable { has_failed paths.old ≡ false }
+    requires writable { has_failed writer.old ≡ false }
+    // On success, all of the input was read, and the text of all its paths was written.
+    ensures ok { OnOk result
+        (Run (ReadsWhole (R.remaining (inner paths.old)) (R.remaining (inner paths.new)))
+        (AnswersAll (IsAnswer query.now) 0)
+        (Appends (W.contents (inner writer.old)) (W.contents (inner writer.new)))) }
+    // After a fault that is none of the writer's, the text of the first paths was written.
+    ensures err { OnErr result (has_failed writer.new ≡ false →
+        Run (Consumes (R.remaining (inner paths.old)) (R.remaining (inner paths.new)))
+        (AnswersFirst (IsAnswer query.now) 0)
+        (Appends (W.contents (inner writer.old)) (W.contents (inner writer.new)))) }
+    // After one of the writer's, a beginning of such a text was.
+    ensures cut { OnErr result
+        (Run (Consumes (R.remaining (inner paths.old)) (R.remaining (inner paths.new)))
+        (AnswersSome (IsAnswer query.now) 0)
+        (AppendsFront (W.contents (inner writer.old)) (W.contents (inner writer.new)))) }
+    ensures endless { IsTrue (is_endless result) → (input : List ℕ) × Consumes (R.remaining (inner paths.old)) (R.remaining (inner paths.new)) input
+        × (2 ^ 64 - 1 ≤ length input) }
+    ensures read { is_read_fault result ≡ has_failed paths.new }
+    ensures write { is_write_fault result ≡ has_failed writer.new }
+{
+    match run_question::<R, W, Brand>(alloc, query, paths, writer) {
+        Err(RecordFault::Answer(_)) => Err(RecordFault::Memory),
+        told => told,
+    }
+}
+
+/// What is asked, in words that contracts alone have.
+pub(crate) trait Question {
+    ghost use Rattle.glob_attributes.specs.Answers.{Query};
+
+    ghost query: { Query };
+}
+
+impl Question for Brand {
+    ghost use Rattle.std.specs.Prelude.{[]};
+    ghost use Rattle.gix_glob.specs.declared.pattern.Case.TheVariants.{Sensitive};
+
+    ghost query = { record { lists = []; macros = []; case = Sensitive; names = [] } };
+}
+
+/// What answers each path by what is asked, which its type names: so a run keeps the question, whatever it does to the answerer.
+#[derive(Drop)]
+struct PathAnswerer<'a, Q: Question> {
+    alloc: Global,
+    query: &'a AttributeQuery<'a>,
+    question: PhantomData<Q>,
+    ghost asked: { query.now ≡ Q.query },
+}
+
+impl<'a, Q: Question> Answerer for PathAnswerer<'a, Q> {
+    ghost use Rattle.glob_attributes.specs.Answers.{IsAnswer};
+
+    type Fault = AllocError;
+
+    ghost answers = { λ _. IsAnswer Q.query };
+
+    fn answer(&mut self, text: &mut Vec<u8>, bytes: &[u8]) -> Result<(), AllocError> {
+        self.query.append_answer(self.alloc, text, bytes)
+    }
+}
+
+/// Answers the paths by a question.
+fn run_question<R: Read, W: Write, Q: Question>(
+    alloc: Global,
+    query: &AttributeQuery<'_>,
+    paths: &mut Watched<R>,
+    writer: &mut Watched<W>,
+) -> Result<(), RecordFault<AllocError>>
+    requires asked { query.now ≡ Q.query }
+    requires readable { has_failed paths.old ≡ false }
+    requires writable { has_failed writer.old ≡ false }
+    ensures ok { OnOk result
+        (Run (ReadsWhole (R.remaining (inner paths.old)) (R.remaining (inner paths.new)))
+        (AnswersAll (IsAnswer Q.query) 0)
+        (Appends (W.contents (inner writer.old)) (W.contents (inner writer.new)))) }
+    ensures err { OnErr result (has_failed writer.new ≡ false →
+        Run (Consumes (R.remaining (inner paths.old)) (R.remaining (inner paths.new)))
+        (AnswersFirst (IsAnswer Q.query) 0)
+        (Appends (W.contents (inner writer.old)) (W.contents (inner writer.new)))) }
+    ensures cut { OnErr result
+        (Run (Consumes (R.remaining (inner paths.old)) (R.remaining (inner paths.new)))
+        (AnswersSome (IsAnswer Q.query) 0)
+        (AppendsFront (W.contents (inner writer.old)) (W.contents (inner writer.new)))) }
+    ensures endless { IsTrue (is_endless result) → (input : List ℕ) × Consumes (R.remaining (inner paths.old)) (R.remaining (inner paths.new)) input
+        × (2 ^ 64 - 1 ≤ length input) }
+    ensures read { is_read_fault result ≡ has_failed paths.new }
+    ensures write { is_write_fault result ≡ has_failed writer.new }
+{
+    let mut answerer = PathAnswerer::<'_, Q> {
+        alloc,
+        query,
+        question: PhantomData,
+    };
+    RecordStream { alloc, end: 0 }.run(paths, writer, &mut answerer)
+}
