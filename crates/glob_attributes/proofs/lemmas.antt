@@ -6,6 +6,7 @@ pub mod HeadLemmas
 pub mod LawLemmas
 pub mod LineLemmas
 pub mod MacroLemmas
+pub mod NarrowingLemmas
 pub mod OneRowLemmas
 pub mod PatternLemmas
 pub mod PlaceLemmas

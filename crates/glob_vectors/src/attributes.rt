@@ -3,6 +3,7 @@ mod files;
 mod hostile;
 mod lines;
 mod matched;
+mod narrowed;
 mod states;
 mod told;
 

@@ -15,7 +15,7 @@ use files::FILES;
 use gix_glob::pattern::Case;
 use gix_glob::search::has_file_part;
 use gix_glob::search::pattern::List;
-use glob_attributes::{AttributeLines, MacroTable, PathAttributes, read_assignment};
+use glob_attributes::{AttributeLines, MacroTable, PathAttributes, keep_named, read_assignment};
 use glob_lists::{RepositoryPath, bases_are_folders};
 use glob_trees::list_in_folder;
 use heads::HEADS;
@@ -112,19 +112,24 @@ fn check_rows(rt: &(impl Abort + AllocGlobal), rows: &[Row<'_>]) -> Result<(), F
     Ok(())
 }
 
-/// Compares the states of the attributes that a row asks for with those that are wanted.
+/// Compares the states of the attributes that a row asks for with those that are wanted: by all lines of the files, and by those
+/// alone that these attributes need.
 fn check_row(rt: &(impl Abort + AllocGlobal), row: Row<'_>) -> Result<(), Fail> {
     let (files, asked) = row;
     let sources = Sources::new(rt, files)?;
     for (path, wanted) in asked {
-        let text = sources.answers(rt.alloc(), path, wanted)?;
-        same(
-            rt,
-            text.as_slice(),
-            *wanted,
-            "the files and path",
-            (files, *path),
-        );
+        let mut narrowed = Sources::new(rt, files)?;
+        narrowed.keep(rt.alloc(), wanted)?;
+        for some in [&sources, &narrowed] {
+            let text = some.answers(rt.alloc(), path, wanted)?;
+            same(
+                rt,
+                text.as_slice(),
+                *wanted,
+                "the files and path",
+                (files, *path),
+            );
+        }
     }
     Ok(())
 }
@@ -168,6 +173,20 @@ impl Sources {
                 self.lists.push(list)?;
                 self.macros.add_file(alloc, bytes)?;
             }
+        }
+        Ok(())
+    }
+
+    /// Takes from the lists what doesn't concern the attributes that the words name.
+    fn keep(&mut self, alloc: Global, words: &[u8]) -> Result<(), AllocError> {
+        let mut names = Vec::new(alloc);
+        for word in words.split(|b| *b == b' ') {
+            if let Some(named) = read_assignment(word) {
+                names.push(named.name)?;
+            }
+        }
+        for list in &mut self.lists {
+            keep_named(list, &names, &self.macros);
         }
         Ok(())
     }
