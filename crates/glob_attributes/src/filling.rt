@@ -19,8 +19,8 @@ pub(crate) fn fill_in<'a>(
     ensures { IfOk result (λ filled. IsFilledIn macros.now [] (reverse (map seen_entry row.entry.items)) (map seen_entry filled.items)) }
 {
     let mut marks = new_marks(alloc, macros.len())?;
+    let mut filled = Vec::with_capacity(alloc, row.len())?;
     let mut left = row;
-    let mut filled = Vec::new(alloc);
     'left: while let Some(assignment) = left.pop() {
         filled.push(assignment)?;
         push_each(&mut left, put_in(&mut marks, macros, assignment))?;

@@ -11,6 +11,9 @@ use crate::places::Places;
 use std::alloc::{AllocError, Global};
 use std::marker::Model;
 
+/// How many slots there are for names.
+const SLOTS: usize = 256;
+
 /// The macros that count for a path, wherever it lies: the one that is built in, and those of the files that define any. Contracts
 /// see them in order; of several of one name the last counts.
 #[derive(Debug, Drop)]
@@ -18,6 +21,8 @@ pub struct MacroTable {
     macros: Vec<Macro>,
     /// The place of the last macro of each name.
     places: Places,
+    /// Which slots names of macros have: most names that are none's are told by their slot.
+    slots: [bool; SLOTS],
 }
 
 impl Model for MacroTable {
@@ -43,7 +48,12 @@ impl MacroTable {
     {
         let macros = macros_of(alloc, b"[attr]binary -diff -merge -text")?;
         let places = last_places(alloc, &macros)?;
-        Ok(MacroTable { macros, places })
+        let slots = slots_of(&macros);
+        Ok(MacroTable {
+            macros,
+            places,
+            slots,
+        })
     }
 
     /// Adds the macros that an attribute file defines. The files come from the weakest to the strongest, as their lists do; one of a
@@ -61,6 +71,7 @@ impl MacroTable {
         match last_places(alloc, &self.macros) {
             Ok(places) => {
                 self.places = places;
+                self.slots = slots_of(&self.macros);
                 Ok(())
             }
             Err(refused) => {
@@ -81,6 +92,9 @@ impl MacroTable {
     pub(crate) fn place_of(&self, name: &[u8]) -> Option<usize>
         ensures { result ≡ last_place name.now self.now }
     {
+        if !self.slots[slot_of(name)] {
+            return None;
+        }
         self.places.get(name)
     }
 
@@ -102,4 +116,21 @@ fn last_places(alloc: Global, macros: &[Macro]) -> Result<Places, AllocError>
         places.set(alloc, &macros[place].name, place)?;
     }
     Ok(places)
+}
+
+/// Which slots the names of macros have.
+fn slots_of(macros: &[Macro]) -> [bool; SLOTS] {
+    let mut slots = [false; SLOTS];
+    'macros: for macro_ in macros {
+        slots[slot_of(&macro_.name)] = true;
+    }
+    slots
+}
+
+/// The slot of a name, by its length, its first byte and its last.
+fn slot_of(name: &[u8]) -> usize {
+    match name {
+        [first, .., last] => (usize::from(*first) * 32 + usize::from(*last) + name.len() * 8) % SLOTS,
+        _ => 0,
+    }
 }

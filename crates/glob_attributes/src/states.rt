@@ -18,6 +18,9 @@ use glob_lists::{ListIndex, RepositoryPath, matches_into};
 use std::alloc::{AllocError, Global};
 use std::marker::Model;
 
+/// For how many matches and assignments memory is taken at once, which are enough for most paths.
+const FEW: usize = 16;
+
 /// What attribute files assign to a path. Contracts see all of it, with what macros put in, the strongest first.
 #[derive(Debug, Drop)]
 pub struct PathAttributes<'a> {
@@ -50,9 +53,9 @@ impl<'a> PathAttributes<'a> {
         requires folders { BasesAreFolders (map (entry_list_of seen_assignments) lists.now) }
         ensures { IfOk result (λ assigned. IsAssigned (map (entry_list_of seen_assignments) lists.now) macros.now path.now case assigned) }
     {
-        let mut pairs = Vec::new(alloc);
+        let mut pairs = Vec::with_capacity(alloc, FEW)?;
         matches_into(lists, path, case, &mut pairs)?;
-        let mut row = Vec::new(alloc);
+        let mut row = Vec::with_capacity(alloc, FEW)?;
         push_row(&mut row, lists, &pairs)?;
         let filled = fill_in(alloc, row, macros)?;
         Ok(PathAttributes { filled })
@@ -73,9 +76,9 @@ impl<'a> PathAttributes<'a> {
         requires folders { BasesAreFolders (map (entry_list_of seen_assignments) stronger.now) }
         ensures { IfOk result (λ assigned. IsAssigned (map (entry_list_of seen_assignments) index.now.lists ++ map (entry_list_of seen_assignments) stronger.now) macros.now path.now index.now.case assigned) }
     {
-        let mut pairs = Vec::new(alloc);
+        let mut pairs = Vec::with_capacity(alloc, FEW)?;
         index.matches_into(path, &mut pairs)?;
-        let mut row = Vec::new(alloc);
+        let mut row = Vec::with_capacity(alloc, FEW)?;
         push_row(&mut row, index.lists(), &pairs)?;
         matches_into(stronger, path, index.case(), &mut pairs)?;
         push_row(&mut row, stronger, &pairs)?;

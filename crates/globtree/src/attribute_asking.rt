@@ -1,11 +1,11 @@
 //! What answers each told path by the states of its attributes.
 
 use crate::asking::Standpoint;
-use crate::attribute_text::append_answer;
+use crate::attribute_text::{append_answer, append_path};
 use crate::fault::CheckFault;
 use crate::folder_attributes::FolderAttributes;
 use crate::record_names::PathAnswerer;
-use glob_attributes::{AttributeLines, MacroTable, PathAttributes, State};
+use glob_attributes::{AttributeLines, PathAttributes, State};
 use glob_lists::{ListIndex, RepositoryPath, bases_are_folders};
 use memchr::memchr;
 use std::alloc::{AllocError, Global};
@@ -18,14 +18,13 @@ pub(crate) struct AttributeAsker<'a, R> {
     pub(crate) standpoint: Standpoint,
     /// Whether a NUL ends each field.
     pub(crate) is_nul: bool,
-    /// The names that are asked for, where not all are.
-    pub(crate) names: &'a [&'a str],
     /// The lists that are weaker than those of all folders below the top.
     pub(crate) index: &'a ListIndex<'a, AttributeLines>,
     pub(crate) folders: FolderAttributes<'a, R>,
-    pub(crate) macros: &'a MacroTable,
     /// The path that was asked last.
     pub(crate) path: Vec<u8>,
+    /// The path as it was told and is shown.
+    pub(crate) shown: Vec<u8>,
 }
 
 impl<'a, R: Files + Eprint> PathAnswerer for AttributeAsker<'a, R> {
@@ -63,9 +62,11 @@ impl<'a, R: Files + Eprint> AttributeAsker<'a, R> {
     }
 
     /// Appends what is written about the path that was led to.
-    fn append(&self, text: &mut Vec<u8>, told: &[u8], is_folder: bool) -> Result<(), CheckFault> {
+    fn append(&mut self, text: &mut Vec<u8>, told: &[u8], is_folder: bool) -> Result<(), CheckFault> {
+        self.shown.clear();
+        append_path(&mut self.shown, told, self.is_nul)?;
         let Some(path) = RepositoryPath::new(&self.path, is_folder) else {
-            self.append_nothing(text, told)?;
+            self.append_nothing(text)?;
             return Ok(());
         };
         let stronger = &self.folders.lists;
@@ -76,10 +77,10 @@ impl<'a, R: Files + Eprint> AttributeAsker<'a, R> {
             self.alloc,
             self.index,
             stronger,
-            self.macros,
+            self.folders.macros,
             &path,
         )?;
-        self.append_states(text, told, &attributes)?;
+        self.append_states(text, &attributes)?;
         Ok(())
     }
 
@@ -87,29 +88,27 @@ impl<'a, R: Files + Eprint> AttributeAsker<'a, R> {
     fn append_states(
         &self,
         text: &mut Vec<u8>,
-        told: &[u8],
         attributes: &PathAttributes<'_>,
     ) -> Result<(), AllocError> {
         if let Some(all) = &self.folders.reader.names {
             'all: for assigned in &attributes.states_of(self.alloc, all.as_slice())? {
-                append_answer(text, told, assigned.name, &assigned.state, self.is_nul)?;
+                append_answer(text, &self.shown, assigned.name, &assigned.state, self.is_nul)?;
             }
             return Ok(());
         }
-        'names: for name in self.names {
-            let name = name.as_bytes();
-            append_answer(text, told, name, &attributes.state_of(name), self.is_nul)?;
+        'names: for name in self.folders.names {
+            append_answer(text, &self.shown, name, &attributes.state_of(name), self.is_nul)?;
         }
         Ok(())
     }
 
     /// Appends that nothing is said of the attributes that are asked for.
-    fn append_nothing(&self, text: &mut Vec<u8>, told: &[u8]) -> Result<(), AllocError> {
-        'names: for name in self.names {
+    fn append_nothing(&self, text: &mut Vec<u8>) -> Result<(), AllocError> {
+        'names: for name in self.folders.names {
             append_answer(
                 text,
-                told,
-                name.as_bytes(),
+                &self.shown,
+                name,
                 &State::Unspecified,
                 self.is_nul,
             )?;

@@ -16,7 +16,7 @@ use anyhow::{Context, Result, bail};
 use gix_glob::pattern::Case;
 use gix_glob::search::Watched;
 use gix_glob::search::pattern::List;
-use glob_attributes::{AttributeLines, AttributeNames, MacroTable, is_name};
+use glob_attributes::{AttributeLines, AttributeNames, MacroTable, is_name, keep_named};
 use glob_lists::{ListIndex, bases_are_folders};
 use glob_trees::RecordStream;
 use std::alloc::{AllocError, Global};
@@ -60,23 +60,27 @@ pub(crate) fn check_attr<R: Files + Env + Eprint + AllocGlobal, I: Read, O: Writ
         reader,
         standpoint,
         macros,
-        lists,
-        info,
+        mut lists,
+        mut info,
     } = read_files(rt, alloc, options, flags)?;
     if let Some(name) = wrong_name(names) {
         let _ = eprintln!(rt; "error: {name}: not a valid attribute name");
         return Ok(NO_NAME);
+    }
+    let names = bytes_of_each(alloc, names)?;
+    if !flags.all {
+        keep_named_in_each(&mut lists, &names, &macros);
+        keep_named_in_each(&mut info, &names, &macros);
     }
     let index = index_of(alloc, &lists)?;
     let asker = AttributeAsker {
         alloc,
         standpoint,
         is_nul: flags.nul,
-        names,
         index: &index,
-        folders: FolderAttributes::new(reader, info)?,
-        macros: &macros,
+        folders: FolderAttributes::new(reader, info, &names, &macros)?,
         path: Vec::new(alloc),
+        shown: Vec::new(alloc),
     };
     if flags.stdin {
         answer_records(alloc, asker, flags.nul, input, output)?;
@@ -84,6 +88,26 @@ pub(crate) fn check_attr<R: Files + Env + Eprint + AllocGlobal, I: Read, O: Writ
         answer_paths(alloc, asker, paths, output)?;
     }
     Ok(ANSWERED)
+}
+
+/// The bytes of each of the names.
+fn bytes_of_each<'a>(alloc: Global, names: &[&'a str]) -> Result<Vec<&'a [u8]>, AllocError> {
+    let mut each = Vec::with_capacity(alloc, names.len())?;
+    for name in names {
+        each.push(name.as_bytes())?;
+    }
+    Ok(each)
+}
+
+/// Takes from each list the patterns that no state of these attributes rests on.
+fn keep_named_in_each(
+    lists: &mut [List<AttributeLines>],
+    names: &[&[u8]],
+    macros: &MacroTable,
+) {
+    for list in lists {
+        keep_named(list, names, macros);
+    }
 }
 
 /// The files that are read before any path is asked for.

@@ -5,7 +5,7 @@ ghost use Rattle.globtree.specs.Files.{PutsInOrder};
 
 use crate::asking::{Standpoint, fault_of};
 use crate::fault::CheckFault;
-use crate::paths::{append_seen, enter};
+use crate::paths::{append_seen, enter, last_name};
 use crate::quoting::append_quoted;
 use crate::sources::{FolderFiles, folder_text};
 use anyhow::{Context, Result};
@@ -13,7 +13,6 @@ use gix_glob::search::Watched;
 use glob_lines::IgnoreLines;
 use glob_lists::RepositoryPath;
 use glob_trees::Tree;
-use memchr::memrchr;
 use std::alloc::{AllocError, Global};
 use std::fmt::Display;
 use std::fs::{DirEntry, FileType};
@@ -98,12 +97,12 @@ impl<'a, R: Files + Eprint + AllocGlobal + Clone + Drop> Lister<'a, R> {
     fn is_in_repository(&self, path: &[u8]) -> Result<bool, CheckFault> {
         'bytes: for (place, byte) in path.iter().enumerate() {
             if *byte == b'/'
-                && (self.is_git(name_of(&path[..place])) || self.is_repository(&path[..place])?)
+                && (self.is_git(last_name(&path[..place])) || self.is_repository(&path[..place])?)
             {
                 return Ok(true);
             }
         }
-        Ok(self.is_git(name_of(path)))
+        Ok(self.is_git(last_name(path)))
     }
 
     /// Whether a name is that of a repository's files.
@@ -235,14 +234,6 @@ impl<'a, R: Files + Eprint + AllocGlobal + Clone + Drop> Lister<'a, R> {
         let name = String::from_utf8_lossy(self.alloc, path)?;
         let _ = eprintln!(self.rt; "error: '{name}': {reason}");
         Ok(())
-    }
-}
-
-/// What follows the last slash.
-fn name_of(path: &[u8]) -> &[u8] {
-    match memrchr(b'/', path) {
-        Some(at) => &path[at + 1..],
-        None => path,
     }
 }
 

@@ -2,9 +2,10 @@
 
 use crate::attribute_files::AttributeReader;
 use crate::fault::CheckFault;
+use crate::paths::last_name;
 use gix_glob::search::pattern::List;
-use glob_attributes::AttributeLines;
-use memchr::memrchr;
+use glob_attributes::{AttributeLines, MacroTable, keep_named};
+use memchr::memchr;
 use std::alloc::{AllocError, Global};
 use std::collections::BTreeMap;
 use std::rt::Files;
@@ -14,18 +15,36 @@ use std::rt::Files;
 #[derive(Drop)]
 pub(crate) struct FolderAttributes<'a, R> {
     pub(crate) reader: AttributeReader<'a, R>,
-    /// The lists of the folders on the way, from outer to inner, and behind them that of `info`.
+    /// The lists of the folders on the way that have patterns, from outer to inner, and behind them that of `info`.
     pub(crate) lists: Vec<List<AttributeLines>>,
-    /// The top and the folders on the way, from outer to inner, by their places in `known`.
-    way: Vec<usize>,
+    /// The attributes that are asked for, where not all are.
+    pub(crate) names: &'a [&'a [u8]],
+    pub(crate) macros: &'a MacroTable,
+    /// The path of the folder entered last, with a slash at its end; empty where that is the top.
+    folder: Vec<u8>,
+    /// The top and the folders on the way, from outer to inner.
+    way: Vec<Entered>,
     /// The folders that were looked at. The first is the top.
     known: Vec<KnownFolder>,
+}
+
+/// A folder on the way.
+#[derive(Clone, Copy)]
+struct Entered {
+    /// Its place among the known folders.
+    place: usize,
+    /// How many bytes of a path name it, with the slash at its end.
+    length: usize,
+    /// Whether its list is on the way: it has patterns.
+    has_list: bool,
 }
 
 /// What is known of a folder.
 #[derive(Drop)]
 struct KnownFolder {
-    /// Its list, while it isn't on the way. There is none where no folder stands there.
+    /// Whether a folder stands there.
+    is_there: bool,
+    /// Its list, where it has patterns, while it isn't on the way.
     list: Option<List<AttributeLines>>,
     /// The places of the folders in it that were looked at, by their names.
     inner: BTreeMap<Vec<u8>, usize>,
@@ -36,15 +55,28 @@ impl<'a, R: Files + Eprint> FolderAttributes<'a, R> {
     pub(crate) fn new(
         reader: AttributeReader<'a, R>,
         lists: Vec<List<AttributeLines>>,
+        names: &'a [&'a [u8]],
+        macros: &'a MacroTable,
     ) -> Result<FolderAttributes<'a, R>, AllocError> {
         let alloc = reader.alloc;
         let mut way = Vec::new(alloc);
-        way.push(0)?;
+        way.push(Entered {
+            place: 0,
+            length: 0,
+            has_list: false,
+        })?;
         let mut known = Vec::new(alloc);
-        known.push(KnownFolder::new(alloc, None))?;
+        known.push(KnownFolder {
+            is_there: true,
+            list: None,
+            inner: BTreeMap::new(alloc),
+        })?;
         Ok(FolderAttributes {
             reader,
             lists,
+            names,
+            macros,
+            folder: Vec::new(alloc),
             way,
             known,
         })
@@ -52,113 +84,135 @@ impl<'a, R: Files + Eprint> FolderAttributes<'a, R> {
 
     /// Goes to the folder that a path lies in, as far as there are folders: the lists are those on the way to it then.
     pub(crate) fn go_to(&mut self, path: &[u8]) -> Result<(), CheckFault> {
-        let start = self.leave_to(path);
-        'bytes: for place in start..path.len() {
-            if path[place] == b'/' && !self.enter(&path[..place])? {
+        if !path.starts_with(&self.folder) {
+            self.leave_to(path);
+        }
+        let mut start = self.folder.len();
+        'folders: while let Some(length) = memchr(b'/', &path[start..]) {
+            let end = start + length;
+            if !self.enter(&path[..end])? {
                 break;
             }
+            start = end + 1;
         }
         Ok(())
     }
 
-    /// Leaves the folders that aren't on the way to a path. The answer is how many of the path's bytes name the folder that is
-    /// entered then, with the slash at its end.
-    fn leave_to(&mut self, path: &[u8]) -> usize {
-        // no more folders can be left than were entered
-        'folders: for _ in 0..self.lists.len() {
-            let Some(place) = self.lists.len().checked_sub(2) else {
-                break;
-            };
-            if let Some(length) = length_on_the_way(&self.lists[place], path) {
-                return length;
+    /// Leaves the folders that aren't on the way to a path.
+    fn leave_to(&mut self, path: &[u8]) {
+        let alike = common_length(&self.folder, path);
+        'folders: while let Some(last) = self.way.last() {
+            if last.length <= alike {
+                self.folder.truncate(last.length);
+                return;
             }
-            let list = self.lists.remove(place);
-            self.keep(list);
+            self.leave();
         }
-        0
     }
 
     /// Leaves the folder entered last, and keeps its list.
-    fn keep(&mut self, list: List<AttributeLines>) {
-        if let Some(place) = self.way.pop()
-            && let Some(folder) = self.known.get_mut(place)
+    fn leave(&mut self) {
+        if let Some(last) = self.way.pop()
+            && last.has_list
+            && let Some(at) = self.lists.len().checked_sub(2)
+            && let Some(folder) = self.known.get_mut(last.place)
         {
-            folder.list = Some(list);
+            folder.list = Some(self.lists.remove(at));
         }
     }
 
-    /// Enters a folder. It answers whether there is one.
+    /// Enters a folder in the one entered last. It answers whether there is one.
     fn enter(&mut self, folder: &[u8]) -> Result<bool, CheckFault> {
         let place = match self.place_of(last_name(folder)) {
             Some(place) => place,
             None => self.look_at(folder)?,
         };
-        let Some(list) = self.take(place) else {
+        let Some(known) = self.known.get_mut(place) else {
             return Ok(false);
         };
-        self.way.push(place).map_err(|_| CheckFault::Memory)?;
-        let last = self.lists.len().saturating_sub(1);
-        self.lists
-            .insert(last, list)
-            .map_err(|_| CheckFault::Memory)?;
+        if !known.is_there {
+            return Ok(false);
+        }
+        let list = known.list.take();
+        self.put_on_the_way(place, folder, list)?;
         Ok(true)
+    }
+
+    /// Puts a folder on the way, behind the others, and its list where it has one.
+    fn put_on_the_way(
+        &mut self,
+        place: usize,
+        folder: &[u8],
+        list: Option<List<AttributeLines>>,
+    ) -> Result<(), AllocError> {
+        self.folder.clear();
+        self.folder.extend_from_slice(folder)?;
+        self.folder.push(b'/')?;
+        self.way.push(Entered {
+            place,
+            length: self.folder.len(),
+            has_list: list.is_some(),
+        })?;
+        if let Some(list) = list {
+            let last = self.lists.len().saturating_sub(1);
+            self.lists.insert(last, list)?;
+        }
+        Ok(())
     }
 
     /// The place of a folder of this name in the folder entered last; `None` where it wasn't looked at.
     fn place_of(&self, name: &[u8]) -> Option<usize> {
-        let outer = self.known.get(*self.way.last()?)?;
+        let outer = self.known.get(self.way.last()?.place)?;
         outer.inner.get(name).copied()
-    }
-
-    /// Takes the list of the folder at this place.
-    fn take(&mut self, place: usize) -> Option<List<AttributeLines>> {
-        self.known.get_mut(place)?.list.take()
     }
 
     /// Looks at a folder in the one entered last, and answers its place.
     fn look_at(&mut self, folder: &[u8]) -> Result<usize, CheckFault> {
-        let alloc = self.reader.alloc;
-        let list = self.reader.list_in(folder)?;
-        let name = Vec::from_slice(alloc, last_name(folder))?;
-        let place = self.known.len();
-        self.known
-            .push(KnownFolder::new(alloc, list))
-            .map_err(|_| CheckFault::Memory)?;
-        if let Some(outer) = self.way.last()
-            && let Some(outer) = self.known.get_mut(*outer)
+        let mut list = self.reader.list_in(folder)?;
+        if let Some(list) = &mut list
+            && self.reader.names.is_none()
         {
-            outer
-                .inner
-                .insert(name, place)
-                .map_err(|_| CheckFault::Memory)?;
+            keep_named(list, self.names, self.macros);
+        }
+        let place = self.remember(last_name(folder), list)?;
+        Ok(place)
+    }
+
+    /// Keeps what was found at a name in the folder entered last: the list of a folder, or that none stands there.
+    fn remember(
+        &mut self,
+        name: &[u8],
+        list: Option<List<AttributeLines>>,
+    ) -> Result<usize, AllocError> {
+        let alloc = self.reader.alloc;
+        let name = Vec::from_slice(alloc, name)?;
+        let place = self.known.len();
+        self.known.push(KnownFolder {
+            is_there: list.is_some(),
+            list: with_patterns(list),
+            inner: BTreeMap::new(alloc),
+        })?;
+        if let Some(outer) = self.way.last()
+            && let Some(outer) = self.known.get_mut(outer.place)
+        {
+            outer.inner.insert(name, place)?;
         }
         Ok(place)
     }
 }
 
-impl KnownFolder {
-    /// A folder of which none was looked at that lies in it.
-    fn new(alloc: Global, list: Option<List<AttributeLines>>) -> KnownFolder {
-        KnownFolder {
-            list,
-            inner: BTreeMap::new(alloc),
-        }
+/// The list, where it has patterns.
+fn with_patterns(list: Option<List<AttributeLines>>) -> Option<List<AttributeLines>> {
+    match list {
+        Some(list) if !list.patterns.is_empty() => Some(list),
+        _ => None,
     }
 }
 
-/// The name of a folder in the one that it lies in.
-fn last_name(folder: &[u8]) -> &[u8] {
-    match memrchr(b'/', folder) {
-        Some(at) => &folder[at + 1..],
-        None => folder,
-    }
-}
-
-/// How many bytes of a path name the folder of a list, with the slash at its end; `None` where the path doesn't lie there.
-fn length_on_the_way(list: &List<AttributeLines>, path: &[u8]) -> Option<usize> {
-    match &list.base {
-        Some(base) if path.starts_with(base) => Some(base.len()),
-        Some(_) => None,
-        None => Some(0),
+/// How many bytes from the front two texts have alike.
+fn common_length(left: &[u8], right: &[u8]) -> usize {
+    match left.iter().zip(right).position(|(a, b)| a != b) {
+        Some(place) => place,
+        None => left.len().min(right.len()),
     }
 }

@@ -3,7 +3,7 @@ ghost use Rattle.std.specs.Prelude.{◌≡◌, ◌∷◌, ◌++◌, ◌||◌, fa
 ghost use Rattle.std.specs.Option.{option_copied};
 ghost use Rattle.globtree.specs.Paths.{below, folder_of, folder_parts, goes_up, left_below, names_folder, parts_left, parts_of, seen_from, stays, step, steps_up, walk};
 
-use memchr::memchr;
+use memchr::{memchr, memrchr};
 use std::alloc::AllocError;
 
 /// Goes from `path` where the bytes lead. It answers whether they name a folder by their last part; `None` where they lead above
@@ -62,6 +62,14 @@ pub(crate) fn enter(path: &mut Vec<u8>, name: &[u8]) -> Result<(), AllocError>
         path.push(b'/')?;
     }
     path.extend_from_slice(name)
+}
+
+/// The last name of a path.
+pub(crate) fn last_name(path: &[u8]) -> &[u8] {
+    match memrchr(b'/', path) {
+        Some(at) => &path[at + 1..],
+        None => path,
+    }
 }
 
 /// Cuts the last name off.
