@@ -2,3 +2,4 @@
 pub mod Filling
 pub mod Narrowing
 pub mod Places
+pub mod Slots
