@@ -13,6 +13,7 @@ pub mod OneRowLemmas
 pub mod PatternLemmas
 pub mod PlaceLemmas
 pub mod RowLemmas
+pub mod SlotLemmas
 pub mod SpellingLemmas
 pub mod StartLemmas
 pub mod StateLemmas

@@ -18,6 +18,9 @@ pub(crate) fn fill_in<'a>(
 ) -> Result<Vec<&'a Assignment<Vec<u8>>>, AllocError>
     ensures { IfOk result (λ filled. IsFilledIn macros.now [] (reverse (map seen_entry row.entry.items)) (map seen_entry filled.items)) }
 {
+    if row.is_empty() {
+        return Ok(row);
+    }
     let mut marks = new_marks(alloc, macros.len())?;
     let mut filled = Vec::with_capacity(alloc, row.len())?;
     let mut left = row;

@@ -3,6 +3,7 @@ ghost use Rattle.std.specs.Prelude.{◌≡◌, ◌++◌, ◌<◌, IfOk, OnErr, O
 ghost use Rattle.glob_attributes.specs.Macros.{macros_of};
 ghost use Rattle.glob_attributes.specs.Views.{assignment_with, seen_macro};
 ghost use Rattle.glob_attributes.specs.Private.Filling.{HasLastPlaces, assignments_at, last_place};
+ghost use Rattle.glob_attributes.specs.Private.Slots.{HasSlots, slot_of};
 ghost use Rattle.std.specs.Vec.{vec_items};
 
 use crate::assignment::Assignment;
@@ -21,21 +22,21 @@ pub struct MacroTable {
     macros: Vec<Macro>,
     /// The place of the last macro of each name.
     places: Places,
-    /// Which slots names of macros have: most names that are none's are told by their slot.
+    /// Which slots the names of macros have. Most names that no macro has are known by their slot.
     slots: [bool; SLOTS],
 }
 
 impl Model for MacroTable {
     ghost use Rattle.std.specs.Prelude.{List, map};
     ghost use Rattle.glob_attributes.specs.Macros.{Definition};
+    ghost use Rattle.glob_attributes.specs.Private.Slots.{IsTable};
     ghost use Rattle.glob_attributes.specs.Views.{seen_macro};
-    ghost use Rattle.glob_attributes.specs.Private.Filling.{HasLastPlaces};
 
     ghost Value = { List Definition };
 
     ghost view = { λ table. map seen_macro table.macros.items };
 
-    ghost invariant = { λ table. HasLastPlaces table.places (map seen_macro table.macros.items) };
+    ghost invariant = { λ table. IsTable table.places table.slots (map seen_macro table.macros.items) };
 }
 
 impl MacroTable {
@@ -92,7 +93,7 @@ impl MacroTable {
     pub(crate) fn place_of(&self, name: &[u8]) -> Option<usize>
         ensures { result ≡ last_place name.now self.now }
     {
-        if !self.slots[slot_of(name)] {
+        if !self.slots[usize::from(slot_of(name))] {
             return None;
         }
         self.places.get(name)
@@ -119,18 +120,22 @@ fn last_places(alloc: Global, macros: &[Macro]) -> Result<Places, AllocError>
 }
 
 /// Which slots the names of macros have.
-fn slots_of(macros: &[Macro]) -> [bool; SLOTS] {
+fn slots_of(macros: &[Macro]) -> [bool; SLOTS]
+    ensures { HasSlots result (map seen_macro macros.now) }
+{
     let mut slots = [false; SLOTS];
-    'macros: for macro_ in macros {
-        slots[slot_of(&macro_.name)] = true;
+    'macros: for place in 0..macros.len() {
+        slots[usize::from(slot_of(&macros[place].name))] = true;
     }
     slots
 }
 
-/// The slot of a name, by its length, its first byte and its last.
-fn slot_of(name: &[u8]) -> usize {
-    match name {
-        [first, .., last] => (usize::from(*first) * 32 + usize::from(*last) + name.len() * 8) % SLOTS,
-        _ => 0,
-    }
+/// The slot of a name, by its first byte and its last.
+fn slot_of(name: &[u8]) -> u8
+    ensures { result ≡ slot_of name.now }
+{
+    let (Some(first), Some(last)) = (name.first(), name.last()) else {
+        return 0;
+    };
+    first.wrapping_mul(32).wrapping_add(*last)
 }

@@ -18,7 +18,7 @@ use glob_lists::{ListIndex, RepositoryPath, matches_into};
 use std::alloc::{AllocError, Global};
 use std::marker::Model;
 
-/// For how many matches and assignments memory is taken at once, which are enough for most paths.
+/// For how many matches memory is taken at once: enough for most paths.
 const FEW: usize = 16;
 
 /// What attribute files assign to a path. Contracts see all of it, with what macros put in, the strongest first.
@@ -55,7 +55,7 @@ impl<'a> PathAttributes<'a> {
     {
         let mut pairs = Vec::with_capacity(alloc, FEW)?;
         matches_into(lists, path, case, &mut pairs)?;
-        let mut row = Vec::with_capacity(alloc, FEW)?;
+        let mut row = Vec::new(alloc);
         push_row(&mut row, lists, &pairs)?;
         let filled = fill_in(alloc, row, macros)?;
         Ok(PathAttributes { filled })
@@ -78,7 +78,7 @@ impl<'a> PathAttributes<'a> {
     {
         let mut pairs = Vec::with_capacity(alloc, FEW)?;
         index.matches_into(path, &mut pairs)?;
-        let mut row = Vec::with_capacity(alloc, FEW)?;
+        let mut row = Vec::new(alloc);
         push_row(&mut row, index.lists(), &pairs)?;
         matches_into(stronger, path, index.case(), &mut pairs)?;
         push_row(&mut row, stronger, &pairs)?;

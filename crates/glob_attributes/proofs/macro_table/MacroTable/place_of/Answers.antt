@@ -1,0 +1,9 @@
+-- A name whose slot isn't taken is no macro's.
+use Rattle.std.proofs.Common.{false, ◌∙◌, ap, sym}
+use Rattle.std.specs.Prelude.{slice_index_or}
+use Rattle.glob_attributes.proofs.lemmas.SlotLemmas.{no_macro}
+use Rattle.glob_attributes.proofs.macro_table.MacroTable.place_of.Goals as goal
+
+pub returns-then-not-self-from : goal.returns-then-not-self-from
+returns-then-not-self-from c =
+    no_macro c.self.inside.slots c.args.self.now c.args.name.now c.self.invariant.taken ?
