@@ -2,8 +2,5 @@
 pub mod Filling
 pub mod Narrowing
 pub mod Places
-<<<<<<< HEAD
 pub mod Readings
-=======
 pub mod Slots
->>>>>>> 6377043ee759142c5b87cecaa274dc4902552a1e

@@ -171,23 +171,23 @@ module _ (lists : Lists) (path : Path) (case : Case) where
   -- a row is what the lists give, turned around
   pub given-row : (row : List Assigned) → IsRow lists path case row → (given : List Assigned) × (row ≡ reverse given) × ListsGive path case lists given
   given-row row h =
-      let from : AreFrom Answer 0 0 h.pairs = record {
-        each = h.matched.each;
-        rising = h.matched.rising;
+      let from : AreFrom Answer 0 0 h.0 = record {
+        each = h.1.each;
+        rising = h.1.rising;
         later = λ x pair at. from_start pair.0 pair.1;
-        all = λ j n after its. h.matched.all j n its;
+        all = λ j n after its. h.1.all j n its;
       } in
-      (gives h.pairs, h.turned, down_lists lists 0 (rest-all lists) h.pairs from)
+      (gives h.0, h.2, down_lists lists 0 (rest-all lists) h.0 from)
 
   pub row-given : (given : List Assigned) → ListsGive path case lists given → IsRow lists path case (reverse given)
   row-given given h =
       let all = up_lists lists 0 (rest-all lists) given h in
-      record {
-        pairs = all.found;
-        matched = record {
+      (
+        all.found,
+        record {
           each = all.from.each;
           rising = all.from.rising;
           all = λ i m its. all.from.all i m (from_start i m) its;
-        };
-        turned = ap reverse (sym all.is);
-      }
+        },
+        ap reverse (sym all.is),
+      )

@@ -94,12 +94,12 @@ module _ (names : List (Bor (List ℕ))) (macros : List Definition) where
     assigned_kept : (front after : Lists) (list : EntryList (List Assigned)) (filled : List Assigned) → IsAssigned (front ++ list ∷ after) macros path case filled
         → (kept : List Assigned) × IsAssigned (front ++ narrowed list ∷ after) macros path case kept × Thinned names macros filled kept
     assigned_kept front after list filled h =
-        let given = given-row (front ++ list ∷ after) path case h.row h.is_row in
+        let given = given-row (front ++ list ∷ after) path case h.0 h.1 in
         let some = lists_kept front after list given.0 given.2 in
         let thin = subst (λ l. Thinned names macros l (reverse some.0)) (sym given.1) (thinned-reverse names macros given.0 some.0 some.2) in
-        let all = filled-thinned names macros filled h.row (reverse some.0) [] [] h.filled_in (λ name is. refl) thin in (
+        let all = filled-thinned names macros filled h.0 (reverse some.0) [] [] h.2 (λ name is. refl) thin in (
           all.0,
-          record { row = reverse some.0; is_row = row-given (front ++ narrowed list ∷ after) path case some.0 some.1; filled_in = all.1 },
+          (reverse some.0, row-given (front ++ narrowed list ∷ after) path case some.0 some.1, all.1),
           all.2,
         )
 

@@ -1,8 +1,7 @@
 -- Rows that lack elements whose names are neither asked for nor a macro's: they are filled in alike, and give the asked names the same states.
-use Rattle.std.proofs.Common.{◌≡◌, ◌⊎◌, inl, inr, ⊎_elim, ℕ, Bool, true, false, not, ◌&&◌, ◌||◌, List, [], ◌∷◌, ◌++◌, map, reverse, Option, None, Some, Bor, refl, sym, subst, ap, ◌∙◌, append-nil}
+use Rattle.std.proofs.Common.{◌≡◌, ◌⊎◌, inl, inr, ⊎_elim, ℕ, Bool, true, false, ◌||◌, List, [], ◌∷◌, ◌++◌, map, reverse, Option, None, Some, Bor, refl, sym, subst, ap, ◌∙◌, append-nil}
 use Rattle.std.specs.Prelude.{if◌then◌else◌, is_some}
 use Rattle.std.specs.List.{list_any}
-use Rattle.std.specs.Option.{option_map_or}
 use Rattle.std.specs.Str.{bytes_eq}
 use Rattle.std.proofs.lemmas.Bool.{cases_Bool, false≢true}
 use Rattle.std.proofs.lemmas.List.{reverse-append}
@@ -10,7 +9,7 @@ use Rattle.std.proofs.lemmas.Slice.Eq.{bytes_eq-Decides}
 use Rattle.glob_attributes.specs.Macros.{Definition}
 use Rattle.glob_attributes.specs.Private.Filling.{last_place}
 use Rattle.glob_attributes.specs.Private.Narrowing.{assigns_named, is_named}
-use Rattle.glob_attributes.specs.States.{Assigned, IsFilledIn, is_set, last_named, put_in, state_in}
+use Rattle.glob_attributes.specs.States.{Assigned, IsFilledIn, given_by, put_in, state_in}
 use Rattle.glob_attributes.proofs.lemmas.FillingLemmas.{names as names_it, put_in-none, state_in-at}
 
 pub any-map : {X Y : Type 0} (f : X → Y) (test : Y → Bool) (xs : List X) → list_any test (map f xs) ≡ list_any (λ x. test (f x)) xs
@@ -83,8 +82,7 @@ module _ (names : List (Bor (List ℕ))) (macros : List Definition) where
   puts_same before left a agree =
       ⊎_elim
       (λ yes.
-      ap (λ b. if is_set a.state && not b then option_map_or (λ (macro : Definition). reverse macro.assignments) (last_named a.name macros) [] else [])
-      (agree a.name yes))
+      ap (λ b. if b then [] else given_by macros a.name a.state) (agree a.name yes))
       (λ no. puts_nothing before a no ∙ sym (puts_nothing left a no))
       (cases_Bool (counts a.name))
 
