@@ -9,7 +9,7 @@ use Rattle.std.proofs.lemmas.Slice.Eq.{bytes_eq-Decides}
 use Rattle.glob_attributes.specs.Macros.{Definition}
 use Rattle.glob_attributes.specs.Private.Filling.{last_place}
 use Rattle.glob_attributes.specs.Private.Slots.{HasSlots, slot_of}
-use Rattle.glob_attributes.proofs.lemmas.FillingLemmas.{IsMacroAt, last_place-cases}
+use Rattle.glob_attributes.proofs.lemmas.FillingLemmas.{IsMacroAt, last_named, last_place-cases}
 use Rattle.glob_attributes.proofs.lemmas.RowLemmas.{get-split}
 
 pub none_taken : (slots : List Bool) (macros : List Definition) → HasSlots slots (take 0 macros)
@@ -24,6 +24,10 @@ taken-set slots s t within (inr taken) =
     (λ other. get_or-set_other slots s t true false other ∙ taken)
     (cases_eq t s)
 
+only : (x y : Definition) (j : ℕ) → slice_get (x ∷ []) j ≡ Some y → x ≡ y
+only x y zero at = same_Some x y at
+only x y (suc j) at = absurd (none-some y at)
+
 pub slots-more : (slots : List Bool) (macros : List Definition) (m : ℕ) (macro : Definition) → slice_get macros m ≡ Some macro → m < length macros → slot_of macro.name < length slots
     → HasSlots slots (take m macros) → HasSlots (slice_set slots (slot_of macro.name) true) (take (m + 1) macros)
 slots-more slots macros m macro there within inside before = λ place other at.
@@ -34,17 +38,13 @@ slots-more slots macros m macro there within inside before = λ place other at.
     (λ back. taken-set slots (slot_of macro.name) (slot_of other.name) inside (inl (ap (λ (d : Definition). slot_of d.name) (sym (only macro other back.0 back.2)))))
     (get-split (take m macros) (macro ∷ []) place other (ap (λ l. slice_get l place) (sym grown) ∙ at))
 
-only : (x y : Definition) (j : ℕ) → slice_get (x ∷ []) j ≡ Some y → x ≡ y
-only x y zero at = same_Some x y at
-only x y (suc j) at = absurd (none-some y at)
-
 -- a name whose slot isn't taken is no macro's
-pub no_macro : (slots : List Bool) (macros : List Definition) (name : List ℕ) → HasSlots slots macros → slice_index_or slots (slot_of name) false ≡ false → None ≡ last_place name macros
-no_macro slots macros name taken free = no_macro_at slots macros name taken free (last_place name macros) (last_place-cases name macros)
-
 no_macro_at : (slots : List Bool) (macros : List Definition) (name : List ℕ) → HasSlots slots macros → slice_index_or slots (slot_of name) false ≡ false
-    → (o : Option ℕ) → MatchOption o _ (IsMacroAt macros name) → None ≡ o
+    → (o : Option ℕ) → MatchOption o (last_named name macros ≡ None) (IsMacroAt macros name) → None ≡ o
 no_macro_at slots macros name taken free None h = refl
 no_macro_at slots macros name taken free (Some p) h =
     let same = (bytes_eq-Decides h.macro.name name).0 h.named in
     absurd (false≢true (sym free ∙ ap (λ n. slice_index_or slots (slot_of n) false) (sym same) ∙ taken p h.macro h.there))
+
+pub no_macro : (slots : List Bool) (macros : List Definition) (name : List ℕ) → HasSlots slots macros → slice_index_or slots (slot_of name) false ≡ false → None ≡ last_place name macros
+no_macro slots macros name taken free = no_macro_at slots macros name taken free (last_place name macros) (last_place-cases name macros)

@@ -13,9 +13,9 @@ left-init c =
     let macros = c.args.macros.now in
     let marks : c.in_ok-marks.marks.items ≡ replicate (length macros) false = c.in_ok-marks.ensures ∙ ap (λ n. replicate n false) c.len.ensures in
     record {
-      marked = subst (λ told. AreMarked macros (reverse (map seen_entry told)) c.in_ok-marks.marks.items) (sym c.new-filled.ensures.items)
+      marked = subst (λ told. AreMarked macros (reverse (map seen_entry told)) c.in_ok-marks.marks.items) (sym c.in_ok-filled.ensures.items)
           (subst (AreMarked macros []) (sym marks) (marked-new macros));
-      filled_in = rw c.new-filled.ensures.items (λ more h. h);
+      filled_in = rw c.in_ok-filled.ensures.items (λ more h. h);
     }
 
 pub left-preserved : goal.left-preserved
