@@ -9,7 +9,7 @@ use std::alloc::{AllocError, Global};
 use std::collections::HashMap;
 
 /// The lists of folders that were left, each under its base. A folder that is entered again leaves its room here, so that to
-/// leave the folder takes no memory.
+/// leave the folder takes no memory. Bases share long beginnings, so a hash finds one in fewer steps than an order does.
 #[derive(Drop)]
 pub(crate) struct LeftLists<T: search::Pattern> {
     alloc: Global,

@@ -22,9 +22,6 @@ finds {Z} base = λ (key : Vec ℕ Z). bytes_eq base (vec_items key)
 pub found_bytes : {Z : Type 0} (base : List ℕ) (key : Vec ℕ Z) → finds base key ≡ true → base ≡ vec_items key
 found_bytes base key found = (bytes_eq-Decides base (vec_items key)).0 found
 
-pub finds_its_own : {Z : Type 0} (key : Vec ℕ Z) → finds (vec_items key) key ≡ true
-finds_its_own key = (bytes_eq-Decides (vec_items key) (vec_items key)).1 refl
-
 finds_one : {Z : Type 0} (base other : List ℕ) → ¬ (other ≡ base) → (key : Vec ℕ Z) → finds base key ≡ true → finds other key ≡ false
 finds_one base other apart key found =
     false_from_ne_true (finds other key) (λ too. apart (found_bytes other key too ∙ sym (found_bytes base key found)))
