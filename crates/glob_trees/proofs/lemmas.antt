@@ -14,6 +14,7 @@ pub mod OneMore
 pub mod RecordLemmas
 pub mod Rooms
 pub mod RunLemmas
+pub mod Settled
 pub mod Stepping
 pub mod StreamLemmas
 pub mod Topmost

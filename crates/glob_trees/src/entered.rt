@@ -1,11 +1,11 @@
 //! The folders on the way to the path that was asked last, with their lists, and those that were left.
-ghost use Rattle.std.specs.Prelude.{◌≡◌, ◌+◌, ◌<◌, ℕ, [], IfOk, IsSome, MatchOption, OnErr, OnOk, length, map, option_map, take};
+ghost use Rattle.std.specs.Prelude.{◌≡◌, ◌+◌, ◌<◌, ℕ, [], false, IfOk, IsSome, IsTrue, MatchOption, OnErr, OnOk, length, map, option_map, take};
 ghost use Rattle.std.specs.List.{Contains};
 ghost use Rattle.std.specs.Vec.{vec_items};
 ghost use Rattle.gix_glob.specs.Bytes.{HasByte, slash};
 ghost use Rattle.gix_glob.specs.EntryLists.{entry_list_of};
-ghost use Rattle.glob_trees.specs.Private.Entered.{AreOfFolders, EndsInFolder, IsFrontOf, IsReady, IsSomewhere, IsUnderWay, KeepsOn};
-ghost use Rattle.glob_trees.specs.Private.Left.{HasKept, HasRoom, KeepsLists};
+ghost use Rattle.glob_trees.specs.Private.Entered.{EndsInFolder, IsAsideOrNew, IsFrontOf, IsReady, IsSomewhere, IsUnderWay, KeepsOn};
+ghost use Rattle.glob_trees.specs.Private.Left.{HasMoreRooms, HasRoom};
 ghost use Rattle.glob_trees.specs.Trees.{DecidesInTree, Ignores};
 ghost use Rattle.glob_trees.specs.Ways.{AreOnTheWay, GivesOnly, GoesOn, IsAskedFor, IsListOf, folders_to};
 
@@ -17,7 +17,7 @@ use gix_glob::pattern::Case;
 use gix_glob::search;
 use gix_glob::search::pattern::List;
 use glob_lists::{RepositoryPath, decide};
-use std::alloc::Global;
+use std::alloc::{AllocError, Global};
 
 /// A source of lists, and the lists that it was asked for.
 #[derive(Drop)]
@@ -55,6 +55,11 @@ impl<T: search::Pattern, S: FolderLists<T>> Entered<T, S> {
             if bytes[place] != b'/' {
                 continue;
             }
+            // a folder that was left isn't ignored: it had been entered
+            let was_left = self.enter_again(bytes, place)?;
+            if was_left {
+                continue;
+            }
             if let Some(pair) = ignoring(&self.lists, &path.folder_before(place), self.case) {
                 return Ok(Some(pair));
             }
@@ -83,7 +88,32 @@ impl<T: search::Pattern, S: FolderLists<T>> Entered<T, S> {
         Ok(())
     }
 
-    /// Enters the folder that stands before the slash at a place of a path.
+    /// Enters the folder that stands before the slash at a place of a path, where its list was left. It answers whether it was.
+    ///
+    /// # Errors
+    /// Only where memory was refused.
+    fn enter_again(&mut self, path: &[u8], place: usize) -> Result<bool, AllocError>
+        requires slash { HasByte path.now place slash }
+        requires under { IsUnderWay (S.shows T.Seen) S.gave T.seen self.old (take place path.now) }
+        ensures entered { IfOk result (λ was_left. IsTrue was_left → IsUnderWay (S.shows T.Seen) S.gave T.seen self.new (take (place + 1) path.now)) }
+        ensures under { IfOk result (λ was_left. was_left ≡ false → IsUnderWay (S.shows T.Seen) S.gave T.seen self.new (take place path.now)) }
+        ensures none { IfOk result (λ was_left. was_left ≡ false → IsAsideOrNew self.new (take place path.now)) }
+        ensures fails { OnErr result (IsUnderWay (S.shows T.Seen) S.gave T.seen self.new (take place path.now)) }
+        ensures keeps { KeepsOn (S.shows T.Seen) self.old self.new }
+        ensures source { self.new.source ≡ self.old.source }
+    {
+        if place == 0 {
+            return Ok(false);
+        }
+        self.lists.reserve(1)?;
+        let Some(list) = self.left.take(&path[..place + 1]) else {
+            return Ok(false);
+        };
+        self.lists.push(list)?;
+        Ok(true)
+    }
+
+    /// Enters the folder that stands before the slash at a place of a path, and was never entered.
     ///
     /// # Errors
     /// Where the source fails, or memory was refused.
@@ -91,6 +121,7 @@ impl<T: search::Pattern, S: FolderLists<T>> Entered<T, S> {
         requires slash { HasByte path.now place slash }
         requires under { IsUnderWay (S.shows T.Seen) S.gave T.seen self.old (take place path.now) }
         requires kept { (pair : ℕ × ℕ) → ¬ Ignores (map (entry_list_of T.seen) self.old.lists.items) self.old.case (take place path.now) pair }
+        requires none { IsAsideOrNew self.old (take place path.now) }
         ensures entered { OnOk result (IsUnderWay (S.shows T.Seen) S.gave T.seen self.new (take (place + 1) path.now)) }
         ensures under { OnErr result (IsUnderWay (S.shows T.Seen) S.gave T.seen self.new (take place path.now)) }
         ensures keeps { KeepsOn (S.shows T.Seen) self.old self.new }
@@ -101,7 +132,7 @@ impl<T: search::Pattern, S: FolderLists<T>> Entered<T, S> {
             return Ok(());
         }
         self.lists.reserve(1)?;
-        let list = list_before(&mut self.source, &mut self.left, path, place)?;
+        let list = ask(&mut self.source, &mut self.left, path, place)?;
         self.lists.push(list).map_err(|_| TreeFault::Memory)?;
         Ok(())
     }
@@ -152,33 +183,26 @@ fn length_on_the_way<T: search::Pattern>(list: &List<T>, path: &[u8]) -> Option<
     }
 }
 
-/// The list of the folder that stands before the slash at a place of a path: the one that was left, or else the source's.
+/// The source's list of the folder that stands before the slash at a place of a path, with room for it among those that are left.
 ///
 /// # Errors
 /// Where the source fails, or memory was refused.
-fn list_before<T: search::Pattern, S: FolderLists<T>>(
+fn ask<T: search::Pattern, S: FolderLists<T>>(
     source: &mut S,
     left: &mut LeftLists<T>,
     path: &[u8],
     place: usize,
 ) -> Result<List<T>, TreeFault<S::Fault>>
     requires slash { HasByte path.now place slash }
-    requires left { AreOfFolders T.seen (S.shows T.Seen source.old) left.old.lists.entries }
-    requires once { S.gave source.old (take place path.now) → HasKept left.old.lists.entries (take (place + 1) path.now) }
+    requires once { ¬ S.gave source.old (take place path.now) }
     ensures list { IfOk result (λ list. IsListOf (S.shows T.Seen source.new) (take place path.now) (entry_list_of T.seen list)) }
-    ensures left { AreOfFolders T.seen (S.shows T.Seen source.new) left.new.lists.entries }
-    ensures kept { KeepsLists (take (place + 1) path.now) left.old.lists.entries left.new.lists.entries }
+    ensures more { HasMoreRooms left.old.lists.entries left.new.lists.entries }
     ensures room { OnOk result (HasRoom left.new.lists.entries (take (place + 1) path.now)) }
-    ensures none { OnErr result (¬ HasKept left.old.lists.entries (take (place + 1) path.now)) }
     ensures goes_on { GoesOn (S.shows T.Seen) source.old source.new }
     ensures gives { OnOk result (GivesOnly (λ given. given ≡ take place path.now) (S.gave source.old) (S.gave source.new)) }
     ensures fails { OnErr result (GivesOnly (λ _. ⊥) (S.gave source.old) (S.gave source.new)) }
 {
-    let base = &path[..place + 1];
-    if let Some(list) = left.take(base) {
-        return Ok(list);
-    }
-    left.make_room(base)?;
+    left.make_room(&path[..place + 1])?;
     let list = source.list_of(&path[..place]).map_err(TreeFault::Source)?;
     Ok(list)
 }

@@ -6,14 +6,14 @@ ghost use Rattle.glob_trees.specs.Private.Left.{FillsRoom, FillsRoomOf, HasKept,
 use gix_glob::search;
 use gix_glob::search::pattern::List;
 use std::alloc::{AllocError, Global};
-use std::collections::BTreeMap;
+use std::collections::HashMap;
 
 /// The lists of folders that were left, each under its base. A folder that is entered again leaves its room here, so that to
-/// leave the folder takes no memory.
+/// leave the folder takes no memory. Bases share long beginnings, so a hash finds one in fewer steps than an order does.
 #[derive(Drop)]
 pub(crate) struct LeftLists<T: search::Pattern> {
     alloc: Global,
-    lists: BTreeMap<Vec<u8>, Option<List<T>>>,
+    lists: HashMap<Vec<u8>, Option<List<T>>>,
 }
 
 impl<T: search::Pattern> LeftLists<T> {
@@ -23,7 +23,7 @@ impl<T: search::Pattern> LeftLists<T> {
     {
         LeftLists {
             alloc,
-            lists: BTreeMap::new(alloc),
+            lists: HashMap::new(alloc),
         }
     }
 

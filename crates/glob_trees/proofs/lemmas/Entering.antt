@@ -80,7 +80,7 @@ module _ {V : Type 0} (shows : List ℕ → EntryList V → Type 0) (case : Case
 -- ---- the last folder
 
 module _ {V : Type 0} (shows : List ℕ → EntryList V → Type 0) (case : Case) (n : ℕ) (lists : List (EntryList V)) (list : EntryList V) (front : List ℕ) (e : AreEntered shows n (lists ++ list ∷ []) case front) where
-  up_to : n ≤ length lists
+  pub up_to : n ≤ length lists
   up_to = let some = some_entered shows case (lists ++ list ∷ []) front n e in omega (arith, length-append lists (list ∷ []))
 
   zips : ZipsLast (IsListOf shows) (folders_to front) (drop n lists) list
@@ -95,6 +95,11 @@ module _ {V : Type 0} (shows : List ℕ → EntryList V → Type 0) (case : Case
 
   of_last : (h : HasLastFolder front) → IsListOf shows (h.first ∷ h.more) list
   of_last h = subst (λ f. IsListOf shows f list) (sym (ends h).1) zips.here
+
+  -- what it says of its own folder
+  last_says_nothing : (h : HasLastFolder front) → NothingLeft case list.base (h.first ∷ h.more)
+  last_says_nothing h =
+      subst (λ b. NothingLeft case b (h.first ∷ h.more)) (sym (of_last h).based) (nothing_left_shorter case ((h.first ∷ h.more) ++ slash ∷ []) (h.first ∷ h.more) (omega (arith, length-append (h.first ∷ h.more) (slash ∷ []))))
 
   last_left : (h : HasLastFolder front) → AreEntered shows n lists case (h.first ∷ h.more)
   last_left h = record {
@@ -126,6 +131,7 @@ module _ {V : Type 0} (shows : List ℕ → EntryList V → Type 0) (case : Case
     pub same_way : folders_to base ≡ folders_to front
     pub of : IsListOf shows folder list
     pub left : AreEntered shows n lists case folder
+    pub unignored : (pair : ℕ × ℕ) → ¬ Ignores lists case folder pair
     pub stays : AreEntered shows n (lists ++ list ∷ []) case base
 
   pub deepest : (base : List ℕ) → list.base ≡ Some base → HasDeepest base
@@ -141,6 +147,7 @@ module _ {V : Type 0} (shows : List ℕ → EntryList V → Type 0) (case : Case
         same_way = ap folders_to named ∙ folders_slash h.first h.more ∙ sym h.listed;
         of = of_last h;
         left = last_left h;
+        unignored = λ pair ignored. e.none (h.first ∷ h.more) pair h.above (ignores_more lists list case (h.first ∷ h.more) (last_says_nothing h) pair ignored);
         stays = subst (AreEntered shows n (lists ++ list ∷ []) case) (sym named) (last_stays h);
       })
       (last_folder front)

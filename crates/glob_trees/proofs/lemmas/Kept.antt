@@ -1,16 +1,14 @@
 -- What a map of bases has for each base after a call.
-use Rattle.std.proofs.Common.{◌≡◌, inl, inr, ⊎_elim, ℕ, Bool, true, false, cond, List, [], ◌∷◌, Option, None, Some, IsSome, Ordering, Less, Equal, Greater, Result, Ok, Err, OnOk, OnErr, nat_cmp, is_eq, sym, ap, subst, ◌∙◌, refl, Vec}
+use Rattle.std.proofs.Common.{◌≡◌, inl, inr, ⊎_elim, ℕ, Bool, true, false, cond, List, [], ◌∷◌, Option, None, Some, IsSome, sym, ap, subst, ◌∙◌, refl, Vec}
 use Rattle.std.specs.Prelude.{MatchOption, ◌⊎◌}
 use Rattle.std.specs.Option.{is_some}
 use Rattle.std.specs.Vec.{vec_items}
-use Rattle.std.specs.Map.{lookup, set_value}
-use Rattle.std.specs.BTreeMap.{insert_entry, is_at}
-use Rattle.std.specs.Cmp.Lexicographic.{slice_cmp}
-use Rattle.std.specs.Ordering.{match_ordering}
+use Rattle.std.specs.Map.{AreApart, IsKeyTest, KeepsOthers, lookup, set_value}
+use Rattle.std.specs.HashMap.{HashMap, Updates}
+use Rattle.std.specs.Str.{bytes_eq}
 use Rattle.std.specs.Bool.{Decides}
 use Rattle.std.proofs.lemmas.Bool.{false≢true, false_from_ne_true}
 use Rattle.std.proofs.lemmas.Map.Entries.{lookup_head, lookup_tail}
-use Rattle.std.proofs.lemmas.Map.Text.{is_eq-slice_cmp}
 use Rattle.std.proofs.lemmas.Option.{same_Some}
 use Rattle.std.proofs.lemmas.Slice.Eq.{bytes_eq-Decides}
 use Rattle.glob_trees.specs.Private.Left.{FillsRoom, HasKept, HasMoreRooms, HasRoom, HasSameRooms, IsKept, room_of}
@@ -19,13 +17,10 @@ use Rattle.glob_trees.specs.Private.Left.{FillsRoom, HasKept, HasMoreRooms, HasR
 
 -- whether a key has the bytes of a base
 abbrev pub finds : {Z : Type 0} → List ℕ → Vec ℕ Z → Bool
-finds {Z} base = is_at (λ (key : Vec ℕ Z). slice_cmp nat_cmp base (vec_items key))
+finds {Z} base = λ (key : Vec ℕ Z). bytes_eq base (vec_items key)
 
 pub found_bytes : {Z : Type 0} (base : List ℕ) (key : Vec ℕ Z) → finds base key ≡ true → base ≡ vec_items key
-found_bytes base key found = (bytes_eq-Decides base (vec_items key)).0 (sym (is_eq-slice_cmp base (vec_items key)) ∙ found)
-
-pub finds_its_own : {Z : Type 0} (key : Vec ℕ Z) → finds (vec_items key) key ≡ true
-finds_its_own key = is_eq-slice_cmp (vec_items key) (vec_items key) ∙ (bytes_eq-Decides (vec_items key) (vec_items key)).1 refl
+found_bytes base key found = (bytes_eq-Decides base (vec_items key)).0 found
 
 finds_one : {Z : Type 0} (base other : List ℕ) → ¬ (other ≡ base) → (key : Vec ℕ Z) → finds base key ≡ true → finds other key ≡ false
 finds_one base other apart key found =
@@ -69,28 +64,17 @@ module _ {K X : Type 0} (test : K → Bool) (now : X) where
 
 -- ---- an entry is inserted
 
-module _ {K X : Type 0} (cmp : K → K → Ordering) (key : K) (now : X) (test : K → Bool) where
-  module _ (own : test key ≡ true) (same : (k : K) → is_eq (cmp key k) ≡ test k) where
-    inserted_here_at : (e : K × X) (es : List (K × X)) → lookup test (insert_entry cmp es key now) ≡ Some now → (o : Ordering) → cmp key e.0 ≡ o
-        → lookup test (match_ordering o ((key, now) ∷ e ∷ es) ((e.0, now) ∷ es) (e ∷ insert_entry cmp es key now)) ≡ Some now
-    inserted_here_at e es rest Less is = lookup_head test (key, now) (e ∷ es) own
-    inserted_here_at e es rest Equal is = lookup_head test (e.0, now) es (sym (same e.0) ∙ ap is_eq is)
-    inserted_here_at e es rest Greater is = lookup_tail test e (insert_entry cmp es key now) (sym (same e.0) ∙ ap is_eq is) ∙ rest
+-- whether two keys have the same bytes
+abbrev same_bytes : {Z : Type 0} → Vec ℕ Z → Vec ℕ Z → Bool
+same_bytes a b = bytes_eq (vec_items a) (vec_items b)
 
-    inserted_here : (es : List (K × X)) → lookup test (insert_entry cmp es key now) ≡ Some now
-    inserted_here [] = lookup_head test (key, now) [] own
-    inserted_here (e ∷ es) = inserted_here_at e es (inserted_here es) (cmp key e.0) refl
+finds_one_key : {Z : Type 0} (base : List ℕ) → IsKeyTest same_bytes (finds {Z = Z} base)
+finds_one_key base x y found = ap (λ bytes. bytes_eq bytes (vec_items y)) (found_bytes base x found)
 
-  module _ (not_own : test key ≡ false) (apart : (k : K) → cmp key k ≡ Equal → test k ≡ false) where
-    inserted_other_at : (e : K × X) (es : List (K × X)) → lookup test (insert_entry cmp es key now) ≡ lookup test es → (o : Ordering) → cmp key e.0 ≡ o
-        → lookup test (match_ordering o ((key, now) ∷ e ∷ es) ((e.0, now) ∷ es) (e ∷ insert_entry cmp es key now)) ≡ lookup test (e ∷ es)
-    inserted_other_at e es rest Less is = lookup_tail test (key, now) (e ∷ es) not_own
-    inserted_other_at e es rest Equal is = lookup_tail test (e.0, now) es (apart e.0 is) ∙ sym (lookup_tail test e es (apart e.0 is))
-    inserted_other_at e es rest Greater is = ap (λ (o : Option X). cond (test e.0) (Some e.1) o) rest
-
-    inserted_other : (es : List (K × X)) → lookup test (insert_entry cmp es key now) ≡ lookup test es
-    inserted_other [] = lookup_tail test (key, now) [] not_own
-    inserted_other (e ∷ es) = inserted_other_at e es (inserted_other es) (cmp key e.0) refl
+other_rooms : {Z X : Type 0} (test : Vec ℕ Z → Bool) (old new : List (Vec ℕ Z × X)) → KeepsOthers same_bytes test old new
+    → (other : List ℕ) → AreApart test (finds other) → lookup (finds other) new ≡ lookup (finds other) old
+unfolding KeepsOthers
+other_rooms test old new keeps other apart = keeps (finds other) (finds_one_key other) apart
 
 -- ---- rooms
 
@@ -104,21 +88,15 @@ module _ {L Z : Type 0} where
   pub room_filled_at : (found base : List ℕ) (now : Option L) (old new : List (Vec ℕ Z × Option L)) → found ≡ base → HasRoom old base → new ≡ set_value (finds found) old now → FillsRoom base now old new
   room_filled_at found base now old new same room writes = room_filled base now old new room (writes ∙ ap (λ b. set_value (finds b) old now) same)
 
-  pub room_made : (key : Vec ℕ Z) (old new : List (Vec ℕ Z × Option L)) → room_of old (vec_items key) ≡ None → new ≡ insert_entry (λ (a b : Vec ℕ Z). slice_cmp nat_cmp (vec_items a) (vec_items b)) old key None
-      → (room_of new (vec_items key) ≡ Some None) × HasMoreRooms old new
-  room_made key old new none made =
-      let cmp : Vec ℕ Z → Vec ℕ Z → Ordering = λ a b. slice_cmp nat_cmp (vec_items a) (vec_items b) in
-      let here : room_of new (vec_items key) ≡ Some None =
-      ap (λ es. room_of es (vec_items key)) made ∙ inserted_here cmp key None (finds (vec_items key)) (finds_its_own key) (λ k. refl) old in (
-        here,
-        λ other. ⊎_elim
-            (λ (same : other ≡ vec_items key). inr (ap (room_of old) same ∙ none, ap (room_of new) same ∙ here))
-            (λ (apart : other ≡ vec_items key → ⊥). inl (
-            ap (λ es. room_of es other) made ∙
-            inserted_other cmp key None (finds other) (finds_one (vec_items key) other apart key (finds_its_own key)) (λ k equal. finds_one (vec_items key) other apart k (ap is_eq equal)) old
-            ))
-            (cases_bytes other (vec_items key)),
-      )
+  pub room_made : {S : Type 0} (key : Vec ℕ Z) (old new : HashMap (Vec ℕ Z) (Option L) S) → room_of old.entries (vec_items key) ≡ None → Updates same_bytes old new key (Some None)
+      → (room_of new.entries (vec_items key) ≡ Some None) × HasMoreRooms old.entries new.entries
+  room_made key old new none made = (
+    made.1,
+    λ other. ⊎_elim
+        (λ (same : other ≡ vec_items key). inr (ap (room_of old.entries) same ∙ none, ap (room_of new.entries) same ∙ made.1))
+        (λ (apart : other ≡ vec_items key → ⊥). inl (other_rooms (finds (vec_items key)) old.entries new.entries made.3 other (finds_one (vec_items key) other apart)))
+        (cases_bytes other (vec_items key)),
+  )
 
   -- a list is taken out of its room, or there was none
   pub taken : (base : List ℕ) (old new : List (Vec ℕ Z × Option L)) (result : Option L) → room_of old base ≡ Some result → FillsRoom base None old new

@@ -1,5 +1,5 @@
 -- What one call does to the folders that are entered, and what they then say of a path.
-use Rattle.std.proofs.Common.{◌≡◌, ◌⊎◌, inl, inr, ⊎_elim, ℕ, suc, ◌+◌, ◌-◌, ◌<◌, Bool, true, false, if◌then◌else◌, Result, Ok, Err, OnErr, List, [], ◌∷◌, ◌++◌, length, map, take, drop, Option, None, Some, IsSome, Vec, option_map, refl, sym, ap, subst, ◌∙◌, append_assoc, append-nil, length-take-le, take-suc, add-one, arith, slice_index}
+use Rattle.std.proofs.Common.{◌≡◌, ◌⊎◌, inl, inr, ⊎_elim, ℕ, suc, ◌+◌, ◌-◌, ◌<◌, ◌≤◌, Bool, true, false, if◌then◌else◌, Result, Ok, Err, OnErr, List, [], ◌∷◌, ◌++◌, length, map, take, drop, Option, None, Some, IsSome, Vec, option_map, refl, sym, ap, subst, ◌∙◌, append_assoc, append-nil, length-take-le, take-suc, add-one, arith, slice_index}
 use Rattle.std.specs.Prelude.{slice_get}
 use Rattle.std.specs.List.{AllZip, Contains}
 use Rattle.std.specs.Vec.{vec_items}
@@ -13,14 +13,15 @@ use Rattle.gix_glob.specs.Bytes.{HasByte, slash}
 use Rattle.gix_glob.specs.EntryLists.{EntryList, entry_list_of}
 use Rattle.glob_lists.specs.Deciding.{BasesAreFolders}
 use Rattle.glob_trees.specs.declared.entered.Entered.{Entered}
-use Rattle.glob_trees.specs.Private.Entered.{AreAtHand, AreEntered, AreOfFolders, HaveRooms, IsFresh, IsFrontOf, IsReady, IsSomewhere, KeepsOn}
-use Rattle.glob_trees.specs.Private.Left.{FillsRoom, HasRoom, IsKept}
+use Rattle.glob_trees.specs.Private.Entered.{AreAtHand, AreEntered, AreOfFolders, AreSettled, HaveRooms, IsFresh, IsFrontOf, IsReady, IsSomewhere, KeepsOn}
+use Rattle.glob_trees.specs.Private.Left.{FillsRoom, HasKept, HasMoreRooms, HasRoom, IsKept}
 use Rattle.glob_trees.specs.Trees.{Ignores, IsAbove}
 use Rattle.glob_trees.specs.Ways.{AreOnTheWay, IsListOf, folder_before, folders_from, folders_to}
 use Rattle.glob_trees.proofs.lemmas.AtHand.{at_hand_left, rooms_left}
-use Rattle.glob_trees.proofs.lemmas.Entering.{deepest, entered_byte, entered_folder, entered_slash, entered_top, some_entered, topmost, topmost_way}
+use Rattle.glob_trees.proofs.lemmas.Entering.{deepest, entered_byte, entered_folder, entered_slash, entered_top, some_entered, topmost, topmost_way, up_to}
 use Rattle.glob_trees.proofs.lemmas.OnWay.{on_way_more}
-use Rattle.glob_trees.proofs.lemmas.Rooms.{kept_or_put}
+use Rattle.glob_trees.proofs.lemmas.Rooms.{kept_before_room, kept_or_put}
+use Rattle.glob_trees.proofs.lemmas.Settled.{settled_again, settled_anew, settled_at_top, settled_left, settled_with_room, was_kept}
 use Rattle.glob_trees.proofs.lemmas.WayLemmas.{before_other, folders_more, folders_other, further}
 
 -- ---- lists and their ends
@@ -59,6 +60,11 @@ module _ {T X V : Type 0} (seen : X → V) (shows : List ℕ → EntryList V →
 
   -- ---- a folder is left
 
+  pub fronts_left : take n above ≡ take n lists
+  fronts_left =
+      let few = up_to shows case n (view seen above) (entry_list_of seen list) front at_last in
+      sym (ap (take n) joined ∙ take-append-le n above (list ∷ []) (omega (arith, length-map above (entry_list_of seen))))
+
   pub room_to_leave : {Z : Type 0} (entries : List (Vec ℕ Z × Option (patterns.List T X))) → HaveRooms entries front → (base : List ℕ) → option_map vec_items list.base ≡ Some base → HasRoom entries base
   room_to_leave entries rooms base is =
       let d = deepest shows case n (view seen above) (entry_list_of seen list) front at_last base is in
@@ -70,10 +76,11 @@ module _ {T X V : Type 0} (seen : X → V) (shows : List ℕ → EntryList V →
     pub of : AreOfFolders seen shows left
     pub rooms : HaveRooms left folder
     pub at_hand : AreAtHand gave left folder
+    pub settled : AreSettled seen n (view seen above) case left folder
 
-  pub leaving : {Z : Type 0} (gave : List ℕ → Type 0) (entries left : List (Vec ℕ Z × Option (patterns.List T X))) → AreOfFolders seen shows entries → HaveRooms entries front → AreAtHand gave entries front → IsSome (option_map vec_items list.base)
+  pub leaving : {Z : Type 0} (gave : List ℕ → Type 0) (entries left : List (Vec ℕ Z × Option (patterns.List T X))) → AreOfFolders seen shows entries → HaveRooms entries front → AreAtHand gave entries front → AreSettled seen n (view seen lists) case entries front → IsSome (option_map vec_items list.base)
       → ((base : List ℕ) → option_map vec_items list.base ≡ Some base → FillsRoom base (Some list) entries left) → HasLeft gave left
-  leaving gave entries left kept rooms at_hand some put =
+  leaving gave entries left kept rooms at_hand settled some put =
       let base = some_is (option_map vec_items list.base) some in
       let d = deepest shows case n (view seen above) (entry_list_of seen list) front at_last base.0 base.1 in
       let fills = put base.0 base.1 in
@@ -86,6 +93,9 @@ module _ {T X V : Type 0} (seen : X → V) (shows : List ℕ → EntryList V →
             (kept_or_put base.0 entries left list fills other l more);
         rooms = rooms_left base.0 entries left list fills front d.folder d.named d.listed rooms;
         at_hand = at_hand_left base.0 entries left list fills front d.folder d.named d.listed gave at_hand;
+        settled = settled_left seen n case (view seen above) (entry_list_of seen list) (up_to shows case n (view seen above) (entry_list_of seen list) front at_last) front d.folder d.listed d.unignored entries left list refl
+            (subst (λ b. FillsRoom b (Some list) entries left) d.named fills)
+            (subst (λ ls. AreSettled seen n ls case entries front) (view_last seen lists above list joined) settled);
       }
 
   -- ---- no folder has to be left
@@ -134,6 +144,34 @@ module _ {T X V : Type 0} (seen : X → V) (shows : List ℕ → EntryList V →
       let none : take place path ≡ [] = ap (λ k. take k path) first in
       subst (AreEntered shows n (view seen lists) case) (sym (slash_next path place here ∙ ap (λ f. f ++ slash ∷ []) none))
       (entered_slash shows case n (view seen lists) (subst (AreEntered shows n (view seen lists) case) none e) (λ pair ignored. kept pair (subst (λ f. Ignores (view seen lists) case f pair) (sym none) ignored)))
+
+-- no list more is kept where a room is made
+pub of_folders_with_room : {T X V Z : Type 0} (seen : X → V) (shows : List ℕ → EntryList V → Type 0) (old new : List (Vec ℕ Z × Option (patterns.List T X))) → HasMoreRooms old new → AreOfFolders seen shows old → AreOfFolders seen shows new
+of_folders_with_room seen shows old new more of = λ base list kept. of base list (kept_before_room base old old new (λ _. refl) more base list kept)
+
+-- some list stands past the first ones, which stay so many
+pub some_before : {T X V : Type 0} (seen : X → V) (shows : List ℕ → EntryList V → Type 0) (case : Case) (n : ℕ) (lists : List (patterns.List T X)) (front : List ℕ) → AreEntered shows n (view seen lists) case front → n ≤ length (view seen lists)
+some_before seen shows case n lists front e = let some = some_entered shows case (view seen lists) front n e in omega arith
+
+-- what is known where a folder is entered
+module _ {T X V Z : Type 0} (seen : X → V) (n : ℕ) (case : Case) (lists : List (patterns.List T X)) (list : patterns.List T X) (few : n ≤ length (view seen lists)) (old new : List (Vec ℕ Z × Option (patterns.List T X))) where
+  view_more : view seen (lists ++ list ∷ []) ≡ view seen lists ++ entry_list_of seen list ∷ []
+  view_more = map-append (entry_list_of seen) lists (list ∷ [])
+
+  pub known_anew : (front : List ℕ) → ¬ (front ≡ []) → HasMoreRooms old new → ¬ HasKept old (front ++ slash ∷ []) → AreSettled seen n (view seen lists) case old front
+      → AreSettled seen n (view seen (lists ++ list ∷ [])) case new (front ++ slash ∷ [])
+  known_anew [] some more none s = absurd (some refl)
+  known_anew (x ∷ xs) some more none s =
+      subst (λ ls. AreSettled seen n ls case new ((x ∷ xs) ++ slash ∷ [])) (sym view_more)
+      (settled_anew seen n case (view seen lists) (entry_list_of seen list) few x xs new (λ kept. none (was_kept seen n case old new more ((x ∷ xs) ++ slash ∷ []) kept))
+      (settled_with_room seen n case old new more (x ∷ xs) none (view seen lists) (x ∷ xs) s))
+
+  pub known_again : (front : List ℕ) → ¬ (front ≡ []) → FillsRoom (front ++ slash ∷ []) None old new → IsKept old (front ++ slash ∷ []) list → AreSettled seen n (view seen lists) case old front
+      → AreSettled seen n (view seen (lists ++ list ∷ [])) case new (front ++ slash ∷ [])
+  known_again [] some fills is s = absurd (some refl)
+  known_again (x ∷ xs) some fills is s =
+      subst (λ ls. AreSettled seen n ls case new ((x ∷ xs) ++ slash ∷ [])) (sym view_more)
+      (settled_again seen n case (view seen lists) (entry_list_of seen list) few x xs old new fills list refl is s)
 
 -- ---- what the source shows on
 
@@ -211,6 +249,12 @@ module _ {T X V : Type 0} (seen : X → V) (shows : List ℕ → EntryList V →
       subst (λ k. AreEntered shows k (map (entry_list_of seen) (lists ++ list ∷ [])) case []) (length-map lists (entry_list_of seen) ∙ count)
       (subst (λ ls. AreEntered shows (length (map (entry_list_of seen) lists)) ls case []) (sym (map-append (entry_list_of seen) lists (list ∷ [])))
       (entered_top shows case (map (entry_list_of seen) lists) (entry_list_of seen list) bases of))
+
+pub starting_settled : {T X V Z : Type 0} (seen : X → V) (case : Case) (n : ℕ) (lists : List (patterns.List T X)) (list : patterns.List T X) (entries : List (Vec ℕ Z × Option (patterns.List T X))) → length lists ≡ n → ((base : List ℕ) → ¬ HasKept entries base)
+    → AreSettled seen n (map (entry_list_of seen) (lists ++ list ∷ [])) case entries []
+starting_settled seen case n lists list entries count none =
+    subst (λ ls. AreSettled seen n ls case entries []) (sym (map-append (entry_list_of seen) lists (list ∷ [])))
+    (settled_at_top seen n case (map (entry_list_of seen) lists) (entry_list_of seen list) entries (length-map lists (entry_list_of seen) ∙ count) none)
 
 pub fresh_yet : {S T X F V : Type 0} (shows : S → List ℕ → EntryList V → Type 0) (gave : S → List ℕ → Type 0) (seen : X → V) (entered : Entered T S X F) → IsReady shows gave seen entered → ¬ (entered.front_count < length entered.lists.items)
     → IsFresh shows gave seen entered

@@ -10,7 +10,7 @@ use Rattle.gix_glob.specs.EntryLists.{EntryList, entry_list_of}
 use Rattle.glob_lists.specs.Deciding.{BasesAreFolders}
 use Rattle.glob_trees.specs.declared.entered.Entered.{Entered}
 use Rattle.glob_trees.specs.Private.Left.{HasKept, HasRoom, IsKept}
-use Rattle.glob_trees.specs.Trees.{HasNoneIgnored}
+use Rattle.glob_trees.specs.Trees.{HasNoneIgnored, Ignores}
 use Rattle.glob_trees.specs.Ways.{GoesOn, IsListOf, folders_to}
 
 -- The lists past the first `front_count` are those of the folders on the way to what lies at the front of a path, and none of
@@ -33,6 +33,15 @@ HaveRooms entries front = (folder : List ℕ) → Contains (folders_to front) fo
 abbrev pub AreAtHand : {L Z : Type 0} → (List ℕ → Type 0) → List (Vec ℕ Z × Option L) → List ℕ → Type 0
 AreAtHand gave entries front = (folder : List ℕ) → gave folder → Contains (folders_to front) folder ⊎ HasKept entries (folder ++ slash ∷ [])
 
+-- What is known of the folders whose lists are at hand: the list of each, of those on the way past the first `front_count`, and of
+-- those that were left. Each of these lies in folders whose lists are at hand too, and is ignored by none of the lists on the way to it.
+pub record AreSettled {T X V Z : Type 0} (seen : X → V) (front_count : ℕ) (lists : List (EntryList V)) (case : Case) (entries : List (Vec ℕ Z × Option (patterns.List T X))) (front : List ℕ) : Type 0 where
+  pub known : List ℕ → EntryList V
+  pub entered : lists ≡ take front_count lists ++ map known (folders_to front)
+  pub kept : (folder : List ℕ) (list : patterns.List T X) → IsKept entries (folder ++ slash ∷ []) list → entry_list_of seen list ≡ known folder
+  pub above : (folder : List ℕ) → HasKept entries (folder ++ slash ∷ []) → (higher : List ℕ) → Contains (folders_to folder) higher → Contains (folders_to front) higher ⊎ HasKept entries (higher ++ slash ∷ [])
+  pub unignored : (folder : List ℕ) → HasKept entries (folder ++ slash ∷ []) → (pair : ℕ × ℕ) → ¬ Ignores (take front_count lists ++ map known (folders_to folder)) case folder pair
+
 -- the base of a list is how the path begins, up to this place: the folder of the list is on the way to the path
 abbrev pub IsFrontOf : Option (List ℕ) → List ℕ → ℕ → Type 0
 IsFrontOf None path count = count ≡ 0
@@ -49,6 +58,7 @@ module _ {S T X F V : Type 0} (shows : S → List ℕ → EntryList V → Type 0
     pub left : AreOfFolders seen (shows entered.source) entered.left.lists.entries
     pub rooms : HaveRooms entered.left.lists.entries front
     pub at_hand : AreAtHand (gave entered.source) entered.left.lists.entries front
+    pub settled : AreSettled seen entered.front_count (map (entry_list_of seen) entered.lists.items) entered.case entered.left.lists.entries front
 
   -- the folders on the way to something are entered
   abbrev pub IsSomewhere : Entered T S X F → Type 0
@@ -64,6 +74,10 @@ module _ {S T X F V : Type 0} (shows : S → List ℕ → EntryList V → Type 0
   -- nothing was asked yet, or the folders on the way to something are entered
   abbrev pub IsReady : Entered T S X F → Type 0
   IsReady entered = IsFresh entered ⊎ IsSomewhere entered
+
+-- the folder is the top, or no list of it was left
+abbrev pub IsAsideOrNew : {S T X F : Type 0} → Entered T S X F → List ℕ → Type 0
+IsAsideOrNew entered folder = ¬ (folder ≡ []) → ¬ HasKept entered.left.lists.entries (folder ++ slash ∷ [])
 
 -- what stays from call to call: the lists that stand before those of all folders, the case, and what the source showed
 pub record KeepsOn {S T X F V : Type 0} (shows : S → List ℕ → EntryList V → Type 0) (old new : Entered T S X F) : Type 0 where

@@ -1,16 +1,14 @@
 -- The lists of folders that were left, each in the room of its base.
 use Rattle.std.specs.Prelude.{◌≡◌, ◌⊎◌, ℕ, List, Option, None, Some, IsSome}
 use Rattle.std.specs.Prelude.{Vec}
-use Rattle.std.specs.BTreeMap.{is_at}
-use Rattle.std.specs.Cmp.Lexicographic.{slice_cmp}
 use Rattle.std.specs.Map.{lookup}
-use Rattle.std.specs.Ordering.{nat_cmp}
+use Rattle.std.specs.Str.{bytes_eq}
 use Rattle.std.specs.Vec.{vec_items}
 
 module _ {L Z : Type 0} where
   -- the room for a base, where there is one, and the list in it
   abbrev pub room_of : List (Vec ℕ Z × Option L) → List ℕ → Option (Option L)
-  room_of entries base = lookup (is_at (λ (key : Vec ℕ Z). slice_cmp nat_cmp base (vec_items key))) entries
+  room_of entries base = lookup (λ (key : Vec ℕ Z). bytes_eq base (vec_items key)) entries
 
   -- there is room for the list of a base
   abbrev pub HasRoom : List (Vec ℕ Z × Option L) → List ℕ → Type 0

@@ -2,10 +2,10 @@
 use Rattle.std.proofs.Common.{rules, ◌≡◌, ◌++◌, ◌∷◌, [], Ok, IfOk, OnOk, inl, inr, map, option_map, is_ok, ap, sym, subst, ◌∙◌, arith}
 use Rattle.std.specs.Vec.{vec_items}
 use Rattle.gix_glob.specs.EntryLists.{entry_list_of}
-use Rattle.glob_trees.specs.Private.Entered.{AreEntered}
+use Rattle.glob_trees.specs.Private.Entered.{AreEntered, AreSettled}
 use Rattle.glob_trees.specs.Ways.{GivesOnly, base_of_folder}
 use Rattle.glob_trees.proofs.lemmas.AtHand.{at_hand_at_top, rooms_at_top}
-use Rattle.glob_trees.proofs.lemmas.Stepping.{entered_yet, fresh_yet, pushed, starting}
+use Rattle.glob_trees.proofs.lemmas.Stepping.{entered_yet, fresh_yet, pushed, starting, starting_settled}
 use Rattle.glob_trees.proofs.entered.Entered.enter_top.Goals as goal
 
 pub returns-clause-under : goal.returns-clause-under
@@ -28,6 +28,8 @@ returns-clause-under g c =
             (starting seen new old.case old.front_count old.lists.items c.in_ok-list.list fresh.count fresh.bases (record { shown = shown; based = based }));
         left = λ base list kept. absurd (fresh.none_kept base (list, kept));
         rooms = rooms_at_top old.left.lists.entries;
+        settled = subst (λ ls. AreSettled seen old.front_count (map (entry_list_of seen) ls) old.case old.left.lists.entries []) (sym items)
+            (starting_settled seen old.case old.front_count old.lists.items c.in_ok-list.list old.left.lists.entries fresh.count fresh.none_kept);
         at_hand = at_hand_at_top old.left.lists.entries (gave old.source) (gave c.list_of.new.self) fresh.none_given gives;
       },
     )

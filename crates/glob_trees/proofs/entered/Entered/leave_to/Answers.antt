@@ -1,7 +1,9 @@
 -- The last list tells whether its folder is on the way.
-use Rattle.std.proofs.Common.{ap, sym, take, ◌∙◌}
+use Rattle.std.proofs.Common.{ap, map, sym, take, ◌∙◌}
 use Rattle.std.specs.Option.{option_copied}
 use Rattle.glob_trees.proofs.lemmas.AtHand.{at_hand_same_way, rooms_same_way}
+use Rattle.gix_glob.specs.EntryLists.{entry_list_of}
+use Rattle.glob_trees.proofs.lemmas.Settled.{settled_same_way}
 use Rattle.glob_trees.proofs.lemmas.Stepping.{last_splits, same_way, staying}
 use Rattle.glob_trees.proofs.entered.Entered.leave_to.Goals as goal
 
@@ -21,6 +23,7 @@ returns-in-Some-length_on_the_way-clause-under g c =
       left = under.1.left;
       rooms = rooms_same_way c.folders.self.left.lists.entries (g.S.FolderLists.gave c.folders.self.source) under.0 (take length c.args.path.now) same under.1.rooms;
       at_hand = at_hand_same_way c.folders.self.left.lists.entries (g.S.FolderLists.gave c.folders.self.source) under.0 (take length c.args.path.now) same under.1.at_hand;
+      settled = settled_same_way g.T.Pattern.seen c.folders.self.front_count c.folders.self.case (map (entry_list_of g.T.Pattern.seen) c.folders.self.lists.items) c.folders.self.left.lists.entries under.0 (take length c.args.path.now) same under.1.settled;
     }
 
 pub leave-requires-clause-deep : goal.leave-requires-clause-deep
