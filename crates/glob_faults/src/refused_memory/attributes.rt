@@ -1,8 +1,7 @@
 //! Attribute files, which want memory for what their lines assign.
 use gix_glob::pattern::Case;
-use gix_glob::search::Watched;
-use gix_glob::search::has_file_part;
 use gix_glob::search::pattern::List;
+use gix_glob::search::{Watched, has_file_part};
 use glob_attributes::{
     AttributeLines, AttributeNames, AttributeQuery, MacroTable, PathAttributes, Silence, State,
     run_attributes, silent_lines,

@@ -109,7 +109,13 @@ fn paths_of_streams(rt: HostRuntime) -> Result<(), Fail> {
         let run = run_attributes(rt.alloc(), &query, &mut reader, &mut writer);
         same(&rt, run.is_ok(), true, "no fault", paths);
         let written = writer.into_inner();
-        same(&rt, written.as_slice(), wanted, "the states for", (files, paths));
+        same(
+            &rt,
+            written.as_slice(),
+            wanted,
+            "the states for",
+            (files, paths),
+        );
     }
     Ok(())
 }
