@@ -1,4 +1,5 @@
 pub mod Assignments
+pub mod Borrowed
 pub mod Equations
 pub mod Files
 pub mod Heads

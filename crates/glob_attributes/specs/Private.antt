@@ -1,3 +1,5 @@
 -- Words that only private clauses cite: what the functions of the crate say to one another.
+pub mod Behind
 pub mod Filling
 pub mod Places
+pub mod Telling

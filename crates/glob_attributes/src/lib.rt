@@ -2,6 +2,7 @@
 #![tactic(auto)]
 
 mod assignment;
+pub mod borrowed;
 mod filling;
 mod head;
 pub mod laws;
@@ -23,6 +24,6 @@ pub use macro_table::MacroTable;
 pub use macros::{Macro, macros_of};
 pub use name::is_name;
 pub use names::AttributeNames;
-pub use parser::AttributeLines;
+pub use parser::{AttributeLines, FILE_LIMIT};
 pub use silences::{SilentLine, silent_lines};
 pub use states::PathAttributes;

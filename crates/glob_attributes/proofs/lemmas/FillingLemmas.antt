@@ -219,7 +219,7 @@ drop-at (z ∷ xs) zero x there = ap (λ y. y ∷ xs) (same_Some z x there)
 drop-at (z ∷ xs) (suc i) x there = drop-at xs i x there
 
 -- what decides, from a place on
-state_in-first : (a : Assigned) (rest : List Assigned) (name : List ℕ) (b : Bool) → bytes_eq a.name name ≡ b → state_in (a ∷ rest) name ≡ (if b then a.state else state_in rest name)
+pub state_in-first : (a : Assigned) (rest : List Assigned) (name : List ℕ) (b : Bool) → bytes_eq a.name name ≡ b → state_in (a ∷ rest) name ≡ (if b then a.state else state_in rest name)
 state_in-first a rest name true is = ap (λ b. option_map_or (λ (x : Assigned). x.state) (if b then Some a else first_named name rest) Unspecified) is
 state_in-first a rest name false is = ap (λ b. option_map_or (λ (x : Assigned). x.state) (if b then Some a else first_named name rest) Unspecified) is
 

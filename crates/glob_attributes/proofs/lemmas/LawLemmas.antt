@@ -22,7 +22,7 @@ use Rattle.std.proofs.lemmas.List.{length-reverse}
 -- ---- how long a row gets
 
 -- after one assignment more, what it puts in counts no more
-record Step (macros : List Definition) (before : List Assigned) (marks : List Bool) (a : Assigned) : Type 0 where
+pub record Step (macros : List Definition) (before : List Assigned) (marks : List Bool) (a : Assigned) : Type 0 where
   pub new : List Bool
   pub marked : AreMarked macros (a ∷ before) new
   pub less : length (put_in macros before a) + unmarked macros new ≤ unmarked macros marks
@@ -45,13 +45,13 @@ module _ (macros : List Definition) (before : List Assigned) (marks : List Bool)
       record { new = marks; marked = marked-same macros before marks a p marked is there; less = omega (arith, long) }
   step_at p is false there = step_fresh p is there (is_set a.state) refl
 
-  step : (o : Option ℕ) → last_place a.name macros ≡ o → Step macros before marks a
+  pub step : (o : Option ℕ) → last_place a.name macros ≡ o → Step macros before marks a
   step None is =
       let long = ap length (put_in-none macros before a is) in
       record { new = marks; marked = marked-none macros before marks a marked is; less = omega (arith, long) }
   step (Some p) is = step_at p is (list_any (names a.name) before) (marked.each a.name p is)
 
-length-put : (gave rest : List Assigned) → length (gave ++ rest) ≡ length gave + length rest
+pub length-put : (gave rest : List Assigned) → length (gave ++ rest) ≡ length gave + length rest
 length-put [] rest = omega arith
 length-put (a ∷ gave) rest = let more = length-put gave rest in omega (arith, more)
 
