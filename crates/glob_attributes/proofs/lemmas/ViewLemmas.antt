@@ -2,13 +2,14 @@
 use Rattle.std.proofs.Common.{◌≡◌, ⊎_elim, ℕ, suc, ◌+◌, ◌-◌, Bool, true, false, cond, not, List, [], ◌∷◌, ◌++◌, length, take, drop, Option, None, Some, refl, sym, ap, subst, ◌∙◌, arith}
 use Rattle.std.specs.Prelude.{◌&&◌, ◌||◌, ◌==◌, nat_eq, codes}
 use Rattle.std.specs.List.{ends_with, list_any, starts_with}
+use Rattle.std.specs.Str.{bytes_eq}
 use Rattle.std.proofs.lemmas.Bool.{cases_Bool, false≢true, lt-ltb}
 use Rattle.std.proofs.lemmas.Bool.Decides.{Decides-eqb}
 use Rattle.std.proofs.lemmas.List.{take_at}
 use Rattle.std.proofs.lemmas.Slice.Eq.{starts_is}
 use Rattle.gix_glob.specs.Bytes.{has_slash, is_special}
 use Rattle.gix_glob.specs.declared.pattern.Mode.{Mode}
-use Rattle.gix_glob.specs.Patterns.{IsPattern, Reads, bits_of, first_special, is_by_its_end, is_star_and_literal, sign_of, slash_if, without_negation}
+use Rattle.gix_glob.specs.Patterns.{IsPattern, Reads, bits_of, first_special, is_star_and_literal, sign_of, slash_if, without_negation}
 use lib.Pointwise.{pointwise}
 
 pub without_negation-none : (bytes : List ℕ) → starts_with nat_eq bytes (codes "!") ≡ false → without_negation bytes ≡ bytes
@@ -75,7 +76,7 @@ module _ (x : ℕ) (more text : List ℕ) (mode : Mode) (place : Option ℕ) (h 
     trails = h.trails ∙ ap (λ l. slash_if (ends_with nat_eq l (codes "/"))) body ∙ ap slash_if (sym (ends_with-cons 92 x more))
         ∙ ap (λ l. slash_if (ends_with nat_eq (92 ∷ l) (codes "/"))) (sym body);
     bits = h.bits ∙ ap (λ s. bits_of s h.lead text h.tail) signed ∙ ap (λ l. bits_of (92 ∷ []) l text h.tail) no_lead
-        ∙ ap (λ (t : Bool). ((((cond (has_slash text) 0 1) + (cond t 2 0)) + _) + 0) + 0) plain;
+        ∙ ap (λ (t : Bool). ((((cond (has_slash text) 0 1) + (cond t 2 0)) + cond (bytes_eq h.tail (codes "/")) 4 0) + 0) + 0) plain;
     placed = sym (special_first text);
   }
 

@@ -1,5 +1,5 @@
 -- What is left of the line behind its blanks decides what it gives.
-use Rattle.std.proofs.Common.{◌≡◌, ◌∙◌, ap, subst, sym}
+use Rattle.std.proofs.Common.{◌∙◌, subst, sym}
 use Rattle.glob_attributes.specs.Borrowed.{GivesParts}
 use Rattle.glob_attributes.specs.Readings.{Gives}
 use Rattle.glob_attributes.proofs.lemmas.LineLemmas.{IsInner, gives-macro, gives-nothing, gives-pattern, gives-too_long}

@@ -1,10 +1,9 @@
 -- An escaped sign is taken back, and white space has no special byte.
-use Rattle.std.proofs.Common.{◌≡◌, ◌∙◌, ap, refl, sym, subst, true}
-use Rattle.std.specs.Option.{IsNone}
+use Rattle.std.proofs.Common.{◌≡◌, ◌∙◌, inl, ap, refl, sym, true}
 use Rattle.std.proofs.lemmas.Bool.{false≢true}
 use Rattle.gix_glob.specs.Patterns.{is_blank}
 use Rattle.glob_attributes.proofs.lemmas.PatternLemmas.{first_special-blank}
-use Rattle.glob_attributes.proofs.lemmas.ViewLemmas.{IsEscapedReading, escaped_reading, without_negation-none}
+use Rattle.glob_attributes.proofs.lemmas.ViewLemmas.{escaped_reading, without_negation-none}
 use Rattle.glob_attributes.proofs.borrowed.view.view_of.Goals as goal
 
 pub returns-in_default-clause-lawful : goal.returns-in_default-clause-lawful
@@ -15,7 +14,7 @@ returns-in_default-clause-lawful c =
 
 pub returns-clause-reads : goal.returns-clause-reads
 returns-clause-reads c =
-    (escaped_reading c.args.bytes.now c.in-Some.view.text.now c.in-Some.view.mode c.in-Some.view.first_wildcard_pos (sym c.is_escaped.ensures ∙ c.if-not-is_escaped.false) c.in-Some.ensures.reads).reads
+    inl (escaped_reading c.args.bytes.now c.in-Some.view.text.now c.in-Some.view.mode c.in-Some.view.first_wildcard_pos (sym c.is_escaped.ensures ∙ c.if-not-is_escaped.false) c.in-Some.ensures.reads).reads
 
 pub returns-clause-lawful : goal.returns-clause-lawful
 returns-clause-lawful c =
