@@ -24,11 +24,35 @@ const NO_MACRO: TextMacro<'static> = TextMacro {
 fn lines_give_patterns(rt: HostRuntime) {
     // what is left of the text after a line of this number, the pattern's text, mode and first special byte, and the words
     let rows: [(&[u8], usize, usize, &[u8], u32, usize, &[u8]); 12] = [
-        (b"\xef\xbb\xbf*.c text -diff\r\nx", 0, 1, b"*.c", 3, 0, b" text -diff"),
-        (b"\xef\xbb\xbfx a", 1, 0, b"\xef\xbb\xbfx", 1, usize::MAX, b" a"),
+        (
+            b"\xef\xbb\xbf*.c text -diff\r\nx",
+            0,
+            1,
+            b"*.c",
+            3,
+            0,
+            b" text -diff",
+        ),
+        (
+            b"\xef\xbb\xbfx a",
+            1,
+            0,
+            b"\xef\xbb\xbfx",
+            1,
+            usize::MAX,
+            b" a",
+        ),
         (b" \t/x/\ta\r", 4, 0, b"x", 21, usize::MAX, b"\ta\r"),
         (b"\"x\\040y\"a\n", 0, 0, b"x y", 1, usize::MAX, b"a"),
-        (b"\"/d/\\\\*\\t\" a=\"v\n\n", 0, 1, b"d/\\*\t", 16, 2, b" a=\"v"),
+        (
+            b"\"/d/\\\\*\\t\" a=\"v\n\n",
+            0,
+            1,
+            b"d/\\*\t",
+            16,
+            2,
+            b" a=\"v",
+        ),
         (b"\"y\\q\" b", 0, 0, b"\"y\\q\"", 1, 2, b" b"),
         (b"\"z b", 0, 0, b"\"z", 1, usize::MAX, b" b"),
         (b"\\!b/ c\0 --d\nzz", 0, 2, b"\\!b", 5, 0, b" c"),

@@ -98,7 +98,13 @@ fn the_strongest_line_decides(rt: HostRuntime) {
     ];
     for (path, is_dir, fold, name, answer) in rows {
         let found = told(&attributes, path, is_dir, fold, name, (ROOM, 0));
-        same(&rt, found, answer, "the state, for a path and a name:", (path, name));
+        same(
+            &rt,
+            found,
+            answer,
+            "the state, for a path and a name:",
+            (path, name),
+        );
     }
 }
 
@@ -163,7 +169,13 @@ fn macros_are_put_in(rt: HostRuntime) {
     ];
     for (path, name, answer) in rows {
         let found = told(&attributes, path, false, false, name, (11, 4));
-        same(&rt, found, Some(answer), "the state, for a path and a name:", (path, name));
+        same(
+            &rt,
+            found,
+            Some(answer),
+            "the state, for a path and a name:",
+            (path, name),
+        );
     }
     // the room for texts and for marks, and the answer for `k` of `d`, which two lines match and three macros are set for
     let rooms: [((usize, usize), Option<(u32, &[u8])>); 5] = [

@@ -1,13 +1,13 @@
 -- What is left to tell, in texts of words; and that every row can be filled in.
-use Rattle.std.proofs.Common.{◌≡◌, ⊎_elim, ℕ, zero, suc, ◌+◌, ◌<◌, ◌≤◌, Bool, true, false, not, List, [], ◌∷◌, ◌++◌, length, map, reverse, replicate, take, set, get_or, option_map, slice_index_or, Option, None, Some, refl, sym, ap, subst, ◌∙◌, append_assoc, arith}
-use Rattle.std.specs.Prelude.{if◌then◌else◌, ◌||◌, slice_get}
+use Rattle.std.proofs.Common.{◌≡◌, ⊎_elim, ℕ, zero, suc, ◌+◌, ◌<◌, ◌≤◌, Bool, true, false, List, [], ◌∷◌, ◌++◌, length, map, reverse, replicate, take, set, get_or, option_map, slice_index_or, Option, Some, refl, sym, ap, subst, ◌∙◌, append_assoc, arith}
+use Rattle.std.specs.Prelude.{◌||◌, slice_get}
 use Rattle.std.specs.Borrow.{Bor}
 use Rattle.std.specs.List.{flat_map, list_any}
 use Rattle.std.specs.Option.{option_map_or}
 use Rattle.std.specs.Str.{bytes_eq}
 use Rattle.std.proofs.lemmas.Bool.{cases_Bool}
 use Rattle.std.proofs.lemmas.Grind.{flat_map-append}
-use Rattle.std.proofs.lemmas.List.{append-nil, length-set, map_push, reverse-append, take_more, take_more_set}
+use Rattle.std.proofs.lemmas.List.{append-nil, map_push, reverse-append, take_more, take_more_set}
 use Rattle.std.proofs.lemmas.Option.{none-some, same_Some, slice_get-get_or, slice_get-map}
 use Rattle.glob_attributes.specs.declared.assignment.Assignment.{Assignment}
 use Rattle.glob_attributes.specs.declared.assignment.State.{State}
@@ -19,10 +19,10 @@ use Rattle.glob_attributes.specs.Borrowed.{assigned_by, definition_of, row_of}
 use Rattle.glob_attributes.specs.Macros.{Definition}
 use Rattle.glob_attributes.specs.Private.Filling.{AreMarked, assignments_at, last_place, unmarked}
 use Rattle.glob_attributes.specs.Private.Telling.{unmarked_count}
-use Rattle.glob_attributes.specs.States.{Assigned, IsFilledIn, first_named, is_set, put_in, state_in}
+use Rattle.glob_attributes.specs.States.{Assigned, IsFilledIn, put_in, state_in}
 use Rattle.glob_attributes.specs.Words.{words_of}
 use Rattle.glob_attributes.proofs.lemmas.FillingLemmas.{filled-more, marked-new, state_in-first}
-use Rattle.glob_attributes.proofs.lemmas.LawLemmas.{Step, length-put, step}
+use Rattle.glob_attributes.proofs.lemmas.LawLemmas.{length-put, step}
 
 -- what is seen of an assignment whose bytes are borrowed
 abbrev pub seen : Assignment (Bor (List ℕ)) → Assigned

@@ -7,10 +7,7 @@ use crate::words::split_at_blank;
 
 /// The head that a text begins with, its escapes replaced, and what follows it. A quoted head is decoded into `memory`; `None`
 /// where that is too short for it. As many bytes as the text has suffice.
-pub(crate) fn borrow_head<'a>(
-    text: &'a [u8],
-    memory: &'a mut [u8],
-) -> Option<(&'a [u8], &'a [u8])>
+pub(crate) fn borrow_head<'a>(text: &'a [u8], memory: &'a mut [u8]) -> Option<(&'a [u8], &'a [u8])>
     ensures read { IfSome result (λ read. (read.0.now, read.1.now) ≡ head_of text.now) }
     ensures room { length text.now ≤ length memory.old → is_some result ≡ true }
 {

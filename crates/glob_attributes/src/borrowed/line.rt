@@ -38,11 +38,7 @@ pub enum LineParts<'a> {
 
 /// Reads a line of an attribute file, given without its ending, as [`read_line`](crate::read_line) does. A quoted head is decoded
 /// into `memory`; `None` where that is too short for it. As many bytes as the line has suffice.
-pub fn line_parts<'a>(
-    line: &'a [u8],
-    is_top: bool,
-    memory: &'a mut [u8],
-) -> Option<LineParts<'a>>
+pub fn line_parts<'a>(line: &'a [u8], is_top: bool, memory: &'a mut [u8]) -> Option<LineParts<'a>>
     ensures read { IfSome result (GivesParts (line_gives is_top line.now)) }
     ensures room { length line.now ≤ length memory.old → is_some result ≡ true }
 {

@@ -1,5 +1,5 @@
 -- A blank at the end is no word.
-use Rattle.std.proofs.Common.{◌≡◌, ◌+◌, ◌-◌, ◌<◌, ◌++◌, ◌∷◌, [], true, length, take, slice_index, get_or, sym, ap, ◌∙◌, arith}
+use Rattle.std.proofs.Common.{◌≡◌, ◌+◌, ◌-◌, ◌<◌, true, length, take, get_or, sym, ap, ◌∙◌, arith}
 use Rattle.std.proofs.lemmas.List.{take_more}
 use Rattle.glob_attributes.specs.Words.{is_blank, words_of}
 use Rattle.glob_attributes.proofs.lemmas.BehindLemmas.{words_of-blank_behind}

@@ -1,5 +1,5 @@
 -- The last word ends where the blanks begin that aren't read.
-use Rattle.std.proofs.Common.{◌≡◌, ◌<◌, ◌++◌, ◌∷◌, [], List, ℕ, drop, length, sym, ap, ◌∙◌, arith}
+use Rattle.std.proofs.Common.{◌<◌, ◌++◌, ◌∷◌, [], List, ℕ, drop, length, sym, ap, ◌∙◌, arith}
 use Rattle.std.proofs.lemmas.Bool.{eqb-false}
 use Rattle.glob_attributes.specs.Words.{words_of}
 use Rattle.glob_attributes.proofs.lemmas.BehindLemmas.{words_of-last}

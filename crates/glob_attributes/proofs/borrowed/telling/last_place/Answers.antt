@@ -1,5 +1,5 @@
 -- A macro of this name comes after those before it.
-use Rattle.std.proofs.Common.{◌≡◌, ◌<◌, ◌+◌, Some, length, map, take, ap, sym, ◌∙◌, slice_index_or, arith}
+use Rattle.std.proofs.Common.{◌<◌, Some, length, map, take, ap, sym, ◌∙◌, slice_index_or, arith}
 use Rattle.std.specs.Prelude.{if◌then◌else◌}
 use Rattle.glob_attributes.specs.Borrowed.{definition_of}
 use Rattle.glob_attributes.specs.Private.Filling.{last_place}
@@ -18,12 +18,12 @@ loop-place-preserved c =
     let more = last_place-take name (map definition_of macros) place (definition_of macro) (macro_there macros place within) in
     elim c.if-eq.branch [
       | then-eq w ↦ record {
-          last = w.found-is ∙ sym (more ∙ ap (λ b. if b then Some place else last_place name (take place (map definition_of macros))) (sym c.eq.ensures ∙ w.if-eq.true));
-          inside = rw w.found-is within;
-        }
+        last = w.found-is ∙ sym (more ∙ ap (λ b. if b then Some place else last_place name (take place (map definition_of macros))) (sym c.eq.ensures ∙ w.if-eq.true));
+        inside = rw w.found-is within;
+      }
       | else-eq w ↦ record {
-          last = w.found-is ∙ c.loop-place.invariant.last
-              ∙ sym (more ∙ ap (λ b. if b then Some place else last_place name (take place (map definition_of macros))) (sym c.eq.ensures ∙ w.if-eq.false));
-          inside = rw w.found-is c.loop-place.invariant.inside;
-        }
+        last = w.found-is ∙ c.loop-place.invariant.last
+            ∙ sym (more ∙ ap (λ b. if b then Some place else last_place name (take place (map definition_of macros))) (sym c.eq.ensures ∙ w.if-eq.false));
+        inside = rw w.found-is c.loop-place.invariant.inside;
+      }
     ]

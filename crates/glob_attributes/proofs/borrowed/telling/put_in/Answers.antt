@@ -1,11 +1,9 @@
 -- The mark of the macro tells whether an assignment before names it.
-use Rattle.std.proofs.Common.{◌≡◌, ◌<◌, ◌≤◌, List, Bool, length, map, reverse, true, false, None, Some, ap, sym, ◌∙◌, arith}
+use Rattle.std.proofs.Common.{◌≡◌, ◌<◌, length, map, reverse, true, false, Some, ap, sym, ◌∙◌, arith}
 use Rattle.std.specs.Prelude.{slice_get}
-use Rattle.std.specs.Borrow.{Bor}
 use Rattle.std.proofs.lemmas.Option.{slice_get-get_or}
-use Rattle.glob_attributes.specs.Assignments.{assignment_with}
 use Rattle.glob_attributes.specs.Borrowed.{definition_of}
-use Rattle.glob_attributes.proofs.lemmas.FillingLemmas.{marked-more, marked-none, marked-same, put_in-marked, put_in-none, put_in-set, put_in-unset, unmarked-less}
+use Rattle.glob_attributes.proofs.lemmas.FillingLemmas.{marked-more, marked-same, put_in-marked, put_in-none, put_in-set, unmarked-less}
 use Rattle.glob_attributes.proofs.lemmas.TellingLemmas.{assignments_there, seen, unmarked_count-less}
 use Rattle.glob_attributes.proofs.borrowed.telling.put_in.Goals as goal
 

@@ -1,10 +1,8 @@
 -- The last word that is left is told.
-use Rattle.std.proofs.Common.{◌≡◌, ◌+◌, ◌-◌, ◌<◌, ◌≤◌, ◌++◌, ◌∷◌, [], ℕ, List, true, false, length, map, reverse, replicate, set, get_or, slice_index_or, refl, sym, ap, subst, ◌∙◌, arith}
+use Rattle.std.proofs.Common.{◌≡◌, ◌+◌, ◌-◌, ◌<◌, [], false, length, map, reverse, replicate, set, refl, sym, ap, ◌∙◌, arith}
 use Rattle.std.proofs.lemmas.List.{length-map, length-set, reverse-append}
-use Rattle.glob_attributes.specs.Assignments.{assignment_of}
 use Rattle.glob_attributes.specs.Borrowed.{assigned_by, definition_of, row_of}
 use Rattle.glob_attributes.specs.Private.Telling.{unmarked_count}
-use Rattle.glob_attributes.specs.States.{Assigned}
 use Rattle.glob_attributes.specs.declared.borrowed.telling.Text.{Text}
 use Rattle.glob_attributes.proofs.lemmas.TellingLemmas.{row_of-set, row_of-taken_at, seen, told-end, told-found, told-more, told-new, unmarked_count-new}
 use Rattle.glob_attributes.proofs.borrowed.telling.tell_unmarked.Goals as goal

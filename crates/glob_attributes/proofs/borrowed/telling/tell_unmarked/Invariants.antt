@@ -1,8 +1,7 @@
-use Rattle.std.proofs.Common.{◌≡◌, ◌≤◌, ◌+◌, ◌*◌, ◌++◌, [], List, false, length, map, reverse}
+use Rattle.std.proofs.Common.{◌≡◌, ◌≤◌, ◌+◌, ◌*◌, length, map, reverse}
 use Rattle.glob_attributes.specs.Borrowed.{definition_of, row_of}
-use Rattle.glob_attributes.specs.Private.Filling.{AreMarked, unmarked}
+use Rattle.glob_attributes.specs.Private.Filling.{unmarked}
 use Rattle.glob_attributes.specs.Private.Telling.{unmarked_count}
-use Rattle.glob_attributes.specs.States.{Assigned, IsFilledIn}
 use Rattle.glob_attributes.proofs.lemmas.TellingLemmas.{IsToldUpTo}
 use Rattle.glob_attributes.proofs.borrowed.telling.tell_unmarked.Given as goal
 
