@@ -1,5 +1,7 @@
+pub mod AttributeLemmas
 pub mod Bits
 pub mod DecidingLemmas
+pub mod FindingLemmas
 pub mod ListsLemmas
 pub mod Numbers
 pub mod Views

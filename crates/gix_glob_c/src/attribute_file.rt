@@ -63,8 +63,8 @@ fn next_line<'a>(lines: &GlobLines<'a>) -> Option<(&'a [u8], &'a [u8])>
     ensures place { IfSome result (λ cut. end_of cut.1 ≡ end_of lines.now.rest) }
     ensures short { IfSome result (λ cut. length cut.0.now ≤ length lines.now.rest.now) }
 {
-    let bytes = unread(lines)?;
-    next_ended_line(bytes)
+    let (line, rest) = next_ended_line(unread(lines)?)?;
+    Some((line, rest))
 }
 
 /// The bytes that hold the lines that are left; `None` where the file is too long.
