@@ -2,7 +2,7 @@
 ghost use Rattle.std.specs.Prelude.{◌≡◌, ◌<◌, ◌≤◌, ◌+◌, ◌++◌, ℕ, All, IfSome, List, is_some, length, map, true, false};
 ghost use Rattle.std.specs.List.{flat_map};
 ghost use Rattle.gix_glob_c.specs.Attributes.{IsLawfulAttributes, attribute_list, line_count, path_asked, told_of};
-ghost use Rattle.gix_glob_c.specs.Finding.{IsFoundUpTo, lines_at};
+ghost use Rattle.gix_glob_c.specs.Private.Finding.{IsFoundUpTo, lines_at};
 ghost use Rattle.gix_glob_c.specs.Parsed.{IsPathOfFile};
 ghost use Rattle.gix_glob_c.specs.Parts.{case_of};
 ghost use Rattle.glob_attributes.specs.Assignments.{state_with};

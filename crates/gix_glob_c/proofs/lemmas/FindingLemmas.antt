@@ -19,7 +19,7 @@ use Rattle.glob_lists.proofs.lemmas.MatchesUpTo.{matches_all, matches_more, matc
 use Rattle.glob_attributes.specs.Borrowed.{assigned_by}
 use Rattle.glob_attributes.specs.States.{Assigned, assigned_at}
 use Rattle.gix_glob_c.specs.Attributes.{attribute_list, entry_of_line}
-use Rattle.gix_glob_c.specs.Finding.{IsFoundUpTo, lines_at}
+use Rattle.gix_glob_c.specs.Private.Finding.{IsFoundUpTo, lines_at}
 use Rattle.gix_glob_c.specs.Parsed.{entry_of_parts}
 use Rattle.gix_glob_c.specs.declared.attribute_file.GlobAttributeLine.{GlobAttributeLine}
 use Rattle.gix_glob_c.specs.declared.attributes.GlobAttributeList.{GlobAttributeList}

@@ -6,7 +6,7 @@ use Rattle.gix_glob.specs.Stripping.{NothingLeft, Rest}
 use Rattle.glob_attributes.specs.Borrowed.{row_of}
 use Rattle.glob_lists.proofs.lemmas.Answering.{PairAnswers-nothing_left}
 use Rattle.gix_glob_c.specs.Attributes.{IsLawfulAttributes, attribute_list}
-use Rattle.gix_glob_c.specs.Finding.{IsFoundUpTo}
+use Rattle.gix_glob_c.specs.Private.Finding.{IsFoundUpTo}
 use Rattle.gix_glob_c.specs.Parsed.{IsLawful}
 use Rattle.gix_glob_c.specs.Parts.{case_of}
 use Rattle.gix_glob_c.specs.declared.attribute_file.GlobAttributeLine.{GlobAttributeLine}

@@ -2,7 +2,7 @@ use Rattle.std.proofs.Common.{◌≡◌, ◌≤◌, length, take}
 use Rattle.std.specs.Prelude.{All}
 use Rattle.glob_attributes.specs.Borrowed.{row_of}
 use Rattle.gix_glob_c.specs.Attributes.{IsLawfulAttributes, line_count}
-use Rattle.gix_glob_c.specs.Finding.{IsFoundUpTo}
+use Rattle.gix_glob_c.specs.Private.Finding.{IsFoundUpTo}
 use Rattle.gix_glob_c.specs.Parts.{case_of}
 use Rattle.gix_glob_c.proofs.attributes.push_matches.Given as goal
 

@@ -1,4 +1,4 @@
--- Words that only private clauses cite: the lines that match a path, as they are found from the first one on.
+-- The lines that match a path, as they are found from the first one on.
 use Rattle.std.specs.Prelude.{◌≡◌, ℕ, List, length, map, slice_get}
 use Rattle.std.specs.List.{flat_map}
 use Rattle.std.specs.Option.{option_map_or}
