@@ -1,4 +1,3 @@
-pub mod AttributeLemmas
 pub mod Bits
 pub mod DecidingLemmas
 pub mod FindingLemmas

@@ -1,5 +1,5 @@
 -- Lists of attribute lines that C hands over, and the state that it is told.
-use Rattle.std.specs.Prelude.{ℕ, List, [], All, length, map, Option, None, Some}
+use Rattle.std.specs.Prelude.{ℕ, List, [], All, length, map, None, Some}
 use Rattle.std.specs.List.{sum_by}
 use Rattle.gix_glob.specs.Entries.{Entry}
 use Rattle.gix_glob.specs.EntryLists.{EntryList}

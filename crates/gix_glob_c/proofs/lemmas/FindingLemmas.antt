@@ -1,19 +1,18 @@
 -- The lines that match a path, as they are found from the first one on.
-use Rattle.std.proofs.Common.{◌≡◌, ⊎_elim, ℕ, ◌+◌, ◌<◌, ◌≤◌, List, [], ◌∷◌, ◌++◌, length, map, option_map, Option, None, Some, refl, sym, ap, subst, ◌∙◌, get_or, slice_index_or, arith}
+use Rattle.std.proofs.Common.{◌≡◌, ℕ, ◌+◌, ◌<◌, ◌≤◌, List, [], ◌∷◌, ◌++◌, length, map, option_map, Option, None, Some, refl, sym, ap, subst, ◌∙◌, slice_index_or, arith}
 use Rattle.std.specs.Prelude.{slice_get}
 use Rattle.std.specs.List.{flat_map}
 use Rattle.std.specs.Option.{option_and_then, option_map_or}
 use Rattle.std.proofs.lemmas.Grind.{flat_map-append}
 use Rattle.std.proofs.lemmas.List.{append-nil, length-map}
-use Rattle.std.proofs.lemmas.Option.{none-some, slice_get-get_or, slice_get-map, slice_get_within}
+use Rattle.std.proofs.lemmas.Option.{slice_get-get_or, slice_get-map, slice_get_within}
 use Rattle.gix_glob.specs.declared.pattern.Case.{Case}
 use Rattle.gix_glob.specs.Entries.{Entry}
 use Rattle.gix_glob.specs.EntryLists.{EntryList}
 use Rattle.gix_glob.specs.Stripping.{Rest}
 use Rattle.glob_lists.specs.Deciding.{AnswersFor, AnswersUnder, PairAnswers}
-use Rattle.glob_lists.specs.Index.{AreMatches, ComesBefore}
+use Rattle.glob_lists.specs.Index.{AreMatches}
 use Rattle.glob_lists.specs.Paths.{Path}
-use Rattle.glob_lists.specs.Private.Matching.{AreMatchesUpTo}
 use Rattle.glob_lists.proofs.lemmas.Answering.{AnswersAt-only, AnswersUnder-only, PairAnswers-only}
 use Rattle.glob_lists.proofs.lemmas.MatchesUpTo.{matches_all, matches_more, matches_of_list, matches_skip}
 use Rattle.glob_attributes.specs.Borrowed.{assigned_by}
@@ -52,18 +51,6 @@ one_more : (lists : Lists) (i m : ℕ) (list : EntryList (List Assigned)) (entry
 one_more lists i m list entry there here =
     ap (λ (o : Option (EntryList (List Assigned))). option_map_or (λ (e : Entry (List Assigned)). e.value) (option_and_then (λ (l : EntryList (List Assigned)). slice_get l.entries m) o) []) there
     ∙ ap (λ (o : Option (Entry (List Assigned))). option_map_or (λ (e : Entry (List Assigned)). e.value) o []) here
-
-pub found-new : (lists : List GlobAttributeList) (path : Path) (case : Case) → IsFoundUpTo lists path case 0 0 []
-found-new lists path case = record {
-  pairs = [];
-  found = record {
-    each = λ x pair got. absurd (none-some pair got);
-    before = λ x pair got. absurd (none-some pair got);
-    rising = λ x y a b less got_a got_b. absurd (none-some a got_a);
-    all = λ i m answers before. ⊎_elim (λ (less : i < 0). absurd (omega (arith, less))) (λ (here : (i ≡ 0) × (m < 0)). absurd (omega (arith, here.1))) before;
-  };
-  same = refl;
-}
 
 module _ (lists : List GlobAttributeList) (path : Path) (case : Case) (i : ℕ) (list : GlobAttributeList) (there : slice_get (map attribute_list lists) i ≡ Some (attribute_list list)) where
   abbrev answers : ℕ → Type 0

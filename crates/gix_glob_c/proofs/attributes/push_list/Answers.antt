@@ -2,7 +2,7 @@
 use Rattle.std.proofs.Common.{◌≡◌, ◌+◌, ◌<◌, ◌≤◌, ◌∙◌, All, length, map, slice_index_or, sym, subst, arith}
 use Rattle.std.proofs.lemmas.Bool.{false≢true, iff_false}
 use Rattle.std.proofs.lemmas.List.Elements.{All-get_or}
-use Rattle.gix_glob.specs.Stripping.{NothingLeft, Rest}
+use Rattle.gix_glob.specs.Stripping.{Rest}
 use Rattle.glob_attributes.specs.Borrowed.{row_of}
 use Rattle.glob_lists.proofs.lemmas.Answering.{PairAnswers-nothing_left}
 use Rattle.gix_glob_c.specs.Attributes.{IsLawfulAttributes, attribute_list}
@@ -52,25 +52,25 @@ lines-preserved c =
     All-get_or (λ (l : GlobAttributeLine). IsLawful l.pattern) list.lines.now m blank_line within (All-get_or IsLawfulAttributes lists i blank_attributes c.requires.list lawful).lines in
     elim c.if-is_matched.branch [
       | then-is_matched+in_ok-count w ↦ record {
-          row = λ lawful found. rw (w.texts-is, w.count-is)
-              (subst (IsFoundUpTo lists path case i (m + 1)) (sym w.in_ok-count.ensures.row)
-              (found-more lists path case i list there m line here row
-              (answers-yes lists path case i list there m line here rest.bytes left ((rw c.in-Some.ensures.1 at (c.is_matched.ensures (each lawful))).0 w.if-is_matched.true))
-              (c.lines.invariant.row lawful found)));
-          inside = rw (w.texts-is, w.count-is) w.in_ok-count.ensures.inside;
-          fewer = rw w.count-is (omega (arith, w.in_ok-count.ensures.more, c.lines.invariant.fewer));
-          long = rw w.texts-is (w.in_ok-count.ensures.count ∙ c.lines.invariant.long);
-        }
+        row = λ lawful found. rw (w.texts-is, w.count-is)
+            (subst (IsFoundUpTo lists path case i (m + 1)) (sym w.in_ok-count.ensures.row)
+            (found-more lists path case i list there m line here row
+            (answers-yes lists path case i list there m line here rest.bytes left ((rw c.in-Some.ensures.1 at (c.is_matched.ensures (each lawful))).0 w.if-is_matched.true))
+            (c.lines.invariant.row lawful found)));
+        inside = rw (w.texts-is, w.count-is) w.in_ok-count.ensures.inside;
+        fewer = rw w.count-is (omega (arith, w.in_ok-count.ensures.more, c.lines.invariant.fewer));
+        long = rw w.texts-is (w.in_ok-count.ensures.count ∙ c.lines.invariant.long);
+      }
       | else-is_matched w ↦ record {
-          row = λ lawful found. rw (w.texts-is, w.count-is)
-              (found-skip lists path case i list there m line here row
-              (λ answered. iff_false (rw c.in-Some.ensures.1 at (c.is_matched.ensures (each lawful))) w.if-is_matched.false
-              (answers-only lists path case i list there m line here rest.bytes left answered))
-              (c.lines.invariant.row lawful found));
-          inside = rw (w.texts-is, w.count-is) c.lines.invariant.inside;
-          fewer = rw w.count-is (omega (arith, c.lines.invariant.fewer));
-          long = rw w.texts-is c.lines.invariant.long;
-        }
+        row = λ lawful found. rw (w.texts-is, w.count-is)
+            (found-skip lists path case i list there m line here row
+            (λ answered. iff_false (rw c.in-Some.ensures.1 at (c.is_matched.ensures (each lawful))) w.if-is_matched.false
+            (answers-only lists path case i list there m line here rest.bytes left answered))
+            (c.lines.invariant.row lawful found));
+        inside = rw (w.texts-is, w.count-is) c.lines.invariant.inside;
+        fewer = rw w.count-is (omega (arith, c.lines.invariant.fewer));
+        long = rw w.texts-is c.lines.invariant.long;
+      }
     ]
 
 pub returns-clause-row : goal.returns-clause-row
