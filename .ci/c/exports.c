@@ -41,6 +41,26 @@ _Static_assert(sizeof(struct gix_glob_path) == 24, "the size of a path");
 _Static_assert(offsetof(struct gix_glob_path, bytes) == 0, "bytes");
 _Static_assert(offsetof(struct gix_glob_path, len) == 8, "len");
 _Static_assert(offsetof(struct gix_glob_path, is_dir) == 16, "is_dir");
+_Static_assert(sizeof(struct gix_glob_attribute_line) == 48, "the size of an attribute line");
+_Static_assert(offsetof(struct gix_glob_attribute_line, words) == 32, "words");
+_Static_assert(offsetof(struct gix_glob_attribute_line, words_len) == 40, "words_len");
+_Static_assert(sizeof(struct gix_glob_macro) == 32, "the size of a macro");
+_Static_assert(offsetof(struct gix_glob_macro, name_len) == 8, "name_len");
+_Static_assert(offsetof(struct gix_glob_macro, words) == 16, "words");
+_Static_assert(offsetof(struct gix_glob_macro, words_len) == 24, "words_len");
+_Static_assert(sizeof(struct gix_glob_attribute_list) == 32, "the size of an attribute list");
+_Static_assert(offsetof(struct gix_glob_attribute_list, count) == 8, "count");
+_Static_assert(offsetof(struct gix_glob_attribute_list, base) == 16, "base");
+_Static_assert(offsetof(struct gix_glob_attribute_list, base_len) == 24, "base_len");
+_Static_assert(sizeof(struct gix_glob_attributes) == 32, "the size of attributes");
+_Static_assert(offsetof(struct gix_glob_attributes, count) == 8, "count");
+_Static_assert(offsetof(struct gix_glob_attributes, macros) == 16, "macros");
+_Static_assert(offsetof(struct gix_glob_attributes, macro_count) == 24, "macro_count");
+_Static_assert(sizeof(struct gix_glob_text) == 16, "the size of a text");
+_Static_assert(offsetof(struct gix_glob_text, len) == 8, "len");
+_Static_assert(sizeof(struct gix_glob_state) == 24, "the size of a state");
+_Static_assert(offsetof(struct gix_glob_state, value_len) == 8, "value_len");
+_Static_assert(offsetof(struct gix_glob_state, kind) == 16, "kind");
 _Static_assert(GIX_GLOB_VERSION == 100, "the version");
 
 static int failed;
@@ -200,6 +220,80 @@ static void ignore_lines(void)
     CHECK(lines.rest == file && lines.rest_len == 3 && lines.number == 0);
 }
 
+static bool is_text(const uint8_t *text, size_t len, const char *wanted)
+{
+    size_t i = 0;
+    while (i < len && wanted[i] && text[i] == (uint8_t)wanted[i])
+        i++;
+    return i == len && !wanted[i];
+}
+
+/* Lines of each kind, two of them with quoted heads, which are decoded into memory of their own. */
+static void attributes(void)
+{
+    static const uint8_t file[] = "\xEF\xBB\xBF* a=1\r\n#x\n[attr]m b\n\"/x\\040y\"a=2 m\n\"[attr]n\"binary\n\\!z n\n!z a\nz --a\n[attr]=";
+    static const uint32_t kinds[] = {
+        GIX_GLOB_LINE_PATTERN, GIX_GLOB_LINE_NOTHING, GIX_GLOB_LINE_MACRO, GIX_GLOB_LINE_PATTERN, GIX_GLOB_LINE_MACRO,
+        GIX_GLOB_LINE_PATTERN, GIX_GLOB_LINE_NEGATIVE, GIX_GLOB_LINE_ATTRIBUTE_NAME, GIX_GLOB_LINE_MACRO_NAME,
+    };
+    enum { LEN = sizeof file - 1, COUNT = sizeof kinds / sizeof *kinds };
+    static uint8_t heads[LEN];
+    struct gix_glob_attribute_line lines[4] = {
+        GIX_GLOB_ATTRIBUTE_LINE_INIT, GIX_GLOB_ATTRIBUTE_LINE_INIT, GIX_GLOB_ATTRIBUTE_LINE_INIT, GIX_GLOB_ATTRIBUTE_LINE_INIT,
+    };
+    struct gix_glob_macro macros[4] = {GIX_GLOB_MACRO_BINARY, GIX_GLOB_MACRO_INIT, GIX_GLOB_MACRO_INIT, GIX_GLOB_MACRO_INIT};
+    struct gix_glob_lines left = gix_glob_lines_of(file, LEN);
+    size_t count = 0, macro_count = 1;
+    uint32_t kind = 9;
+    for (size_t i = 0; i < COUNT; i++) {
+        uint8_t *memory = heads + (LEN - left.rest_len);
+        CHECK(gix_glob_parse_attribute_line(&left, true, memory, left.rest_len, &lines[count], &macros[macro_count], &kind));
+        CHECK(kind == kinds[i] && left.number == i + 1 && left.rest + left.rest_len == file + LEN);
+        count += kind == GIX_GLOB_LINE_PATTERN;
+        macro_count += kind == GIX_GLOB_LINE_MACRO;
+    }
+    CHECK(!gix_glob_parse_attribute_line(&left, true, heads, LEN, &lines[3], &macros[3], &kind) && left.number == COUNT);
+    CHECK(count == 3 && lines[3].words_len == 0 && macro_count == 3 && macros[3].name_len == 0);
+    CHECK(is_text(lines[1].pattern.text, lines[1].pattern.text_len, "x y") && is_text(lines[1].words, lines[1].words_len, "a=2 m"));
+    CHECK(lines[1].pattern.mode == (GIX_GLOB_NO_SUB_DIR | GIX_GLOB_ABSOLUTE) && lines[1].pattern.first_wildcard_pos == GIX_GLOB_NONE);
+    CHECK(is_text(lines[2].pattern.text, lines[2].pattern.text_len, "\\!z") && is_text(macros[2].name, macros[2].name_len, "n"));
+    left = gix_glob_lines_of(TEXT("\"x\" a"));
+    CHECK(!gix_glob_parse_attribute_line(&left, true, heads, 0, &lines[3], &macros[3], &kind) && left.number == 0);
+    left = gix_glob_lines_of(TEXT("[attr]k a"));
+    CHECK(gix_glob_parse_attribute_line(&left, false, heads, 0, &lines[3], &macros[3], &kind) && kind == GIX_GLOB_LINE_MACRO_BELOW_TOP);
+
+    const struct gix_glob_attribute_line below[] = {{parsed(TEXT("Z")), TEXT("!a m=v")}};
+    const struct gix_glob_attribute_list lists[] = {{lines, 3, TEXT("")}, {below, 1, TEXT("d/")}};
+    const struct gix_glob_attributes all = {lists, 2, macros, 3}, fewer = {lists, 1, macros, 2};
+    static const struct {
+        struct gix_glob_path path;
+        bool fold, is_fewer;
+        const char *name;
+        uint32_t kind;
+        const char *value;
+    } wanted[] = {
+        {{TEXT("q"), false}, false, false, "a", GIX_GLOB_VALUE, "1"}, {{TEXT("x y"), false}, false, false, "a", GIX_GLOB_VALUE, "2"},
+        {{TEXT("x y"), false}, false, false, "b", GIX_GLOB_SET, ""}, {{TEXT("d/x y"), false}, false, false, "b", GIX_GLOB_UNSPECIFIED, ""},
+        {{TEXT("!z"), false}, false, false, "diff", GIX_GLOB_UNSET, ""}, {{TEXT("!z"), false}, false, true, "diff", GIX_GLOB_UNSPECIFIED, ""},
+        {{TEXT("d/z"), false}, true, false, "a", GIX_GLOB_UNSPECIFIED, ""}, {{TEXT("d/z"), false}, false, true, "a", GIX_GLOB_VALUE, "1"},
+        {{TEXT("d/z"), true}, true, false, "m", GIX_GLOB_VALUE, "v"}, {{TEXT("d/z"), true}, false, false, "m", GIX_GLOB_UNSPECIFIED, ""},
+    };
+    struct gix_glob_text texts[7];
+    bool marks[3] = {true, true, true};
+    struct gix_glob_state state = GIX_GLOB_STATE_INIT;
+    gix_glob_init_texts(texts, 7);
+    for (size_t i = 0; i < sizeof wanted / sizeof *wanted; i++) {
+        size_t len = 0;
+        while (wanted[i].name[len])
+            len++;
+        CHECK(gix_glob_attribute_of(wanted[i].is_fewer ? &fewer : &all, &wanted[i].path, wanted[i].fold, (const uint8_t *)wanted[i].name, len,
+                                    texts, 7, marks, 3, &state));
+        CHECK(state.kind == wanted[i].kind && is_text(state.value, state.value_len, wanted[i].value));
+    }
+    CHECK(!gix_glob_attribute_of(&all, &wanted[1].path, false, TEXT("a"), texts, 1, marks, 3, &state) && state.kind == GIX_GLOB_UNSPECIFIED);
+    CHECK(!gix_glob_attribute_of(&all, &wanted[1].path, false, TEXT("a"), texts, 7, marks, 2, &state));
+}
+
 int main(void)
 {
     matching();
@@ -209,5 +303,6 @@ int main(void)
     deciding_about_several();
     deciding_in_tree();
     ignore_lines();
+    attributes();
     return failed > 0;
 }

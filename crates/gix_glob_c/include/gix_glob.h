@@ -10,7 +10,7 @@
  *  - What a call writes to lies apart from what it reads, and was initialised, by GIX_GLOB_PATTERN_INIT or a call before.
  *
  * The rules of matching are in docs/MATCHING.md, those of pattern lines in docs/PATTERNS.md, those of ignore files in
- * docs/LINES.md.
+ * docs/LINES.md, and those of attribute files in docs/ATTRIBUTES.md.
  */
 #ifndef GIX_GLOB_H
 #define GIX_GLOB_H
@@ -194,6 +194,126 @@ struct gix_glob_decision {
  * Answers whether a pattern decides. */
 bool gix_glob_decide_in_tree(const struct gix_glob_list *lists, size_t count,
                              const uint8_t *path, size_t path_len, bool is_dir, bool fold, struct gix_glob_decision *out);
+
+/* A line of an attribute file that gives a pattern. Its texts are parts of the file, or of the memory for its head: keep both as
+ * long as the line is used. */
+struct gix_glob_attribute_line {
+    struct gix_glob_pattern pattern; /* which paths are meant */
+    const uint8_t *words;            /* what they are assigned: the words behind the pattern; not NULL */
+    size_t words_len;                /* how many bytes */
+};
+
+/* A line before one was read: struct gix_glob_attribute_line line = GIX_GLOB_ATTRIBUTE_LINE_INIT; */
+#define GIX_GLOB_ATTRIBUTE_LINE_INIT { GIX_GLOB_PATTERN_INIT, (const uint8_t *)"", 0 }
+
+/* A macro that a line of an attribute file defines. Its texts are parts as those of a line. */
+struct gix_glob_macro {
+    const uint8_t *name;  /* not NULL */
+    size_t name_len;      /* how many bytes */
+    const uint8_t *words; /* what the macro assigns; not NULL */
+    size_t words_len;     /* how many bytes */
+};
+
+/* A macro before one was read, and the one that Git has built in: it is weaker than all others, so put it first. */
+#define GIX_GLOB_MACRO_INIT { (const uint8_t *)"", 0, (const uint8_t *)"", 0 }
+#define GIX_GLOB_MACRO_BINARY { (const uint8_t *)"binary", 6, (const uint8_t *)"-diff -merge -text", 18 }
+
+/* What a line of an attribute file gives. */
+#define GIX_GLOB_LINE_NOTHING 0u         /* it is blank or a comment */
+#define GIX_GLOB_LINE_PATTERN 1u         /* a pattern */
+#define GIX_GLOB_LINE_MACRO 2u           /* a macro */
+#define GIX_GLOB_LINE_TOO_LONG 3u        /* it says nothing: it has 2,048 bytes or more */
+#define GIX_GLOB_LINE_MACRO_BELOW_TOP 4u /* it says nothing: a macro in the file of a folder below the top */
+#define GIX_GLOB_LINE_MACRO_NAME 5u      /* it says nothing: no macro can have this name */
+#define GIX_GLOB_LINE_ATTRIBUTE_NAME 6u  /* it says nothing: it has a word whose name no attribute can have */
+#define GIX_GLOB_LINE_NEGATIVE 7u        /* it says nothing: its pattern begins with '!' */
+
+/* Takes the next line off an attribute file and reads it by the rules of those files.
+ *   lines               the lines that are left, by gix_glob_lines_of; a file of 100 MiB or more has none
+ *   is_top              whether the file may define macros: it isn't that of a folder below the top
+ *   memory, memory_len  memory for the head of the line where it is quoted, for this line alone; not NULL, also where memory_len
+ *                       is 0. So many bytes as are left suffice: `heads + (len - lines.rest_len)` of `heads` that has as many
+ *                       bytes as the file, `len`, serves each line in turn
+ *   line                receives what a line with a pattern gives; any other line leaves it as it was
+ *   macro               receives what a line with a macro gives; any other line leaves it as it was
+ *   kind                receives which of both, or why there is neither
+ * Answers whether a line was taken. Where none is left, or the memory is too short for the head of this one, `lines`, `line` and
+ * `macro` stay as they were. */
+bool gix_glob_parse_attribute_line(struct gix_glob_lines *lines, bool is_top, uint8_t *memory, size_t memory_len,
+                                   struct gix_glob_attribute_line *line, struct gix_glob_macro *macro, uint32_t *kind);
+
+/* The lines of one attribute file that give a pattern, and its folder. Both are borrowed. */
+struct gix_glob_attribute_list {
+    const struct gix_glob_attribute_line *lines; /* in their order; not NULL */
+    size_t count;                                /* how many */
+    const uint8_t *base; /* the folder of the file, from the top of the work tree on: empty, or with a slash at its end; not
+                            NULL. A list with another base says nothing */
+    size_t base_len;     /* how many bytes */
+};
+
+/* What all attribute files say. All that it names is borrowed. */
+struct gix_glob_attributes {
+    const struct gix_glob_attribute_list *lists; /* from the weakest file to the strongest; not NULL */
+    size_t count;                                /* how many */
+    const struct gix_glob_macro *macros; /* GIX_GLOB_MACRO_BINARY, then those of the files in the same order; of several of a name
+                                            the last counts; not NULL */
+    size_t macro_count;                  /* how many */
+};
+
+/* A text in memory of the caller. Only gix_glob_attribute_of needs to know what it is. */
+struct gix_glob_text {
+    const uint8_t *bytes;
+    size_t len;
+};
+
+/* Makes texts ready for gix_glob_attribute_of. */
+static inline void gix_glob_init_texts(struct gix_glob_text *texts, size_t count)
+{
+    for (size_t i = 0; i < count; i++) {
+        texts[i].bytes = gix_glob_bytes(NULL);
+        texts[i].len = 0;
+    }
+}
+
+/* Kinds of states. */
+#define GIX_GLOB_UNSPECIFIED 0u
+#define GIX_GLOB_SET 1u
+#define GIX_GLOB_UNSET 2u
+#define GIX_GLOB_VALUE 3u
+
+/* The state of an attribute. */
+struct gix_glob_state {
+    const uint8_t *value; /* the bytes of a value, which lie in the words of a line or a macro; not NULL */
+    size_t value_len;     /* how many; 0 where the state is no value */
+    uint32_t kind;        /* which of the four */
+};
+
+/* A state before one was told: struct gix_glob_state state = GIX_GLOB_STATE_INIT; */
+#define GIX_GLOB_STATE_INIT { (const uint8_t *)"", 0, GIX_GLOB_UNSPECIFIED }
+
+/* Which state an attribute has for a path, as Git has it. The last line that matches the path and names the attribute decides, of
+ * the strongest file that has one, and of the line its last word; a macro that is set gives what it assigns at its place.
+ *   attributes           what the files say
+ *   path                 the path from the top on
+ *   fold                 whether the case of ASCII letters doesn't count in paths; it counts in names of attributes
+ *   name, name_len       the attribute's name
+ *   texts, text_count    memory, made ready by gix_glob_init_texts or used by a call before; not NULL, also where text_count is 0.
+ *                        As many texts suffice as there are lines in all lists and macros, together
+ *   marks, mark_count    memory, of which each was initialised: a mark for each macro, or more; not NULL, also where mark_count is 0
+ *   out                  receives the state; it stays as it was where false is answered
+ * Answers whether the state was told: where the memory is too short, or the path is empty, has a slash at its front or end, or two
+ * in a row, it isn't. The time grows with the words of the lines that match and of the macros, times the number of macros.
+ *
+ *     struct gix_glob_text texts[64];
+ *     bool marks[8] = { false };
+ *     struct gix_glob_state state = GIX_GLOB_STATE_INIT;
+ *     struct gix_glob_path path = { (const uint8_t *)"doc/a.txt", 9, false };
+ *     gix_glob_init_texts(texts, 64);
+ *     if (gix_glob_attribute_of(&attributes, &path, false, (const uint8_t *)"eol", 3, texts, 64, marks, 8, &state))
+ *         printf("%.*s\n", (int)state.value_len, (const char *)state.value); */
+bool gix_glob_attribute_of(const struct gix_glob_attributes *attributes, const struct gix_glob_path *path, bool fold,
+                           const uint8_t *name, size_t name_len, struct gix_glob_text *texts, size_t text_count,
+                           bool *marks, size_t mark_count, struct gix_glob_state *out);
 
 /* Whether a pattern's text, as it is, matches the whole of a value.
  *   pattern, pattern_len  the text

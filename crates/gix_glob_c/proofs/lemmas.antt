@@ -1,5 +1,6 @@
 pub mod Bits
 pub mod DecidingLemmas
+pub mod FindingLemmas
 pub mod ListsLemmas
 pub mod Numbers
 pub mod Views

@@ -9,6 +9,8 @@ ghost use Rattle.gix_glob.specs.Matching.{Splits};
 ghost use Rattle.gix_glob.specs.Patterns.{HasReading, IsPattern, Reads};
 ghost use Rattle.gix_glob_c.specs.Parts.{case_of, place_in};
 
+pub mod attribute_file;
+pub mod attributes;
 pub mod ignore_file;
 pub mod index;
 pub mod parsed;

@@ -120,7 +120,7 @@ pub(crate) fn last_match(
 }
 
 /// The parts of a pattern, as C keeps them.
-fn parts_of<'a>(view: PatternView<'a>) -> GlobPattern<'a>
+pub(crate) fn parts_of<'a>(view: PatternView<'a>) -> GlobPattern<'a>
     requires { IsPattern view.text.now view.mode view.first_wildcard_pos }
     ensures text { result.text.now ≡ view.entry.text.now }
     ensures mode { mode_of result ≡ view.entry.mode }
@@ -154,7 +154,7 @@ pub(crate) fn is_negative(pattern: &GlobPattern<'_>) -> bool
 }
 
 /// Whether a pattern matches a path.
-fn is_matched(pattern: &GlobPattern<'_>, path: &RepositoryPath<'_>, fold: bool) -> bool
+pub(crate) fn is_matched(pattern: &GlobPattern<'_>, path: &RepositoryPath<'_>, fold: bool) -> bool
     ensures { IsLawful pattern.now →
         (IsTrue result ↔ AnswersUnder None (entry_of_parts pattern.now) path.now.bytes path.now.is_dir (case_of fold)) }
 {

@@ -166,7 +166,7 @@ fn last_match_under(list: &GlobList<'_>, path: &RepositoryPath<'_>, fold: bool) 
 }
 
 /// Whether a base is empty or ends in a slash.
-fn is_folder(base: &[u8]) -> bool
+pub(crate) fn is_folder(base: &[u8]) -> bool
     ensures { IsTrue result ↔ IsFolder base.now }
 {
     matches!(base, [] | [.., b'/'])

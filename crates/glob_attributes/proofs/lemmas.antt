@@ -1,4 +1,5 @@
 pub mod AssignmentLemmas
+pub mod BehindLemmas
 pub mod EntryLemmas
 pub mod FileLemmas
 pub mod FillingLemmas
@@ -17,7 +18,9 @@ pub mod SlotLemmas
 pub mod SpellingLemmas
 pub mod StartLemmas
 pub mod StateLemmas
+pub mod TellingLemmas
 pub mod ToldLemmas
 pub mod TreeLemmas
+pub mod ViewLemmas
 pub mod WalkLemmas
 pub mod WordsLemmas

@@ -1,5 +1,6 @@
 pub mod Answers
 pub mod Assignments
+pub mod Borrowed
 pub mod Equations
 pub mod Files
 pub mod Heads

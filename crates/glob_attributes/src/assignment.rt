@@ -64,7 +64,7 @@ pub(crate) fn own_assignment(
 }
 
 /// The name of a word and the state that it gives, whether the name is valid or not.
-fn split_word(word: &[u8]) -> Assignment<&[u8]>
+pub(crate) fn split_word(word: &[u8]) -> Assignment<&[u8]>
     ensures { assignment_with (λ bytes. bytes.now) result ≡ assignment_of word.now }
 {
     if let Some(rest) = word.strip_prefix(b"-") {

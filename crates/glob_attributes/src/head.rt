@@ -40,7 +40,7 @@ fn read_quoted(alloc: Global, quoted: &[u8]) -> Result<Option<(Vec<u8>, &[u8])>,
 
 /// The byte that is spelled at the front of a quoted text, and how many bytes behind the first belong to its spelling. `None` at a
 /// quote, at the end, and where a backslash begins no right escape.
-fn unit_at(bytes: &[u8]) -> Option<(u8, usize)>
+pub(crate) fn unit_at(bytes: &[u8]) -> Option<(u8, usize)>
     ensures { result ≡ unit_at bytes.now }
 {
     match bytes {

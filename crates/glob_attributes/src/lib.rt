@@ -3,6 +3,7 @@
 
 mod answering;
 mod assignment;
+pub mod borrowed;
 mod fields;
 mod filling;
 mod head;
@@ -30,7 +31,7 @@ pub use macros::{Macro, macros_of};
 pub use name::is_name;
 pub use names::AttributeNames;
 pub use narrowing::keep_named;
-pub use parser::AttributeLines;
+pub use parser::{AttributeLines, FILE_LIMIT};
 pub use query::AttributeQuery;
 pub use silences::{SilentLine, silent_lines};
 pub use states::PathAttributes;

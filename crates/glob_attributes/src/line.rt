@@ -12,7 +12,7 @@ use crate::words::{Words, after_blanks, split_at_blank};
 use std::alloc::{AllocError, Global};
 
 /// The length in bytes from which on a line says nothing.
-const LINE_LIMIT: usize = 2048;
+pub(crate) const LINE_LIMIT: usize = 2048;
 
 /// Why a line says nothing, though it is neither empty nor a comment.
 #[derive(Debug, Clone, Copy, PartialEq, Eq, Hash, PartialOrd, Ord)]
@@ -77,14 +77,14 @@ pub fn read_line(alloc: Global, line: &[u8], is_top: bool) -> Result<LineReading
 }
 
 /// Whether nothing is left of a line behind its blanks, or a comment.
-fn says_nothing(inner: &[u8]) -> bool
+pub(crate) fn says_nothing(inner: &[u8]) -> bool
     ensures { result ≡ says_nothing inner.now }
 {
     inner.is_empty() || inner.starts_with(b"#")
 }
 
 /// What stands before the first byte 0.
-fn before_zero(bytes: &[u8]) -> &[u8]
+pub(crate) fn before_zero(bytes: &[u8]) -> &[u8]
     ensures { result.now ≡ before_first is_zero bytes.now }
 {
     match first_zero(bytes) {
@@ -101,7 +101,7 @@ fn first_zero(bytes: &[u8]) -> Option<usize>
 }
 
 /// Whether a head defines a macro.
-fn is_macro(head: &[u8]) -> bool
+pub(crate) fn is_macro(head: &[u8]) -> bool
     ensures { result ≡ is_macro head.now }
 {
     head.starts_with(b"[attr]") && head.len() > 6
@@ -149,7 +149,7 @@ fn read_pattern(alloc: Global, head: &[u8], rest: &[u8]) -> Result<LineReading, 
 }
 
 /// The name of the macro that a head defines, valid or not: behind `[attr]` and blanks, up to the next blank or byte 0.
-fn macro_name(head: &[u8]) -> &[u8]
+pub(crate) fn macro_name(head: &[u8]) -> &[u8]
     requires { 6 ≤ length head.now }
     ensures { result.now ≡ macro_name head.now }
 {

@@ -13,7 +13,7 @@ use glob_lines::{next_ended_line, without_byte_order_mark};
 use std::alloc::{AllocError, Global};
 
 /// The length in bytes from which on a file has no lines.
-const FILE_LIMIT: usize = 104_857_600;
+pub const FILE_LIMIT: usize = 104_857_600;
 
 /// Reads the lines of an attribute file that give a pattern, each as [`read_line`] does, with what they assign. Any other line is
 /// skipped, but counted.

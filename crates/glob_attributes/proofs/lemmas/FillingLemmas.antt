@@ -1,5 +1,5 @@
 -- Putting in macros: places of names, marks, and one assignment more.
-use Rattle.std.proofs.Common.{◌≡◌, ◌≢◌, ℕ, ◌+◌, ◌<◌, ◌≤◌, suc, zero, Bool, true, false, not, ◌&&◌, ◌||◌, List, [], ◌∷◌, ◌++◌, length, map, reverse, Option, None, Some, refl, sym, subst, ap, ◌∙◌, append_assoc, set, get_or, replicate, take, drop, arith}
+use Rattle.std.proofs.Common.{◌≡◌, ℕ, ◌+◌, ◌<◌, ◌≤◌, suc, zero, Bool, true, false, not, ◌&&◌, ◌||◌, List, [], ◌∷◌, ◌++◌, length, map, reverse, Option, None, Some, refl, sym, subst, ap, ◌∙◌, append_assoc, set, replicate, take, drop, arith}
 use Rattle.std.specs.Prelude.{if◌then◌else◌, option_map, slice_get}
 use Rattle.std.specs.List.{find, list_any}
 use Rattle.std.specs.Option.{MatchOption, option_map_or, option_or}
@@ -244,7 +244,7 @@ drop-at (z ∷ xs) zero x there = ap (λ y. y ∷ xs) (same_Some z x there)
 drop-at (z ∷ xs) (suc i) x there = drop-at xs i x there
 
 -- what decides, from a place on
-state_in-first : (a : Assigned) (rest : List Assigned) (name : List ℕ) (b : Bool) → bytes_eq a.name name ≡ b → state_in (a ∷ rest) name ≡ (if b then a.state else state_in rest name)
+pub state_in-first : (a : Assigned) (rest : List Assigned) (name : List ℕ) (b : Bool) → bytes_eq a.name name ≡ b → state_in (a ∷ rest) name ≡ (if b then a.state else state_in rest name)
 state_in-first a rest name true is = ap (λ b. option_map_or (λ (x : Assigned). x.state) (if b then Some a else first_named name rest) Unspecified) is
 state_in-first a rest name false is = ap (λ b. option_map_or (λ (x : Assigned). x.state) (if b then Some a else first_named name rest) Unspecified) is
 

@@ -1,5 +1,5 @@
 -- The quoted head of a line, one byte after the other, by equation.
-use Rattle.std.proofs.Common.{◌≡◌, ◌≢◌, ⊎_elim, ℕ, zero, suc, ◌+◌, true, false, cond, List, [], ◌∷◌, ◌++◌, drop, Option, None, Some, refl, sym, ap, ◌∙◌, append_assoc, arith}
+use Rattle.std.proofs.Common.{◌≡◌, ◌≢◌, ⊎_elim, ℕ, zero, suc, ◌+◌, ◌≤◌, true, false, cond, List, [], ◌∷◌, ◌++◌, length, drop, Option, None, Some, refl, sym, ap, ◌∙◌, append_assoc, arith}
 use Rattle.std.specs.Prelude.{◌==◌, codes, nat_eq, option_map, unwrap_or}
 use Rattle.std.specs.List.{starts_with}
 use Rattle.std.specs.Option.{option_and_then}
@@ -31,6 +31,10 @@ quoted_from-unit (b ∷ bytes) byte more is =
     ∙ ap (option_map (with_front (byte ∷ []))) (quoted_from-skip more bytes)
     ∙ sym (ap (λ n. option_map (with_front (byte ∷ [])) (quoted_from 0 (drop n (b ∷ bytes)))) place))
     (cases_Bool (b == quote))
+
+pub unit_at-some : (bytes : List ℕ) (unit : ℕ × ℕ) → unit_at bytes ≡ Some unit → 1 ≤ length bytes
+unit_at-some [] unit is = absurd (cc)
+unit_at-some (b ∷ bytes) unit is = omega arith
 
 -- where none is, the head ends at a quote, or there is none
 pub quoted_from-end : (behind : List ℕ) → quoted_from 0 (quote ∷ behind) ≡ Some ([], behind)

@@ -1,5 +1,5 @@
 -- Laws of rows and of lines: how long a row gets, what names no attribute, and lines that are left out.
-use Rattle.std.proofs.Common.{◌≡◌, inl, inr, ⊎_elim, ℕ, ◌+◌, suc, ◌≤◌, Bool, true, false, not, ◌&&◌, List, [], ◌∷◌, ◌++◌, length, map, reverse, replicate, set, Option, None, Some, refl, sym, subst, ap, ◌∙◌, arith}
+use Rattle.std.proofs.Common.{◌≡◌, inl, inr, ⊎_elim, ℕ, ◌+◌, ◌≤◌, Bool, true, false, not, ◌&&◌, List, [], ◌∷◌, ◌++◌, length, map, reverse, replicate, set, Option, None, Some, refl, sym, subst, ap, ◌∙◌, arith}
 use Rattle.std.specs.Prelude.{if◌then◌else◌, slice_get}
 use Rattle.std.specs.List.{AllByRecursion, cons_option, filter_map, find, list_any}
 use Rattle.std.specs.Option.{option_map_or}
@@ -21,7 +21,7 @@ use Rattle.std.proofs.lemmas.List.{length-reverse}
 -- ---- how long a row gets
 
 -- after one assignment more, what it puts in counts no more
-record Step (macros : List Definition) (before : List Assigned) (marks : List Bool) (a : Assigned) : Type 0 where
+pub record Step (macros : List Definition) (before : List Assigned) (marks : List Bool) (a : Assigned) : Type 0 where
   pub new : List Bool
   pub marked : AreMarked macros (a ∷ before) new
   pub less : length (put_in macros before a) + unmarked macros new ≤ unmarked macros marks
@@ -44,13 +44,13 @@ module _ (macros : List Definition) (before : List Assigned) (marks : List Bool)
       record { new = marks; marked = marked-same macros before marks a p marked is there; less = omega (arith, long) }
   step_at p is false there = step_fresh p is there (is_set a.state) refl
 
-  step : (o : Option ℕ) → last_place a.name macros ≡ o → Step macros before marks a
+  pub step : (o : Option ℕ) → last_place a.name macros ≡ o → Step macros before marks a
   step None is =
       let long = ap length (put_in-none macros before a is) in
       record { new = marks; marked = marked-none macros before marks a marked is; less = omega (arith, long) }
   step (Some p) is = step_at p is (list_any (names a.name) before) (marked.each a.name p is)
 
-length-put : (gave rest : List Assigned) → length (gave ++ rest) ≡ length gave + length rest
+pub length-put : (gave rest : List Assigned) → length (gave ++ rest) ≡ length gave + length rest
 length-put [] rest = omega arith
 length-put (a ∷ gave) rest = let more = length-put gave rest in omega (arith, more)
 

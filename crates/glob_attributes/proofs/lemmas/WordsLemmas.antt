@@ -7,7 +7,7 @@ use Rattle.std.proofs.lemmas.List.Splits.{slice_split-cons_yes, slice_split-cons
 use Rattle.glob_attributes.specs.Words.{after_blanks, is_blank, words_of}
 use Rattle.glob_attributes.proofs.lemmas.PlaceLemmas.{place-here, place-later}
 
-abbrev has_bytes : List ℕ → Bool
+abbrev pub has_bytes : List ℕ → Bool
 has_bytes word = not (length word == 0)
 
 take-more : (n b : ℕ) (text : List ℕ) → take (1 + n) (b ∷ text) ≡ b ∷ take n text

@@ -1,0 +1,57 @@
+-- What a call takes off an attribute file.
+use Rattle.std.specs.Prelude.{◌≡◌, ℕ, Bool, ◌==◌, if◌then◌else◌, List, ◌∷◌}
+use Rattle.glob_lines.specs.Equations.Ignore.{without_returns}
+use Rattle.glob_lines.specs.Equations.Lines.{lines_of}
+use Rattle.glob_attributes.specs.declared.borrowed.telling.TextMacro.{TextMacro}
+use Rattle.glob_attributes.specs.declared.line.Silence.{Silence}
+use Rattle.glob_attributes.specs.declared.line.Silence.TheVariants.{TooLong, MacroBelowTop, MacroName, AttributeName, Negative}
+use Rattle.glob_attributes.specs.Borrowed.{assigned_by, definition_of}
+use Rattle.glob_attributes.specs.Equations.Files.{file_lines}
+use Rattle.glob_attributes.specs.Patterns.{IsPatternOf}
+use Rattle.glob_attributes.specs.Readings.{Gives, a_macro, a_pattern, line_gives, nothing, silent}
+use Rattle.gix_glob_c.specs.declared.attribute_file.GlobAttributeLine.{GlobAttributeLine}
+use Rattle.gix_glob_c.specs.declared.ignore_file.GlobLines.{GlobLines}
+use Rattle.gix_glob_c.specs.Parsed.{IsLawful, mode_of}
+use Rattle.gix_glob_c.specs.Parts.{unless_none}
+
+-- the lines of an attribute file that are left to read
+abbrev pub lines_left : GlobLines → List (List ℕ)
+lines_left lines = if lines.number == 0 then file_lines lines.rest.now else lines_of (without_returns lines.rest.now)
+
+-- the number that C is told for a line that says nothing for a reason, and for any line
+abbrev pub number_of : Silence → ℕ
+number_of TooLong = 3
+number_of MacroBelowTop = 4
+number_of MacroName = 5
+number_of AttributeName = 6
+number_of Negative = 7
+
+abbrev pub kind_of : Gives → ℕ
+kind_of nothing = 0
+kind_of (a_pattern bytes assignments) = 1
+kind_of (a_macro name assignments) = 2
+kind_of (silent silence) = number_of silence
+
+-- the new line is what a line gives, where that is a pattern, and else it is the old one
+abbrev pub ReadsPattern : Gives → GlobAttributeLine → GlobAttributeLine → Type 0
+ReadsPattern (a_pattern bytes assignments) old new =
+    IsPatternOf bytes new.pattern.text.now (mode_of new.pattern) (unless_none new.pattern.first_wildcard_pos)
+    × IsLawful new.pattern × (assigned_by new.words.now ≡ assignments)
+ReadsPattern _ old new = new ≡ old
+
+-- the same for a macro
+abbrev pub ReadsMacro : Gives → TextMacro → TextMacro → Type 0
+ReadsMacro (a_macro name assignments) old new = definition_of new ≡ record { name = name; assignments = assignments }
+ReadsMacro _ old new = new ≡ old
+
+-- what a line gives was read: a pattern, a macro, or neither
+pub record ReadsAttributes (gives : Gives) (old new : GlobAttributeLine) (old_macro new_macro : TextMacro) (number : ℕ) : Type 0 where
+  pub kind : number ≡ kind_of gives
+  pub pattern : ReadsPattern gives old new
+  pub definition : ReadsMacro gives old_macro new_macro
+
+-- The first of the lines was taken off them, and read.
+pub record TakesAttributes (is_top : Bool) (left rest : List (List ℕ)) (old new : GlobAttributeLine) (old_macro new_macro : TextMacro) (number : ℕ) : Type 0 where
+  pub line : List ℕ
+  pub taken : left ≡ line ∷ rest
+  pub reads : ReadsAttributes (line_gives is_top line) old new old_macro new_macro number

@@ -1,0 +1,125 @@
+//! The lines of an attribute file, one after the other: `struct gix_glob_attribute_line` and `struct gix_glob_macro` of the header.
+ghost use Rattle.std.specs.Prelude.{◌≡◌, ◌↔◌, ◌<◌, ◌≤◌, ◌+◌, ◌-◌, ◌^◌, ◌∷◌, [], IfSome, MatchOption, length, true, false};
+ghost use Rattle.glob_lines.specs.Equations.Ignore.{without_returns};
+ghost use Rattle.glob_lines.specs.Equations.Lines.{lines_of};
+ghost use Rattle.glob_lines.specs.Memory.{end_of};
+ghost use Rattle.glob_attributes.specs.Borrowed.{GivesParts};
+ghost use Rattle.glob_attributes.specs.Readings.{Gives};
+ghost use Rattle.gix_glob_c.specs.AttributeFile.{ReadsAttributes, TakesAttributes, lines_left, number_of};
+
+use crate::ignore_file::GlobLines;
+use crate::parsed::{GlobPattern, parts_of};
+use glob_attributes::borrowed::{LineParts, TextMacro, line_parts};
+use glob_attributes::{FILE_LIMIT, Silence};
+use glob_lines::{next_ended_line, without_byte_order_mark};
+
+/// `struct gix_glob_attribute_line`: a pattern, and what the paths are assigned that it matches.
+#[repr(C)]
+#[derive(Copy, Clone)]
+pub struct GlobAttributeLine<'a> {
+    /// The pattern.
+    pub pattern: GlobPattern<'a>,
+    /// The words behind the head of the line.
+    pub words: &'a [u8],
+}
+
+/// Takes the next line off an attribute file, and reads it as [`read_line`](glob_attributes::read_line) does. A byte order mark is
+/// passed over before the first line, and a file of 100 MiB or more has no lines, where `lines` was no line taken off before.
+/// `kind` receives what the line gives: 0 where it is blank or a comment, 1 for a pattern, which goes to `out`, and 2 for a macro,
+/// which goes to `definition`; a greater number says why the line says nothing. `lines.number` becomes the line's.
+///
+/// A quoted head is decoded into `memory`, which the pattern or the macro's name then lies in. `false` is answered where no line is
+/// left, or `memory` is too short: `lines`, `out` and `definition` are then as they were. So many bytes as are left suffice.
+#[unsafe(no_mangle)]
+pub extern "C" fn gix_glob_parse_attribute_line<'a>(
+    lines: &mut GlobLines<'a>,
+    is_top: bool,
+    memory: &'a mut [u8],
+    out: &mut GlobAttributeLine<'a>,
+    definition: &mut TextMacro<'a>,
+    kind: &mut u32,
+) -> bool
+    ensures ended { length lines.old.rest.now ≤ length memory.old → (result ≡ false) ↔ (lines_left lines.old ≡ []) }
+    ensures kept { result ≡ false → (lines.new ≡ lines.old) × (out.new ≡ out.old) × (definition.new ≡ definition.old) }
+    ensures place { end_of lines.new.rest ≡ end_of lines.old.rest }
+    ensures taken { result ≡ true → TakesAttributes is_top (lines_left lines.old) (lines_left lines.new) out.old out.new definition.old definition.new kind.new }
+    ensures number { result ≡ true → lines.old.number < 2 ^ 64 - 1 → lines.new.number ≡ lines.old.number + 1 }
+{
+    let Some((line, rest)) = next_line(lines) else {
+        return false;
+    };
+    let Some(parts) = line_parts(line, is_top, memory) else {
+        return false;
+    };
+    lines.rest = rest;
+    lines.number = lines.number.saturating_add(1);
+    *kind = write_parts(parts, out, definition);
+    true
+}
+
+/// The next line, and what follows it.
+fn next_line<'a>(lines: &GlobLines<'a>) -> Option<(&'a [u8], &'a [u8])>
+    ensures line { MatchOption result (lines_left lines.now ≡ []) (λ cut. lines_left lines.now ≡ cut.0.now ∷ lines_of (without_returns cut.1.now)) }
+    ensures place { IfSome result (λ cut. end_of cut.1 ≡ end_of lines.now.rest) }
+    ensures short { IfSome result (λ cut. length cut.0.now ≤ length lines.now.rest.now) }
+{
+    let (line, rest) = next_ended_line(unread(lines)?)?;
+    Some((line, rest))
+}
+
+/// The bytes that hold the lines that are left; `None` where the file is too long.
+fn unread<'a>(lines: &GlobLines<'a>) -> Option<&'a [u8]>
+    ensures bytes { MatchOption result (lines_left lines.now ≡ []) (λ bytes. lines_left lines.now ≡ lines_of (without_returns bytes.now)) }
+    ensures place { IfSome result (λ bytes. end_of bytes ≡ end_of lines.now.rest) }
+    ensures short { IfSome result (λ bytes. length bytes.now ≤ length lines.now.rest.now) }
+{
+    if lines.number > 0 {
+        return Some(lines.rest);
+    }
+    if lines.rest.len() >= FILE_LIMIT {
+        return None;
+    }
+    Some(without_byte_order_mark(lines.rest))
+}
+
+/// Writes what a line gives to its place, and answers its kind.
+fn write_parts<'a>(
+    parts: LineParts<'a>,
+    out: &mut GlobAttributeLine<'a>,
+    definition: &mut TextMacro<'a>,
+) -> u32
+    requires { (gives : Gives) × GivesParts gives parts }
+    ensures { (gives : Gives) → GivesParts gives parts.entry → ReadsAttributes gives out.old out.new definition.old definition.new result }
+{
+    match parts {
+        LineParts::Nothing => 0,
+        LineParts::Pattern { pattern, words } => {
+            *out = GlobAttributeLine {
+                pattern: parts_of(pattern),
+                words,
+            };
+            1
+        }
+        LineParts::Macro { name, words } => {
+            *definition = TextMacro { name, words };
+            2
+        }
+        LineParts::Silent(silence) => number_of(silence),
+    }
+}
+
+/// The kind of a line that says nothing for this reason.
+fn number_of(silence: Silence) -> u32
+    ensures { result ≡ number_of silence }
+{
+    match silence {
+        Silence::TooLong => 3,
+        Silence::MacroBelowTop => 4,
+        Silence::MacroName => 5,
+        Silence::AttributeName => 6,
+        Silence::Negative => 7,
+    }
+}
+
+#[cfg(test)]
+mod tests;

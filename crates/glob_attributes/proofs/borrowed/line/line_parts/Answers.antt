@@ -1,0 +1,42 @@
+-- What is left of the line behind its blanks decides what it gives.
+use Rattle.std.proofs.Common.{◌∙◌, subst, sym}
+use Rattle.glob_attributes.specs.Borrowed.{GivesParts}
+use Rattle.glob_attributes.specs.Readings.{Gives}
+use Rattle.glob_attributes.proofs.lemmas.LineLemmas.{IsInner, gives-macro, gives-nothing, gives-pattern, gives-too_long}
+use Rattle.glob_attributes.proofs.borrowed.line.line_parts.Goals.{then-is_macro, else-is_macro}
+use Rattle.glob_attributes.proofs.borrowed.line.line_parts.Goals as goal
+
+pub returns-then-says_nothing-clause-read : goal.returns-then-says_nothing-clause-read
+returns-then-says_nothing-clause-read c =
+    sym (gives-nothing c.args.is_top c.args.line.now c.before_zero-text.result.now c.after_blanks-inner.result.now
+    (record { text_is = c.before_zero-text.ensures; inner_is = c.after_blanks-inner.ensures })
+    (sym c.says_nothing.ensures ∙ c.if-says_nothing.true))
+
+pub returns-then-text-ge-LINE_LIMIT-clause-read : goal.returns-then-text-ge-LINE_LIMIT-clause-read
+returns-then-text-ge-LINE_LIMIT-clause-read c =
+    sym (gives-too_long c.args.is_top c.args.line.now c.before_zero-text.result.now c.after_blanks-inner.result.now
+    (record { text_is = c.before_zero-text.ensures; inner_is = c.after_blanks-inner.ensures })
+    (sym c.says_nothing.ensures ∙ c.if-says_nothing.false) c.if-text-ge-LINE_LIMIT.true)
+
+pub returns-clause-read : goal.returns-clause-read
+returns-clause-read c =
+    let is_top = c.args.is_top in
+    let line = c.args.line.now in
+    let head = c.in_ok-head.head.now in
+    let rest = c.in_ok-head.rest.now in
+    let inner : IsInner line c.before_zero-text.result.now c.after_blanks-inner.result.now = record { text_is = c.before_zero-text.ensures; inner_is = c.after_blanks-inner.ensures } in
+    let says = sym c.says_nothing.ensures ∙ c.if-says_nothing.false in
+    elim c.if-is_macro.branch [
+      | then-is_macro w ↦
+          subst (GivesParts _) (sym w.result-is)
+          (subst (λ (g : Gives). GivesParts g w.macro_parts.result)
+          (gives-macro is_top line c.before_zero-text.result.now c.after_blanks-inner.result.now inner head rest says c.if-text-ge-LINE_LIMIT.false
+          c.in_ok-head.ensures.read (sym c.is_macro.ensures ∙ w.if-is_macro.true))
+          w.macro_parts.ensures)
+      | else-is_macro w ↦
+          subst (GivesParts _) (sym w.result-is)
+          (subst (λ (g : Gives). GivesParts g w.pattern_parts.result)
+          (gives-pattern is_top line c.before_zero-text.result.now c.after_blanks-inner.result.now inner head rest says c.if-text-ge-LINE_LIMIT.false
+          c.in_ok-head.ensures.read (sym c.is_macro.ensures ∙ w.if-is_macro.false))
+          w.pattern_parts.ensures)
+    ]
