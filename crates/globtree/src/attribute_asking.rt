@@ -62,7 +62,12 @@ impl<'a, R: Files + Eprint> AttributeAsker<'a, R> {
     }
 
     /// Appends what is written about the path that was led to.
-    fn append(&mut self, text: &mut Vec<u8>, told: &[u8], is_folder: bool) -> Result<(), CheckFault> {
+    fn append(
+        &mut self,
+        text: &mut Vec<u8>,
+        told: &[u8],
+        is_folder: bool,
+    ) -> Result<(), CheckFault> {
         self.shown.clear();
         append_path(&mut self.shown, told, self.is_nul)?;
         let Some(path) = RepositoryPath::new(&self.path, is_folder) else {
@@ -92,12 +97,24 @@ impl<'a, R: Files + Eprint> AttributeAsker<'a, R> {
     ) -> Result<(), AllocError> {
         if let Some(all) = &self.folders.reader.names {
             'all: for assigned in &attributes.states_of(self.alloc, all.as_slice())? {
-                append_answer(text, &self.shown, assigned.name, &assigned.state, self.is_nul)?;
+                append_answer(
+                    text,
+                    &self.shown,
+                    assigned.name,
+                    &assigned.state,
+                    self.is_nul,
+                )?;
             }
             return Ok(());
         }
         'names: for name in self.folders.names {
-            append_answer(text, &self.shown, name, &attributes.state_of(name), self.is_nul)?;
+            append_answer(
+                text,
+                &self.shown,
+                name,
+                &attributes.state_of(name),
+                self.is_nul,
+            )?;
         }
         Ok(())
     }
@@ -105,13 +122,7 @@ impl<'a, R: Files + Eprint> AttributeAsker<'a, R> {
     /// Appends that nothing is said of the attributes that are asked for.
     fn append_nothing(&self, text: &mut Vec<u8>) -> Result<(), AllocError> {
         'names: for name in self.folders.names {
-            append_answer(
-                text,
-                &self.shown,
-                name,
-                &State::Unspecified,
-                self.is_nul,
-            )?;
+            append_answer(text, &self.shown, name, &State::Unspecified, self.is_nul)?;
         }
         Ok(())
     }

@@ -100,11 +100,7 @@ fn bytes_of_each<'a>(alloc: Global, names: &[&'a str]) -> Result<Vec<&'a [u8]>, 
 }
 
 /// Takes from each list the patterns that no state of these attributes rests on.
-fn keep_named_in_each(
-    lists: &mut [List<AttributeLines>],
-    names: &[&[u8]],
-    macros: &MacroTable,
-) {
+fn keep_named_in_each(lists: &mut [List<AttributeLines>], names: &[&[u8]], macros: &MacroTable) {
     for list in lists {
         keep_named(list, names, macros);
     }

@@ -181,8 +181,7 @@ module _ (lists : Lists) (path : Path) (case : Case) where
 
   pub row-given : (given : List Assigned) → ListsGive path case lists given → IsRow lists path case (reverse given)
   row-given given h =
-      let all = up_lists lists 0 (rest-all lists) given h in
-      (
+      let all = up_lists lists 0 (rest-all lists) given h in (
         all.found,
         record {
           each = all.from.each;
