@@ -5,7 +5,7 @@ ghost use Rattle.gix_glob_c.specs.Attributes.{IsLawfulAttributes, attribute_list
 ghost use Rattle.gix_glob_c.specs.Private.Finding.{IsFoundUpTo, lines_at};
 ghost use Rattle.gix_glob_c.specs.Parsed.{IsPathOfFile};
 ghost use Rattle.gix_glob_c.specs.Parts.{case_of};
-ghost use Rattle.glob_attributes.specs.Assignments.{state_with};
+ghost use Rattle.glob_attributes.specs.Views.{state_with};
 ghost use Rattle.glob_attributes.specs.Borrowed.{assigned_by, definition_of, row_of};
 ghost use Rattle.glob_attributes.specs.States.{Assigned, IsAssigned, assigned_at, state_in};
 ghost use Rattle.glob_lists.specs.Index.{AreMatches};

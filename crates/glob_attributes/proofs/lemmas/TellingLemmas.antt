@@ -14,7 +14,8 @@ use Rattle.glob_attributes.specs.declared.assignment.State.{State}
 use Rattle.glob_attributes.specs.declared.assignment.State.TheVariants.{Unspecified}
 use Rattle.glob_attributes.specs.declared.borrowed.telling.Text.{Text}
 use Rattle.glob_attributes.specs.declared.borrowed.telling.TextMacro.{TextMacro}
-use Rattle.glob_attributes.specs.Assignments.{assignment_of, assignment_with}
+use Rattle.glob_attributes.specs.Assignments.{assignment_of}
+use Rattle.glob_attributes.specs.Views.{assignment_with}
 use Rattle.glob_attributes.specs.Borrowed.{assigned_by, definition_of, row_of}
 use Rattle.glob_attributes.specs.Macros.{Definition}
 use Rattle.glob_attributes.specs.Private.Filling.{AreMarked, assignments_at, last_place, unmarked}

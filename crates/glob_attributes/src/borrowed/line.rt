@@ -1,8 +1,9 @@
 //! What one line of an attribute file gives, as parts of the line.
 ghost use Rattle.std.specs.Prelude.{◌≡◌, ◌≤◌, IfSome, IsTrue, is_some, length, true, false};
-ghost use Rattle.glob_attributes.specs.Assignments.{assignments_of};
+ghost use Rattle.glob_attributes.specs.Private.Readings.{assignments_of};
 ghost use Rattle.glob_attributes.specs.Borrowed.{GivesParts};
-ghost use Rattle.glob_attributes.specs.Readings.{line_gives, macro_reading, pattern_reading};
+ghost use Rattle.glob_attributes.specs.Readings.{line_gives};
+ghost use Rattle.glob_attributes.specs.Private.Readings.{macro_reading, pattern_reading};
 
 use crate::assignment::read_assignment;
 use crate::borrowed::head::borrow_head;

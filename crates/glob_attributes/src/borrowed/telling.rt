@@ -1,11 +1,12 @@
 //! The state of an attribute, by what is left to tell: texts of words in memory of the caller, the last word of the last text first.
 ghost use Rattle.std.specs.Prelude.{◌≡◌, ◌+◌, ◌++◌, ◌<◌, ◌≤◌, [], ◌∷◌, IfSome, List, is_some, length, map, replicate, reverse, false, true};
 ghost use Rattle.std.specs.Option.{option_map_or};
-ghost use Rattle.glob_attributes.specs.Assignments.{assignment_with, state_with};
+ghost use Rattle.glob_attributes.specs.Views.{assignment_with, state_with};
 ghost use Rattle.glob_attributes.specs.Borrowed.{assigned_by, definition_of, row_of};
 ghost use Rattle.glob_attributes.specs.Private.Filling.{AreMarked, last_place, unmarked};
 ghost use Rattle.glob_attributes.specs.Private.Telling.{unmarked_count};
-ghost use Rattle.glob_attributes.specs.States.{Assigned, IsFilledIn, is_set, put_in, state_in};
+ghost use Rattle.glob_attributes.specs.States.{Assigned, IsFilledIn, put_in, state_in};
+ghost use Rattle.glob_attributes.specs.Private.Filling.{is_set};
 
 use crate::assignment::{Assignment, State, split_word};
 use crate::borrowed::last_word::last_word;

@@ -1,6 +1,6 @@
 use Rattle.std.proofs.Common.{◌≡◌}
 use Rattle.std.specs.Prelude.{is_some}
-use Rattle.glob_attributes.specs.Assignments.{assignments_of}
+use Rattle.glob_attributes.specs.Private.Readings.{assignments_of}
 use Rattle.glob_attributes.specs.Words.{words_of}
 use Rattle.glob_attributes.proofs.lemmas.AssignmentLemmas.{assigned}
 use Rattle.glob_attributes.proofs.borrowed.line.has_names.Given as goal
