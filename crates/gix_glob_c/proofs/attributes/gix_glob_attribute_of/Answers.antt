@@ -9,10 +9,10 @@ returns-clause-exact c = λ lawful told.
     let found = c.in-Some-push_matches.ensures.row lawful in
     let state = c.in-Some-tell_state.ensures.told in (
       state.0,
-      record {
-        row = reverse (row_of c.push_matches.new.texts c.in-Some-push_matches.count);
-        is_row = record { pairs = found.0; matched = rw c.in-Some.ensures.1 at found.1; turned = ap reverse found.2 };
-        filled_in = state.1;
-      },
+      (
+        reverse (row_of c.push_matches.new.texts c.in-Some-push_matches.count),
+        (found.0, (rw c.in-Some.ensures.1 at found.1), ap reverse found.2),
+        state.1,
+      ),
       c.told_of.ensures ∙ ap told_of state.2,
     )
