@@ -1,6 +1,6 @@
 -- What is written about an attribute of a path.
-use Rattle.std.specs.Prelude.{ℕ, Bool, if◌then◌else◌, List, ◌++◌, codes}
-use Rattle.glob_attributes.specs.Answers.{fields_of, state_text}
+use Rattle.std.specs.Prelude.{ℕ, Bool, if◌then◌else◌, List, [], ◌∷◌, ◌++◌, codes}
+use Rattle.glob_attributes.specs.Answers.{state_text}
 use Rattle.glob_attributes.specs.declared.assignment.State.{State}
 use Rattle.globtree.specs.Quoting.{quoted}
 
@@ -8,11 +8,10 @@ use Rattle.globtree.specs.Quoting.{quoted}
 abbrev pub path_text : Bool → List ℕ → List ℕ
 path_text is_nul told = if is_nul then told else quoted told
 
--- three fields in a line
-abbrev pub line_of : List ℕ → List ℕ → List ℕ → List ℕ
-line_of shown name state = shown ++ (codes ": " ++ (name ++ (codes ": " ++ (state ++ codes "\n"))))
+-- the name of the attribute, with what parts it from the path before it and the state behind it
+abbrev pub label_of : Bool → List ℕ → List ℕ
+label_of is_nul name = if is_nul then 0 ∷ (name ++ 0 ∷ []) else codes ": " ++ (name ++ codes ": ")
 
--- the path as it is shown, the name of the attribute and its state: fields with a NUL behind each, or a line
+-- the path as it is shown, a label, the state, and a NUL or a line feed
 abbrev pub answer_of : Bool → List ℕ → List ℕ → State (List ℕ) → List ℕ
-answer_of is_nul shown name state =
-    if is_nul then fields_of shown name (state_text state) else line_of shown name (state_text state)
+answer_of is_nul shown label state = shown ++ (label ++ (state_text state ++ (if is_nul then 0 ∷ [] else codes "\n")))

@@ -1,11 +1,11 @@
 //! What answers each told path by the states of its attributes.
 
 use crate::asking::Standpoint;
-use crate::attribute_text::{append_answer, append_path};
+use crate::attribute_text::{append_answer, append_label, append_path};
 use crate::fault::CheckFault;
 use crate::folder_attributes::FolderAttributes;
 use crate::record_names::PathAnswerer;
-use glob_attributes::{AttributeLines, PathAttributes, State};
+use glob_attributes::{Assignment, AttributeLines, PathAttributes, State};
 use glob_lists::{ListIndex, RepositoryPath, bases_are_folders};
 use memchr::memchr;
 use std::alloc::{AllocError, Global};
@@ -21,6 +21,8 @@ pub(crate) struct AttributeAsker<'a, R> {
     /// The lists that are weaker than those of all folders below the top.
     pub(crate) index: &'a ListIndex<'a, AttributeLines>,
     pub(crate) folders: FolderAttributes<'a, R>,
+    /// The label of each attribute that is asked for, where not all are.
+    pub(crate) labels: Vec<Vec<u8>>,
     /// The path that was asked last.
     pub(crate) path: Vec<u8>,
     /// The path as it was told and is shown.
@@ -96,33 +98,34 @@ impl<'a, R: Files + Eprint> AttributeAsker<'a, R> {
         attributes: &PathAttributes<'_>,
     ) -> Result<(), AllocError> {
         if let Some(all) = &self.folders.reader.names {
-            'all: for assigned in &attributes.states_of(self.alloc, all.as_slice())? {
-                append_answer(
-                    text,
-                    &self.shown,
-                    assigned.name,
-                    &assigned.state,
-                    self.is_nul,
-                )?;
-            }
-            return Ok(());
+            return self.append_all(text, &attributes.states_of(self.alloc, all.as_slice())?);
         }
-        'names: for name in self.folders.names {
-            append_answer(
-                text,
-                &self.shown,
-                name,
-                &attributes.state_of(name),
-                self.is_nul,
-            )?;
+        'names: for (name, label) in self.folders.names.iter().zip(&self.labels) {
+            let state = attributes.state_of(name);
+            append_answer(text, &self.shown, label, &state, self.is_nul)?;
+        }
+        Ok(())
+    }
+
+    /// Appends the states of all attributes that have one.
+    fn append_all(
+        &self,
+        text: &mut Vec<u8>,
+        states: &[Assignment<&[u8]>],
+    ) -> Result<(), AllocError> {
+        let mut label = Vec::new(self.alloc);
+        'all: for assigned in states {
+            label.clear();
+            append_label(&mut label, assigned.name, self.is_nul)?;
+            append_answer(text, &self.shown, &label, &assigned.state, self.is_nul)?;
         }
         Ok(())
     }
 
     /// Appends that nothing is said of the attributes that are asked for.
     fn append_nothing(&self, text: &mut Vec<u8>) -> Result<(), AllocError> {
-        'names: for name in self.folders.names {
-            append_answer(text, &self.shown, name, &State::Unspecified, self.is_nul)?;
+        'labels: for label in &self.labels {
+            append_answer(text, &self.shown, label, &State::Unspecified, self.is_nul)?;
         }
         Ok(())
     }

@@ -6,6 +6,7 @@ use crate::asking::Standpoint;
 use crate::attribute_asking::AttributeAsker;
 use crate::attribute_files::AttributeReader;
 use crate::attribute_flags::{AttributeFlags, Misuse};
+use crate::attribute_text::append_label;
 use crate::attribute_words::operands_of;
 use crate::excludes::users_file;
 use crate::folder_attributes::FolderAttributes;
@@ -79,6 +80,7 @@ pub(crate) fn check_attr<R: Files + Env + Eprint + AllocGlobal, I: Read, O: Writ
         is_nul: flags.nul,
         index: &index,
         folders: FolderAttributes::new(reader, info, &names, &macros)?,
+        labels: labels_of(alloc, &names, flags.nul)?,
         path: Vec::new(alloc),
         shown: Vec::new(alloc),
     };
@@ -97,6 +99,17 @@ fn bytes_of_each<'a>(alloc: Global, names: &[&'a str]) -> Result<Vec<&'a [u8]>, 
         each.push(name.as_bytes())?;
     }
     Ok(each)
+}
+
+/// The label of each of the names.
+fn labels_of(alloc: Global, names: &[&[u8]], is_nul: bool) -> Result<Vec<Vec<u8>>, AllocError> {
+    let mut labels = Vec::with_capacity(alloc, names.len())?;
+    for name in names {
+        let mut label = Vec::new(alloc);
+        append_label(&mut label, name, is_nul)?;
+        labels.push(label)?;
+    }
+    Ok(labels)
 }
 
 /// Takes from each list the patterns that no state of these attributes rests on.
