@@ -1,7 +1,7 @@
 /* Which states attributes have for paths, by the attribute file at the top of a work tree: ./attributes FILE ATTR.. < PATHS
  *
- * It prints what `git check-attr --stdin ATTR..` does where only this FILE says something: a line `PATH: ATTR: STATE` for each
- * path and attribute. A path that ends in a slash is a directory's. A line of FILE that says nothing is told on standard error.
+ * It prints a line `PATH: ATTR: STATE` for each path and attribute, with the states of `git check-attr` where only this FILE says
+ * something. A path that ends in a slash is a directory's. A line of FILE that says nothing is told on standard error.
  *
  * The status is 0 where each path was answered, 1 where something can't be read or written, and 2 for wrong words.
  *

@@ -79,7 +79,13 @@ fn lines_give_patterns(rt: HostRuntime) {
             &mut kind,
         );
         same(&rt, (is_line, kind), (true, 1), "a pattern in", bytes);
-        same(&rt, lines.number, number + 1, "the number of", bytes);
+        same(
+            &rt,
+            lines.number,
+            number.saturating_add(1),
+            "the number of",
+            bytes,
+        );
         same(&rt, lines.rest.len(), left, "what is left of", bytes);
         let pattern = out.pattern;
         let parts = (pattern.text, pattern.mode, pattern.first_wildcard_pos);
@@ -161,7 +167,11 @@ fn files_end_and_memory_may_be_short(rt: HostRuntime) {
             &mut kind,
         );
         same(&rt, is_line, is_taken, "a line is taken off", bytes);
-        let last = if is_taken { number + 1 } else { number };
+        let last = if is_taken {
+            number.saturating_add(1)
+        } else {
+            number
+        };
         same(&rt, lines.number, last, "the number after", bytes);
     }
 }

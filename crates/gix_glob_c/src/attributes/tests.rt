@@ -19,35 +19,54 @@ fn assigning<'a>(pattern: &'a [u8], words: &'a [u8]) -> GlobAttributeLine<'a> {
     }
 }
 
-/// The kind and the value of an attribute, where there is room for so many texts and marks.
-fn told<'a>(
-    attributes: &GlobAttributes<'a>,
-    path: &[u8],
-    is_dir: bool,
+/// Whether this kind and value are told of an attribute, where there is room for so many texts and marks; `None` where nothing is.
+fn tells(
+    attributes: &GlobAttributes<'_>,
+    path: &GlobPath<'_>,
     fold: bool,
     name: &[u8],
     room: (usize, usize),
-) -> Option<(u32, &'a [u8])> {
+    answer: Option<(u32, &[u8])>,
+) -> bool {
     let mut texts = [Text { bytes: b"a" }; ROOM];
     let mut marks = [true; 4];
     let mut out = GlobState {
         value: b"untouched",
         kind: 9,
     };
-    let path = GlobPath {
-        bytes: path,
-        is_dir,
+    let Some(texts) = texts.get_mut(..room.0) else {
+        return false;
     };
-    let is_told = gix_glob_attribute_of(
-        attributes,
-        &path,
-        fold,
-        name,
-        texts.get_mut(..room.0)?,
-        marks.get_mut(..room.1)?,
-        &mut out,
-    );
-    is_told.then_some((out.kind, out.value))
+    let Some(marks) = marks.get_mut(..room.1) else {
+        return false;
+    };
+    let is_told = gix_glob_attribute_of(attributes, path, fold, name, texts, marks, &mut out);
+    match answer {
+        Some((kind, value)) => is_told && out.kind == kind && *out.value == *value,
+        None => !is_told && out.kind == 9 && *out.value == *b"untouched".as_slice(),
+    }
+}
+
+/// The lists of the file at the top, of that of the folder `d`, and of one that is stronger.
+fn lists_of<'a>(
+    top: &'a [GlobAttributeLine<'a>],
+    below: &'a [GlobAttributeLine<'a>],
+    info: &'a [GlobAttributeLine<'a>],
+) -> [GlobAttributeList<'a>; 3] {
+    [
+        GlobAttributeList {
+            lines: top,
+            base: b"",
+        },
+        GlobAttributeList {
+            lines: below,
+            base: b"d/",
+        },
+        GlobAttributeList {
+            lines: info,
+            base: b"",
+        },
+    ]
 }
 
 #[test]
@@ -59,23 +78,11 @@ fn the_strongest_line_decides(rt: HostRuntime) {
     ];
     let below = [assigning(b"/x", b"c=3"), assigning(b"e/X", b"-b=4")];
     let info = [assigning(b"d/x", b"!d=v"), assigning(b"d/e/**", b" ")];
-    let lists = [
-        GlobAttributeList {
-            lines: &top,
-            base: b"",
-        },
-        GlobAttributeList {
-            lines: &below,
-            base: b"d/",
-        },
-        GlobAttributeList {
-            lines: &info,
-            base: b"",
-        },
-    ];
+    let lists = lists_of(&top, &below, &info);
+    let macros: [TextMacro<'_>; 0] = [];
     let attributes = GlobAttributes {
         lists: &lists,
-        macros: &[],
+        macros: &macros,
     };
     // the path, whether it is a directory's, whether case counts, the name, and the answer
     let rows: [(&[u8], bool, bool, &[u8], Option<(u32, &[u8])>); 16] = [
@@ -97,14 +104,12 @@ fn the_strongest_line_decides(rt: HostRuntime) {
         (b"", false, false, b"a", None),
     ];
     for (path, is_dir, fold, name, answer) in rows {
-        let found = told(&attributes, path, is_dir, fold, name, (ROOM, 0));
-        same(
-            &rt,
-            found,
-            answer,
-            "the state, for a path and a name:",
-            (path, name),
-        );
+        let path = GlobPath {
+            bytes: path,
+            is_dir,
+        };
+        let is_told = tells(&attributes, &path, fold, name, (ROOM, 0), answer);
+        same(&rt, is_told, true, "path and name:", (path.bytes, name));
     }
 }
 
@@ -168,16 +173,14 @@ fn macros_are_put_in(rt: HostRuntime) {
         (b"f", b"p", (3, b"2")),
     ];
     for (path, name, answer) in rows {
-        let found = told(&attributes, path, false, false, name, (11, 4));
-        same(
-            &rt,
-            found,
-            Some(answer),
-            "the state, for a path and a name:",
-            (path, name),
-        );
+        let path = GlobPath {
+            bytes: path,
+            is_dir: false,
+        };
+        let is_told = tells(&attributes, &path, false, name, (11, 4), Some(answer));
+        same(&rt, is_told, true, "path and name:", (path.bytes, name));
     }
-    // the room for texts and for marks, and the answer for `k` of `d`, which two lines match and three macros are set for
+    // the room for texts and for marks, and the answer for `r` of `d`, which two lines match, where two macros are put in and all is told
     let rooms: [((usize, usize), Option<(u32, &[u8])>); 5] = [
         ((1, 4), None),
         ((2, 4), None),
@@ -186,7 +189,11 @@ fn macros_are_put_in(rt: HostRuntime) {
         ((11, 3), None),
     ];
     for (room, answer) in rooms {
-        let found = told(&attributes, b"d", false, false, b"r", room);
-        same(&rt, found, answer, "the state, with this room:", room);
+        let path = GlobPath {
+            bytes: b"d",
+            is_dir: false,
+        };
+        let is_told = tells(&attributes, &path, false, b"r", room, answer);
+        same(&rt, is_told, true, "this room:", room);
     }
 }
