@@ -78,12 +78,15 @@ class Load:
                 folders.append(folder)
         return folders
 
+    def path_in(self, folder):
+        return folder + self.word(2) + ("" if self.random.random() < 0.1 else "." + self.ending())
+
     def path_below(self, folder):
         """A path below a folder, of three to six parts where the folder has fewer."""
         parts = self.random.randrange(3, 7) - 1
         while folder.count("/") < parts:
             folder += self.random.choice(self.names) + "/"
-        return folder + self.word(2) + ("" if self.random.random() < 0.1 else "." + self.ending())
+        return self.path_in(folder)
 
 
 def write(file, lines):
@@ -142,10 +145,11 @@ def counted(words, size, folder, paths):
     return a_path, (part - start - a_path * len(half)) / size
 
 
-def make_tree(load, tree, count, root):
-    """Makes the folders in a repository, each with an ignore file of ten lines; and so many paths below them, in random order."""
+def make_tree(load, tree, count, root, place):
+    """Makes the folders in a repository, each with an ignore file of ten lines; and so many paths, each placed by a folder of them, in
+    random order."""
     patterns = {folder: [load.pattern() for _ in range(10)] for folder in tree}
-    paths = [load.path_below(load.random.choice(tree)) for _ in range(count)]
+    paths = [place(load.random.choice(tree)) for _ in range(count)]
     subprocess.run(["git", "init", "-q", root], check=False)
     for folder in tree:
         os.makedirs(f"{root}/{folder}", exist_ok=True)
@@ -174,7 +178,7 @@ def count_folders(o):
         load = Load(o.seed)
         tree = load.tree(count)
         with tempfile.TemporaryDirectory() as root:
-            paths = make_tree(load, tree, o.paths, root)
+            paths = make_tree(load, tree, o.paths, root, load.path_below)
             files = [f"{root}/{folder}.gitignore" for folder in tree]
             for order, ordered in (("random", paths), ("sorted", sorted(paths))):
                 costs = {name: cost_of_path(words(root, files), ordered, root) for name, words in rows.items()}

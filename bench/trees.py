@@ -1,8 +1,8 @@
 #!/usr/bin/env python3
 """Counts and times `globtree check-ignore` beside `git check-ignore --no-index`: bench/trees.py
 
-The trees are those of `lists.py --folders`: folders with an ignore file of ten lines each, and paths below them, once in random
-order and once sorted. First come instructions a path, by valgrind's callgrind, from a run over all paths and one over half of
+Each of the folders has an ignore file of ten lines, and the paths lie in them, once in random order and once sorted; with `--below`
+they lie deeper, mostly in folders that aren't there, as those of `lists.py --folders`. First come instructions a path, by valgrind's callgrind, from a run over all paths and one over half of
 them. Then come the seconds of the processor, user and system, that both programs take for all paths, in turns: the least of several
 turns. At last so many paths, all different, go through one run, and the most memory that it held is printed. The status is 1 where
 a goal is missed. `out/globtree` has to be there, or what `--program` names; without `git` only globtree is counted."""
@@ -32,6 +32,7 @@ def words():
     args.add_argument("--folders", default="20,200,2000")
     args.add_argument("--paths", type=int, default=50_000)
     args.add_argument("--seed", type=int, default=5)
+    args.add_argument("--below", action="store_true", help="the paths lie deeper than the folders")
     args.add_argument("--turns", type=int, default=5)
     args.add_argument("--memory", type=int, default=10_000_000, metavar="PATHS", help="how many paths go through one run for its memory; 0 for none")
     options = args.parse_args()
@@ -127,7 +128,7 @@ def main():
     for count in sizes:
         load = Load(options.seed)
         with tempfile.TemporaryDirectory() as root:
-            paths = make_tree(load, load.tree(count), options.paths, root)
+            paths = make_tree(load, load.tree(count), options.paths, root, load.path_below if options.below else load.path_in)
             costs.append(count_tree(rows, root, count, paths, goals, options.turns))
             if options.memory and count == max(sizes):
                 held = memory(rows["globtree"](root), paths, options.memory)
