@@ -33,7 +33,8 @@ impl<'a, R: Files + Eprint> PathAnswerer for AttributeAsker<'a, R> {
     fn answer_path(&mut self, text: &mut Vec<u8>, told: &[u8]) -> Result<(), CheckFault> {
         let told = before_zero(told);
         let is_folder = self.lead(told)?;
-        self.append(text, told, is_folder)
+        self.show(told)?;
+        self.append(text, is_folder)
     }
 }
 
@@ -63,15 +64,14 @@ impl<'a, R: Files + Eprint> AttributeAsker<'a, R> {
         Ok(is_folder)
     }
 
-    /// Appends what is written about the path that was led to.
-    fn append(
-        &mut self,
-        text: &mut Vec<u8>,
-        told: &[u8],
-        is_folder: bool,
-    ) -> Result<(), CheckFault> {
+    /// Makes a told path ready to be written.
+    fn show(&mut self, told: &[u8]) -> Result<(), AllocError> {
         self.shown.clear();
-        append_path(&mut self.shown, told, self.is_nul)?;
+        append_path(&mut self.shown, told, self.is_nul)
+    }
+
+    /// Appends what is written about the path that was led to and is shown.
+    fn append(&self, text: &mut Vec<u8>, is_folder: bool) -> Result<(), CheckFault> {
         let Some(path) = RepositoryPath::new(&self.path, is_folder) else {
             self.append_nothing(text)?;
             return Ok(());
@@ -101,7 +101,7 @@ impl<'a, R: Files + Eprint> AttributeAsker<'a, R> {
             return self.append_all(text, &attributes.states_of(self.alloc, all.as_slice())?);
         }
         'names: for (name, label) in self.folders.names.iter().zip(&self.labels) {
-            let state = attributes.state_of(name);
+            let state = attributes.state_of(name.as_bytes());
             append_answer(text, &self.shown, label, &state, self.is_nul)?;
         }
         Ok(())

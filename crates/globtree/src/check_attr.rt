@@ -9,7 +9,7 @@ use crate::attribute_flags::{AttributeFlags, Misuse};
 use crate::attribute_text::append_label;
 use crate::attribute_words::operands_of;
 use crate::excludes::users_file;
-use crate::folder_attributes::FolderAttributes;
+use crate::folder_attributes::{FolderAttributes, keep_asked};
 use crate::places::{go_to_folder, go_to_top};
 use crate::record_names::RecordAnswerer;
 use crate::words::Options;
@@ -17,7 +17,7 @@ use anyhow::{Context, Result, bail};
 use gix_glob::pattern::Case;
 use gix_glob::search::Watched;
 use gix_glob::search::pattern::List;
-use glob_attributes::{AttributeLines, AttributeNames, MacroTable, is_name, keep_named};
+use glob_attributes::{AttributeLines, AttributeNames, MacroTable, is_name};
 use glob_lists::{ListIndex, bases_are_folders};
 use glob_trees::RecordStream;
 use std::alloc::{AllocError, Global};
@@ -68,10 +68,9 @@ pub(crate) fn check_attr<R: Files + Env + Eprint + AllocGlobal, I: Read, O: Writ
         let _ = eprintln!(rt; "error: {name}: not a valid attribute name");
         return Ok(NO_NAME);
     }
-    let names = bytes_of_each(alloc, names)?;
     if !flags.all {
-        keep_named_in_each(&mut lists, &names, &macros);
-        keep_named_in_each(&mut info, &names, &macros);
+        keep_asked_in_each(alloc, &mut lists, names, &macros)?;
+        keep_asked_in_each(alloc, &mut info, names, &macros)?;
     }
     let index = index_of(alloc, &lists)?;
     let asker = AttributeAsker {
@@ -79,8 +78,8 @@ pub(crate) fn check_attr<R: Files + Env + Eprint + AllocGlobal, I: Read, O: Writ
         standpoint,
         is_nul: flags.nul,
         index: &index,
-        folders: FolderAttributes::new(reader, info, &names, &macros)?,
-        labels: labels_of(alloc, &names, flags.nul)?,
+        folders: FolderAttributes::new(reader, info, names, &macros)?,
+        labels: labels_of(alloc, names, flags.nul)?,
         path: Vec::new(alloc),
         shown: Vec::new(alloc),
     };
@@ -92,31 +91,28 @@ pub(crate) fn check_attr<R: Files + Env + Eprint + AllocGlobal, I: Read, O: Writ
     Ok(ANSWERED)
 }
 
-/// The bytes of each of the names.
-fn bytes_of_each<'a>(alloc: Global, names: &[&'a str]) -> Result<Vec<&'a [u8]>, AllocError> {
-    let mut each = Vec::with_capacity(alloc, names.len())?;
-    for name in names {
-        each.push(name.as_bytes())?;
-    }
-    Ok(each)
-}
-
 /// The label of each of the names.
-fn labels_of(alloc: Global, names: &[&[u8]], is_nul: bool) -> Result<Vec<Vec<u8>>, AllocError> {
+fn labels_of(alloc: Global, names: &[&str], is_nul: bool) -> Result<Vec<Vec<u8>>, AllocError> {
     let mut labels = Vec::with_capacity(alloc, names.len())?;
     for name in names {
         let mut label = Vec::new(alloc);
-        append_label(&mut label, name, is_nul)?;
+        append_label(&mut label, name.as_bytes(), is_nul)?;
         labels.push(label)?;
     }
     Ok(labels)
 }
 
 /// Takes from each list the patterns that no state of these attributes rests on.
-fn keep_named_in_each(lists: &mut [List<AttributeLines>], names: &[&[u8]], macros: &MacroTable) {
-    for list in lists {
-        keep_named(list, names, macros);
+fn keep_asked_in_each(
+    alloc: Global,
+    lists: &mut [List<AttributeLines>],
+    names: &[&str],
+    macros: &MacroTable,
+) -> Result<(), AllocError> {
+    'lists: for i in 0..lists.len() {
+        keep_asked(alloc, &mut lists[i], names, macros)?;
     }
+    Ok(())
 }
 
 /// The files that are read before any path is asked for.

@@ -5,7 +5,6 @@ use crate::fault::CheckFault;
 use crate::paths::last_name;
 use gix_glob::search::pattern::List;
 use glob_attributes::{AttributeLines, MacroTable, keep_named};
-use memchr::memchr;
 use std::alloc::{AllocError, Global};
 use std::collections::BTreeMap;
 use std::rt::Files;
@@ -18,7 +17,7 @@ pub(crate) struct FolderAttributes<'a, R> {
     /// The lists of the folders on the way that have patterns, from outer to inner, and behind them that of `info`.
     pub(crate) lists: Vec<List<AttributeLines>>,
     /// The attributes that are asked for, where not all are.
-    pub(crate) names: &'a [&'a [u8]],
+    pub(crate) names: &'a [&'a str],
     pub(crate) macros: &'a MacroTable,
     /// The path of the folder entered last, with a slash at its end; empty where that is the top.
     folder: Vec<u8>,
@@ -55,7 +54,7 @@ impl<'a, R: Files + Eprint> FolderAttributes<'a, R> {
     pub(crate) fn new(
         reader: AttributeReader<'a, R>,
         lists: Vec<List<AttributeLines>>,
-        names: &'a [&'a [u8]],
+        names: &'a [&'a str],
         macros: &'a MacroTable,
     ) -> Result<FolderAttributes<'a, R>, AllocError> {
         let alloc = reader.alloc;
@@ -87,13 +86,11 @@ impl<'a, R: Files + Eprint> FolderAttributes<'a, R> {
         if !path.starts_with(&self.folder) {
             self.leave_to(path);
         }
-        let mut start = self.folder.len();
-        'folders: while let Some(length) = memchr(b'/', &path[start..]) {
-            let end = start + length;
-            if !self.enter(&path[..end])? {
+        let start = self.folder.len();
+        'bytes: for place in start..path.len() {
+            if path[place] == b'/' && !self.enter(&path[..place])? {
                 break;
             }
-            start = end + 1;
         }
         Ok(())
     }
@@ -101,12 +98,22 @@ impl<'a, R: Files + Eprint> FolderAttributes<'a, R> {
     /// Leaves the folders that aren't on the way to a path.
     fn leave_to(&mut self, path: &[u8]) {
         let alike = common_length(&self.folder, path);
-        'folders: while let Some(last) = self.way.last() {
-            if last.length <= alike {
-                self.folder.truncate(last.length);
+        // no more folders can be left than were entered
+        'folders: for _ in 0..self.way.len() {
+            let length = self.length();
+            if length <= alike {
+                self.folder.truncate(length);
                 return;
             }
             self.leave();
+        }
+    }
+
+    /// How many bytes of a path name the folder entered last, with the slash at its end.
+    fn length(&self) -> usize {
+        match self.way.last() {
+            Some(last) => last.length,
+            None => 0,
         }
     }
 
@@ -172,7 +179,7 @@ impl<'a, R: Files + Eprint> FolderAttributes<'a, R> {
         if let Some(list) = &mut list
             && self.reader.names.is_none()
         {
-            keep_named(list, self.names, self.macros);
+            keep_asked(self.reader.alloc, list, self.names, self.macros)?;
         }
         let place = self.remember(last_name(folder), list)?;
         Ok(place)
@@ -199,6 +206,21 @@ impl<'a, R: Files + Eprint> FolderAttributes<'a, R> {
         }
         Ok(place)
     }
+}
+
+/// Takes from a list the patterns that no state of these attributes rests on.
+pub(crate) fn keep_asked(
+    alloc: Global,
+    list: &mut List<AttributeLines>,
+    names: &[&str],
+    macros: &MacroTable,
+) -> Result<(), AllocError> {
+    let mut each = Vec::with_capacity(alloc, names.len())?;
+    for name in names {
+        each.push(name.as_bytes())?;
+    }
+    keep_named(list, &each, macros);
+    Ok(())
 }
 
 /// The list, where it has patterns.
