@@ -1,5 +1,5 @@
 -- Where a told path leads.
-use Rattle.std.specs.Prelude.{◌≡◌, ℕ, ◌==◌, ◌||◌, Bool, true, false, nat_eq, if◌then◌else◌, List, [], ◌∷◌, ◌++◌, drop, length, Option, None, Some, codes}
+use Rattle.std.specs.Prelude.{ℕ, ◌==◌, ◌||◌, Bool, nat_eq, if◌then◌else◌, List, [], ◌∷◌, ◌++◌, drop, length, Option, None, Some, codes}
 use Rattle.std.specs.List.{flat_map, list_any, slice_split, starts_with}
 use Rattle.std.specs.Option.{option_and_then, option_map, unwrap_or}
 use Rattle.std.specs.Str.{byte, bytes_eq}

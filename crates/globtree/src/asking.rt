@@ -6,6 +6,7 @@ use crate::lines::{Shown, append_line};
 use crate::paths::{below_folder, walk};
 use crate::record_names::PathAnswerer;
 use crate::sources::{FolderFiles, folder_text, is_folder, is_link};
+use crate::unlinked::UnlinkedFolders;
 use bitflags::Flags as _;
 use gix_glob::pattern::Mode;
 use glob_lines::IgnoreLines;
@@ -73,8 +74,8 @@ pub(crate) struct Asker<'a, R: Files + Eprint> {
     pub(crate) tree: Tree<IgnoreLines, FolderFiles<'a, R>>,
     /// The path that was asked last.
     pub(crate) path: Vec<u8>,
-    /// A folder that wasn't entered, and is no link nor below one: the one that was looked at last.
-    pub(crate) unlinked: Vec<u8>,
+    /// Folders that weren't entered, and are no links nor below one.
+    pub(crate) unlinked: UnlinkedFolders,
     /// Whether a line decided about some path.
     pub(crate) is_any: bool,
 }
@@ -146,12 +147,11 @@ impl<'a, R: Files + Eprint> Asker<'a, R> {
             return Ok(());
         };
         let folder = &self.path[..last];
-        if last < entered || folder == self.unlinked.as_slice() {
+        if last < entered || self.unlinked.contains(folder) {
             return Ok(());
         }
         check_folders(self.rt, self.alloc, folder, entered)?;
-        self.unlinked.clear();
-        self.unlinked.extend_from_slice(folder)?;
+        self.unlinked.insert(folder)?;
         Ok(())
     }
 }

@@ -1,7 +1,7 @@
 //! What answers each told path by the states of its attributes.
 
 use crate::asking::Standpoint;
-use crate::attribute_text::{append_answer, append_label, append_path};
+use crate::attribute_text::{append_answer, append_label, path_text};
 use crate::fault::CheckFault;
 use crate::folder_attributes::FolderAttributes;
 use crate::record_names::PathAnswerer;
@@ -25,16 +25,15 @@ pub(crate) struct AttributeAsker<'a, R> {
     pub(crate) labels: Vec<Vec<u8>>,
     /// The path that was asked last.
     pub(crate) path: Vec<u8>,
-    /// The path as it was told and is shown.
-    pub(crate) shown: Vec<u8>,
 }
 
 impl<'a, R: Files + Eprint> PathAnswerer for AttributeAsker<'a, R> {
     fn answer_path(&mut self, text: &mut Vec<u8>, told: &[u8]) -> Result<(), CheckFault> {
         let told = before_zero(told);
         let is_folder = self.lead(told)?;
-        self.show(told)?;
-        self.append(text, is_folder)
+        let mut quoted = Vec::new(self.alloc);
+        let shown = path_text(&mut quoted, told, self.is_nul)?;
+        self.append(text, shown, is_folder)
     }
 }
 
@@ -64,16 +63,10 @@ impl<'a, R: Files + Eprint> AttributeAsker<'a, R> {
         Ok(is_folder)
     }
 
-    /// Makes a told path ready to be written.
-    fn show(&mut self, told: &[u8]) -> Result<(), AllocError> {
-        self.shown.clear();
-        append_path(&mut self.shown, told, self.is_nul)
-    }
-
-    /// Appends what is written about the path that was led to and is shown.
-    fn append(&self, text: &mut Vec<u8>, is_folder: bool) -> Result<(), CheckFault> {
+    /// Appends what is written about the path that was led to, as it is shown.
+    fn append(&self, text: &mut Vec<u8>, shown: &[u8], is_folder: bool) -> Result<(), CheckFault> {
         let Some(path) = RepositoryPath::new(&self.path, is_folder) else {
-            self.append_nothing(text)?;
+            self.append_nothing(text, shown)?;
             return Ok(());
         };
         let stronger = &self.folders.lists;
@@ -87,7 +80,7 @@ impl<'a, R: Files + Eprint> AttributeAsker<'a, R> {
             self.folders.macros,
             &path,
         )?;
-        self.append_states(text, &attributes)?;
+        self.append_states(text, shown, &attributes)?;
         Ok(())
     }
 
@@ -95,14 +88,16 @@ impl<'a, R: Files + Eprint> AttributeAsker<'a, R> {
     fn append_states(
         &self,
         text: &mut Vec<u8>,
+        shown: &[u8],
         attributes: &PathAttributes<'_>,
     ) -> Result<(), AllocError> {
         if let Some(all) = &self.folders.reader.names {
-            return self.append_all(text, &attributes.states_of(self.alloc, all.as_slice())?);
+            let states = attributes.states_of(self.alloc, all.as_slice())?;
+            return self.append_all(text, shown, &states);
         }
         'names: for (name, label) in self.folders.names.iter().zip(&self.labels) {
             let state = attributes.state_of(name.as_bytes());
-            append_answer(text, &self.shown, label, &state, self.is_nul)?;
+            append_answer(text, shown, label, &state, self.is_nul)?;
         }
         Ok(())
     }
@@ -111,21 +106,22 @@ impl<'a, R: Files + Eprint> AttributeAsker<'a, R> {
     fn append_all(
         &self,
         text: &mut Vec<u8>,
+        shown: &[u8],
         states: &[Assignment<&[u8]>],
     ) -> Result<(), AllocError> {
         let mut label = Vec::new(self.alloc);
         'all: for assigned in states {
             label.clear();
             append_label(&mut label, assigned.name, self.is_nul)?;
-            append_answer(text, &self.shown, &label, &assigned.state, self.is_nul)?;
+            append_answer(text, shown, &label, &assigned.state, self.is_nul)?;
         }
         Ok(())
     }
 
     /// Appends that nothing is said of the attributes that are asked for.
-    fn append_nothing(&self, text: &mut Vec<u8>) -> Result<(), AllocError> {
+    fn append_nothing(&self, text: &mut Vec<u8>, shown: &[u8]) -> Result<(), AllocError> {
         'labels: for label in &self.labels {
-            append_answer(text, &self.shown, label, &State::Unspecified, self.is_nul)?;
+            append_answer(text, shown, label, &State::Unspecified, self.is_nul)?;
         }
         Ok(())
     }

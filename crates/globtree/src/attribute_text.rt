@@ -1,21 +1,27 @@
 //! What is written about an attribute of a path.
-ghost use Rattle.std.specs.Prelude.{◌≡◌, ◌++◌, OnOk};
+ghost use Rattle.std.specs.Prelude.{◌≡◌, ◌++◌, IfOk, OnOk};
 ghost use Rattle.glob_attributes.specs.Views.{state_with};
 ghost use Rattle.globtree.specs.AttributeText.{answer_of, label_of, path_text};
 
-use crate::quoting::append_quoted;
+use crate::quoting::{append_quoted, has_unusual};
 use glob_attributes::{State, state_text};
 use std::alloc::AllocError;
 
-/// Appends a path as it stands before each of its attributes: as it was told, or, in lines, in quotes where a byte is unusual.
-pub(crate) fn append_path(text: &mut Vec<u8>, told: &[u8], is_nul: bool) -> Result<(), AllocError>
-    ensures { OnOk result (text.new.items ≡ text.old.items ++ path_text is_nul told.now) }
+/// A path as it stands before each of its attributes: as it was told, or, in lines, in quotes where a byte is unusual. `quoted` is
+/// where the quotes are written.
+pub(crate) fn path_text<'t>(
+    quoted: &'t mut Vec<u8>,
+    told: &'t [u8],
+    is_nul: bool,
+) -> Result<&'t [u8], AllocError>
+    ensures { IfOk result (λ text. text.now ≡ path_text is_nul told.entry.now) }
 {
-    if is_nul {
-        text.extend_from_slice(told)
-    } else {
-        append_quoted(text, told)
+    if is_nul || !has_unusual(told) {
+        return Ok(told);
     }
+    quoted.clear();
+    append_quoted(quoted, told)?;
+    Ok(quoted)
 }
 
 /// Appends the name of an attribute, with what parts it from the path before it and the state behind it: a NUL, or a colon and a

@@ -81,7 +81,6 @@ pub(crate) fn check_attr<R: Files + Env + Eprint + AllocGlobal, I: Read, O: Writ
         folders: FolderAttributes::new(reader, info, names, &macros)?,
         labels: labels_of(alloc, names, flags.nul)?,
         path: Vec::new(alloc),
-        shown: Vec::new(alloc),
     };
     if flags.stdin {
         answer_records(alloc, asker, flags.nul, input, output)?;

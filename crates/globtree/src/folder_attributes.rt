@@ -5,6 +5,7 @@ use crate::fault::CheckFault;
 use crate::paths::last_name;
 use gix_glob::search::pattern::List;
 use glob_attributes::{AttributeLines, MacroTable, keep_named};
+use memchr::memchr;
 use std::alloc::{AllocError, Global};
 use std::collections::BTreeMap;
 use std::rt::Files;
@@ -87,6 +88,12 @@ impl<'a, R: Files + Eprint> FolderAttributes<'a, R> {
             self.leave_to(path);
         }
         let start = self.folder.len();
+        // most paths lie right in the folder that is entered then
+        if let Some(rest) = path.get(start..)
+            && memchr(b'/', rest).is_none()
+        {
+            return Ok(());
+        }
         'bytes: for place in start..path.len() {
             if path[place] == b'/' && !self.enter(&path[..place])? {
                 break;

@@ -21,6 +21,7 @@ mod quoting;
 mod record_names;
 mod running;
 mod sources;
+mod unlinked;
 mod unquoting;
 mod words;
 

@@ -1,5 +1,5 @@
 //! Where a told path leads: `.` stays, `..` goes up, and slashes that follow one another are one.
-ghost use Rattle.std.specs.Prelude.{◌≡◌, ◌∷◌, ◌++◌, ◌||◌, false, if◌then◌else◌, None, Some, IfOk, MatchOption, OnOk};
+ghost use Rattle.std.specs.Prelude.{◌≡◌, ◌∷◌, ◌++◌, ◌||◌, Bool, false, if◌then◌else◌, None, Some, IfOk, MatchOption, OnOk};
 ghost use Rattle.std.specs.Option.{option_copied};
 ghost use Rattle.globtree.specs.Paths.{below, folder_of, folder_parts, goes_up, left_below, names_folder, parts_left, parts_of, seen_from, stays, step, steps_up, walk};
 
@@ -20,7 +20,7 @@ pub(crate) fn walk(path: &mut Vec<u8>, told: &[u8]) -> Result<Option<bool>, Allo
         if !step(path, part)? {
             return Ok(None);
         }
-        is_folder = is_folder_name(part);
+        is_folder = says_folder(part, behind);
         rest = behind;
     }
     Ok(Some(is_folder))
@@ -80,6 +80,17 @@ pub(crate) fn leave(path: &mut Vec<u8>)
         if byte == b'/' {
             return;
         }
+    }
+}
+
+/// Whether a part says that a folder is meant: the last one alone does.
+#[tactic(auto, using(crate::proofs::lemmas::PathLemmas::names_folder_alike))]
+fn says_folder(part: &[u8], behind: Option<&[u8]>) -> bool
+    ensures { (known : Bool) → names_folder result (parts_left (option_copied behind.entry)) ≡ names_folder known (part.now ∷ parts_left (option_copied behind.entry)) }
+{
+    match behind {
+        Some(_others) => false,
+        None => is_folder_name(part),
     }
 }
 

@@ -19,10 +19,15 @@ pub(crate) fn append_quoted(text: &mut Vec<u8>, name: &[u8]) -> Result<(), Alloc
 }
 
 /// Whether some byte of a name is unusual.
-fn has_unusual(name: &[u8]) -> bool
+pub(crate) fn has_unusual(name: &[u8]) -> bool
     ensures { result ≡ list_any is_unusual name.now }
 {
-    name.iter().any(|byte| is_unusual(*byte))
+    let mut is_any = false;
+    // no byte ends this loop, so that many bytes are looked at in one step
+    'bytes: for byte in name {
+        is_any = is_any | is_unusual(*byte);
+    }
+    is_any
 }
 
 /// Whether a byte is no letter or sign of ASCII by itself: a control character, a double quote, a backslash, or one past ASCII.

@@ -10,6 +10,7 @@ use crate::flags::Flags;
 use crate::places::{go_to_folder, go_to_top};
 use crate::record_names::RecordAnswerer;
 use crate::sources::FolderFiles;
+use crate::unlinked::UnlinkedFolders;
 use crate::words::{Command, Options, asked_by, paths_of};
 use anyhow::{Context, Result, anyhow, bail};
 use gix_glob::pattern::Case;
@@ -187,7 +188,7 @@ fn asker_of<'a, R: Files + Env + Eprint + AllocGlobal>(
         flags,
         tree,
         path: Vec::new(alloc),
-        unlinked: Vec::new(alloc),
+        unlinked: UnlinkedFolders::new(alloc),
         is_any: false,
     })
 }

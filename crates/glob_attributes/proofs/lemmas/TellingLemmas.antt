@@ -47,11 +47,6 @@ row_of-more texts n within = ap (flat_map assigned) (take_more texts n blank_tex
 pub row_of-set : (texts : List Text) (n : ℕ) (text : Text) → n < length texts → row_of (set texts n text) (n + 1) ≡ row_of texts n ++ assigned text
 row_of-set texts n text within = ap (flat_map assigned) (take_more_set texts n text within) ∙ row_of-one (take n texts) text
 
--- a text without words is dropped
-pub row_of-dropped : (texts : List Text) (n : ℕ) → n < length texts → words_of (get_or texts n blank_text).bytes.now ≡ [] → row_of texts (n + 1) ≡ row_of texts n
-row_of-dropped texts n within none =
-    row_of-more texts n within ∙ ap (λ (ws : List (List ℕ)). row_of texts n ++ map assignment_of ws) none ∙ append-nil (row_of texts n)
-
 -- the last word of the last text is taken
 pub row_of-taken : (texts : List Text) (n : ℕ) (text : Text) (word : List ℕ) → n < length texts
     → words_of (get_or texts n blank_text).bytes.now ≡ words_of text.bytes.now ++ word ∷ []

@@ -1,13 +1,14 @@
 -- Parts of told paths, and the folder of a path.
-use Rattle.std.proofs.Common.{◌≡◌, ◌≢◌, ℕ, ◌+◌, Bool, true, false, List, [], ◌∷◌, ◌++◌, take, drop, ap, sym, ◌∙◌, refl, arith, eq-eqb}
-use Rattle.std.specs.Prelude.{◌==◌, ◌||◌, if◌then◌else◌, Some, None}
-use Rattle.std.specs.List.{list_any, slice_split, onto_first}
+use Rattle.std.proofs.Common.{◌≡◌, ◌≢◌, ℕ, ◌+◌, ◌<◌, Bool, true, false, List, [], ◌∷◌, ◌++◌, length, take, drop, ap, ◌∙◌, refl, arith, eq-eqb}
+use Rattle.std.specs.Prelude.{◌||◌, Some, None}
+use Rattle.std.specs.List.{list_any}
 use Rattle.std.specs.Str.{byte}
 use Rattle.std.proofs.lemmas.Grind.{common_steps}
 use Rattle.memchr.specs.Find.{IsFirstByte, is_byte}
 use Rattle.glob_lines.specs.Lines.{HasNo}
 use Rattle.glob_lines.proofs.lemmas.LinesLemmas.{HasNo-not_found, IsCutAt-found}
-use Rattle.globtree.specs.Paths.{folder_of, is_slash, parts_of}
+use Rattle.std.proofs.lemmas.List.Splits.{length-slice_split}
+use Rattle.globtree.specs.Paths.{folder_of, is_slash, names_folder, parts_of}
 
 eqb_false : (b : ℕ) → b ≢ byte "/" → is_slash b ≡ false
 eqb_false b other = grind (arith, common_steps)
@@ -55,3 +56,14 @@ folder_of_at path b is = folder_of_slash path b (eq-eqb b (byte "/") is)
 
 pub first_part_whole : (bytes : List ℕ) → IsFirstByte (is_byte (byte "/")) bytes None → parts_of bytes ≡ bytes ∷ []
 first_part_whole bytes none = split_none bytes (HasNo-not_found (byte "/") bytes none)
+
+-- the last of some parts says alone whether a folder is meant
+names_folder_some : (known other : Bool) (parts : List (List ℕ)) → 0 < length parts → names_folder known parts ≡ names_folder other parts
+names_folder_some known other [] some = absurd (omega arith)
+names_folder_some known other (part ∷ parts) some = refl
+
+-- text has parts
+pub names_folder_alike : (known other : Bool) (bytes : List ℕ) → names_folder known (parts_of bytes) ≡ names_folder other (parts_of bytes)
+names_folder_alike known other bytes =
+    let count = length-slice_split is_slash bytes in
+    names_folder_some known other (parts_of bytes) (omega arith)
