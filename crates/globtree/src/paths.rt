@@ -1,5 +1,5 @@
 //! Where a told path leads: `.` stays, `..` goes up, and slashes that follow one another are one.
-ghost use Rattle.std.specs.Prelude.{◌≡◌, ◌∷◌, ◌++◌, ◌||◌, Bool, false, if◌then◌else◌, None, Some, IfOk, MatchOption, OnOk};
+ghost use Rattle.std.specs.Prelude.{◌≡◌, ◌∷◌, ◌++◌, ◌||◌, ℕ, Bool, false, List, if◌then◌else◌, None, Some, IfOk, IsTrue, MatchOption, OnOk};
 ghost use Rattle.std.specs.Option.{option_copied};
 ghost use Rattle.globtree.specs.Paths.{below, folder_of, folder_parts, goes_up, left_below, names_folder, parts_left, parts_of, seen_from, stays, step, steps_up, walk};
 
@@ -13,6 +13,10 @@ pub(crate) fn walk(path: &mut Vec<u8>, told: &[u8]) -> Result<Option<bool>, Allo
         (walk path.old.items (parts_of told.now) ≡ None)
         (λ is_folder. (walk path.old.items (parts_of told.now) ≡ Some path.new.items) × (is_folder ≡ names_folder false (parts_of told.now)))) }
 {
+    if are_names(told) {
+        enter(path, told)?;
+        return Ok(Some(false));
+    }
     let mut is_folder = false;
     let mut rest = Some(told);
     'parts: while let Some(left) = rest {
@@ -24,6 +28,20 @@ pub(crate) fn walk(path: &mut Vec<u8>, told: &[u8]) -> Result<Option<bool>, Allo
         rest = behind;
     }
     Ok(Some(is_folder))
+}
+
+/// Whether each part leads to what stands below, as it does where no part is empty or begins with a dot.
+fn are_names(told: &[u8]) -> bool
+    ensures { IsTrue result → (path : List ℕ) → (walk path (parts_of told.now) ≡ Some (below path told.now)) × (names_folder false (parts_of told.now) ≡ false) }
+{
+    let mut is_start = true;
+    let mut is_other = false;
+    // no byte ends this loop, so that many bytes are looked at in one step
+    'bytes: for byte in told {
+        is_other = is_other | (is_start & ((*byte == b'/') | (*byte == b'.')));
+        is_start = *byte == b'/';
+    }
+    !(is_other | is_start)
 }
 
 /// What stands before the first slash, and what follows it.

@@ -14,7 +14,7 @@ eqb_false : (b : ℕ) → b ≢ byte "/" → is_slash b ≡ false
 eqb_false b other = grind (arith, common_steps)
 
 -- what stands before a slash is the first part
-split_cut : (front rest : List ℕ) → HasNo (byte "/") front → parts_of (front ++ byte "/" ∷ rest) ≡ front ∷ parts_of rest
+pub split_cut : (front rest : List ℕ) → HasNo (byte "/") front → parts_of (front ++ byte "/" ∷ rest) ≡ front ∷ parts_of rest
 split_cut [] rest none = refl
 split_cut (b ∷ front) rest none =
     let no = eqb_false b none.0 in
@@ -22,7 +22,7 @@ split_cut (b ∷ front) rest none =
     rw no (rw later refl)
 
 -- bytes without a slash are one part
-split_none : (bytes : List ℕ) → HasNo (byte "/") bytes → parts_of bytes ≡ bytes ∷ []
+pub split_none : (bytes : List ℕ) → HasNo (byte "/") bytes → parts_of bytes ≡ bytes ∷ []
 split_none [] none = refl
 split_none (b ∷ bytes) none =
     let no = eqb_false b none.0 in
