@@ -59,10 +59,12 @@ class Pair:
 
 
 def joined(front, behind):
-    """The lines of two files as those of one. A carriage return at the end of the first is no line's end."""
+    """The lines of two files as those of one. A carriage return at the end of the first is a blank, and no line's end."""
     if not front:
         return behind
-    return front + (b"" if front.endswith(b"\n") else b" \n" if front.endswith(b"\r") else b"\n") + behind.removeprefix(BYTE_ORDER_MARK)
+    if front.endswith(b"\r"):
+        front = front[:-1] + b" "
+    return front + (b"" if front.endswith(b"\n") else b"\n") + behind.removeprefix(BYTE_ORDER_MARK)
 
 
 def is_nul(words):
