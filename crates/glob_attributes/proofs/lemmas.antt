@@ -3,6 +3,7 @@ pub mod BehindLemmas
 pub mod EntryLemmas
 pub mod FileLemmas
 pub mod FillingLemmas
+pub mod FirstLemmas
 pub mod GivenLemmas
 pub mod HeadLemmas
 pub mod KeptLemmas

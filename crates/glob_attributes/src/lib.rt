@@ -6,6 +6,7 @@ mod assignment;
 pub mod borrowed;
 mod fields;
 mod filling;
+mod first_places;
 mod head;
 pub mod laws;
 mod line;

@@ -1,17 +1,20 @@
 //! Which state each attribute has for a path.
-ghost use Rattle.std.specs.Prelude.{◌≡◌, ◌++◌, [], IfOk, OnOk, map};
+ghost use Rattle.std.specs.Prelude.{◌≡◌, ◌++◌, [], IfOk, IfSome, OnOk, map};
 ghost use Rattle.std.specs.List.{flat_map};
 ghost use Rattle.std.specs.Vec.{vec_items};
 ghost use Rattle.gix_glob.specs.EntryLists.{entry_list_of};
 ghost use Rattle.glob_lists.specs.Deciding.{BasesAreFolders};
 ghost use Rattle.glob_attributes.specs.Views.{assignment_with, seen_assignments, state_with};
 ghost use Rattle.glob_attributes.specs.Private.Filling.{is_specified, seen_entry};
+ghost use Rattle.glob_attributes.specs.Private.Firsts.{AreFirst};
 ghost use Rattle.glob_attributes.specs.States.{IsAssigned, assigned_at, state_in, states_in};
 
 use crate::assignment::{Assignment, State};
 use crate::filling::{fill_in, push_each};
+use crate::first_places::first_places;
 use crate::macro_table::MacroTable;
 use crate::parser::AttributeLines;
+use crate::places::Places;
 use gix_glob::pattern::Case;
 use gix_glob::search::pattern::List;
 use glob_lists::{ListIndex, RepositoryPath, matches_into};
@@ -20,6 +23,9 @@ use std::marker::Model;
 
 /// For how many matches memory is taken at once: enough for most paths.
 const FEW: usize = 16;
+
+/// How many looks at assignments cost less than it costs to note first where each attribute is named.
+const FEW_LOOKS: usize = 256;
 
 /// What attribute files assign to a path. Contracts see all of it, with what macros put in, the strongest first.
 #[derive(Debug, Drop)]
@@ -118,15 +124,41 @@ impl<'a> PathAttributes<'a> {
     ) -> Result<Vec<Assignment<&'s [u8]>>, AllocError>
         ensures { IfOk result (λ states. map (assignment_with (λ bytes. bytes.now)) states.items ≡ states_in self.now (map vec_items names.now)) }
     {
+        let noted = self.places_for(alloc, names.len())?;
+        let places = noted.as_ref();
         let mut states = Vec::new(alloc);
         for name in names {
-            let state = self.state_of(name);
+            let state = self.state_by(places, name);
             if is_specified(&state) {
                 let name = name.as_slice();
                 states.push(Assignment { name, state })?;
             }
         }
         Ok(states)
+    }
+
+    /// Where each attribute is named first, if that pays for so many names.
+    fn places_for(&self, alloc: Global, names: usize) -> Result<Option<Places>, AllocError>
+        ensures { IfOk result (λ noted. IfSome noted (AreFirst self.now self.now)) }
+    {
+        if names.saturating_mul(self.filled.len()) <= FEW_LOOKS {
+            return Ok(None);
+        }
+        Ok(Some(first_places(alloc, &self.filled)?))
+    }
+
+    /// The state of an attribute, found by its place where places are known.
+    fn state_by(&self, places: Option<&Places>, name: &[u8]) -> State<&'a [u8]>
+        requires first { IfSome places (λ places. AreFirst self.now self.now places.now) }
+        ensures { state_with (λ bytes. bytes.now) result ≡ state_in self.now name.now }
+    {
+        let Some(places) = places else {
+            return self.state_of(name);
+        };
+        match places.get(name) {
+            Some(place) => borrowed(&self.filled[place].state),
+            None => State::Unspecified,
+        }
     }
 }
 

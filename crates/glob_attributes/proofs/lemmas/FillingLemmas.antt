@@ -88,7 +88,7 @@ set-same (z ∷ xs) zero x there = ap (λ y. y ∷ xs) (sym (same_Some z x there
 set-same (z ∷ xs) (suc i) x there = ap (λ ys. z ∷ ys) (set-same xs i x there)
 
 -- names that are the same bytes
-same_name : (x y : List ℕ) → bytes_eq x y ≡ true → x ≡ y
+pub same_name : (x y : List ℕ) → bytes_eq x y ≡ true → x ≡ y
 same_name x y is = (bytes_eq-Decides x y).0 is
 
 is_named : (x y : List ℕ) → x ≡ y → bytes_eq x y ≡ true

@@ -9,27 +9,48 @@ use glob_attributes::{
 use glob_lists::{ListIndex, RepositoryPath, bases_are_folders};
 use glob_trees::RecordFault;
 use std::alloc::AllocError;
+use std::process::Abort;
 use std::test::Fail;
 
 const FILE: &[u8] = b"[attr]m a=1 -b\n\"x y\" m c\n!z d\n";
 
-#[test]
-fn attributes_of_a_path(rt: HostRuntime) -> Result<(), Fail> {
+/// More attributes than are looked for one after the other.
+const MANY: &[u8] = b"x a b c d e f g h i j k l m n o p q\n";
+
+/// Asks by a file for the state that an attribute has for a path, and for those of all: how many have one.
+fn check_states(
+    rt: &(impl Abort + AllocGlobal),
+    file: &[u8],
+    path: &[u8],
+    name: &[u8],
+    state: State<&[u8]>,
+    count: usize,
+) -> Result<(), Fail> {
     let alloc = rt.alloc();
     let source = String::from_str(alloc, "f")?;
     assert!(rt; has_file_part(source.as_str()));
-    let lists = [List::from_bytes(alloc, FILE, source, None, AttributeLines)?];
+    let lists = [List::from_bytes(alloc, file, source, None, AttributeLines)?];
     assert!(rt; bases_are_folders(&lists));
     let mut macros = MacroTable::new(alloc)?;
-    macros.add_file(alloc, FILE)?;
+    macros.add_file(alloc, file)?;
     let mut names = AttributeNames::new(alloc)?;
-    names.add_file(alloc, FILE, true)?;
-    let path = RepositoryPath::new(b"x y", false).ok_or("a path")?;
+    names.add_file(alloc, file, true)?;
+    let path = RepositoryPath::new(path, false).ok_or("a path")?;
     let attributes = PathAttributes::new(alloc, &lists, &macros, &path, Case::Sensitive)?;
-    assert!(rt; attributes.state_of(b"a") == State::Value(b"1".as_slice()));
+    assert!(rt; attributes.state_of(name) == state);
     let states = attributes.states_of(alloc, names.as_slice())?;
-    assert!(rt; states.len() == 4);
+    assert!(rt; states.len() == count);
     Ok(())
+}
+
+#[test]
+fn attributes_of_a_path(rt: HostRuntime) -> Result<(), Fail> {
+    check_states(&rt, FILE, b"x y", b"a", State::Value(b"1"), 4)
+}
+
+#[test]
+fn many_attributes_of_a_path(rt: HostRuntime) -> Result<(), Fail> {
+    check_states(&rt, MANY, b"x", b"q", State::Set, 17)
 }
 
 #[test]

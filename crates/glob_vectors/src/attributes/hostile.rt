@@ -63,6 +63,9 @@ fn check_file(
     let attributes = PathAttributes::new(alloc, &lists, &macros, &asked, Case::Sensitive)?;
     let is_set = attributes.state_of(name) == State::Set;
     let told = attributes.states_of(alloc, names.as_slice())?;
+    for each in &told {
+        assert!(rt; each.state == attributes.state_of(each.name));
+    }
     same(
         rt,
         (is_set, told.len()),

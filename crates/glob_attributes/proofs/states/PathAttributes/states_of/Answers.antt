@@ -17,11 +17,11 @@ loop-name-preserved c =
     let all = map vec_items c.args.names.now in
     let i = c.loop-name.name-index in
     let name = vec_items c.name-item.result in
-    let state = state_with (λ bytes. bytes.now) c.state_of-state.result in
+    let state = state_with (λ bytes. bytes.now) c.state_by-state.result in
     let there : slice_get all i ≡ Some name = slice_get-map_at vec_items c.args.names.now i c.name-item.result c.loop-name-test.true c.name-item.is in
     let before : map (assignment_with (λ bytes. bytes.now)) c.loop-name.states.items ≡ states_in filled (take i all) =
     c.loop-name.invariant ∙ ap (states_in filled) (sym (take-map vec_items i c.args.names.now)) in
-    let is : state ≡ state_in filled name = c.state_of-state.ensures ∙ ap (state_in filled) c.deref.ensures.value in
+    let is : state ≡ state_in filled name = c.state_by-state.ensures ∙ ap (state_in filled) c.deref.ensures.value in
     let next : states_in filled (take (i + 1) all) ≡ states_in filled (map vec_items (take (i + 1) c.args.names.now)) = ap (states_in filled) (take-map vec_items (i + 1) c.args.names.now) in
     elim c.if-is_specified.branch [
       | then-is_specified+in_ok-push w ↦
