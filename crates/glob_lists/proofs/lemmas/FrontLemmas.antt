@@ -1,8 +1,8 @@
 -- The order of texts by their bytes: of two texts that don't come after a third one, one begins the other if it begins the third.
-use Rattle.std.proofs.Common.{◌≡◌, ◌≢◌, ◌⊎◌, ◌↔◌, inl, inr, ⊎_elim, ℕ, zero, suc, ◌+◌, ◌*◌, ◌<◌, ◌≤◌, List, length, refl, sym, ap, subst, ◌∙◌, arith}
+use Rattle.std.proofs.Common.{◌≡◌, ◌≢◌, ◌⊎◌, ◌↔◌, inl, inr, ⊎_elim, ℕ, zero, suc, ◌+◌, ◌*◌, ◌<◌, ◌≤◌, List, ◌++◌, length, get_or, length-append, refl, sym, ap, subst, ◌∙◌, arith}
 use Rattle.std.specs.Char.{to_ascii_lowercase}
 use Rattle.std.proofs.lemmas.Bool.{cases_eq, cases_lt, cases_order}
-use Rattle.std.proofs.lemmas.List.{get_or_past}
+use Rattle.std.proofs.lemmas.List.{get_or_append_left, get_or_past}
 use Rattle.glob_lists.specs.Private.Fronts.{AreBytes, AreSameUpTo, Begins, IsLessAt, IsUpTo, folded_at, front_key}
 
 -- ---- the order
@@ -22,6 +22,17 @@ AreSameUpTo-more a b n m next h within inside here = record {
       (λ (apart : j ≡ n → ⊥). h.same j (omega arith))
       (cases_eq j n);
 }
+
+pub Begins-joined : (front rest text : List ℕ) → text ≡ front ++ rest → Begins front text
+Begins-joined front rest text is = record {
+  within = omega arith;
+  inside = omega (arith, ap length is, length-append front rest);
+  same = λ j below. ap to_ascii_lowercase (sym (ap (λ (l : List ℕ). get_or l j 0) is ∙ get_or_append_left front rest 0 j below));
+}
+
+-- what two texts have in common with a third one each has in common with the other
+pub AreSameUpTo-third : (a b third : List ℕ) (n : ℕ) → AreSameUpTo third a n → AreSameUpTo third b n → AreSameUpTo a b n
+AreSameUpTo-third a b third n one other = record { within = one.inside; inside = other.inside; same = λ j below. sym (one.same j below) ∙ other.same j below }
 
 -- of two texts of which the first doesn't come after the second, nor that after a third one, the first begins the second if it
 -- begins the third
