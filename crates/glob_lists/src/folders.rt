@@ -9,7 +9,7 @@ ghost use Rattle.glob_lists.specs.Private.Indexes.{AreFolderedBy};
 ghost use Rattle.glob_lists.specs.Private.Looking.{LooksUpTo};
 
 use crate::chains::Link;
-use crate::fronts::{Compared, FRONT, begins, compare_from, front_key, is_up_to};
+use crate::fronts::{Compared, FRONT, begins, compare_from, front_key, is_up_to, known_by_number};
 use gix_glob::search;
 use gix_glob::search::pattern::List;
 use gix_glob::wildmatch::Counts;
@@ -372,7 +372,7 @@ fn compare_folder<T: search::Pattern, S: Ledger, L: Ledger>(
     }
     let base = base_at(lists, folder.list);
     counts.looks(2 * base.len().min(path.len()));
-    compare_from(base, path, known)
+    compare_from(base, path, known.max(known_by_number(key)))
 }
 
 /// The base of the list at a place; empty where it has none, or there is no such list.
