@@ -48,6 +48,7 @@ holds_more text k set h j below = ⊎_elim
     (cases_eq j k) where
       byte : ℕ
       byte = get_or text k 0
+
       more : ℕ
       more = bit_or set (1 * 2 ^ (byte % 32) % 2 ^ 32)
 
