@@ -3,13 +3,13 @@
 ghost use Rattle.std.specs.Prelude.{◌≡◌, ◌↔◌, ◌+◌, ◌*◌, ◌^◌, ◌++◌, ◌∷◌, [], ◌<◌, IfOk, IfSome, IsTrue, OnOk, length, map, take};
 ghost use Rattle.gix_glob.specs.EntryLists.{entry_list_of};
 ghost use Rattle.glob_lists.specs.Index.{AreTooMany, entry_count};
-ghost use Rattle.glob_lists.specs.Private.Folders.{AllUpTo, AreAllAfter, AreFolders, AreFoldersUpTo, AreSameFolders, IsFolderOf, IsForest, IsLastBeginning, IsLastUpTo, IsSameFolder, base_at};
+ghost use Rattle.glob_lists.specs.Private.Folders.{AllUpTo, AreAllAfter, AreFolders, AreFoldersUpTo, AreSameFolders, IsBegunBy, IsFolderOf, IsForest, IsLastBeginning, IsLastUpTo, IsSameFolder, base_at};
 ghost use Rattle.glob_lists.specs.Private.Fronts.{AreSameUpTo, IsUpTo, front_key};
 ghost use Rattle.glob_lists.specs.Private.Indexes.{AreFolderedBy};
 ghost use Rattle.glob_lists.specs.Private.Looking.{LooksUpTo};
 
 use crate::chains::Link;
-use crate::fronts::{Compared, FRONT, begins, compare_from, front_key, is_up_to};
+use crate::fronts::{Compared, FRONT, begins, compare_from, front_key, is_up_to, known_by_number};
 use gix_glob::search;
 use gix_glob::search::pattern::List;
 use gix_glob::wildmatch::Counts;
@@ -290,10 +290,41 @@ pub(crate) fn is_last_up_to<T: search::Pattern>(
     if place >= folders.len() {
         return false;
     }
-    if !is_up_to(base_at(lists, folders[place].list), path) {
+    let base = base_at(lists, folders[place].list);
+    if path.starts_with(base) {
+        return all_after_begun(folders, lists, path, place, base.len());
+    }
+    if !is_up_to(base, path) {
         return false;
     }
     all_after(folders, lists, path, place + 1)
+}
+
+/// Whether the bases of all folders behind a place come after a path that begins with the base there, which has so many bytes. The
+/// next base is read where it begins with that one, too, and then only past it.
+#[inline(always)]
+fn all_after_begun<T: search::Pattern>(
+    folders: &[Folder],
+    lists: &[List<T>],
+    path: &[u8],
+    place: usize,
+    known: usize,
+) -> bool
+    requires forest { IsForest (map (entry_list_of T.seen) lists.now) folders.now }
+    requires begun { IsBegunBy (map (entry_list_of T.seen) lists.now) folders.now path.now place known }
+    ensures { IsTrue result → AreAllAfter (map (entry_list_of T.seen) lists.now) folders.now path.now (place + 1) }
+{
+    let next = place + 1;
+    if next >= folders.len() {
+        return true;
+    }
+    let Some(above) = folders[next].above.place() else {
+        return true;
+    };
+    if above != place {
+        return true;
+    }
+    !compare_from(base_at(lists, folders[next].list), path, known).is_up_to
 }
 
 /// Whether the bases of all folders from a place on come after a path.
@@ -341,7 +372,7 @@ fn compare_folder<T: search::Pattern, S: Ledger, L: Ledger>(
     }
     let base = base_at(lists, folder.list);
     counts.looks(2 * base.len().min(path.len()));
-    compare_from(base, path, known)
+    compare_from(base, path, known.max(known_by_number(key)))
 }
 
 /// The base of the list at a place; empty where it has none, or there is no such list.

@@ -1,5 +1,5 @@
 //! The order of texts by their bytes, in which the case of letters doesn't count, and which text begins another.
-ghost use Rattle.std.specs.Prelude.{◌≡◌, ◌↔◌, ◌≤◌, IsTrue, length};
+ghost use Rattle.std.specs.Prelude.{◌≡◌, ◌↔◌, ◌≤◌, ℕ, List, IsTrue, length};
 ghost use Rattle.glob_lists.specs.Private.Fronts.{AreBytes, AreSameUpTo, Begins, IsUpTo, folded_at, front_key};
 
 /// How many bytes at the front of a text make its number.
@@ -35,6 +35,15 @@ pub(crate) struct Compared {
     pub(crate) is_up_to: bool,
     /// How many bytes from the front both are known to have alike.
     pub(crate) same: usize,
+}
+
+/// How many bytes from the front all texts are known to have alike whose fronts make this number: none, where one may be shorter.
+#[inline(always)]
+pub(crate) fn known_by_number(number: u64) -> usize
+    ensures { (left right : List ℕ) → AreBytes left → AreBytes right → front_key left FRONT ≡ number → front_key right FRONT ≡ number
+        → AreSameUpTo left right result }
+{
+    if number % 256 == 0 { 0 } else { FRONT }
 }
 
 /// How two texts compare, which are known to have so many bytes from the front alike: these aren't read.

@@ -257,15 +257,15 @@ impl<'a> RepositoryPath<'a> {
 pub fn plain_path(path: &[u8]) -> bool
     ensures { IsTrue result ↔ IsPlainPath path.now }
 {
-    let mut is_after_slash = true;
-    for byte in path {
-        let is_slash = *byte == b'/';
-        if is_slash && is_after_slash {
-            return false;
-        }
-        is_after_slash = is_slash;
+    if path.is_empty() || path[0] == b'/' {
+        return false;
     }
-    !path.is_empty()
+    let mut has_two_slashes = false;
+    // no early end, so that many bytes are tested at once
+    'bytes: for n in 1..path.len() {
+        has_two_slashes |= (path[n] == b'/') & (path[n - 1] == b'/');
+    }
+    !has_two_slashes
 }
 
 /// The path of a line, and whether a trailing slash marks it as a directory's.

@@ -1,5 +1,5 @@
 -- Sets of bytes that are numbers of 64 bits.
-use Rattle.std.proofs.Common.{◌≡◌, ⊎_elim, ℕ, ◌+◌, ◌-◌, ◌*◌, ◌%◌, ◌^◌, ◌<◌, ◌≤◌, ◌==◌, ◌||◌, min, false, List, length, get_or, bit_and, bit_or, cond, nat_lt, w64, refl, sym, ◌∙◌, ap, subst, arith}
+use Rattle.std.proofs.Common.{◌≡◌, ⊎_elim, ℕ, ◌+◌, ◌-◌, ◌*◌, ◌%◌, ◌^◌, ◌<◌, ◌≤◌, ◌==◌, ◌||◌, min, false, List, length, get_or, bit_and, bit_or, cond, nat_lt, w32, w64, refl, sym, ◌∙◌, ap, subst, arith}
 use Rattle.std.specs.Int.{bit_at, bit_not}
 use Rattle.std.proofs.lemmas.Bool.{cond_both, cases_eq, cases_lt, eqb-false, or_parts}
 use Rattle.std.proofs.lemmas.Nat.Bits.{bit_at-lt, bit_at-zero, bit_at_above, bit_at_and, bit_at_not, bit_at_ones, bit_at_set_other, bit_at_set_same, same_from_bits}
@@ -36,11 +36,21 @@ bit_is_set set b = bit_at_set_same w64 set (bit_of b) (small b)
 abbrev pub HoldsUpTo : List ℕ → ℕ → ℕ → Type 0
 HoldsUpTo text k set = (j : ℕ) → j < k → bit_at set (bit_of (get_or text j 0)) ≡ 1
 
-pub holds_more : (text : List ℕ) (k set : ℕ) → HoldsUpTo text k set → HoldsUpTo text (k + 1) (with_bit set (bit_of (get_or text k 0)))
+pub holds_more : (text : List ℕ) (k set : ℕ) → HoldsUpTo text k set → HoldsUpTo text (k + 1) (bit_or set (1 * 2 ^ (get_or text k 0 % 32) % 2 ^ 32))
 holds_more text k set h j below = ⊎_elim
-    (λ (here : j ≡ k). subst (λ (m : ℕ). bit_at (with_bit set (bit_of (get_or text k 0))) (bit_of (get_or text m 0)) ≡ 1) (sym here) (bit_is_set set (get_or text k 0)))
-    (λ (before : j ≡ k → ⊥). bit_stays set (get_or text k 0) (bit_of (get_or text j 0)) (h j (omega arith)))
-    (cases_eq j k)
+    (λ (here : j ≡ k). (subst (λ (m : ℕ). bit_at more (bit_of (get_or text m 0)) ≡ 1) (sym here)
+    (subst (λ (b : ℕ). bit_at more b ≡ 1) (same_bit byte) (bit_at_set_same w32 set (byte % 32) (omega arith)))))
+    (λ (before : j ≡ k → ⊥).
+    let old : bit_at set (bit_of (get_or text j 0)) ≡ 1 = h j (omega arith) in ⊎_elim
+    (λ (same : bit_of (get_or text j 0) ≡ byte % 32). subst (λ (b : ℕ). bit_at more b ≡ 1) (sym same) (bit_at_set_same w32 set (byte % 32) (omega arith)))
+    (λ (other : bit_of (get_or text j 0) ≡ byte % 32 → ⊥). bit_at_set_other w32 set (byte % 32) (omega arith) (bit_of (get_or text j 0)) other ∙ old)
+    (cases_eq (bit_of (get_or text j 0)) (byte % 32)))
+    (cases_eq j k) where
+      byte : ℕ
+      byte = get_or text k 0
+
+      more : ℕ
+      more = bit_or set (1 * 2 ^ (byte % 32) % 2 ^ 32)
 
 pub all_bits_hold : (text : List ℕ) → HoldsBits text 18446744073709551615
 all_bits_hold text j inside = bit_at_ones 64 (bit_of (get_or text j 0)) (small (get_or text j 0))

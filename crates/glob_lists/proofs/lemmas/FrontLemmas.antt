@@ -1,8 +1,8 @@
 -- The order of texts by their bytes: of two texts that don't come after a third one, one begins the other if it begins the third.
-use Rattle.std.proofs.Common.{◌≡◌, ◌≢◌, ◌⊎◌, ◌↔◌, inl, inr, ⊎_elim, ℕ, zero, suc, ◌+◌, ◌*◌, ◌<◌, ◌≤◌, List, length, refl, sym, ap, subst, ◌∙◌, arith}
+use Rattle.std.proofs.Common.{◌≡◌, ◌≢◌, ◌⊎◌, ◌↔◌, inl, inr, ⊎_elim, ℕ, zero, suc, ◌+◌, ◌*◌, ◌%◌, ◌<◌, ◌≤◌, max, List, ◌++◌, length, get_or, length-append, refl, sym, ap, subst, ◌∙◌, arith}
 use Rattle.std.specs.Char.{to_ascii_lowercase}
 use Rattle.std.proofs.lemmas.Bool.{cases_eq, cases_lt, cases_order}
-use Rattle.std.proofs.lemmas.List.{get_or_past}
+use Rattle.std.proofs.lemmas.List.{get_or_append_left, get_or_past}
 use Rattle.glob_lists.specs.Private.Fronts.{AreBytes, AreSameUpTo, Begins, IsLessAt, IsUpTo, folded_at, front_key}
 
 -- ---- the order
@@ -22,6 +22,17 @@ AreSameUpTo-more a b n m next h within inside here = record {
       (λ (apart : j ≡ n → ⊥). h.same j (omega arith))
       (cases_eq j n);
 }
+
+pub Begins-joined : (front rest text : List ℕ) → text ≡ front ++ rest → Begins front text
+Begins-joined front rest text is = record {
+  within = omega arith;
+  inside = omega (arith, ap length is, length-append front rest);
+  same = λ j below. ap to_ascii_lowercase (sym (ap (λ (l : List ℕ). get_or l j 0) is ∙ get_or_append_left front rest 0 j below));
+}
+
+-- what two texts have in common with a third one each has in common with the other
+pub AreSameUpTo-third : (a b third : List ℕ) (n : ℕ) → AreSameUpTo third a n → AreSameUpTo third b n → AreSameUpTo a b n
+AreSameUpTo-third a b third n one other = record { within = one.inside; inside = other.inside; same = λ j below. sym (one.same j below) ∙ other.same j below }
 
 -- of two texts of which the first doesn't come after the second, nor that after a third one, the first begins the second if it
 -- begins the third
@@ -275,3 +286,32 @@ numbers_tell a b n bytes others apart = (
       (λ (down : IsUpTo b a). let low = front_key-le b a n others down in absurd (omega arith))
       (IsUpTo-total a b),
 )
+
+same_bytes : (a b : List ℕ) → AreBytes a → AreBytes b → (n : ℕ) → front_key a n ≡ front_key b n → (j : ℕ) → j < n → folded_at a j ≡ folded_at b j
+same_bytes a b bytes others zero same j below = absurd (omega arith)
+same_bytes a b bytes others (suc n) same j below =
+    let short = folded_at-short a n bytes in
+    let other = folded_at-short b n others in
+    ⊎_elim
+    (λ (is : j ≡ n). ap (folded_at a) is ∙ (omega arith ∙ ap (folded_at b) (sym is)))
+    (λ (apart : j ≡ n → ⊥). same_bytes a b bytes others n (omega arith) j (omega arith))
+    (cases_eq j n)
+
+reaches : (text : List ℕ) (n : ℕ) → front_key text (suc n) % 256 ≢ 0 → n < length text
+reaches text n some = ⊎_elim
+    (λ (inside : n < length text). inside)
+    (λ (past : length text ≤ n). absurd (some (let none = past_end text n past in omega arith)))
+    (cases_lt n (length text))
+
+-- texts whose fronts have one number have the same front, where the number says that none has ended there
+pub AreSameUpTo-numbers : (a b : List ℕ) (number : ℕ) → AreBytes a → AreBytes b → front_key a 8 ≡ number → front_key b 8 ≡ number → number % 256 ≢ 0 → AreSameUpTo a b 8
+AreSameUpTo-numbers a b number bytes others one other some =
+    let within : 7 < length a = reaches a 7 (rw (← one) at some) in
+    let inside : 7 < length b = reaches b 7 (rw (← other) at some) in
+    record { within = omega arith; inside = omega arith; same = λ j below. same_bytes a b bytes others 8 (one ∙ sym other) j below }
+
+pub AreSameUpTo-max : (a b : List ℕ) (n m k : ℕ) → k ≡ max n m → AreSameUpTo a b n → AreSameUpTo a b m → AreSameUpTo a b k
+AreSameUpTo-max a b n m k is one other = ⊎_elim
+    (λ (less : n < m). subst (AreSameUpTo a b) (let same : m ≡ k = omega (arith, is) in same) other)
+    (λ (more : m ≤ n). subst (AreSameUpTo a b) (let same : n ≡ k = omega (arith, is) in same) one)
+    (cases_lt n m)

@@ -67,6 +67,13 @@ AllUpTo lists folders text = (k : ℕ) (folder : Folder) → slice_get folders k
 abbrev pub AreAllAfter : {V : Type 0} → List (EntryList V) → List Folder → List ℕ → ℕ → Type 0
 AreAllAfter lists folders text k = (m : ℕ) (folder : Folder) → k ≤ m → slice_get folders m ≡ Some folder → ¬ IsUpTo (base_at lists folder.list) text
 
+-- the text begins with the base of the folder at a place, which has so many bytes
+pub record IsBegunBy {V : Type 0} (lists : List (EntryList V)) (folders : List Folder) (text : List ℕ) (place count : ℕ) : Type 0 where
+  pub folder : Folder
+  pub there : slice_get folders place ≡ Some folder
+  pub begins : Begins (base_at lists folder.list) text
+  pub many : count ≡ length (base_at lists folder.list)
+
 -- The folders are in the order of their bases, and chained; and a list that lies above another one comes before it.
 pub record IsForest {V : Type 0} (lists : List (EntryList V)) (folders : List Folder) : Type 0 where
   pub each : AreFolders lists folders
