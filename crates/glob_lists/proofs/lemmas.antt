@@ -8,6 +8,7 @@ pub mod CountLemmas
 pub mod Deciding
 pub mod DecidingLemmas
 pub mod DecisionSums
+pub mod DemandLemmas
 pub mod Elements
 pub mod FoundPairs
 pub mod FrontLemmas

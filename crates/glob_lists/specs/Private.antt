@@ -7,6 +7,7 @@ pub mod Keeping
 pub mod Literals
 pub mod Looking
 pub mod Matching
+pub mod PreparedLists
 pub mod Reaching
 pub mod Rows
 pub mod Showing

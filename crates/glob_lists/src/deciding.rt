@@ -81,7 +81,7 @@ pub fn decide_with_counts<T: search::Pattern, S: Ledger, L: Ledger>(
 }
 
 /// The place of the last mapping of a list that matches what the base of the list leaves of a path.
-fn last_match<T: search::Pattern, S: Ledger, L: Ledger>(
+pub(crate) fn last_match<T: search::Pattern, S: Ledger, L: Ledger>(
     list: &List<T>,
     path: &RepositoryPath<'_>,
     case: Case,
@@ -113,13 +113,21 @@ pub fn bases_are_folders<T: search::Pattern>(lists: &[List<T>]) -> bool
     ensures { IsTrue result ↔ BasesAreFolders (map (entry_list_of T.seen) lists.now) }
 {
     for list in lists {
-        if let Some(base) = &list.base
-            && !is_folder(base)
-        {
+        if !has_folder(list) {
             return false;
         }
     }
     true
+}
+
+/// Whether the base of a list is that of a folder.
+pub(crate) fn has_folder<T: search::Pattern>(list: &List<T>) -> bool
+    ensures { IsTrue result ↔ HasFolder (entry_list_of T.seen list.now) }
+{
+    match &list.base {
+        Some(base) => is_folder(base),
+        None => true,
+    }
 }
 
 /// Whether a base is empty or ends in a slash.

@@ -1,14 +1,17 @@
 //! One pattern as the index sees it: what its text asks of a path, and where its mapping stands.
-ghost use Rattle.std.specs.Prelude.{◌≡◌, ◌↔◌, IsTrue};
+ghost use Rattle.std.specs.Prelude.{◌≡◌, ◌↔◌, ◌+◌, ◌≤◌, IsTrue, length};
 ghost use Rattle.gix_glob.specs.PatternParts.{mode_of, text_of};
 ghost use Rattle.glob_lists.specs.Private.Rows.{Asks};
 ghost use Rattle.glob_lists.specs.Private.Showing.{HasBytes, HasEnd, Passes};
+ghost use Rattle.glob_lists.specs.Private.Walking.{NonePasses};
 
 use crate::chains::{Class, Link};
 use crate::literals::{end_key, has_all, literal_end, needed_bytes};
 use crate::probe::Probe;
 use gix_glob::Pattern;
 use gix_glob::pattern::PatternView;
+use gix_glob::wildmatch::Counts;
+use std::sync::ledger::Ledger;
 
 /// What a pattern asks of a path, and where its mapping stands.
 #[derive(Debug, Copy, Clone)]
@@ -150,4 +153,31 @@ impl Row {
     {
         has_all(probe.bytes_for(self.is_name), self.asked)
     }
+}
+
+/// How many of so many rows from a place on there are up to the last one that asks for what a path shows; 0 where none does. One
+/// look is counted at each row after that.
+#[inline(always)]
+pub(crate) fn shown_up_to<S: Ledger, L: Ledger>(
+    rows: &[Row],
+    first: usize,
+    count: usize,
+    probe: &Probe,
+    counts: &mut Counts<S, L>,
+) -> usize
+    requires { first + count ≤ length rows.now }
+    ensures few { result ≤ count }
+    ensures none { NonePasses rows.now probe.now (first + result) (first + count) }
+    ensures steps { counts.new.steps ≡ counts.old.steps }
+    ensures looks { counts.new.looks + result ≡ counts.old.looks + count }
+{
+    let mut end = count;
+    'rows: while end > 0 {
+        if rows[first + (end - 1)].is_shown_by(probe) {
+            return end;
+        }
+        counts.looks(1);
+        end -= 1;
+    }
+    0
 }

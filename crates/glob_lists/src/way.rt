@@ -20,7 +20,7 @@ use crate::laws;
 use crate::literals::LONGEST_END;
 use crate::path::RepositoryPath;
 use crate::probe::Probe;
-use crate::row::Row;
+use crate::row::{Row, shown_up_to};
 use crate::sight::{Sight, pair_bit};
 use gix_glob::pattern::{Case, PatternView};
 use gix_glob::search;
@@ -188,7 +188,7 @@ impl<'i, T: search::Pattern> Ways<'i, T> {
         let list = &self.lists[folder.list()];
         let first = folder.first_row();
         let count = list.patterns.len();
-        let end = self.shown_up_to(first, count, probe, counts);
+        let end = shown_up_to(self.rows, first, count, probe, counts);
         if end == 0 {
             return None;
         }
@@ -227,39 +227,12 @@ impl<'i, T: search::Pattern> Ways<'i, T> {
         }
         None
     }
-
-    /// How many of so many rows from a place on there are up to the last one that asks for what a path shows; 0 where none does. One
-    /// look is counted at each row after that.
-    #[inline(always)]
-    fn shown_up_to<S: Ledger, L: Ledger>(
-        &self,
-        first: usize,
-        count: usize,
-        probe: &Probe,
-        counts: &mut Counts<S, L>,
-    ) -> usize
-        requires { first + count ≤ length self.now.rows.now }
-        ensures few { result ≤ count }
-        ensures none { NonePasses self.now.rows.now probe.now (first + result) (first + count) }
-        ensures steps { counts.new.steps ≡ counts.old.steps }
-        ensures looks { counts.new.looks + result ≡ counts.old.looks + count }
-    {
-        let mut end = count;
-        'rows: while end > 0 {
-            if self.rows[first + (end - 1)].is_shown_by(probe) {
-                return end;
-            }
-            counts.looks(1);
-            end -= 1;
-        }
-        0
-    }
 }
 
 /// Whether a pattern matches what a base leaves of a path. It isn't tested where its row asks for what the path doesn't show, at
 /// which one look is counted.
 #[inline(always)]
-fn is_answer<S: Ledger, L: Ledger>(
+pub(crate) fn is_answer<S: Ledger, L: Ledger>(
     row: &Row,
     probe: &Probe,
     pattern: PatternView<'_>,

@@ -8,7 +8,7 @@ use gix_glob::pattern::Case;
 use gix_glob::search;
 use gix_glob::search::pattern::List;
 use glob_lists::laws::decides_one_pair;
-use glob_lists::{RepositoryPath, decide};
+use glob_lists::{PreparedList, RepositoryPath, decide, decide_prepared};
 
 /// Which pattern decides about a path in a work tree, as Git says it. A folder above a path is what stands before one of its
 /// slashes. The topmost folder above the path that is ignored decides about the path: by the pattern that decides about the
@@ -55,7 +55,7 @@ fn ignoring_folder<T: search::Pattern>(
 }
 
 /// The pattern that ignores a folder; `None` where no pattern decides about it, or a negative one.
-pub(crate) fn ignoring<T: search::Pattern>(
+fn ignoring<T: search::Pattern>(
     lists: &[List<T>],
     folder: &RepositoryPath<'_>,
     case: Case,
@@ -72,6 +72,29 @@ pub(crate) fn ignoring<T: search::Pattern>(
         return None;
     };
     if lists[list].patterns[mapping].pattern.is_negative() {
+        return None;
+    }
+    Some((list, mapping))
+}
+
+/// What [`ignoring`] answers for lists that are prepared.
+pub(crate) fn ignoring_prepared<T: search::Pattern>(
+    lists: &[PreparedList<T>],
+    folder: &RepositoryPath<'_>,
+    case: Case,
+) -> Option<(usize, usize)>
+    requires folders { BasesAreFolders (map (entry_list_of T.seen) lists.now) }
+    requires dir { folder.now.is_dir ≡ true }
+    ensures { MatchOption result
+        ((pair : ℕ × ℕ) → ¬ Ignores (map (entry_list_of T.seen) lists.now) case folder.now.bytes pair)
+        (Ignores (map (entry_list_of T.seen) lists.now) case folder.now.bytes) }
+{
+    // a law does nothing: it is called for what it ensures
+    decides_one_pair::<T>();
+    let Some((list, mapping)) = decide_prepared(lists, folder, case) else {
+        return None;
+    };
+    if lists[list].list().patterns[mapping].pattern.is_negative() {
         return None;
     }
     Some((list, mapping))

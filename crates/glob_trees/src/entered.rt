@@ -9,14 +9,14 @@ ghost use Rattle.glob_trees.specs.Private.Left.{HasMoreRooms, HasRoom};
 ghost use Rattle.glob_trees.specs.Trees.{DecidesInTree, Ignores};
 ghost use Rattle.glob_trees.specs.Ways.{AreOnTheWay, GivesOnly, GoesOn, IsAskedFor, IsListOf, folders_to};
 
-use crate::deciding::ignoring;
+use crate::deciding::ignoring_prepared;
 use crate::fault::TreeFault;
 use crate::folders::FolderLists;
 use crate::left::LeftLists;
 use gix_glob::pattern::Case;
 use gix_glob::search;
 use gix_glob::search::pattern::List;
-use glob_lists::{RepositoryPath, decide};
+use glob_lists::{PreparedList, RepositoryPath, decide_prepared};
 use std::alloc::{AllocError, Global};
 
 /// A source of lists, and the lists that it was asked for.
@@ -27,7 +27,7 @@ pub(crate) struct Entered<T: search::Pattern, S: FolderLists<T>> {
     /// How many lists stand before those of all folders.
     pub(crate) front_count: usize,
     /// The lists that stand before those of all folders, then those of the folders entered, from the top down.
-    pub(crate) lists: Vec<List<T>>,
+    pub(crate) lists: Vec<PreparedList<T>>,
     /// The lists of the folders that were left.
     pub(crate) left: LeftLists<T>,
 }
@@ -60,12 +60,13 @@ impl<T: search::Pattern, S: FolderLists<T>> Entered<T, S> {
             if was_left {
                 continue;
             }
-            if let Some(pair) = ignoring(&self.lists, &path.folder_before(place), self.case) {
+            let folder = path.folder_before(place);
+            if let Some(pair) = ignoring_prepared(&self.lists, &folder, self.case) {
                 return Ok(Some(pair));
             }
             self.enter(bytes, place)?;
         }
-        Ok(decide(&self.lists, path, self.case))
+        Ok(decide_prepared(&self.lists, path, self.case))
     }
 
     /// Asks for the list of the top, where it wasn't asked for.
@@ -84,7 +85,8 @@ impl<T: search::Pattern, S: FolderLists<T>> Entered<T, S> {
         }
         self.lists.reserve(1)?;
         let list = self.source.list_of(&[]).map_err(TreeFault::Source)?;
-        self.lists.push(list).map_err(|_| TreeFault::Memory)?;
+        let prepared = PreparedList::new(self.left.alloc, list);
+        self.lists.push(prepared).map_err(|_| TreeFault::Memory)?;
         Ok(())
     }
 
@@ -146,7 +148,7 @@ impl<T: search::Pattern, S: FolderLists<T>> Entered<T, S> {
         ensures source { self.new.source ≡ self.old.source }
     {
         'folders: while let Some(list) = self.lists.last() {
-            if let Some(length) = length_on_the_way(list, path) {
+            if let Some(length) = length_on_the_way(list.list(), path) {
                 return length;
             }
             self.leave();
@@ -183,7 +185,8 @@ fn length_on_the_way<T: search::Pattern>(list: &List<T>, path: &[u8]) -> Option<
     }
 }
 
-/// The source's list of the folder that stands before the slash at a place of a path, with room for it among those that are left.
+/// The source's list of the folder that stands before the slash at a place of a path, prepared, with room for it among those that are
+/// left.
 ///
 /// # Errors
 /// Where the source fails, or memory was refused.
@@ -192,7 +195,7 @@ fn ask<T: search::Pattern, S: FolderLists<T>>(
     left: &mut LeftLists<T>,
     path: &[u8],
     place: usize,
-) -> Result<List<T>, TreeFault<S::Fault>>
+) -> Result<PreparedList<T>, TreeFault<S::Fault>>
     requires slash { HasByte path.now place slash }
     requires once { ¬ S.gave source.old (take place path.now) }
     ensures list { IfOk result (λ list. IsListOf (S.shows T.Seen source.new) (take place path.now) (entry_list_of T.seen list)) }
@@ -204,5 +207,5 @@ fn ask<T: search::Pattern, S: FolderLists<T>>(
 {
     left.make_room(&path[..place + 1])?;
     let list = source.list_of(&path[..place]).map_err(TreeFault::Source)?;
-    Ok(list)
+    Ok(PreparedList::new(left.alloc, list))
 }

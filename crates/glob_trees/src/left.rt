@@ -4,7 +4,7 @@ ghost use Rattle.std.specs.Vec.{vec_items};
 ghost use Rattle.glob_trees.specs.Private.Left.{FillsRoom, FillsRoomOf, HasKept, HasMoreRooms, HasRoom, HasRoomOf, HasSameRooms, IsKept, NoneIsKept};
 
 use gix_glob::search;
-use gix_glob::search::pattern::List;
+use glob_lists::PreparedList;
 use std::alloc::{AllocError, Global};
 use std::collections::HashMap;
 
@@ -12,8 +12,8 @@ use std::collections::HashMap;
 /// leave the folder takes no memory. Bases share long beginnings, so a hash finds one in fewer steps than an order does.
 #[derive(Drop)]
 pub(crate) struct LeftLists<T: search::Pattern> {
-    alloc: Global,
-    lists: HashMap<Vec<u8>, Option<List<T>>>,
+    pub(crate) alloc: Global,
+    lists: HashMap<Vec<u8>, Option<PreparedList<T>>>,
 }
 
 impl<T: search::Pattern> LeftLists<T> {
@@ -45,11 +45,11 @@ impl<T: search::Pattern> LeftLists<T> {
     }
 
     /// Puts a list under its base, where room was made for it.
-    pub(crate) fn put(&mut self, list: List<T>)
+    pub(crate) fn put(&mut self, list: PreparedList<T>)
         requires room { HasRoomOf (option_map vec_items list.base) self.old.lists.entries }
         ensures { FillsRoomOf (option_map vec_items list.base) list self.old.lists.entries self.new.lists.entries }
     {
-        let Some(base) = &list.base else {
+        let Some(base) = &list.list().base else {
             return;
         };
         if let Some(room) = self.lists.get_mut(base.as_slice()) {
@@ -58,7 +58,7 @@ impl<T: search::Pattern> LeftLists<T> {
     }
 
     /// Takes the list under this base out, and leaves its room.
-    pub(crate) fn take(&mut self, base: &[u8]) -> Option<List<T>>
+    pub(crate) fn take(&mut self, base: &[u8]) -> Option<PreparedList<T>>
         ensures taken { MatchOption result (¬ HasKept self.old.lists.entries base.now) (IsKept self.old.lists.entries base.now) }
         ensures rooms { MatchOption result
             (HasSameRooms self.old.lists.entries self.new.lists.entries)

@@ -12,7 +12,7 @@ use crate::left::LeftLists;
 use gix_glob::pattern::Case;
 use gix_glob::search;
 use gix_glob::search::pattern::{List, Mapping};
-use glob_lists::{RepositoryPath, bases_are_folders};
+use glob_lists::{PreparedList, RepositoryPath};
 use std::alloc::Global;
 use std::marker::Model;
 
@@ -54,15 +54,22 @@ pub struct Decision<'a, T: search::Pattern> {
 
 impl<T: search::Pattern, S: FolderLists<T> + Drop> Tree<T, S> {
     /// A tree of a source, with lists that stand before those of all folders, as files of excludes do; `None` where those don't
-    /// meet [`bases_are_folders`]. The source isn't asked for anything yet, and has given no list before.
-    pub fn new(alloc: Global, source: S, fronts: Vec<List<T>>, case: Case) -> Option<Tree<T, S>>
+    /// meet [`bases_are_folders`](glob_lists::bases_are_folders). The source isn't asked for anything yet, and has given no list before.
+    pub fn new(
+        alloc: Global,
+        source: S,
+        fronts: Vec<PreparedList<T>>,
+        case: Case,
+    ) -> Option<Tree<T, S>>
         requires fresh { (folder : Folder) → ¬ S.gave source folder }
         ensures { MatchOption result
             (¬ BasesAreFolders (map (entry_list_of T.seen) fronts.items))
             (λ tree. tree ≡ record { source = source; front_count = length fronts.items; lists = fronts.items; case = case }) }
     {
-        if !bases_are_folders(&fronts) {
-            return None;
+        'fronts: for i in 0..fronts.len() {
+            if !fronts[i].has_folder() {
+                return None;
+            }
         }
         let entered = Entered {
             source,
@@ -103,7 +110,7 @@ impl<T: search::Pattern, S: FolderLists<T> + Drop> Tree<T, S> {
 
     /// The lists in which the last answer of [`Tree::find`] has its places: those that stand before all folders, and those of the
     /// folders on the way.
-    pub fn lists(&self) -> &[List<T>]
+    pub fn lists(&self) -> &[PreparedList<T>]
         ensures { result.now ≡ self.now.lists }
     {
         &self.entered.lists
@@ -114,7 +121,7 @@ impl<T: search::Pattern, S: FolderLists<T> + Drop> Tree<T, S> {
         ensures { IfSome result (λ decision. (slice_get self.now.lists pair.0 ≡ Some decision.list.now)
             × (slice_get decision.list.now.patterns.items pair.1 ≡ Some decision.mapping.now)) }
     {
-        let list = self.entered.lists.get(pair.0)?;
+        let list = self.entered.lists.get(pair.0)?.list();
         let mapping = list.patterns.get(pair.1)?;
         Some(Decision { list, mapping })
     }

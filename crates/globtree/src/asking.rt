@@ -188,7 +188,7 @@ fn shown_at<'t, 'a, R: Files + Eprint>(
 /// How many bytes of a path name the folder that the tree entered last on its way, with the slash at its end.
 fn entered_length<'a, R: Files + Eprint>(tree: &Tree<IgnoreLines, FolderFiles<'a, R>>) -> usize {
     match tree.lists().last() {
-        Some(list) => match &list.base {
+        Some(prepared) => match &prepared.list().base {
             Some(base) => base.len(),
             None => 0,
         },

@@ -3,6 +3,7 @@ use crate::sources::file_list;
 use anyhow::{Context, Result};
 use gix_glob::search::pattern::List;
 use glob_lines::IgnoreLines;
+use glob_lists::PreparedList;
 use std::alloc::Global;
 use std::env;
 use std::env::VarError;
@@ -13,7 +14,7 @@ pub(crate) fn push_excludes<R: Files + Env + Eprint + AllocGlobal>(
     rt: &R,
     alloc: Global,
     named: Option<&str>,
-    lists: &mut Vec<List<IgnoreLines>>,
+    lists: &mut Vec<PreparedList<IgnoreLines>>,
 ) -> Result<()> {
     let mut bytes = Vec::new(alloc);
     let list = match named {
@@ -28,7 +29,7 @@ pub(crate) fn push_excludes<R: Files + Env + Eprint + AllocGlobal>(
             None => List::empty(alloc),
         },
     };
-    lists.push(list)?;
+    lists.push(PreparedList::new(alloc, list))?;
     Ok(())
 }
 
@@ -37,7 +38,7 @@ pub(crate) fn push_info<R: Files + Eprint>(
     rt: &R,
     alloc: Global,
     is_named: bool,
-    lists: &mut Vec<List<IgnoreLines>>,
+    lists: &mut Vec<PreparedList<IgnoreLines>>,
 ) -> Result<()> {
     let mut bytes = Vec::new(alloc);
     let list = if is_named {
@@ -46,7 +47,7 @@ pub(crate) fn push_info<R: Files + Eprint>(
         let source = String::from_str(alloc, ".git/info/exclude")?;
         file_list(rt, alloc, source, &mut bytes, IgnoreLines)?
     };
-    lists.push(list)?;
+    lists.push(PreparedList::new(alloc, list))?;
     Ok(())
 }
 

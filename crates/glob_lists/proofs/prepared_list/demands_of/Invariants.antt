@@ -1,0 +1,14 @@
+use Rattle.std.proofs.Common.{◌≡◌, ℕ, Some, length, map}
+use Rattle.std.specs.Prelude.{slice_get}
+use Rattle.gix_glob.specs.Entries.{Entry, entry_of}
+use Rattle.glob_lists.specs.declared.row.Row.{Row}
+use Rattle.glob_lists.specs.Private.Rows.{Asks}
+use Rattle.glob_lists.proofs.lemmas.DemandLemmas.{AskInOrder}
+use Rattle.glob_lists.proofs.prepared_list.demands_of.Given as goal
+
+-- each mapping so far has its row
+abbrev pub invariant-mappings : goal.invariant-mappings
+invariant-mappings g l = record {
+  many : length l.rows.items ≡ l.m;
+  each : AskInOrder (map (entry_of g.T.Pattern.seen) l.list.patterns.items) l.rows.items;
+}
