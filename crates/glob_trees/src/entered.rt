@@ -148,7 +148,7 @@ impl<T: search::Pattern, S: FolderLists<T>> Entered<T, S> {
         ensures source { self.new.source ≡ self.old.source }
     {
         'folders: while let Some(list) = self.lists.last() {
-            if let Some(length) = length_on_the_way(list.list(), path) {
+            if let Some(length) = length_on_the_way(list, path) {
                 return length;
             }
             self.leave();
@@ -173,12 +173,12 @@ impl<T: search::Pattern, S: FolderLists<T>> Entered<T, S> {
 
 /// How many bytes of a path name the folder of a list, with the slash at its end, and 0 for the top; `None` where the path
 /// doesn't lie in that folder.
-fn length_on_the_way<T: search::Pattern>(list: &List<T>, path: &[u8]) -> Option<usize>
+fn length_on_the_way<T: search::Pattern>(list: &PreparedList<T>, path: &[u8]) -> Option<usize>
     ensures { MatchOption result
         (IsSome (option_map vec_items list.now.base))
         (IsFrontOf (option_map vec_items list.now.base) path.now) }
 {
-    match &list.base {
+    match &list.list().base {
         Some(base) if path.starts_with(base) => Some(base.len()),
         Some(_) => None,
         None => Some(0),

@@ -1,5 +1,5 @@
 //! A work tree whose folders are asked for their lists as paths come by.
-ghost use Rattle.std.specs.Prelude.{◌≡◌, IfOk, IfSome, MatchOption, OnOk, Some, length, map, slice_get, take};
+ghost use Rattle.std.specs.Prelude.{◌≡◌, ◌↔◌, IfOk, IfSome, IsTrue, MatchOption, OnOk, Some, length, map, slice_get, take};
 ghost use Rattle.gix_glob.specs.EntryLists.{entry_list_of};
 ghost use Rattle.glob_lists.specs.Deciding.{BasesAreFolders};
 ghost use Rattle.glob_trees.specs.Trees.{DecidesInTree};
@@ -66,10 +66,8 @@ impl<T: search::Pattern, S: FolderLists<T> + Drop> Tree<T, S> {
             (¬ BasesAreFolders (map (entry_list_of T.seen) fronts.items))
             (λ tree. tree ≡ record { source = source; front_count = length fronts.items; lists = fronts.items; case = case }) }
     {
-        'fronts: for i in 0..fronts.len() {
-            if !fronts[i].has_folder() {
-                return None;
-            }
+        if !are_of_folders(&fronts) {
+            return None;
         }
         let entered = Entered {
             source,
@@ -139,4 +137,16 @@ impl<T: search::Pattern, S: FolderLists<T> + Drop> Tree<T, S> {
     {
         self.entered.source
     }
+}
+
+/// Whether the base of each list is that of a folder.
+fn are_of_folders<T: search::Pattern>(lists: &[PreparedList<T>]) -> bool
+    ensures { IsTrue result ↔ BasesAreFolders (map (entry_list_of T.seen) lists.now) }
+{
+    for list in lists {
+        if !list.has_folder() {
+            return false;
+        }
+    }
+    true
 }

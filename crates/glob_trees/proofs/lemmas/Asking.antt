@@ -1,5 +1,5 @@
 -- What a source was asked for: only for folders on the way, of which none is ignored, and none below an ignored one.
-use Rattle.std.proofs.Common.{◌≡◌, ◌⊎◌, inl, inr, ⊎_elim, ℕ, List, [], ◌∷◌, ◌++◌, sym, subst}
+use Rattle.std.proofs.Common.{◌≡◌, inl, inr, ⊎_elim, ℕ, List, [], ◌∷◌, ◌++◌, sym, subst}
 use Rattle.std.specs.List.{Contains}
 use Rattle.gix_glob.specs.declared.pattern.Case.{Case}
 use Rattle.gix_glob.specs.Bytes.{slash}

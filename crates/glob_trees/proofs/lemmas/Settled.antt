@@ -1,5 +1,5 @@
 -- What is known of the folders whose lists are at hand stays known where one is entered or left.
-use Rattle.std.proofs.Common.{◌≡◌, ◌⊎◌, inl, inr, ⊎_elim, ℕ, ◌≤◌, Bool, true, false, cond, List, [], ◌∷◌, ◌++◌, length, map, take, Option, None, Some, Vec, refl, sym, ap, subst, ◌∙◌, append_assoc}
+use Rattle.std.proofs.Common.{◌≡◌, inl, inr, ⊎_elim, ℕ, ◌≤◌, cond, List, [], ◌∷◌, ◌++◌, length, map, take, Option, None, Some, Vec, refl, sym, ap, subst, ◌∙◌, append_assoc}
 use Rattle.std.specs.List.{Contains}
 use Rattle.std.specs.Str.{bytes_eq}
 use Rattle.std.proofs.Math.Seq.{take-append_seam}

@@ -1,5 +1,5 @@
 -- What one call does to the folders that are entered, and what they then say of a path.
-use Rattle.std.proofs.Common.{◌≡◌, ◌⊎◌, inl, inr, ⊎_elim, ℕ, suc, ◌+◌, ◌-◌, ◌<◌, ◌≤◌, Bool, true, false, if◌then◌else◌, Result, Ok, Err, OnErr, List, [], ◌∷◌, ◌++◌, length, map, take, drop, Option, None, Some, IsSome, Vec, option_map, refl, sym, ap, subst, ◌∙◌, append_assoc, append-nil, length-take-le, take-suc, add-one, arith, slice_index}
+use Rattle.std.proofs.Common.{◌≡◌, inl, inr, ⊎_elim, ℕ, suc, ◌+◌, ◌-◌, ◌<◌, ◌≤◌, Bool, true, false, if◌then◌else◌, Result, Ok, Err, OnErr, List, [], ◌∷◌, ◌++◌, length, map, take, drop, Option, None, Some, IsSome, Vec, option_map, refl, sym, ap, subst, ◌∙◌, append_assoc, append-nil, length-take-le, take-suc, add-one, arith, slice_index}
 use Rattle.std.specs.Prelude.{slice_get}
 use Rattle.std.specs.List.{AllZip, Contains}
 use Rattle.std.specs.Vec.{vec_items}

@@ -1,5 +1,5 @@
 -- The list was left under the base of the folder: the folder isn't ignored, and its list follows those above it.
-use Rattle.std.proofs.Common.{◌≡◌, ℕ, ◌+◌, ◌++◌, ◌∷◌, [], inl, IsSome, None, map, take, ap, refl, sym, subst, ◌∙◌}
+use Rattle.std.proofs.Common.{ℕ, ◌+◌, ◌++◌, ◌∷◌, [], inl, IsSome, None, map, take, ap, refl, sym, subst, ◌∙◌}
 use Rattle.gix_glob.specs.Bytes.{slash}
 use Rattle.gix_glob.specs.EntryLists.{entry_list_of}
 use Rattle.glob_trees.specs.Private.Entered.{AreAtHand, AreEntered, AreSettled, HaveRooms}

@@ -1,11 +1,11 @@
 -- The top's list follows those that stand before all folders.
-use Rattle.std.proofs.Common.{rules, ◌≡◌, ◌++◌, ◌∷◌, [], Ok, IfOk, OnOk, inl, inr, map, option_map, is_ok, ap, sym, subst, ◌∙◌, arith}
+use Rattle.std.proofs.Common.{rules, ◌≡◌, ◌++◌, ◌∷◌, [], Ok, IfOk, OnOk, map, option_map, is_ok, ap, sym, subst, ◌∙◌}
 use Rattle.std.specs.Vec.{vec_items}
 use Rattle.gix_glob.specs.EntryLists.{entry_list_of}
 use Rattle.glob_trees.specs.Private.Entered.{AreEntered, AreSettled}
 use Rattle.glob_trees.specs.Ways.{GivesOnly, base_of_folder}
 use Rattle.glob_trees.proofs.lemmas.AtHand.{at_hand_at_top, rooms_at_top}
-use Rattle.glob_trees.proofs.lemmas.Stepping.{entered_yet, fresh_yet, pushed, starting, starting_settled}
+use Rattle.glob_trees.proofs.lemmas.Stepping.{fresh_yet, pushed, starting, starting_settled}
 use Rattle.glob_trees.proofs.entered.Entered.enter_top.Goals as goal
 
 pub returns-clause-under : goal.returns-clause-under
@@ -20,7 +20,7 @@ returns-clause-under g c =
     let based = subst (λ r. IfOk r (λ l. option_map vec_items l.base ≡ base_of_folder [])) got c.list_of.ensures.based in
     let gives = subst (λ r. OnOk r (GivesOnly (λ given. given ≡ []) (gave old.source) (gave c.list_of.new.self))) got c.list_of.ensures.gives in
     let ok = sym c.map_err-2.ensures.variant ∙ ap is_ok c.in_ok-map_err.was in
-    let items = pushed _ _ _ _ ok c.push.ensures.items ∙ ap (λ l. l ++ c.in_ok-list.list ∷ []) c.reserve.ensures.items in
+    let items = pushed _ _ _ _ ok c.push.ensures.items ∙ (ap (λ l. l ++ c.new-prepared.result ∷ []) c.reserve.ensures.items ∙ ap (λ list. old.lists.items ++ list ∷ []) c.new-prepared.ensures) in
     let fresh = fresh_yet shows gave seen old c.requires.ready (search rules) in (
       [],
       record {

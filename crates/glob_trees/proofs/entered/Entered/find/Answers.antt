@@ -1,5 +1,5 @@
 -- The slashes are gone through from the front: each folder is entered, as far as the first one that is ignored.
-use Rattle.std.proofs.Common.{◌≡◌, ◌<◌, ◌+◌, ℕ, List, inl, inr, refl, sym, subst, length, map, take, take_all, slice_index, arith}
+use Rattle.std.proofs.Common.{◌≡◌, ◌<◌, ◌+◌, ℕ, inl, inr, refl, sym, subst, length, map, take, take_all, slice_index, arith}
 use Rattle.std.specs.List.{Contains}
 use Rattle.gix_glob.specs.Bytes.{HasByte, slash}
 use Rattle.gix_glob.specs.EntryLists.{entry_list_of}
@@ -14,7 +14,7 @@ use Rattle.glob_trees.proofs.lemmas.Settled.{settled_same_way}
 use Rattle.glob_trees.proofs.lemmas.Stepping.{arrived, keeps_on_further, passing, passing_way, stopped, way_grows}
 use Rattle.glob_trees.proofs.entered.Entered.find.Given.{Over}
 use Rattle.glob_trees.proofs.entered.Entered.find.Goals as goal
-use Rattle.glob_trees.proofs.entered.Entered.find.Goals.{After-decide, After-enter_again, After-folder_before, In-Some}
+use Rattle.glob_trees.proofs.entered.Entered.find.Goals.{After-decide_prepared, After-enter_again, After-folder_before-folder, In-Some}
 
 pub bytes-preserved-then-bytes-place-ne47 : goal.bytes-preserved-then-bytes-place-ne47
 bytes-preserved-then-bytes-place-ne47 g c =
@@ -55,13 +55,13 @@ gives g c =
     subst (λ s. GivesOnly (Contains (folders_to (take c.bytes.place c.args.path.now.bytes))) (g.S.FolderLists.gave c.args.self.now.source) (g.S.FolderLists.gave s)) (sym c.enter_again.ensures.source) c.bytes.invariant.2
 
 -- the folder's list wasn't left
-under : (g : Over) (c : After-folder_before g) → IsUnderWay (g.S.FolderLists.shows g.T.Pattern.Seen) g.S.FolderLists.gave g.T.Pattern.seen c.enter_again.new.self (take c.bytes.place c.args.path.now.bytes)
+under : (g : Over) (c : After-folder_before-folder g) → IsUnderWay (g.S.FolderLists.shows g.T.Pattern.Seen) g.S.FolderLists.gave g.T.Pattern.seen c.enter_again.new.self (take c.bytes.place c.args.path.now.bytes)
 under g c =
     subst (λ b. IsUnderWay (g.S.FolderLists.shows g.T.Pattern.Seen) g.S.FolderLists.gave g.T.Pattern.seen c.enter_again.new.self (take c.bytes.place b)) c.bytes-bytes.ensures (c.in_ok-was_left.ensures.under c.if-was_left.false)
 
 -- the folder is ignored
 ignored : (g : Over) (c : In-Some g) → Ignores (map (entry_list_of g.T.Pattern.seen) c.enter_again.new.self.lists.items) c.enter_again.new.self.case (take c.bytes.place c.args.path.now.bytes) c.in-Some.pair
-ignored g c = rw c.deref.ensures.value at (rw c.folder_before.ensures at c.in-Some.ensures)
+ignored g c = rw c.deref.ensures.value at (rw c.folder_before-folder.ensures at c.in-Some.ensures)
 
 -- a folder was asked for on the way to a folder whose slash stands at the place
 asked : (g : Over) (c : After-enter_again g) (self : Entered g.row.T.Denot g.row.S.Denot g.row.T-Value.Denot g.row.S-Fault.Denot) → GivesOnly (Contains (folders_to (take c.bytes.place c.args.path.now.bytes))) (g.S.FolderLists.gave c.args.self.now.source) (g.S.FolderLists.gave self.source)
@@ -85,7 +85,7 @@ returns-in-Some-clause-decides g c =
         folder = take c.bytes.place c.args.path.now.bytes;
         above = above_slash c.args.path.now.bytes c.bytes.place (slash_here g at.After-enter_again);
         ignored = ignored g at.In-Some;
-        topmost = let u = under g at.After-folder_before in u.stands.none;
+        topmost = let u = under g at.After-folder_before-folder in u.stands.none;
       },
       refl,
     )
@@ -93,13 +93,13 @@ returns-in-Some-clause-decides g c =
 pub returns-in-Some-clause-way : goal.returns-in-Some-clause-way
 returns-in-Some-clause-way g c =
     let at = goal.at.returns-in-Some-clause-way g c in
-    let u = under g at.After-folder_before in
+    let u = under g at.After-folder_before-folder in
     let self = c.enter_again.new.self in
     stopped (g.S.FolderLists.shows g.T.Pattern.Seen self.source) self.front_count (map (entry_list_of g.T.Pattern.seen) self.lists.items) self.case
     c.args.path.now.bytes (take c.bytes.place c.args.path.now.bytes) c.in-Some.pair u.stands (above_slash c.args.path.now.bytes c.bytes.place (slash_here g at.After-enter_again)) (ignored g at.In-Some)
 
 pub returns-in-Some-clause-ready : goal.returns-in-Some-clause-ready
-returns-in-Some-clause-ready g c = inr (take c.bytes.place c.args.path.now.bytes, under g (goal.at.returns-in-Some-clause-ready g c).After-folder_before)
+returns-in-Some-clause-ready g c = inr (take c.bytes.place c.args.path.now.bytes, under g (goal.at.returns-in-Some-clause-ready g c).After-folder_before-folder)
 
 pub returns-in-Some-clause-keeps : goal.returns-in-Some-clause-keeps
 returns-in-Some-clause-keeps g c = keeps g (goal.at.returns-in-Some-clause-keeps g c).After-enter_again
@@ -107,12 +107,12 @@ returns-in-Some-clause-keeps g c = keeps g (goal.at.returns-in-Some-clause-keeps
 pub returns-in-Some-clause-asks : goal.returns-in-Some-clause-asks
 returns-in-Some-clause-asks g c =
     let at = goal.at.returns-in-Some-clause-asks g c in
-    asked g at.After-enter_again c.enter_again.new.self (gives g at.After-enter_again) (under g at.After-folder_before)
+    asked g at.After-enter_again c.enter_again.new.self (gives g at.After-enter_again) (under g at.After-folder_before-folder)
 
 pub enter-requires-clause-kept : goal.enter-requires-clause-kept
 enter-requires-clause-kept g c =
     let self = c.enter_again.new.self in
-    let kept = rw c.deref.ensures.value at (rw c.folder_before.ensures at c.in_default.ensures) in
+    let kept = rw c.deref.ensures.value at (rw c.folder_before-folder.ensures at c.in_default.ensures) in
     subst (λ l. (pair : ℕ × ℕ) → ¬ Ignores (map (entry_list_of g.T.Pattern.seen) self.lists.items) self.case (take c.bytes.place l) pair) (sym c.bytes-bytes.ensures) kept
 
 pub enter-requires-clause-under : goal.enter-requires-clause-under
@@ -137,16 +137,16 @@ returns-in_err-was_left-clause-asks g c =
     (subst (λ b. IsUnderWay (g.S.FolderLists.shows g.T.Pattern.Seen) g.S.FolderLists.gave g.T.Pattern.seen c.enter_again.new.self (take c.bytes.place b)) c.bytes-bytes.ensures c.in_err-was_left.ensures.fails)
 
 -- the whole path was gone through
-whole : (g : Over) (c : After-decide g) → take c.bytes.place c.args.path.now.bytes ≡ c.args.path.now.bytes
+whole : (g : Over) (c : After-decide_prepared g) → take c.bytes.place c.args.path.now.bytes ≡ c.args.path.now.bytes
 whole g c = take_all c.bytes.place c.args.path.now.bytes (let past = c.bytes-test.false in let past_all = rw c.bytes-bytes.ensures at past in omega arith)
 
-stands : (g : Over) (c : After-decide g) → AreEntered (g.S.FolderLists.shows g.T.Pattern.Seen c.bytes.self.source) c.bytes.self.front_count (map (entry_list_of g.T.Pattern.seen) c.bytes.self.lists.items) c.bytes.self.case c.args.path.now.bytes
+stands : (g : Over) (c : After-decide_prepared g) → AreEntered (g.S.FolderLists.shows g.T.Pattern.Seen c.bytes.self.source) c.bytes.self.front_count (map (entry_list_of g.T.Pattern.seen) c.bytes.self.lists.items) c.bytes.self.case c.args.path.now.bytes
 stands g c = subst (AreEntered (g.S.FolderLists.shows g.T.Pattern.Seen c.bytes.self.source) c.bytes.self.front_count (map (entry_list_of g.T.Pattern.seen) c.bytes.self.lists.items) c.bytes.self.case) (whole g c) c.bytes.invariant.0.stands
 
 pub returns-clause-decides : goal.returns-clause-decides
 returns-clause-decides g c =
     let all = stands g c in
-    inr (all.none, rw c.deref-2.ensures.value at c.decide.ensures)
+    inr (all.none, rw c.deref-2.ensures.value at c.decide_prepared.ensures)
 
 pub returns-clause-way : goal.returns-clause-way
 returns-clause-way g c =

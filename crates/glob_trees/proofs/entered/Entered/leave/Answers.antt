@@ -1,5 +1,5 @@
 -- The last list is that of a folder below the top: it is kept under its base.
-use Rattle.std.proofs.Common.{◌≡◌, IsSome, ap, refl, sym, subst, ◌∙◌, ◌++◌, option_map}
+use Rattle.std.proofs.Common.{IsSome, ap, refl, sym, subst, ◌∙◌, ◌++◌, option_map}
 use Rattle.std.specs.Option.{option_to_list}
 use Rattle.std.specs.Vec.{vec_items}
 use Rattle.glob_trees.proofs.lemmas.Stepping.{fronts_left, leaving, room_to_leave}
