@@ -21,15 +21,6 @@ with_bit set k = bit_or set (1 * 2 ^ k % 2 ^ 64)
 small : (b : ℕ) → bit_of b < 64
 small b = omega arith
 
-pub bit_stays : (set b i : ℕ) → bit_at set i ≡ 1 → bit_at (with_bit set (bit_of b)) i ≡ 1
-bit_stays set b i is = ⊎_elim
-    (λ (same : i ≡ bit_of b). subst (λ (k : ℕ). bit_at (with_bit set (bit_of b)) k ≡ 1) (sym same) (bit_at_set_same w64 set (bit_of b) (small b)))
-    (λ (other : i ≡ bit_of b → ⊥). bit_at_set_other w64 set (bit_of b) (small b) i other ∙ is)
-    (cases_eq i (bit_of b))
-
-pub bit_is_set : (set b : ℕ) → bit_at (with_bit set (bit_of b)) (bit_of b) ≡ 1
-bit_is_set set b = bit_at_set_same w64 set (bit_of b) (small b)
-
 -- ---- the bytes of a text
 
 -- the set has the bytes before place k

@@ -13,7 +13,7 @@ use Rattle.gix_glob.specs.Bytes.{HasByte, slash}
 use Rattle.gix_glob.specs.EntryLists.{EntryList, entry_list_of}
 use Rattle.glob_lists.specs.Deciding.{BasesAreFolders}
 use Rattle.glob_trees.specs.declared.entered.Entered.{Entered}
-use Rattle.glob_trees.specs.Private.Entered.{AreAtHand, AreEntered, AreOfFolders, AreSettled, HaveRooms, IsFresh, IsFrontOf, IsReady, IsSomewhere, KeepsOn}
+use Rattle.glob_trees.specs.Private.Entered.{AreAtHand, AreEntered, AreOfFolders, AreSettled, HaveRooms, IsFresh, IsFrontOf, IsReady, KeepsOn}
 use Rattle.glob_trees.specs.Private.Left.{FillsRoom, HasKept, HasMoreRooms, HasRoom, IsKept}
 use Rattle.glob_trees.specs.Trees.{Ignores, IsAbove}
 use Rattle.glob_trees.specs.Ways.{AreOnTheWay, IsListOf, folder_before, folders_from, folders_to}
@@ -261,11 +261,6 @@ pub fresh_yet : {S T X F V : Type 0} (shows : S → List ℕ → EntryList V →
 fresh_yet shows gave seen entered (inl fresh) few = fresh
 fresh_yet shows gave seen entered (inr some) few =
     absurd (few (subst (λ k. entered.front_count < k) (length-map entered.lists.items (entry_list_of seen)) (some_entered (shows entered.source) entered.case (map (entry_list_of seen) entered.lists.items) some.0 entered.front_count some.1.stands)))
-
-pub entered_yet : {S T X F V : Type 0} (shows : S → List ℕ → EntryList V → Type 0) (gave : S → List ℕ → Type 0) (seen : X → V) (entered : Entered T S X F) → IsReady shows gave seen entered → entered.front_count < length entered.lists.items
-    → IsSomewhere shows gave seen entered
-entered_yet shows gave seen entered (inl fresh) more = absurd (omega (arith, fresh.count))
-entered_yet shows gave seen entered (inr some) more = some
 
 pub passing : {V : Type 0} (shows : List ℕ → EntryList V → Type 0) (case : Case) (n : ℕ) (lists : List (EntryList V)) (path : List ℕ) (place : ℕ) → place < length path → ¬ (slice_index path place ≡ slash)
     → AreEntered shows n lists case (take place path) → AreEntered shows n lists case (take (place + 1) path)
