@@ -26,6 +26,7 @@ pub mod OneList
 pub mod PathsLemmas
 pub mod PlaceOrder
 pub mod PrefilterLemmas
+pub mod RawBytes
 pub mod RowLemmas
 pub mod SearchLemmas
 pub mod SightLemmas

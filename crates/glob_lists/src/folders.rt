@@ -1,15 +1,21 @@
 //! The folders of lists: their bases in order, each linked to the last one before it that begins it. So the lists whose base a
 //! path begins with lie on one chain.
-ghost use Rattle.std.specs.Prelude.{◌≡◌, ◌↔◌, ◌+◌, ◌*◌, ◌^◌, ◌++◌, ◌∷◌, [], ◌<◌, IfOk, IfSome, IsTrue, OnOk, length, map, take};
+//!
+//! The last base that doesn't come after a path is searched by halves. So each base is asked for among the same others, and what
+//! those on either side of them have alike, all of them have, and the path that is searched for among them, too. Each folder knows
+//! the number of the bytes behind that, which mostly tells: then its base isn't read.
+ghost use Rattle.std.specs.Prelude.{◌≡◌, ◌↔◌, ◌+◌, ◌*◌, ◌^◌, ◌++◌, ◌∷◌, [], ◌-◌, ◌/◌, ◌<◌, ◌≤◌, ℕ, IfOk, IfSome, IsTrue, OnOk, Some, length, map, slice_get, take};
 ghost use Rattle.gix_glob.specs.EntryLists.{entry_list_of};
 ghost use Rattle.glob_lists.specs.Index.{AreTooMany, entry_count};
-ghost use Rattle.glob_lists.specs.Private.Folders.{AllUpTo, AreAllAfter, AreFolders, AreFoldersUpTo, AreSameFolders, IsBegunBy, IsFolderOf, IsForest, IsLastBeginning, IsLastUpTo, IsSameFolder, base_at};
-ghost use Rattle.glob_lists.specs.Private.Fronts.{AreSameUpTo, IsUpTo, front_key};
+ghost use Rattle.glob_lists.specs.Private.Folders.{AllUpTo, AreAllAfter, AreFolders, AreFoldersUpTo, AreSameFolders, IsBegunBy, IsChained, IsFolderOf, IsForest, IsLastBeginning, IsLastUpTo, IsNarrow, IsSameFolder, SharesAround, base_at};
+ghost use Rattle.glob_lists.specs.Private.Fronts.{AgreeUpTo, AreSameUpTo, IsFrontOf, IsUpTo};
 ghost use Rattle.glob_lists.specs.Private.Indexes.{AreFolderedBy};
 ghost use Rattle.glob_lists.specs.Private.Looking.{LooksUpTo};
 
 use crate::chains::Link;
-use crate::fronts::{Compared, FRONT, begins, compare_from, front_key, is_up_to, known_by_number};
+use crate::fronts::{
+    FRONT, Front, alike, begins, front_key, is_up_to, is_up_to_behind, is_up_to_from,
+};
 use gix_glob::search;
 use gix_glob::search::pattern::List;
 use gix_glob::wildmatch::Counts;
@@ -23,8 +29,12 @@ const FEWEST_LISTS: usize = 16;
 /// A list that has patterns, at the place of its base among all.
 #[derive(Debug, Copy, Clone)]
 pub(crate) struct Folder {
-    /// The number of the front of the base.
+    /// The number of the bytes of the base behind those that it shares.
     key: u64,
+    /// How many bytes it shares with the bases on either side of the folders among which the search asks for this one.
+    shared: u32,
+    /// How many those are; any other number where this isn't known.
+    size: u32,
     /// The place of the list.
     list: u32,
     /// The place of its first row.
@@ -129,7 +139,9 @@ fn push_folder<T: search::Pattern>(
         return Ok(());
     }
     folders.push(Folder {
-        key: front_key(base_at(lists, i as u32)),
+        key: front_key(base_at(lists, i as u32), 0),
+        shared: 0,
+        size: 0,
         list: i as u32,
         first_row: first_row as u32,
         above: Link::NONE,
@@ -168,12 +180,81 @@ fn chained<T: search::Pattern>(
 {
     let mut chained = Vec::with_capacity(alloc, folders.len())?;
     'folders: for k in 0..folders.len() {
-        let Some(folder) = chained_after(&chained, lists, folders[k]) else {
+        let Some(folder) = chained_after(&chained, lists, narrowed(folders, lists, k)) else {
             return Ok(None);
         };
         chained.push(folder)?;
     }
     Ok(Some(chained))
+}
+
+/// The folder at a place, which knows what it shares with those on either side.
+fn narrowed<T: search::Pattern>(folders: &[Folder], lists: &[List<T>], place: usize) -> Folder
+    requires inside { place < length folders.now }
+    requires fits { length folders.now < 2 ^ 32 }
+    requires each { AreFolders (map (entry_list_of T.seen) lists.now) folders.now }
+    ensures of { IsFolderOf (map (entry_list_of T.seen) lists.now) result }
+    ensures list { (folder : Folder) → slice_get folders.now place ≡ Some folder → result.list ≡ folder.list }
+    ensures narrow { IsNarrow (map (entry_list_of T.seen) lists.now) folders.now place result }
+{
+    let folder = folders[place];
+    let base = base_at(lists, folder.list);
+    let size = size_around(place, folders.len());
+    let shared = shared_around(folders, lists, place, size, base);
+    Folder {
+        key: front_key(base, shared),
+        shared,
+        size: size as u32,
+        ..folder
+    }
+}
+
+/// Among how many folders the search asks for the one at a place; 0 where it doesn't.
+fn size_around(place: usize, count: usize) -> usize
+    ensures { result ≤ count }
+{
+    let mut place = place;
+    let mut size = count;
+    'halves: while size > 0 {
+        let half = size / 2;
+        if place == half {
+            return size;
+        }
+        if place > half {
+            place -= half + 1;
+            size -= half + 1;
+        } else {
+            size = half;
+        }
+    }
+    0
+}
+
+/// How many bytes a base shares with those on either side of so many folders, of which the one at a place is the middle.
+fn shared_around<T: search::Pattern>(
+    folders: &[Folder],
+    lists: &[List<T>],
+    place: usize,
+    size: usize,
+    base: &[u8],
+) -> u32
+    requires inside { place < length folders.now }
+    requires fits { length folders.now < 2 ^ 32 }
+    requires few { size ≤ length folders.now }
+    ensures { (low : ℕ) → low + size / 2 ≡ place
+        → SharesAround (map (entry_list_of T.seen) lists.now) folders.now base.now low (low + size) result }
+{
+    let half = size / 2;
+    if place <= half {
+        return 0;
+    }
+    let low = place - half;
+    if low + size >= folders.len() {
+        return 0;
+    }
+    let before = alike(base_at(lists, folders[low - 1].list), base);
+    let after = alike(base_at(lists, folders[low + size].list), base);
+    before.min(after).min(u32::MAX as usize) as u32
 }
 
 /// A folder, chained to those before it. `None` where it has to come before the last of them, or lies below a later list.
@@ -183,9 +264,9 @@ fn chained_after<T: search::Pattern>(
     folder: Folder,
 ) -> Option<Folder>
     requires fits { length folders.now < 2 ^ 32 }
-    requires forest { IsForest (map (entry_list_of T.seen) lists.now) folders.now }
+    requires forest { IsChained (map (entry_list_of T.seen) lists.now) folders.now }
     requires of { IsFolderOf (map (entry_list_of T.seen) lists.now) folder }
-    ensures { IfSome result (λ chained. IsSameFolder chained folder × IsForest (map (entry_list_of T.seen) lists.now) (folders.now ++ chained ∷ [])) }
+    ensures { IfSome result (λ chained. IsSameFolder chained folder × IsChained (map (entry_list_of T.seen) lists.now) (folders.now ++ chained ∷ [])) }
 {
     let base = base_at(lists, folder.list);
     if !follows(folders, lists, base) {
@@ -208,7 +289,7 @@ fn chained_after<T: search::Pattern>(
 
 /// Whether a base may come after those of all folders.
 fn follows<T: search::Pattern>(folders: &[Folder], lists: &[List<T>], base: &[u8]) -> bool
-    requires forest { IsForest (map (entry_list_of T.seen) lists.now) folders.now }
+    requires forest { IsChained (map (entry_list_of T.seen) lists.now) folders.now }
     ensures { IsTrue result → AllUpTo (map (entry_list_of T.seen) lists.now) folders.now base.now }
 {
     match folders {
@@ -220,7 +301,7 @@ fn follows<T: search::Pattern>(folders: &[Folder], lists: &[List<T>], base: &[u8
 /// The last folder whose base begins a text that none of them comes after.
 fn last_beginning<T: search::Pattern>(folders: &[Folder], lists: &[List<T>], text: &[u8]) -> Link
     requires fits { length folders.now < 2 ^ 32 }
-    requires forest { IsForest (map (entry_list_of T.seen) lists.now) folders.now }
+    requires forest { IsChained (map (entry_list_of T.seen) lists.now) folders.now }
     requires up_to { AllUpTo (map (entry_list_of T.seen) lists.now) folders.now text.now }
     ensures { IsLastBeginning (map (entry_list_of T.seen) lists.now) folders.now text.now (length folders.now) result }
 {
@@ -237,7 +318,8 @@ fn last_beginning<T: search::Pattern>(folders: &[Folder], lists: &[List<T>], tex
 
 /// The last folder whose base doesn't come after a path.
 ///
-/// A look is counted at each byte that may be read: eight of the path once, and for each base that is compared as many as both have.
+/// A look is counted at each byte that may be read: eight of the path at each place behind which its number is asked for, and of the
+/// path and each base that is read as many as both have behind those that are known.
 pub(crate) fn last_up_to<T: search::Pattern, S: Ledger, L: Ledger>(
     folders: &[Folder],
     lists: &[List<T>],
@@ -249,25 +331,19 @@ pub(crate) fn last_up_to<T: search::Pattern, S: Ledger, L: Ledger>(
     ensures last { IsLastUpTo (map (entry_list_of T.seen) lists.now) folders.now path.now result }
     ensures looks { LooksUpTo counts.old counts.new (65 * length path.now) }
 {
-    counts.looks(path.len().min(FRONT));
-    let key = front_key(path);
+    let mut front = Front::of(path, 0, counts);
     let mut low: usize = 0;
     let mut size = folders.len();
-    // what the base before those that are left has in common with the path, and the base after them: those between have it, too
-    let mut low_same: usize = 0;
-    let mut high_same: usize = 0;
     'halves: while size > 0 {
         let half = size / 2;
-        let known = low_same.min(high_same);
-        let found = compare_folder(&folders[low + half], lists, path, key, known, counts);
+        let found = compare_folder(&folders[low + half], lists, path, size, front, counts);
+        front = found.front;
         let is_up_to = found.is_up_to;
         if is_up_to {
             low += half + 1;
             size -= half + 1;
-            low_same = found.same;
         } else {
             size = half;
-            high_same = found.same;
         }
     }
     Link::up_to(low)
@@ -324,7 +400,7 @@ fn all_after_begun<T: search::Pattern>(
     if above != place {
         return true;
     }
-    !compare_from(base_at(lists, folders[next].list), path, known).is_up_to
+    !is_up_to_from(base_at(lists, folders[next].list), path, known)
 }
 
 /// Whether the bases of all folders from a place on come after a path.
@@ -347,32 +423,67 @@ fn all_after<T: search::Pattern>(
     true
 }
 
-/// How the base of a folder compares with a path, whose front has this number, and with which it has so many bytes alike.
+/// How the base of a folder compares with a path.
+#[derive(Debug, Copy, Clone)]
+struct Compared {
+    /// Whether it comes before the path or is the same.
+    is_up_to: bool,
+    /// The bytes of the path that were last asked for.
+    front: Front,
+}
+
+/// How the base of a folder compares with a path that is searched for among so many folders.
 #[inline(always)]
 fn compare_folder<T: search::Pattern, S: Ledger, L: Ledger>(
     folder: &Folder,
     lists: &[List<T>],
     path: &[u8],
-    key: u64,
-    known: usize,
+    size: usize,
+    front: Front,
     counts: &mut Counts<S, L>,
 ) -> Compared
     requires of { IsFolderOf (map (entry_list_of T.seen) lists.now) folder.now }
-    requires key { key ≡ front_key path.now FRONT }
-    requires known { AreSameUpTo (base_at (map (entry_list_of T.seen) lists.now) folder.now.list) path.now known }
+    requires front { IsFrontOf path.now front }
+    requires shared { folder.now.size ≡ size
+        → AreSameUpTo (base_at (map (entry_list_of T.seen) lists.now) folder.now.list) path.now folder.now.shared }
     ensures order { IsTrue result.is_up_to ↔ IsUpTo (base_at (map (entry_list_of T.seen) lists.now) folder.now.list) path.now }
-    ensures same { AreSameUpTo (base_at (map (entry_list_of T.seen) lists.now) folder.now.list) path.now result.same }
+    ensures front { IsFrontOf path.now result.front }
     ensures looks { LooksUpTo counts.old counts.new (2 * length path.now) }
 {
-    if folder.key != key {
+    // never so where the folders are as many as they were
+    if folder.size as usize != size {
+        let is_up_to = is_base_up_to(lists, folder.list, path, 0, counts);
+        return Compared { is_up_to, front };
+    }
+    let front = front.moved(path, folder.shared, counts);
+    if folder.key != front.key {
         return Compared {
-            is_up_to: folder.key < key,
-            same: 0,
+            is_up_to: folder.key < front.key,
+            front,
         };
     }
-    let base = base_at(lists, folder.list);
-    counts.looks(2 * base.len().min(path.len()));
-    compare_from(base, path, known.max(known_by_number(key)))
+    let known = folder.shared as usize + FRONT;
+    let is_up_to = is_base_up_to(lists, folder.list, path, known, counts);
+    Compared { is_up_to, front }
+}
+
+/// Whether the base of the list at a place comes before a path or is the same. Up to a place that is known they agree.
+fn is_base_up_to<T: search::Pattern, S: Ledger, L: Ledger>(
+    lists: &[List<T>],
+    list: u32,
+    path: &[u8],
+    known: usize,
+    counts: &mut Counts<S, L>,
+) -> bool
+    requires { AgreeUpTo (base_at (map (entry_list_of T.seen) lists.now) list) path.now known }
+    ensures order { IsTrue result ↔ IsUpTo (base_at (map (entry_list_of T.seen) lists.now) list) path.now }
+    ensures looks { LooksUpTo counts.old counts.new (2 * (length path.now - known)) }
+{
+    let base = base_at(lists, list);
+    let most = base.len().min(path.len());
+    let from = known.min(most);
+    counts.looks(2 * (most - from));
+    is_up_to_behind(base, path, from)
 }
 
 /// The base of the list at a place; empty where it has none, or there is no such list.

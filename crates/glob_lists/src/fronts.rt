@@ -1,18 +1,113 @@
 //! The order of texts by their bytes, in which the case of letters doesn't count, and which text begins another.
-ghost use Rattle.std.specs.Prelude.{◌≡◌, ◌↔◌, ◌≤◌, ℕ, List, IsTrue, length};
-ghost use Rattle.glob_lists.specs.Private.Fronts.{AreBytes, AreSameUpTo, Begins, IsUpTo, folded_at, front_key};
+ghost use Rattle.std.specs.Prelude.{◌≡◌, ◌↔◌, ◌+◌, ◌^◌, ◌<◌, ◌≤◌, IsTrue, length, min};
+ghost use Rattle.glob_lists.specs.Private.Fronts.{AreBytes, AreSameUpTo, Begins, IsFrontOf, IsUpTo, bytes_key, folded_at, front_key};
+ghost use Rattle.glob_lists.specs.Private.Looking.{LooksUpTo};
 
-/// How many bytes at the front of a text make its number.
+use gix_glob::wildmatch::Counts;
+use std::sync::ledger::Ledger;
+
+/// How many bytes of a text make a number.
 pub(crate) const FRONT: usize = 8;
 
-/// The number that the first bytes of a text make, as many as [`FRONT`] says, the first byte first; past its end a text has zeros.
-pub(crate) fn front_key(text: &[u8]) -> u64
-    ensures number { result ≡ front_key text.now FRONT }
+/// A bit of each byte of a number, which no capital letter has.
+const NO_CAPITAL: u64 = 0x2020_2020_2020_2020;
+
+/// The bytes of a path from a place on.
+#[derive(Debug, Copy, Clone)]
+pub(crate) struct Front {
+    /// The place.
+    from: u32,
+    /// The number that they make.
+    pub(crate) key: u64,
+}
+
+impl Front {
+    /// The bytes of a path from a place on, each of which is looked at.
+    pub(crate) fn of<S: Ledger, L: Ledger>(
+        path: &[u8],
+        from: u32,
+        counts: &mut Counts<S, L>,
+    ) -> Front
+        ensures front { IsFrontOf path.now result }
+        ensures from { result.from ≡ from }
+        ensures looks { LooksUpTo counts.old counts.new (min (length path.now) FRONT) }
+    {
+        counts.looks(path.len().min(FRONT));
+        Front {
+            from,
+            key: front_key(path, from),
+        }
+    }
+
+    /// The bytes of the path from another place on.
+    #[inline(always)]
+    pub(crate) fn moved<S: Ledger, L: Ledger>(
+        self,
+        path: &[u8],
+        from: u32,
+        counts: &mut Counts<S, L>,
+    ) -> Front
+        requires { IsFrontOf path.now self }
+        ensures front { IsFrontOf path.now result }
+        ensures from { result.from ≡ from }
+        ensures looks { LooksUpTo counts.old counts.new (min (length path.now) FRONT) }
+    {
+        if from == self.from {
+            return self;
+        }
+        Front::of(path, from, counts)
+    }
+}
+
+/// The number that the bytes of a text from a place on make, as many as [`FRONT`] says and letters as small ones, the first byte
+/// first; past its end a text has zeros.
+pub(crate) fn front_key(text: &[u8], from: u32) -> u64
+    ensures number { result ≡ front_key text.now from FRONT }
+    ensures bytes { AreBytes text.now }
+{
+    let place = from as usize;
+    if place + FRONT <= text.len() {
+        return whole_key(text, place);
+    }
+    folded_key(text, place)
+}
+
+/// What [`front_key`] says, where the text has as many bytes.
+#[inline(always)]
+fn whole_key(text: &[u8], place: usize) -> u64
+    requires { place + FRONT ≤ length text.now }
+    ensures number { result ≡ front_key text.now place FRONT }
+    ensures bytes { AreBytes text.now }
+{
+    let key = bytes_key(text, place);
+    if key & NO_CAPITAL == NO_CAPITAL {
+        return key;
+    }
+    folded_key(text, place)
+}
+
+/// The number that as many bytes of a text make from a place on, as they are.
+#[inline(always)]
+fn bytes_key(text: &[u8], place: usize) -> u64
+    requires { place + FRONT ≤ length text.now }
+    ensures { result ≡ bytes_key text.now place FRONT }
+{
+    // one test for all, where tests of places stay
+    let bytes = &text[place..place + FRONT];
+    u64::from_be_bytes([
+        bytes[0], bytes[1], bytes[2], bytes[3], bytes[4], bytes[5], bytes[6], bytes[7],
+    ])
+}
+
+/// What [`front_key`] says, byte by byte.
+fn folded_key(text: &[u8], place: usize) -> u64
+    requires { place + FRONT < 2 ^ 64 }
+    ensures number { result ≡ front_key text.now place FRONT }
     ensures bytes { AreBytes text.now }
 {
     let mut key = 0;
     'bytes: for n in 0..FRONT {
-        key = key * 256 + u64::from(folded_at(text, n));
+        key = key * 256 + u64::from(folded_at(text, place + n));
     }
     key
 }
@@ -28,57 +123,46 @@ fn folded_at(text: &[u8], place: usize) -> u8
     }
 }
 
-/// How two texts compare.
-#[derive(Debug, Copy, Clone)]
-pub(crate) struct Compared {
-    /// Whether the left one comes before the right one or is the same.
-    pub(crate) is_up_to: bool,
-    /// How many bytes from the front both are known to have alike.
-    pub(crate) same: usize,
-}
-
-/// How many bytes from the front all texts are known to have alike whose fronts make this number: none, where one may be shorter.
-#[inline(always)]
-pub(crate) fn known_by_number(number: u64) -> usize
-    ensures { (left right : List ℕ) → AreBytes left → AreBytes right → front_key left FRONT ≡ number → front_key right FRONT ≡ number
-        → AreSameUpTo left right result }
-{
-    if number % 256 == 0 { 0 } else { FRONT }
-}
-
-/// How two texts compare, which are known to have so many bytes from the front alike: these aren't read.
-pub(crate) fn compare_from(left: &[u8], right: &[u8], known: usize) -> Compared
-    requires { AreSameUpTo left.now right.now known }
-    ensures order { IsTrue result.is_up_to ↔ IsUpTo left.now right.now }
-    ensures same { AreSameUpTo left.now right.now result.same }
-{
-    let most = left.len().min(right.len());
-    'bytes: for n in known..most {
-        // most bytes that are alike are the same, which costs less to see
-        if left[n] == right[n] {
-            continue;
-        }
-        let byte = left[n].to_ascii_lowercase();
-        let other = right[n].to_ascii_lowercase();
-        if byte != other {
-            return Compared {
-                is_up_to: byte < other,
-                same: n,
-            };
-        }
-    }
-    Compared {
-        is_up_to: left.len() <= right.len(),
-        same: most,
-    }
-}
-
-/// Whether a text comes before another one or is the same.
-pub(crate) fn is_up_to(left: &[u8], right: &[u8]) -> bool
-    ensures { IsTrue result ↔ IsUpTo left.now right.now }
+/// How many bytes from the front two texts have alike.
+pub(crate) fn alike(left: &[u8], right: &[u8]) -> usize
+    ensures { AreSameUpTo left.now right.now result }
 {
     let most = left.len().min(right.len());
     'bytes: for n in 0..most {
+        if left[n].to_ascii_lowercase() != right[n].to_ascii_lowercase() {
+            return n;
+        }
+    }
+    most
+}
+
+/// Whether a text comes before another one or is the same, which are known to have so many bytes from the front alike: these aren't
+/// read.
+pub(crate) fn is_up_to_from(left: &[u8], right: &[u8], known: usize) -> bool
+    requires { AreSameUpTo left.now right.now known }
+    ensures { IsTrue result ↔ IsUpTo left.now right.now }
+{
+    let most = left.len().min(right.len());
+    let mut known = known;
+    'numbers: while known + FRONT <= most {
+        let key = whole_key(left, known);
+        let other = whole_key(right, known);
+        if key != other {
+            return key < other;
+        }
+        known += FRONT;
+    }
+    is_up_to_behind(left, right, known)
+}
+
+/// What [`is_up_to_from`] says, byte by byte: this costs less where they soon differ.
+#[inline(always)]
+pub(crate) fn is_up_to_behind(left: &[u8], right: &[u8], known: usize) -> bool
+    requires { AreSameUpTo left.now right.now known }
+    ensures { IsTrue result ↔ IsUpTo left.now right.now }
+{
+    let most = left.len().min(right.len());
+    'bytes: for n in known..most {
         // most bytes that are alike are the same, which costs less to see
         if left[n] == right[n] {
             continue;
@@ -90,6 +174,13 @@ pub(crate) fn is_up_to(left: &[u8], right: &[u8]) -> bool
         }
     }
     left.len() <= right.len()
+}
+
+/// Whether a text comes before another one or is the same.
+pub(crate) fn is_up_to(left: &[u8], right: &[u8]) -> bool
+    ensures { IsTrue result ↔ IsUpTo left.now right.now }
+{
+    is_up_to_from(left, right, 0)
 }
 
 /// Whether a text begins with another one, or is the same.

@@ -1,9 +1,9 @@
 -- The order of texts by their bytes: of two texts that don't come after a third one, one begins the other if it begins the third.
-use Rattle.std.proofs.Common.{◌≡◌, ◌≢◌, ◌⊎◌, ◌↔◌, inl, inr, ⊎_elim, ℕ, zero, suc, ◌+◌, ◌*◌, ◌%◌, ◌<◌, ◌≤◌, max, List, ◌++◌, length, get_or, length-append, refl, sym, ap, subst, ◌∙◌, arith}
+use Rattle.std.proofs.Common.{◌≡◌, ◌≢◌, ◌⊎◌, ◌↔◌, inl, inr, ⊎_elim, ℕ, zero, suc, ◌+◌, ◌-◌, ◌*◌, ◌<◌, ◌≤◌, List, ◌++◌, length, get_or, length-append, refl, sym, ap, subst, ◌∙◌, arith}
 use Rattle.std.specs.Char.{to_ascii_lowercase}
 use Rattle.std.proofs.lemmas.Bool.{cases_eq, cases_lt, cases_order}
 use Rattle.std.proofs.lemmas.List.{get_or_append_left, get_or_past}
-use Rattle.glob_lists.specs.Private.Fronts.{AreBytes, AreSameUpTo, Begins, IsLessAt, IsUpTo, folded_at, front_key}
+use Rattle.glob_lists.specs.Private.Fronts.{AgreeUpTo, AreBytes, AreSameUpTo, Begins, IsLessAt, IsUpTo, folded_at, front_key}
 
 -- ---- the order
 
@@ -201,7 +201,7 @@ parts_at a b (suc n) within inside = elim (parts_at a b n (omega arith) (omega a
   | inr found ↦ inr (found.0, found.1, (let below = found.2 in omega arith), found.3)
 ]
 
-AreSameUpTo-sym : (a b : List ℕ) (n : ℕ) → AreSameUpTo a b n → AreSameUpTo b a n
+pub AreSameUpTo-sym : (a b : List ℕ) (n : ℕ) → AreSameUpTo a b n → AreSameUpTo b a n
 AreSameUpTo-sym a b n h = record { within = h.inside; inside = h.within; same = λ j below. sym (h.same j below) }
 
 pub IsUpTo-total : (a b : List ℕ) → IsUpTo a b ⊎ IsUpTo b a
@@ -222,6 +222,9 @@ IsUpTo-total a b = elim (cases_lt (length a) (length b)) [
     ]
   ]
 
+pub IsUpTo-not : (a b : List ℕ) → ¬ IsUpTo a b → IsUpTo b a
+IsUpTo-not a b not = ⊎_elim (λ (up : IsUpTo a b). absurd (not up)) (λ (down : IsUpTo b a). down) (IsUpTo-total a b)
+
 -- ---- the numbers of fronts
 
 abbrev pub room : ℕ → ℕ
@@ -231,9 +234,9 @@ room (suc n) = room n * 256
 pub folded_at-short : (text : List ℕ) (j : ℕ) → AreBytes text → folded_at text j < 256
 folded_at-short text j bytes = let short = bytes j in grind arith
 
-pub front_key-short : (text : List ℕ) → AreBytes text → (n : ℕ) → front_key text n < room n
-front_key-short text bytes zero = omega arith
-front_key-short text bytes (suc n) = let before = front_key-short text bytes n in let here = folded_at-short text n bytes in omega arith
+pub front_key-short : (text : List ℕ) → AreBytes text → (from n : ℕ) → front_key text from n < room n
+front_key-short text bytes from zero = omega arith
+front_key-short text bytes from (suc n) = let before = front_key-short text bytes from n in let here = folded_at-short text (from + n) bytes in omega arith
 
 pub room-le : (n k : ℕ) → n ≤ k → room n ≤ room k
 room-le n zero low = subst (λ m. room m ≤ 1) (let is : 0 ≡ n = omega arith in is) (omega arith)
@@ -243,75 +246,75 @@ room-le n (suc k) low = ⊎_elim
     (cases_eq n (suc k))
 
 -- the number of fewer than eight bytes leaves room for one more
-pub front_key-fits : (text : List ℕ) → AreBytes text → (n key : ℕ) → n < 8 → key ≡ front_key text n → key < 72057594037927936
-front_key-fits text bytes n key few is = let short = front_key-short text bytes n in let most : room n ≤ room 7 = room-le n 7 (omega arith) in omega arith
+pub front_key-fits : (text : List ℕ) → AreBytes text → (from n key : ℕ) → n < 8 → key ≡ front_key text from n → key < 72057594037927936
+front_key-fits text bytes from n key few is = let short = front_key-short text bytes from n in let most : room n ≤ room 7 = room-le n 7 (omega arith) in omega arith
 
 past_end : (text : List ℕ) (j : ℕ) → length text ≤ j → folded_at text j ≡ 0
 past_end text j past = ap to_ascii_lowercase (get_or_past text j 0 past)
 
-same_key : (a b : List ℕ) (k : ℕ) → AreSameUpTo a b k → (n : ℕ) → n ≤ k → front_key a n ≡ front_key b n
-same_key a b k same zero low = refl
-same_key a b k same (suc n) low = let before = same_key a b k same n (omega arith) in let here = same.same n (omega arith) in omega arith
+same_key : (a b : List ℕ) (k : ℕ) → AreSameUpTo a b k → (from n : ℕ) → from + n ≤ k → front_key a from n ≡ front_key b from n
+same_key a b k same from zero low = refl
+same_key a b k same from (suc n) low = let before = same_key a b k same from n (omega arith) in let here = same.same (from + n) (omega arith) in omega arith
 
-less_key : (a b : List ℕ) (k : ℕ) → AreBytes a → AreSameUpTo a b k → IsLessAt a b k → (n : ℕ) → k < n → front_key a n < front_key b n
-less_key a b k bytes same less zero past = absurd (omega arith)
-less_key a b k bytes same less (suc n) past = ⊎_elim
-    (λ (is : k ≡ n). let before = same_key a b k same n (omega arith) in let here : folded_at a n < folded_at b n = subst (λ m. folded_at a m < folded_at b m) is less.less in omega arith)
-    (λ (apart : k ≡ n → ⊥). let before = less_key a b k bytes same less n (omega arith) in let short = folded_at-short a n bytes in omega arith)
-    (cases_eq k n)
+less_key : (a b : List ℕ) (k : ℕ) → AreBytes a → AreSameUpTo a b k → IsLessAt a b k → (from n : ℕ) → from ≤ k → k < from + n → front_key a from n < front_key b from n
+less_key a b k bytes same less from zero low past = absurd (omega arith)
+less_key a b k bytes same less from (suc n) low past = ⊎_elim
+    (λ (is : k ≡ from + n). let before = same_key a b k same from n (omega arith) in let here : folded_at a (from + n) < folded_at b (from + n) = subst (λ m. folded_at a m < folded_at b m) is less.less in omega arith)
+    (λ (apart : k ≡ from + n → ⊥). let before = less_key a b k bytes same less from n low (omega arith) in let short = folded_at-short a (from + n) bytes in omega arith)
+    (cases_eq k (from + n))
 
-ended_key : (a b : List ℕ) (k : ℕ) → k ≡ length a → AreSameUpTo a b k → (n : ℕ) → front_key a n ≤ front_key b n
-ended_key a b k ended same zero = omega arith
-ended_key a b k ended same (suc n) = let before = ended_key a b k ended same n in elim (cases_lt n k) [
-  | inl below ↦ (let here = same.same n below in omega arith)
-  | inr past ↦ (let none = past_end a n (omega arith) in omega arith)
+ended_key : (a b : List ℕ) (k : ℕ) → k ≡ length a → AreSameUpTo a b k → (from n : ℕ) → front_key a from n ≤ front_key b from n
+ended_key a b k ended same from zero = omega arith
+ended_key a b k ended same from (suc n) = let before = ended_key a b k ended same from n in elim (cases_lt (from + n) k) [
+  | inl below ↦ (let here = same.same (from + n) below in omega arith)
+  | inr past ↦ (let none = past_end a (from + n) (omega arith) in omega arith)
 ]
 
--- a text that doesn't come after another one has no greater number
-pub front_key-le : (a b : List ℕ) (n : ℕ) → AreBytes a → IsUpTo a b → front_key a n ≤ front_key b n
-front_key-le a b n bytes h = ⊎_elim
-    (λ (ended : h.at ≡ length a). ended_key a b h.at ended h.same n)
-    (λ (less : IsLessAt a b h.at). elim (cases_lt h.at n) [
-      | inl past ↦ (let strict = less_key a b h.at bytes h.same less n past in omega arith)
-      | inr within ↦ (let equal = same_key a b h.at h.same n within in omega arith)
+-- a text that doesn't come after another one has no greater number, behind what they have in common
+pub front_key-le : (a b : List ℕ) (from n : ℕ) → AreBytes a → AreSameUpTo a b from → IsUpTo a b → front_key a from n ≤ front_key b from n
+front_key-le a b from n bytes common h = ⊎_elim
+    (λ (ended : h.at ≡ length a). ended_key a b h.at ended h.same from n)
+    (λ (less : IsLessAt a b h.at). elim (cases_lt h.at (from + n)) [
+      | inl past ↦ ⊎_elim
+          (λ (before : h.at < from). let equal = common.same h.at before in let strict = less.less in absurd (omega arith))
+          (λ (behind : from ≤ h.at). let strict = less_key a b h.at bytes h.same less from n behind past in omega arith)
+          (cases_lt h.at from)
+      | inr within ↦ (let equal = same_key a b h.at h.same from n within in omega arith)
     ])
     h.parts
 
--- where the numbers differ they tell which text comes first
-pub numbers_tell : (a b : List ℕ) (n : ℕ) → AreBytes a → AreBytes b → front_key a n ≢ front_key b n → IsUpTo a b ↔ (front_key a n < front_key b n)
-numbers_tell a b n bytes others apart = (
-  λ (h : IsUpTo a b). let low = front_key-le a b n bytes h in omega arith,
-  λ (less : front_key a n < front_key b n). ⊎_elim
+-- where the numbers behind what texts have in common differ they tell which text comes first
+pub numbers_tell : (a b : List ℕ) (from n : ℕ) → AreBytes a → AreBytes b → AreSameUpTo a b from → front_key a from n ≢ front_key b from n → IsUpTo a b ↔ (front_key a from n < front_key b from n)
+numbers_tell a b from n bytes others common apart = (
+  λ (h : IsUpTo a b). let low = front_key-le a b from n bytes common h in omega arith,
+  λ (less : front_key a from n < front_key b from n). ⊎_elim
       (λ (up : IsUpTo a b). up)
-      (λ (down : IsUpTo b a). let low = front_key-le b a n others down in absurd (omega arith))
+      (λ (down : IsUpTo b a). let low = front_key-le b a from n others (AreSameUpTo-sym a b from common) down in absurd (omega arith))
       (IsUpTo-total a b),
 )
 
-same_bytes : (a b : List ℕ) → AreBytes a → AreBytes b → (n : ℕ) → front_key a n ≡ front_key b n → (j : ℕ) → j < n → folded_at a j ≡ folded_at b j
-same_bytes a b bytes others zero same j below = absurd (omega arith)
-same_bytes a b bytes others (suc n) same j below =
-    let short = folded_at-short a n bytes in
-    let other = folded_at-short b n others in
+same_bytes : (a b : List ℕ) → AreBytes a → AreBytes b → (from n : ℕ) → front_key a from n ≡ front_key b from n → (j : ℕ) → j < n → folded_at a (from + j) ≡ folded_at b (from + j)
+same_bytes a b bytes others from zero same j below = absurd (omega arith)
+same_bytes a b bytes others from (suc n) same j below =
+    let short = folded_at-short a (from + n) bytes in
+    let other = folded_at-short b (from + n) others in
     ⊎_elim
-    (λ (is : j ≡ n). ap (folded_at a) is ∙ (omega arith ∙ ap (folded_at b) (sym is)))
-    (λ (apart : j ≡ n → ⊥). same_bytes a b bytes others n (omega arith) j (omega arith))
+    (λ (is : j ≡ n). ap (λ (m : ℕ). folded_at a (from + m)) is ∙ (omega arith ∙ ap (λ (m : ℕ). folded_at b (from + m)) (sym is)))
+    (λ (apart : j ≡ n → ⊥). same_bytes a b bytes others from n (omega arith) j (omega arith))
     (cases_eq j n)
 
-reaches : (text : List ℕ) (n : ℕ) → front_key text (suc n) % 256 ≢ 0 → n < length text
-reaches text n some = ⊎_elim
-    (λ (inside : n < length text). inside)
-    (λ (past : length text ≤ n). absurd (some (let none = past_end text n past in omega arith)))
-    (cases_lt n (length text))
+-- texts that have the same number behind what they have in common agree as far as that reaches
+pub AgreeUpTo-numbers : (a b : List ℕ) (from n k : ℕ) → k ≡ from + n → AreBytes a → AreBytes b → AreSameUpTo a b from → front_key a from n ≡ front_key b from n → AgreeUpTo a b k
+AgreeUpTo-numbers a b from n k is bytes others common same = record {
+  same = λ j below. elim (cases_lt j from) [
+    | inl before ↦ common.same j before
+    | inr behind ↦
+        (let place : from + (j - from) ≡ j = omega arith in
+        let here = same_bytes a b bytes others from n same (j - from) (omega arith) in
+        subst (λ (m : ℕ). folded_at a m ≡ folded_at b m) place here)
+  ];
+}
 
--- texts whose fronts have one number have the same front, where the number says that none has ended there
-pub AreSameUpTo-numbers : (a b : List ℕ) (number : ℕ) → AreBytes a → AreBytes b → front_key a 8 ≡ number → front_key b 8 ≡ number → number % 256 ≢ 0 → AreSameUpTo a b 8
-AreSameUpTo-numbers a b number bytes others one other some =
-    let within : 7 < length a = reaches a 7 (rw (← one) at some) in
-    let inside : 7 < length b = reaches b 7 (rw (← other) at some) in
-    record { within = omega arith; inside = omega arith; same = λ j below. same_bytes a b bytes others 8 (one ∙ sym other) j below }
-
-pub AreSameUpTo-max : (a b : List ℕ) (n m k : ℕ) → k ≡ max n m → AreSameUpTo a b n → AreSameUpTo a b m → AreSameUpTo a b k
-AreSameUpTo-max a b n m k is one other = ⊎_elim
-    (λ (less : n < m). subst (AreSameUpTo a b) (let same : m ≡ k = omega (arith, is) in same) other)
-    (λ (more : m ≤ n). subst (AreSameUpTo a b) (let same : n ≡ k = omega (arith, is) in same) one)
-    (cases_lt n m)
+-- texts that agree up to a place are the same up to it where neither ends before
+pub AreSameUpTo-agree : (a b : List ℕ) (n k : ℕ) → AgreeUpTo a b n → k ≤ n → k ≤ length a → k ≤ length b → AreSameUpTo a b k
+AreSameUpTo-agree a b n k h low within inside = record { within = within; inside = inside; same = λ j below. h.same j (omega arith) }

@@ -1,11 +1,11 @@
 -- The folders of lists, in the order of their bases, each linked to the last one before it that begins it.
-use Rattle.std.specs.Prelude.{◌≡◌, ℕ, ◌+◌, ◌<◌, ◌≤◌, List, [], Option, None, Some, length, slice_get, take}
+use Rattle.std.specs.Prelude.{◌≡◌, ℕ, ◌+◌, ◌/◌, ◌<◌, ◌≤◌, List, [], Option, None, Some, length, slice_get, take}
 use Rattle.gix_glob.specs.EntryLists.{EntryList}
 use Rattle.glob_lists.specs.declared.chains.Link.{Link}
 use Rattle.glob_lists.specs.declared.folders.Folder.{Folder}
 use Rattle.glob_lists.specs.declared.fronts.TheConstants.{FRONT}
 use Rattle.glob_lists.specs.Index.{entry_count}
-use Rattle.glob_lists.specs.Private.Fronts.{AreBytes, Begins, IsUpTo, front_key}
+use Rattle.glob_lists.specs.Private.Fronts.{AreBytes, AreSameUpTo, Begins, IsUpTo, front_key}
 use Rattle.glob_lists.specs.Private.Tables.{HasEntryAt}
 
 -- a base that may be missing, as a text
@@ -22,10 +22,10 @@ base_of (Some list) = base_text list.base
 abbrev pub base_at : {V : Type 0} → List (EntryList V) → ℕ → List ℕ
 base_at lists i = base_of (slice_get lists i)
 
--- a folder that stands for a list: it knows the front of its base, and where its rows begin
+-- a folder that stands for a list: it knows the bytes of its base behind those that it shares, and where its rows begin
 pub record IsFolderOf {V : Type 0} (lists : List (EntryList V)) (folder : Folder) : Type 0 where
   pub inside : folder.list < length lists
-  pub key : folder.key ≡ front_key (base_at lists folder.list) FRONT
+  pub key : folder.key ≡ front_key (base_at lists folder.list) folder.shared FRONT
   pub bytes : AreBytes (base_at lists folder.list)
   pub first : folder.first_row ≡ entry_count (take folder.list lists)
 
@@ -74,12 +74,32 @@ pub record IsBegunBy {V : Type 0} (lists : List (EntryList V)) (folders : List F
   pub begins : Begins (base_at lists folder.list) text
   pub many : count ≡ length (base_at lists folder.list)
 
+-- The folders on either side of those from place `low` on and before `end` share so many bytes with the text; where one of them is
+-- missing, none.
+pub record SharesAround {V : Type 0} (lists : List (EntryList V)) (folders : List Folder) (text : List ℕ) (low end count : ℕ) : Type 0 where
+  pub first : low ≡ 0 → count ≡ 0
+  pub below : (m : ℕ) (folder : Folder) → m + 1 ≡ low → slice_get folders m ≡ Some folder → AreSameUpTo (base_at lists folder.list) text count
+  pub last : length folders ≤ end → count ≡ 0
+  pub above : (m : ℕ) (folder : Folder) → m ≡ end → slice_get folders m ≡ Some folder → AreSameUpTo (base_at lists folder.list) text count
+
+-- The folder, which is at place k, shares as many bytes as it says with those on either side of so many of which it is the middle.
+pub record IsNarrow {V : Type 0} (lists : List (EntryList V)) (folders : List Folder) (k : ℕ) (folder : Folder) : Type 0 where
+  pub around : (low : ℕ) → low + folder.size / 2 ≡ k → SharesAround lists folders (base_at lists folder.list) low (low + folder.size) folder.shared
+
 -- The folders are in the order of their bases, and chained; and a list that lies above another one comes before it.
+pub record IsChained {V : Type 0} (lists : List (EntryList V)) (folders : List Folder) : Type 0 where
+  pub each : AreFolders lists folders
+  pub sorted : (m k : ℕ) (a b : Folder) → m ≤ k → slice_get folders m ≡ Some a → slice_get folders k ≡ Some b → IsUpTo (base_at lists a.list) (base_at lists b.list)
+  pub chained : (k : ℕ) (folder : Folder) → slice_get folders k ≡ Some folder → IsLastBeginning lists folders (base_at lists folder.list) k folder.above
+  pub nested : (m k : ℕ) (a b : Folder) → m < k → slice_get folders m ≡ Some a → slice_get folders k ≡ Some b → Begins (base_at lists a.list) (base_at lists b.list) → a.list < b.list
+
+-- The folders are in order and chained, and know what they share.
 pub record IsForest {V : Type 0} (lists : List (EntryList V)) (folders : List Folder) : Type 0 where
   pub each : AreFolders lists folders
   pub sorted : (m k : ℕ) (a b : Folder) → m ≤ k → slice_get folders m ≡ Some a → slice_get folders k ≡ Some b → IsUpTo (base_at lists a.list) (base_at lists b.list)
   pub chained : (k : ℕ) (folder : Folder) → slice_get folders k ≡ Some folder → IsLastBeginning lists folders (base_at lists folder.list) k folder.above
   pub nested : (m k : ℕ) (a b : Folder) → m < k → slice_get folders m ≡ Some a → slice_get folders k ≡ Some b → Begins (base_at lists a.list) (base_at lists b.list) → a.list < b.list
+  pub narrow : (k : ℕ) (folder : Folder) → slice_get folders k ≡ Some folder → IsNarrow lists folders k folder
 
 -- The link leads to the last folder whose base doesn't come after the text.
 pub record IsLastUpTo {V : Type 0} (lists : List (EntryList V)) (folders : List Folder) (text : List ℕ) (link : Link) : Type 0 where
@@ -87,13 +107,15 @@ pub record IsLastUpTo {V : Type 0} (lists : List (EntryList V)) (folders : List 
   pub others : (m : ℕ) (folder : Folder) → link.0 ≤ m → slice_get folders m ≡ Some folder → ¬ IsUpTo (base_at lists folder.list) text
   pub here : (m : ℕ) (folder : Folder) → m + 1 ≡ link.0 → slice_get folders m ≡ Some folder → IsUpTo (base_at lists folder.list) text
 
--- the same list, and the same rows
+-- the same list and rows, and what it shares is the same
 pub record IsSameFolder (folder other : Folder) : Type 0 where
   pub key : folder.key ≡ other.key
+  pub shared : folder.shared ≡ other.shared
+  pub size : folder.size ≡ other.size
   pub list : folder.list ≡ other.list
   pub first_row : folder.first_row ≡ other.first_row
 
 -- The others are as many, and stand for the same lists as the folders at their places.
 pub record AreSameFolders (folders : List Folder) (count : ℕ) (others : List Folder) : Type 0 where
   pub many : length others ≡ count
-  pub each : (k : ℕ) (folder other : Folder) → slice_get folders k ≡ Some folder → slice_get others k ≡ Some other → IsSameFolder other folder
+  pub each : (k : ℕ) (folder other : Folder) → slice_get folders k ≡ Some folder → slice_get others k ≡ Some other → other.list ≡ folder.list

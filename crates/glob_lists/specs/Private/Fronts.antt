@@ -1,6 +1,8 @@
 -- The order of texts by their bytes, in which the case of letters doesn't count.
 use Rattle.std.specs.Prelude.{◌≡◌, ◌⊎◌, ℕ, zero, suc, ◌+◌, ◌*◌, ◌<◌, ◌≤◌, List, length, slice_index}
 use Rattle.std.specs.Char.{to_ascii_lowercase}
+use Rattle.glob_lists.specs.declared.fronts.Front.{Front}
+use Rattle.glob_lists.specs.declared.fronts.TheConstants.{FRONT}
 
 -- the byte at a place, letters as small ones; 0 past the end
 abbrev pub folded_at : List ℕ → ℕ → ℕ
@@ -10,15 +12,28 @@ folded_at text i = to_ascii_lowercase (slice_index text i)
 abbrev pub AreBytes : List ℕ → Type 0
 AreBytes text = (j : ℕ) → slice_index text j < 256
 
--- the number that the first n bytes make in base 256, the first byte first
-abbrev pub front_key : List ℕ → ℕ → ℕ
-front_key text zero = 0
-front_key text (suc n) = front_key text n * 256 + folded_at text n
+-- the number that n bytes from a place on make in base 256, the first byte first
+abbrev pub front_key : List ℕ → ℕ → ℕ → ℕ
+front_key text from zero = 0
+front_key text from (suc n) = front_key text from n * 256 + folded_at text (from + n)
+
+-- the number that n bytes from a place on make, as they are
+abbrev pub bytes_key : List ℕ → ℕ → ℕ → ℕ
+bytes_key text from zero = 0
+bytes_key text from (suc n) = bytes_key text from n * 256 + slice_index text (from + n)
+
+-- the front knows the number of the path's bytes from its place on
+pub record IsFrontOf (path : List ℕ) (front : Front) : Type 0 where
+  pub key : front.key ≡ front_key path front.from FRONT
 
 -- both texts have the same bytes up to a place that is within both
 pub record AreSameUpTo (left right : List ℕ) (at : ℕ) : Type 0 where
   pub within : at ≤ length left
   pub inside : at ≤ length right
+  pub same : (j : ℕ) → j < at → folded_at left j ≡ folded_at right j
+
+-- up to a place both texts have the same bytes, or have ended
+pub record AgreeUpTo (left right : List ℕ) (at : ℕ) : Type 0 where
   pub same : (j : ℕ) → j < at → folded_at left j ≡ folded_at right j
 
 -- the left text has a lesser byte at this place

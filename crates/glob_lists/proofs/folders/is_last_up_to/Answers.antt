@@ -12,7 +12,7 @@ use Rattle.glob_lists.proofs.folders.is_last_up_to.Goals as goal
 
 -- what stands for a folder that isn't there
 abbrev none : Folder
-none = record { key = 0; list = 0; first_row = 0; above = record { 0 = 0 }; rows = 0 }
+none = record { key = 0; shared = 0; size = 0; list = 0; first_row = 0; above = record { 0 = 0 }; rows = 0 }
 
 pub all_after_begun-requires-clause-begun : goal.all_after_begun-requires-clause-begun
 all_after_begun-requires-clause-begun g c =

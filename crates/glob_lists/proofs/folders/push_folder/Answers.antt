@@ -32,7 +32,7 @@ returns g c =
     let lists = map (entry_list_of g.T.Pattern.seen) c.args.lists.now in
     let more = entry_count-next g.T.Pattern.seen c.args.lists.now c.args.i c.index-lists-i.result c.requires.inside c.index-lists-i.is in
     let count = rw (← c.index-lists-i.is) at c.len-count.ensures in
-    let added : Folder = record { key = c.front_key.result; list = c.args.i; first_row = c.args.first_row; above = record { 0 = 0 }; rows = c.len-count.result } in
+    let added : Folder = record { key = c.front_key.result; shared = 0; size = 0; list = c.args.i; first_row = c.args.first_row; above = record { 0 = 0 }; rows = c.len-count.result } in
     let of : IsFolderOf lists added = record {
       inside = (let long = length-map c.args.lists.now (entry_list_of g.T.Pattern.seen) in omega (arith, c.requires.inside));
       key = rw c.base_at.ensures at c.front_key.ensures.number;

@@ -9,7 +9,7 @@ use Rattle.glob_lists.proofs.sights.sights_of.Goals as goal
 
 -- what stands for a folder that isn't there
 abbrev none : Folder
-none = record { key = 0; list = 0; first_row = 0; above = record { 0 = 0 }; rows = 0 }
+none = record { key = 0; shared = 0; size = 0; list = 0; first_row = 0; above = record { 0 = 0 }; rows = 0 }
 
 pub sight_of-requires-clause-of : goal.sight_of-requires-clause-of
 sight_of-requires-clause-of g c = c.requires.each c.folders.k _ (slice_get-get_or c.args.folders.now c.folders.k none c.folders-test.true)

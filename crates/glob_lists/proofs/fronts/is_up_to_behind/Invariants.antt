@@ -1,5 +1,5 @@
 use Rattle.glob_lists.specs.Private.Fronts.{AreSameUpTo}
-use Rattle.glob_lists.proofs.fronts.compare_from.Given as goal
+use Rattle.glob_lists.proofs.fronts.is_up_to_behind.Given as goal
 
 -- the bytes so far are the same
 abbrev pub invariant-bytes : goal.invariant-bytes
