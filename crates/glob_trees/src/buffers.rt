@@ -1,5 +1,5 @@
 //! What a stream of records holds: the record that has begun, and the texts that aren't written yet.
-ghost use Rattle.std.specs.Prelude.{◌≡◌, ◌++◌, [], false, MatchOption, OnErr, OnOk, is_err};
+ghost use Rattle.std.specs.Prelude.{◌≡◌, ◌++◌, [], false, IfOk, MatchOption, OnErr, OnOk, is_err};
 ghost use Rattle.std.specs.Io.KnownBytes.{Appends, Keeps};
 ghost use Rattle.gix_glob.specs.Watched.{has_failed, inner};
 ghost use Rattle.glob_lines.specs.Lines.{HasNo};
@@ -12,7 +12,7 @@ use crate::answering::Answerer;
 use crate::record_fault::RecordFault;
 use gix_glob::search::Watched;
 use memchr::memchr;
-use std::alloc::Global;
+use std::alloc::{AllocError, Global};
 use std::io;
 use std::io::{ErrorKind, Write};
 
@@ -122,9 +122,9 @@ impl Buffers {
         ensures endless { is_endless result ≡ false }
         ensures write { is_write_fault result ≡ false }
     {
-        self.begun.extend_from_slice(last)?;
         self.answer.clear();
-        if let Err(fault) = answerer.answer(&mut self.answer, &self.begun) {
+        let record = whole_record(&mut self.begun, last)?;
+        if let Err(fault) = answerer.answer(&mut self.answer, record) {
             return Err(RecordFault::Answer(fault));
         }
         self.text.extend_from_slice(&self.answer)?;
@@ -170,6 +170,17 @@ impl Buffers {
             Err(error) => Err(RecordFault::Write(error)),
         }
     }
+}
+
+/// The record that has begun and ends in these bytes. Mostly they are all of it, and needn't be copied.
+fn whole_record<'a>(begun: &'a mut Vec<u8>, last: &'a [u8]) -> Result<&'a [u8], AllocError>
+    ensures { IfOk result (λ whole. whole.now ≡ begun.old.items ++ last.entry.now) }
+{
+    if begun.is_empty() {
+        return Ok(last);
+    }
+    begun.extend_from_slice(last)?;
+    Ok(begun.as_slice())
 }
 
 /// What stands before the first byte that ends a record, and what follows it; `None` where there is none.

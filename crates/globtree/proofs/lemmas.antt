@@ -1,2 +1,4 @@
+pub mod LaneLemmas
 pub mod NameLemmas
 pub mod PathLemmas
+pub mod UsualLemmas

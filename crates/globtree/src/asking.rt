@@ -1,18 +1,17 @@
 //! What answers each told path.
+ghost use Rattle.std.specs.Prelude.{IsTrue};
+ghost use Rattle.glob_lists.specs.Paths.{IsPlainPath};
 
 use crate::fault::CheckFault;
+use crate::finding::Finder;
 use crate::flags::Flags;
 use crate::lines::{Shown, append_line};
 use crate::paths::{below_folder, walk};
 use crate::record_names::PathAnswerer;
-use crate::sources::{FolderFiles, folder_text, is_folder, is_link};
-use crate::unlinked::UnlinkedFolders;
-use bitflags::Flags as _;
-use gix_glob::pattern::Mode;
+use crate::sources::FolderFiles;
+use crate::usual::are_usual_names;
 use glob_lines::IgnoreLines;
-use glob_lists::RepositoryPath;
-use glob_trees::{Tree, TreeFault};
-use memchr::memrchr;
+use glob_trees::Tree;
 use std::alloc::Global;
 use std::rt::Files;
 
@@ -28,6 +27,11 @@ pub(crate) struct Standpoint {
 }
 
 impl Standpoint {
+    /// Whether paths are told from the top.
+    fn is_at_top(&self) -> bool {
+        self.is_inside && self.here.is_empty()
+    }
+
     /// Goes where a told path leads, from the top. It answers whether it names a folder.
     pub(crate) fn lead(
         &self,
@@ -38,7 +42,7 @@ impl Standpoint {
         if told.is_empty() {
             return Err(CheckFault::Empty);
         }
-        let is_absolute = told.starts_with(b"/");
+        let is_absolute = told[0] == b'/';
         path.clear();
         if !is_absolute {
             path.extend_from_slice(&self.here)?;
@@ -67,15 +71,12 @@ impl Standpoint {
 /// What answers each told path by the tree.
 #[derive(Drop)]
 pub(crate) struct Asker<'a, R: Files + Eprint> {
-    pub(crate) rt: &'a R,
     pub(crate) alloc: Global,
     pub(crate) standpoint: Standpoint,
     pub(crate) flags: Flags,
-    pub(crate) tree: Tree<IgnoreLines, FolderFiles<'a, R>>,
-    /// The path that was asked last.
+    pub(crate) finder: Finder<'a, R>,
+    /// Where a told path led that isn't the path from the top itself.
     pub(crate) path: Vec<u8>,
-    /// Folders that weren't entered, and are no links nor below one.
-    pub(crate) unlinked: UnlinkedFolders,
     /// Whether a line decided about some path.
     pub(crate) is_any: bool,
 }
@@ -89,78 +90,27 @@ impl<'a, R: Files + Eprint> PathAnswerer for Asker<'a, R> {
 impl<'a, R: Files + Eprint> Asker<'a, R> {
     /// Appends what is written about a told path.
     pub(crate) fn append(&mut self, text: &mut Vec<u8>, told: &[u8]) -> Result<(), CheckFault> {
-        let is_folder = self.standpoint.lead(self.alloc, &mut self.path, told)?;
-        let pair = self.find(is_folder)?;
-        let shown = shown_at(&self.tree, pair, self.flags);
+        let is_usual = are_usual_names(told);
+        let pair = self.find(told, is_usual)?;
+        let shown = shown_at(&self.finder.tree, pair, self.flags);
         if shown.is_some() {
             self.is_any = true;
         }
         if !self.flags.quiet && (shown.is_some() || self.flags.non_matching) {
-            append_line(text, told, &shown, self.flags)?;
+            append_line(text, told, is_usual, &shown, self.flags)?;
         }
         Ok(())
     }
 
-    /// Which pattern decides about the path. The file system is asked whether it is a folder's where the answer depends on it.
-    fn find(&mut self, is_told_folder: bool) -> Result<Option<(usize, usize)>, CheckFault> {
-        let Some(folder) = RepositoryPath::new(&self.path, true) else {
-            return Ok(None);
-        };
-        let pair = self.tree.find(&folder).map_err(fault_of)?;
-        self.check_links(is_told_folder)?;
-        if is_told_folder || !self.wants_folder(pair) {
-            return Ok(pair);
+    /// Which pattern decides about a told path. Usual names that are told from the top are the path itself.
+    fn find(&mut self, told: &[u8], is_usual: bool) -> Result<Option<(usize, usize)>, CheckFault>
+        requires { IsTrue is_usual → IsPlainPath told.now }
+    {
+        if is_usual && self.standpoint.is_at_top() {
+            return self.finder.find(told, false);
         }
-        let Some(file) = RepositoryPath::new(&self.path, false) else {
-            return Ok(None);
-        };
-        let other = self.tree.find(&file).map_err(fault_of)?;
-        if other == pair {
-            return Ok(pair);
-        }
-        let name = folder_text(self.alloc, &self.path)?;
-        if is_folder(self.rt, name.as_str()) {
-            Ok(pair)
-        } else {
-            Ok(other)
-        }
-    }
-
-    /// Whether the pattern at a pair of places matches folders alone. Where it doesn't, it decides about a file, too.
-    fn wants_folder(&self, pair: Option<(usize, usize)>) -> bool {
-        let Some(pair) = pair else {
-            return false;
-        };
-        let Some(decision) = self.tree.decision(pair) else {
-            return false;
-        };
-        decision.mapping.pattern.mode().contains(Mode::MUST_BE_DIR)
-    }
-
-    /// Refuses a path of which a folder that the tree didn't enter is a link.
-    fn check_links(&mut self, is_told_folder: bool) -> Result<(), CheckFault> {
-        let entered = entered_length(&self.tree);
-        if is_told_folder && entered < self.path.len() {
-            check_folder(self.rt, self.alloc, &self.path)?;
-        }
-        let Some(last) = memrchr(b'/', &self.path) else {
-            return Ok(());
-        };
-        let folder = &self.path[..last];
-        if last < entered || self.unlinked.contains(folder) {
-            return Ok(());
-        }
-        check_folders(self.rt, self.alloc, folder, entered)?;
-        self.unlinked.insert(folder)?;
-        Ok(())
-    }
-}
-
-/// The fault of a tree.
-pub(crate) fn fault_of(fault: TreeFault<CheckFault>) -> CheckFault {
-    match fault {
-        TreeFault::Memory => CheckFault::Memory,
-        TreeFault::Source(fault) => fault,
+        let is_folder = self.standpoint.lead(self.alloc, &mut self.path, told)?;
+        self.finder.find_if_plain(&self.path, is_folder)
     }
 }
 
@@ -183,39 +133,4 @@ fn shown_at<'t, 'a, R: Files + Eprint>(
         number: decision.mapping.sequence_number,
         pattern: &decision.mapping.pattern,
     })
-}
-
-/// How many bytes of a path name the folder that the tree entered last on its way, with the slash at its end.
-fn entered_length<'a, R: Files + Eprint>(tree: &Tree<IgnoreLines, FolderFiles<'a, R>>) -> usize {
-    match tree.lists().last() {
-        Some(prepared) => match &prepared.list().base {
-            Some(base) => base.len(),
-            None => 0,
-        },
-        None => 0,
-    }
-}
-
-/// Refuses a folder that is a link, or that lies below one, from the bytes on that name a folder which was entered.
-fn check_folders<R: Files>(
-    rt: &R,
-    alloc: Global,
-    folder: &[u8],
-    entered: usize,
-) -> Result<(), CheckFault> {
-    'bytes: for (place, byte) in folder.iter().enumerate() {
-        if *byte == b'/' && place >= entered {
-            check_folder(rt, alloc, &folder[..place])?;
-        }
-    }
-    check_folder(rt, alloc, folder)
-}
-
-/// Refuses a folder that is a link.
-fn check_folder<R: Files>(rt: &R, alloc: Global, folder: &[u8]) -> Result<(), CheckFault> {
-    let name = folder_text(alloc, folder)?;
-    if is_link(rt, name.as_str()) {
-        return Err(CheckFault::BeyondLink(name));
-    }
-    Ok(())
 }

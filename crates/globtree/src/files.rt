@@ -3,8 +3,9 @@ ghost use Rattle.std.specs.Prelude.{OnOk};
 ghost use Rattle.std.specs.Vec.{vec_items};
 ghost use Rattle.globtree.specs.Files.{PutsInOrder};
 
-use crate::asking::{Standpoint, fault_of};
+use crate::asking::Standpoint;
 use crate::fault::CheckFault;
+use crate::finding::fault_of;
 use crate::paths::{append_seen, enter, last_name};
 use crate::quoting::append_quoted;
 use crate::sources::{FolderFiles, folder_text};

@@ -1,6 +1,8 @@
 //! What is written about a path: the path, and with `-v` the line of the file that decides about it.
-ghost use Rattle.std.specs.Prelude.{◌≡◌, ◌++◌, OnOk};
+ghost use Rattle.std.specs.Prelude.{◌≡◌, ◌++◌, false, IsTrue, OnOk};
+ghost use Rattle.std.specs.List.{list_any};
 ghost use Rattle.globtree.specs.Lines.{name_of};
+ghost use Rattle.globtree.specs.Quoting.{is_unusual};
 
 use crate::flags::Flags;
 use crate::quoting::append_quoted;
@@ -21,17 +23,20 @@ pub(crate) struct Shown<'a> {
     pub(crate) pattern: &'a Pattern,
 }
 
-/// Appends what is written about a path that is told so.
+/// Appends what is written about a path that is told so. It may be known that no byte of it is unusual.
 pub(crate) fn append_line(
     text: &mut Vec<u8>,
     told: &[u8],
+    is_usual: bool,
     shown: &Option<Shown<'_>>,
     flags: Flags,
-) -> Result<(), AllocError> {
+) -> Result<(), AllocError>
+    requires { IsTrue is_usual → list_any is_unusual told.now ≡ false }
+{
     if flags.verbose {
         append_decision(text, shown, flags)?;
     }
-    append_name(text, told, flags)?;
+    append_told(text, told, is_usual, flags)?;
     text.push(if flags.nul { 0 } else { b'\n' })?;
     Ok(())
 }
@@ -52,9 +57,23 @@ fn append_decision(
     let mut buffer = Buffer::new();
     text.extend_from_slice(buffer.format(shown.number).as_bytes())?;
     text.push(behind)?;
-    append_pattern(text, shown.pattern)?;
-    text.push(last)?;
-    Ok(())
+    append_pattern(text, shown.pattern, last)
+}
+
+/// Appends a told path, in quotes where a line needs them.
+fn append_told(
+    text: &mut Vec<u8>,
+    told: &[u8],
+    is_usual: bool,
+    flags: Flags,
+) -> Result<(), AllocError>
+    requires { IsTrue is_usual → list_any is_unusual told.now ≡ false }
+    ensures { OnOk result (text.new.items ≡ text.old.items ++ name_of flags told.now) }
+{
+    if is_usual {
+        return text.extend_from_slice(told);
+    }
+    append_name(text, told, flags)
 }
 
 /// Appends a name, in quotes where a line needs them.
@@ -67,15 +86,19 @@ fn append_name(text: &mut Vec<u8>, name: &[u8], flags: Flags) -> Result<(), Allo
     append_quoted(text, name)
 }
 
-/// Appends a pattern as its line has it.
-fn append_pattern(text: &mut Vec<u8>, pattern: &Pattern) -> Result<(), AllocError> {
+/// Appends a pattern as its line has it, and the byte behind it.
+fn append_pattern(text: &mut Vec<u8>, pattern: &Pattern, last: u8) -> Result<(), AllocError> {
     let is_absolute = pattern.mode().contains(Mode::ABSOLUTE);
     let is_escaped = !pattern.is_negative() && !is_absolute && begins_with_sign(pattern.text());
     append_if(text, b'\\', is_escaped)?;
     append_if(text, b'!', pattern.is_negative())?;
     append_if(text, b'/', is_absolute)?;
     text.extend_from_slice(pattern.text())?;
-    append_if(text, b'/', pattern.mode().contains(Mode::MUST_BE_DIR))
+    if pattern.mode().contains(Mode::MUST_BE_DIR) {
+        return text.extend_from_slice(&[b'/', last]);
+    }
+    text.push(last)?;
+    Ok(())
 }
 
 /// Appends a byte, where it is wanted.

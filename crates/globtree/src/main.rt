@@ -12,6 +12,7 @@ mod check_attr;
 mod excludes;
 mod fault;
 mod files;
+mod finding;
 mod flags;
 mod folder_attributes;
 mod lines;
@@ -23,6 +24,7 @@ mod running;
 mod sources;
 mod unlinked;
 mod unquoting;
+mod usual;
 mod words;
 
 use gix_glob::search::Watched;

@@ -31,7 +31,7 @@ pub(crate) fn has_unusual(name: &[u8]) -> bool
 }
 
 /// Whether a byte is no letter or sign of ASCII by itself: a control character, a double quote, a backslash, or one past ASCII.
-fn is_unusual(byte: u8) -> bool
+pub(crate) fn is_unusual(byte: u8) -> bool
     ensures { result ≡ is_unusual byte }
 {
     byte < 32 || byte >= 127 || byte == b'"' || byte == b'\\'

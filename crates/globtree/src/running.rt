@@ -6,6 +6,7 @@ use crate::asking::{Asker, Standpoint};
 use crate::check_attr::check_attr;
 use crate::excludes::{push_excludes, push_info};
 use crate::files::Lister;
+use crate::finding::Finder;
 use crate::flags::Flags;
 use crate::places::{go_to_folder, go_to_top};
 use crate::record_names::RecordAnswerer;
@@ -181,14 +182,18 @@ fn asker_of<'a, R: Files + Env + Eprint + AllocGlobal>(
     flags: Flags,
 ) -> Result<Asker<'a, R>> {
     let (standpoint, tree) = tree_of(rt, alloc, options)?;
-    Ok(Asker {
+    let finder = Finder {
         rt,
+        alloc,
+        tree,
+        unlinked: UnlinkedFolders::new(alloc),
+    };
+    Ok(Asker {
         alloc,
         standpoint,
         flags,
-        tree,
+        finder,
         path: Vec::new(alloc),
-        unlinked: UnlinkedFolders::new(alloc),
         is_any: false,
     })
 }
@@ -244,8 +249,8 @@ fn answer_records<R: Files + Eprint, I: Read, O: Write>(
     let mut records = RecordAnswerer {
         is_nul: asker.flags.nul,
         paths: asker,
+        alloc,
         name: Vec::new(alloc),
-        line: Vec::new(alloc),
     };
     RecordStream { alloc, end }.run(input, output, &mut records)?;
     Ok(records.paths.is_any)

@@ -14,6 +14,8 @@ pub(crate) struct UnlinkedFolders {
     folders: HashSet<Vec<u8>>,
     /// How many bytes the names of the folders have.
     bytes: usize,
+    /// One of the folders, which was asked for last: mostly the next path lies in it, too.
+    last: Vec<u8>,
 }
 
 impl UnlinkedFolders {
@@ -23,12 +25,26 @@ impl UnlinkedFolders {
             alloc,
             folders: HashSet::new(alloc),
             bytes: 0,
+            last: Vec::new(alloc),
         }
     }
 
     /// Whether a folder is remembered.
-    pub(crate) fn contains(&self, folder: &[u8]) -> bool {
-        self.folders.contains(folder)
+    pub(crate) fn contains(&mut self, folder: &[u8]) -> Result<bool, AllocError> {
+        if !folder.is_empty() && folder == self.last.as_slice() {
+            return Ok(true);
+        }
+        let is_known = self.folders.contains(folder);
+        if is_known {
+            self.set_last(folder)?;
+        }
+        Ok(is_known)
+    }
+
+    /// Keeps a folder as the one that was asked for last.
+    fn set_last(&mut self, folder: &[u8]) -> Result<(), AllocError> {
+        self.last.clear();
+        self.last.extend_from_slice(folder)
     }
 
     /// Remembers a folder.

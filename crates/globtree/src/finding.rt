@@ -1,0 +1,138 @@
+//! Which line decides about a path of the work tree.
+ghost use Rattle.glob_lists.specs.Paths.{IsPlainPath};
+
+use crate::fault::CheckFault;
+use crate::sources::{FolderFiles, folder_text, is_folder, is_link};
+use crate::unlinked::UnlinkedFolders;
+use bitflags::Flags as _;
+use gix_glob::pattern::Mode;
+use glob_lines::IgnoreLines;
+use glob_lists::{RepositoryPath, plain_path};
+use glob_trees::{Tree, TreeFault};
+use memchr::memrchr;
+use std::alloc::Global;
+use std::rt::Files;
+
+/// What finds the line that decides about a path.
+#[derive(Drop)]
+pub(crate) struct Finder<'a, R: Files + Eprint> {
+    pub(crate) rt: &'a R,
+    pub(crate) alloc: Global,
+    pub(crate) tree: Tree<IgnoreLines, FolderFiles<'a, R>>,
+    /// Folders that weren't entered, and are no links nor below one.
+    pub(crate) unlinked: UnlinkedFolders,
+}
+
+impl<'a, R: Files + Eprint> Finder<'a, R> {
+    /// Which pattern decides about a path, as [`Finder::find`] answers it; none does about bytes that are no path.
+    pub(crate) fn find_if_plain(
+        &mut self,
+        path: &[u8],
+        is_told_folder: bool,
+    ) -> Result<Option<(usize, usize)>, CheckFault> {
+        if !plain_path(path) {
+            return Ok(None);
+        }
+        self.find(path, is_told_folder)
+    }
+
+    /// Which pattern decides about a path. The file system is asked whether it is a folder's where the answer depends on it, and
+    /// it wasn't told that it is.
+    pub(crate) fn find(
+        &mut self,
+        path: &[u8],
+        is_told_folder: bool,
+    ) -> Result<Option<(usize, usize)>, CheckFault>
+        requires { IsPlainPath path.now }
+    {
+        let folder = RepositoryPath::from_plain(path, true);
+        let pair = self.tree.find(&folder).map_err(fault_of)?;
+        self.check_links(path, is_told_folder)?;
+        if is_told_folder || !self.wants_folder(pair) {
+            return Ok(pair);
+        }
+        let file = RepositoryPath::from_plain(path, false);
+        let other = self.tree.find(&file).map_err(fault_of)?;
+        if other == pair {
+            return Ok(pair);
+        }
+        let name = folder_text(self.alloc, path)?;
+        if is_folder(self.rt, name.as_str()) {
+            Ok(pair)
+        } else {
+            Ok(other)
+        }
+    }
+
+    /// Whether the pattern at a pair of places matches folders alone. Where it doesn't, it decides about a file, too.
+    fn wants_folder(&self, pair: Option<(usize, usize)>) -> bool {
+        let Some(pair) = pair else {
+            return false;
+        };
+        let Some(decision) = self.tree.decision(pair) else {
+            return false;
+        };
+        decision.mapping.pattern.mode().contains(Mode::MUST_BE_DIR)
+    }
+
+    /// Refuses a path of which a folder that the tree didn't enter is a link.
+    fn check_links(&mut self, path: &[u8], is_told_folder: bool) -> Result<(), CheckFault> {
+        let entered = entered_length(&self.tree);
+        if is_told_folder && entered < path.len() {
+            check_folder(self.rt, self.alloc, path)?;
+        }
+        let Some(last) = memrchr(b'/', path) else {
+            return Ok(());
+        };
+        let folder = &path[..last];
+        if last < entered || self.unlinked.contains(folder)? {
+            return Ok(());
+        }
+        check_folders(self.rt, self.alloc, folder, entered)?;
+        self.unlinked.insert(folder)?;
+        Ok(())
+    }
+}
+
+/// The fault of a tree.
+pub(crate) fn fault_of(fault: TreeFault<CheckFault>) -> CheckFault {
+    match fault {
+        TreeFault::Memory => CheckFault::Memory,
+        TreeFault::Source(fault) => fault,
+    }
+}
+
+/// How many bytes of a path name the folder that the tree entered last on its way, with the slash at its end.
+fn entered_length<'a, R: Files + Eprint>(tree: &Tree<IgnoreLines, FolderFiles<'a, R>>) -> usize {
+    match tree.lists().last() {
+        Some(prepared) => match &prepared.list().base {
+            Some(base) => base.len(),
+            None => 0,
+        },
+        None => 0,
+    }
+}
+
+/// Refuses a folder that is a link, or that lies below one, from the bytes on that name a folder which was entered.
+fn check_folders<R: Files>(
+    rt: &R,
+    alloc: Global,
+    folder: &[u8],
+    entered: usize,
+) -> Result<(), CheckFault> {
+    'bytes: for (place, byte) in folder.iter().enumerate() {
+        if *byte == b'/' && place >= entered {
+            check_folder(rt, alloc, &folder[..place])?;
+        }
+    }
+    check_folder(rt, alloc, folder)
+}
+
+/// Refuses a folder that is a link.
+fn check_folder<R: Files>(rt: &R, alloc: Global, folder: &[u8]) -> Result<(), CheckFault> {
+    let name = folder_text(alloc, folder)?;
+    if is_link(rt, name.as_str()) {
+        return Err(CheckFault::BeyondLink(name));
+    }
+    Ok(())
+}
