@@ -6,5 +6,5 @@ pub mod Lines
 pub mod Paths
 pub mod Quoting
 pub mod Unquoting
-pub mod Usual
 pub mod Words
+pub mod Private

@@ -4,7 +4,7 @@ ghost use Rattle.std.specs.List.{list_any};
 ghost use Rattle.glob_lists.specs.Paths.{IsPlainPath};
 ghost use Rattle.globtree.specs.Paths.{below, names_folder, parts_of, walk};
 ghost use Rattle.globtree.specs.Quoting.{is_unusual};
-ghost use Rattle.globtree.specs.Usual.{BeginAsNames, HasNoneOdd, HasNoneUnusual, is_odd};
+ghost use Rattle.globtree.specs.Private.Usual.{BeginAsNames, HasNoneOdd, HasNoneUnusual, is_odd};
 
 use crate::quoting::is_unusual;
 use std::simd::prelude::*;

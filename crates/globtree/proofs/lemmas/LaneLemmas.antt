@@ -6,7 +6,7 @@ use Rattle.std.proofs.lemmas.Simd.{zip2_splat, get_or-zip2, length-zip2, mask_l-
 use Rattle.std.proofs.lemmas.List.{get_or-map, length-map}
 use Rattle.std.proofs.lemmas.List.Sums.{prefix_len_passes}
 use lib.Lanes.{chunk, zip2, mask_l, top}
-use Rattle.globtree.specs.Usual.{BeginAsNames}
+use Rattle.globtree.specs.Private.Usual.{BeginAsNames}
 
 -- the lanes of comparisons
 abbrev pub hit : ℕ → ℕ → ℕ

@@ -7,7 +7,7 @@ use Rattle.gix_glob.specs.Bytes.{HasByte, slash}
 use Rattle.glob_lists.specs.Paths.{IsPlainPath}
 use Rattle.globtree.specs.Paths.{below, is_slash, names_folder, parts_of, walk}
 use Rattle.globtree.specs.Quoting.{is_unusual}
-use Rattle.globtree.specs.Usual.{BeginAsNames, HasNoneOdd, HasNoneUnusual, begins_no_name, is_odd}
+use Rattle.globtree.specs.Private.Usual.{BeginAsNames, HasNoneOdd, HasNoneUnusual, begins_no_name, is_odd}
 use Rattle.globtree.proofs.lemmas.NameLemmas.{are_names, names_lead_below}
 
 -- what a byte that isn't odd is not

@@ -1,5 +1,5 @@
 use Rattle.std.proofs.Common.{◌≡◌, false}
-use Rattle.globtree.specs.Usual.{HasNoneOdd}
+use Rattle.globtree.specs.Private.Usual.{HasNoneOdd}
 use Rattle.globtree.proofs.usual.is_even.Given as goal
 
 -- none of the bytes so far is odd, unless another one was found
