@@ -1,5 +1,5 @@
 -- What the options of `check-attr` ask for, and which words are names of attributes.
-use Rattle.std.specs.Prelude.{ℕ, Bool, true, ◌==◌, nat_lt, if◌then◌else◌, List, [], ◌∷◌, drop, Option, None, Some, Result, Ok, Err, codes}
+use Rattle.std.specs.Prelude.{ℕ, true, ◌==◌, nat_lt, if◌then◌else◌, List, [], ◌∷◌, drop, Option, None, Some, Result, Ok, Err, codes}
 use Rattle.std.specs.Option.{option_and_then}
 use Rattle.std.specs.Str.{byte, bytes_eq}
 use Rattle.globtree.specs.declared.attribute_flags.AttributeFlags.{AttributeFlags}
