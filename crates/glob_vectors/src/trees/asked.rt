@@ -6,7 +6,7 @@ use gix_glob::pattern::Case;
 use gix_glob::search::Pattern;
 use gix_glob::search::pattern::List;
 use glob_lines::IgnoreLines;
-use glob_lists::RepositoryPath;
+use glob_lists::{PreparedList, RepositoryPath};
 use glob_trees::{FolderLists, Tree, list_in_folder};
 use std::alloc::{AllocError, Global};
 use std::process::Abort;
@@ -189,7 +189,7 @@ fn lists_before_all_folders_come_first(rt: HostRuntime) -> Result<(), Fail> {
     let mut excludes = List::empty(rt.alloc());
     excludes.patterns = IgnoreLines.bytes_to_patterns(rt.alloc(), b"a\n", "")?;
     let mut fronts = Vec::new(rt.alloc());
-    fronts.push(excludes)?;
+    fronts.push(PreparedList::new(rt.alloc(), excludes))?;
     let mut tree = Tree::new(rt.alloc(), source, fronts, Case::Sensitive).ok_or("a tree")?;
     let mut text = Vec::new(rt.alloc());
     push_answer(&mut tree, b"d/a", &mut text)?;
