@@ -10,6 +10,7 @@ pub mod DecidingLemmas
 pub mod DecisionSums
 pub mod DemandLemmas
 pub mod Elements
+pub mod EndNumbers
 pub mod FoundPairs
 pub mod FrontLemmas
 pub mod FolderLemmas

@@ -10,7 +10,7 @@ use std::sync::ledger::Ledger;
 pub(crate) const FRONT: usize = 8;
 
 /// A bit of each byte of a number, which no capital letter has.
-const NO_CAPITAL: u64 = 0x2020_2020_2020_2020;
+pub(crate) const NO_CAPITAL: u64 = 0x2020_2020_2020_2020;
 
 /// The bytes of a path from a place on.
 #[derive(Debug, Copy, Clone)]

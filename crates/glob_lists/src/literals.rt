@@ -1,13 +1,18 @@
 //! The literal bytes of texts: the bytes that each value that a pattern matches has to end in, and those that it has to hold.
-ghost use Rattle.std.specs.Prelude.{◌≡◌, ◌↔◌, ◌==◌, ◌||◌, ◌+◌, ◌*◌, ◌%◌, ◌≤◌, ◌^◌, IsTrue, length};
+ghost use Rattle.std.specs.Prelude.{◌≡◌, ◌↔◌, ◌==◌, ◌||◌, ◌+◌, ◌*◌, ◌%◌, ◌<◌, ◌≤◌, ◌^◌, IsTrue, length};
 ghost use Rattle.std.specs.Char.{to_ascii_lowercase};
 ghost use Rattle.gix_glob.specs.Bytes.{backslash, open_bracket};
 ghost use Rattle.gix_glob.specs.LiteralBytes.{is_joining};
-ghost use Rattle.glob_lists.specs.Private.Literals.{EndsLiterally, NeedsBits, bit_of, end_key};
-ghost use Rattle.glob_lists.specs.Private.Showing.{HasAll, HoldsBits};
+ghost use Rattle.glob_lists.specs.Private.Literals.{EndsLiterally, NeedsBits, bit_of, end_key, from_end, raw_end, without_bytes};
+ghost use Rattle.glob_lists.specs.Private.Showing.{HasAll, HasEndKeys, HoldsBits};
+
+use crate::fronts::NO_CAPITAL;
 
 /// The longest end of a text that is looked at, in bytes.
 pub(crate) const LONGEST_END: usize = 8;
+
+/// The set of all bytes.
+pub(crate) const ALL_BYTES: u64 = 0xFFFF_FFFF;
 
 /// Whether a byte may be the last of a token of more than one byte.
 fn is_joining(byte: u8) -> bool
@@ -47,6 +52,66 @@ pub(crate) fn end_key(text: &[u8], count: usize) -> u64
         key = longer_key(key, text[text.len() - (n + 1)]);
     }
     key
+}
+
+/// The number of the longest end of a text that is looked at. Where the text is shorter, zeros stand for the bytes that it lacks.
+#[inline(always)]
+pub(crate) fn end_number(text: &[u8]) -> u64
+    ensures { HasEndKeys text.now result }
+{
+    if text.len() >= LONGEST_END {
+        let key = raw_end(text);
+        if key & NO_CAPITAL == NO_CAPITAL {
+            return key;
+        }
+    }
+    padded_end(text)
+}
+
+/// The number that the last bytes of a text make as they are.
+#[inline(always)]
+fn raw_end(text: &[u8]) -> u64
+    requires { LONGEST_END ≤ length text.now }
+    ensures { result ≡ raw_end text.now LONGEST_END }
+{
+    // one test for all, where tests of places stay
+    let bytes = &text[text.len() - LONGEST_END..];
+    u64::from_le_bytes([
+        bytes[0], bytes[1], bytes[2], bytes[3], bytes[4], bytes[5], bytes[6], bytes[7],
+    ])
+}
+
+/// What [`end_number`] says, byte by byte.
+fn padded_end(text: &[u8]) -> u64
+    ensures { HasEndKeys text.now result }
+{
+    let mut key = 0;
+    'bytes: for n in 0..LONGEST_END {
+        key = longer_key(key, from_end(text, n));
+    }
+    key
+}
+
+/// The byte that is so many bytes before the last; 0 where the text has none.
+fn from_end(text: &[u8], n: usize) -> u8
+    requires { n < LONGEST_END }
+    ensures { n < length text.now → result ≡ from_end text.now n }
+{
+    if n < text.len() {
+        return text[text.len() - (n + 1)];
+    }
+    0
+}
+
+/// A number without so many of its last bytes.
+#[inline(always)]
+pub(crate) fn without_bytes(key: u64, count: usize) -> u64
+    ensures { result ≡ without_bytes key count }
+{
+    if count >= LONGEST_END {
+        return 0;
+    }
+    key >> (8 * count)
 }
 
 /// The number of one byte more.

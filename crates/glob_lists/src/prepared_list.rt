@@ -1,21 +1,18 @@
 //! Lists that are prepared one by one, so that a path passes over most of their patterns untested: which pattern of a stack of
 //! them decides.
-ghost use Rattle.std.specs.Prelude.{◌≡◌, ◌↔◌, ◌≤◌, ℕ, IfOk, IfSome, IsTrue, MatchOption, Some, length, map, slice_get};
+ghost use Rattle.std.specs.Prelude.{◌≡◌, ◌↔◌, ◌≤◌, ℕ, IfOk, IfSome, IsTrue, MatchOption, map};
 ghost use Rattle.gix_glob.specs.EntryLists.{entry_list_of};
 ghost use Rattle.gix_glob.specs.Steps.{IsBlankOf};
 ghost use Rattle.glob_lists.specs.Deciding.{AnswersAt, BasesAreFolders, Decides, HasFolder};
 ghost use Rattle.glob_lists.specs.Private.PreparedLists.{AreDemandsOf};
 ghost use Rattle.glob_lists.specs.Private.Showing.{Shows};
-ghost use Rattle.glob_lists.specs.Private.Sights.{SeesFrom};
-ghost use Rattle.glob_lists.specs.Private.Walking.{NonePasses};
 
 use crate::deciding::{has_folder, last_match};
 use crate::laws;
-use crate::literals::LONGEST_END;
 use crate::path::RepositoryPath;
 use crate::probe::Probe;
 use crate::row::{Row, shown_up_to};
-use crate::sight::{Sight, pair_bit};
+use crate::sight::Sight;
 use crate::way::is_answer;
 use gix_glob::pattern::Case;
 use gix_glob::search;
@@ -85,28 +82,35 @@ impl<T: search::Pattern> PreparedList<T> {
         has_folder(&self.list)
     }
 
+    /// Whether some pattern asks for bytes of the whole path.
+    #[inline(always)]
+    fn has_paths(&self) -> bool {
+        match &self.demands {
+            Some(demands) => demands.sight.has_paths(),
+            None => false,
+        }
+    }
+
     /// The place of the last mapping that matches what the base of the list leaves of a path.
     #[inline(always)]
     fn last_match<S: Ledger, L: Ledger>(
         &self,
         path: &RepositoryPath<'_>,
-        probe: &Option<Probe>,
+        probe: &Probe,
         case: Case,
         counts: &mut Counts<S, L>,
     ) -> Option<usize>
         requires folder { HasFolder (entry_list_of T.seen self.now) }
-        requires shows { IfSome probe.now (Shows path.now.bytes) }
+        requires shows { Shows path.now.bytes probe.now }
         ensures { MatchOption result
             ((m : ℕ) → ¬ AnswersAt (entry_list_of T.seen self.now) path.now.bytes path.now.is_dir case m)
             (λ last. AnswersAt (entry_list_of T.seen self.now) path.now.bytes path.now.is_dir case last
             × ((m : ℕ) → AnswersAt (entry_list_of T.seen self.now) path.now.bytes path.now.is_dir case m → m ≤ last)) }
     {
-        if let Some(demands) = &self.demands
-            && let Some(probe) = probe
-        {
-            return demands.last_match(&self.list, path, probe, case, counts);
+        match &self.demands {
+            Some(demands) => demands.last_match(&self.list, path, probe, case, counts),
+            None => last_match(&self.list, path, case, counts),
         }
-        last_match(&self.list, path, case, counts)
     }
 }
 
@@ -130,8 +134,9 @@ fn demands_of<T: search::Pattern>(
 }
 
 impl Demands {
-    /// The place of the last mapping of the list that matches what its base leaves of a path. A mapping isn't tested where it asks for
-    /// what the path doesn't show, and nor is any where none of that is shown.
+    /// The place of the last mapping of the list that matches what its base leaves of a path; none, where a path shows nothing that
+    /// its patterns ask for.
+    #[inline(always)]
     fn last_match<T: search::Pattern, S: Ledger, L: Ledger>(
         &self,
         list: &List<T>,
@@ -150,7 +155,34 @@ impl Demands {
     {
         // a law does nothing: it is called for what it ensures
         laws::answering_patterns_pass();
-        let end = self.shown_up_to(path.bytes(), probe, counts);
+        if self.sight.is_seen(probe) {
+            return self.last_shown_match(list, path, probe, case, counts);
+        }
+        None
+    }
+
+    /// What [`Demands::last_match`] answers. A mapping isn't tested where it asks for what the path doesn't show.
+    // most lists don't come this far, which costs less where their loop has less in it
+    #[inline(never)]
+    fn last_shown_match<T: search::Pattern, S: Ledger, L: Ledger>(
+        &self,
+        list: &List<T>,
+        path: &RepositoryPath<'_>,
+        probe: &Probe,
+        case: Case,
+        counts: &mut Counts<S, L>,
+    ) -> Option<usize>
+        requires of { AreDemandsOf (entry_list_of T.seen list.now) self.now }
+        requires folder { HasFolder (entry_list_of T.seen list.now) }
+        requires shows { Shows path.now.bytes probe.now }
+        ensures { MatchOption result
+            ((m : ℕ) → ¬ AnswersAt (entry_list_of T.seen list.now) path.now.bytes path.now.is_dir case m)
+            (λ last. AnswersAt (entry_list_of T.seen list.now) path.now.bytes path.now.is_dir case last
+            × ((m : ℕ) → AnswersAt (entry_list_of T.seen list.now) path.now.bytes path.now.is_dir case m → m ≤ last)) }
+    {
+        // a law does nothing: it is called for what it ensures
+        laws::answering_patterns_pass();
+        let end = shown_up_to(&self.rows, 0, self.rows.len(), probe, counts);
         if end == 0 {
             return None;
         }
@@ -163,26 +195,6 @@ impl Demands {
             }
         }
         None
-    }
-
-    /// How many rows there are up to the last one that asks for what a path shows; 0 where none does.
-    #[inline(always)]
-    fn shown_up_to<S: Ledger, L: Ledger>(
-        &self,
-        path: &[u8],
-        probe: &Probe,
-        counts: &mut Counts<S, L>,
-    ) -> usize
-        requires shows { Shows path.now probe.now }
-        requires seen { SeesFrom self.now.rows.items 0 (length self.now.rows.items) self.now.sight }
-        requires short { (m : ℕ) (row : Row) → slice_get self.now.rows.items m ≡ Some row → row.length ≤ LONGEST_END }
-        ensures few { result ≤ length self.now.rows.items }
-        ensures none { NonePasses self.now.rows.items probe.now result (length self.now.rows.items) }
-    {
-        if path.len() >= LONGEST_END && !self.sight.is_seen(probe, pair_bit(probe.key(2))) {
-            return 0;
-        }
-        shown_up_to(&self.rows, 0, self.rows.len(), probe, counts)
     }
 }
 
@@ -213,7 +225,7 @@ fn decide_with_new_counts<T: search::Pattern, S: Ledger, L: Ledger>(
     ensures { Decides (map (entry_list_of T.seen) lists.now) path.now.bytes path.now.is_dir case result }
 {
     let mut counts = Counts::<S, L>::new(blanks.0, blanks.1);
-    let probe = probe_of(path, &mut counts);
+    let probe = probe_of(lists, path, &mut counts);
     for i in (0..lists.len()).rev() {
         if let Some(m) = lists[i].last_match(path, &probe, case, &mut counts) {
             return Some((i, m));
@@ -222,16 +234,19 @@ fn decide_with_new_counts<T: search::Pattern, S: Ledger, L: Ledger>(
     None
 }
 
-/// What a path shows, where it has a byte.
+/// What a path shows. The set of all its bytes is made only where some list asks for it, which most don't.
 #[inline(always)]
-fn probe_of<S: Ledger, L: Ledger>(
+fn probe_of<T: search::Pattern, S: Ledger, L: Ledger>(
+    lists: &[PreparedList<T>],
     path: &RepositoryPath<'_>,
     counts: &mut Counts<S, L>,
-) -> Option<Probe>
-    ensures { IfSome result (Shows path.now.bytes) }
+) -> Probe
+    ensures { Shows path.now.bytes result }
 {
-    if path.bytes().is_empty() {
-        return None;
+    let bytes = path.bytes();
+    let probe = Probe::of_end(bytes, counts).with_name(bytes, path.basename_start(), counts);
+    if lists.iter().any(PreparedList::has_paths) {
+        return probe.with_path(bytes, counts);
     }
-    Some(Probe::new(path.bytes(), path.basename_start(), true, counts))
+    probe
 }

@@ -1,21 +1,20 @@
 //! What a path shows: the numbers of its ends, and the sets of its bytes.
-ghost use Rattle.std.specs.Prelude.{◌≡◌, ◌+◌, ◌*◌, ◌<◌, ◌≤◌, IsTrue, length, min, slice_index, if◌then◌else◌};
+ghost use Rattle.std.specs.Prelude.{◌≡◌, ◌+◌, ◌-◌, ◌*◌, length, if◌then◌else◌};
+ghost use Rattle.std.specs.Char.{to_ascii_lowercase};
 ghost use Rattle.gix_glob.specs.RepositoryPaths.{IsBasenameStart};
+ghost use Rattle.glob_lists.specs.Private.Literals.{from_end, without_bytes};
 ghost use Rattle.glob_lists.specs.Private.Looking.{LooksUpTo};
-ghost use Rattle.glob_lists.specs.Private.Showing.{HasEndKeys, HoldsBits, Shows, last_part};
+ghost use Rattle.glob_lists.specs.Private.Showing.{Shows, last_part};
 
-use crate::literals::{LONGEST_END, bytes_of, longer_key};
+use crate::literals::{ALL_BYTES, LONGEST_END, bytes_of, end_number, without_bytes};
 use gix_glob::wildmatch::Counts;
 use std::sync::ledger::Ledger;
-
-/// How many lengths the end of a path can have: from 0 to the longest.
-const ENDS: usize = LONGEST_END + 1;
 
 /// What a path shows of itself.
 #[derive(Debug, Copy, Clone)]
 pub(crate) struct Probe {
-    /// The numbers of the ends of the path, by their length in bytes.
-    keys: [u64; ENDS],
+    /// The number of the longest end that is looked at; past the front of the path it has zeros.
+    end: u64,
     /// The last byte, letters as small ones.
     last: u8,
     /// The bytes of the path, as a set.
@@ -34,18 +33,72 @@ impl Probe {
         has_sets: bool,
         counts: &mut Counts<S, L>,
     ) -> Probe
-        requires some { 0 < length path.now }
         requires basename { IsBasenameStart path.now basename_start }
         ensures shows { Shows path.now result }
         ensures looks { LooksUpTo counts.old counts.new (3 * length path.now + 1) }
     {
-        let name = last_part(path, basename_start);
-        counts.looks(1);
+        let probe = Probe::of_end(path, counts);
+        if !has_sets {
+            return probe;
+        }
+        probe
+            .with_name(path, basename_start, counts)
+            .with_path(path, counts)
+    }
+
+    /// What the end of a path shows. The sets have each byte.
+    ///
+    /// A look is counted at each byte that is read.
+    #[inline(always)]
+    pub(crate) fn of_end<S: Ledger, L: Ledger>(path: &[u8], counts: &mut Counts<S, L>) -> Probe
+        ensures shows { Shows path.now result }
+        ensures looks { LooksUpTo counts.old counts.new (length path.now + 1) }
+    {
+        counts.looks(path.len().min(LONGEST_END) + 1);
         Probe {
-            keys: end_keys(path, counts),
-            last: path[path.len() - 1].to_ascii_lowercase(),
-            bytes: bytes_or_all(path, has_sets, counts),
-            name_bytes: bytes_or_all(name, has_sets, counts),
+            end: end_number(path),
+            last: last_byte(path),
+            bytes: ALL_BYTES,
+            name_bytes: ALL_BYTES,
+        }
+    }
+
+    /// The same, with the set of the bytes of the last part of the path, which begins at `basename_start`. A look is counted at each.
+    #[inline(always)]
+    pub(crate) fn with_name<S: Ledger, L: Ledger>(
+        self,
+        path: &[u8],
+        basename_start: Option<usize>,
+        counts: &mut Counts<S, L>,
+    ) -> Probe
+        requires basename { IsBasenameStart path.now basename_start }
+        requires shows { Shows path.now self }
+        ensures shows { Shows path.now result }
+        ensures looks { LooksUpTo counts.old counts.new (length path.now) }
+    {
+        let name = last_part(path, basename_start);
+        counts.looks(name.len());
+        Probe {
+            name_bytes: bytes_of(name),
+            ..self
+        }
+    }
+
+    /// The same, with the set of the bytes of the whole path. A look is counted at each.
+    #[inline(always)]
+    pub(crate) fn with_path<S: Ledger, L: Ledger>(
+        self,
+        path: &[u8],
+        counts: &mut Counts<S, L>,
+    ) -> Probe
+        requires shows { Shows path.now self }
+        ensures shows { Shows path.now result }
+        ensures looks { LooksUpTo counts.old counts.new (length path.now) }
+    {
+        counts.looks(path.len());
+        Probe {
+            bytes: bytes_of(path),
+            ..self
         }
     }
 
@@ -56,15 +109,12 @@ impl Probe {
         self.last
     }
 
-    /// The number of the end of this length, or 0 past the longest.
+    /// The number of the end of this length, in bytes; that of the longest end past its length.
     #[inline(always)]
     pub(crate) fn key(&self, length: u8) -> u64
-        ensures { result ≡ slice_index self.now.keys length }
+        ensures { result ≡ without_bytes self.now.end (LONGEST_END - length) }
     {
-        match self.keys.get(usize::from(length)) {
-            Some(key) => *key,
-            None => 0,
-        }
+        without_bytes(self.end, LONGEST_END.saturating_sub(usize::from(length)))
     }
 
     /// The bytes of the last part or of the whole path, as a set.
@@ -76,7 +126,19 @@ impl Probe {
     }
 }
 
+/// The last byte of a path, letters as small ones; 0 where it has none.
+#[inline(always)]
+fn last_byte(path: &[u8]) -> u8
+    ensures { result ≡ to_ascii_lowercase (from_end path.now 0) }
+{
+    match path {
+        [.., last] => last.to_ascii_lowercase(),
+        [] => 0,
+    }
+}
+
 /// The last part of a path, which begins at `basename_start`, or the whole path.
+#[inline(always)]
 fn last_part(path: &[u8], basename_start: Option<usize>) -> &[u8]
     requires { IsBasenameStart path.now basename_start }
     ensures { result.now ≡ last_part basename_start path.now }
@@ -85,32 +147,4 @@ fn last_part(path: &[u8], basename_start: Option<usize>) -> &[u8]
         Some(start) => &path[start..],
         None => path,
     }
-}
-
-/// The numbers of the ends of a path, by their length, up to its own.
-fn end_keys<S: Ledger, L: Ledger>(path: &[u8], counts: &mut Counts<S, L>) -> [u64; ENDS]
-    ensures keys { HasEndKeys path.now result }
-    ensures looks { LooksUpTo counts.old counts.new (length path.now) }
-    ensures each { counts.old.looks + min (length path.now) LONGEST_END ≤ counts.new.looks }
-{
-    let mut keys = [0; ENDS];
-    let most = path.len().min(LONGEST_END);
-    counts.looks(most);
-    'ends: for n in 0..most {
-        keys[n + 1] = longer_key(keys[n], path[path.len() - (n + 1)]);
-    }
-    keys
-}
-
-/// The bytes of a text, as a set, or all bytes where it isn't to be read.
-fn bytes_or_all<S: Ledger, L: Ledger>(text: &[u8], is_read: bool, counts: &mut Counts<S, L>) -> u64
-    ensures bytes { HoldsBits text.now result }
-    ensures looks { LooksUpTo counts.old counts.new (length text.now) }
-    ensures each { IsTrue is_read → counts.old.looks + length text.now ≤ counts.new.looks }
-{
-    if !is_read {
-        return u64::MAX;
-    }
-    counts.looks(text.len());
-    bytes_of(text)
 }

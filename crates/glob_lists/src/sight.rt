@@ -1,10 +1,11 @@
 //! What the rows of a list ask for together: where a path shows none of it, no row of the list passes.
 ghost use Rattle.std.specs.Prelude.{◌≡◌, ◌-◌, ◌+◌, ◌≤◌, IsTrue, length};
+ghost use Rattle.glob_lists.specs.Private.Literals.{without_bytes};
 ghost use Rattle.glob_lists.specs.Private.Showing.{HasAll};
-ghost use Rattle.glob_lists.specs.Private.Sights.{IsSeen, Sees, SeesEnd, SeesFrom, needs_of, pair_bit, without_bytes};
+ghost use Rattle.glob_lists.specs.Private.Sights.{IsSeen, Sees, SeesEnd, SeesFrom, needs_of, pair_bit};
 
 use crate::chains::Class;
-use crate::literals::has_all;
+use crate::literals::{has_all, without_bytes};
 use crate::probe::Probe;
 use crate::row::Row;
 
@@ -110,12 +111,18 @@ impl Sight {
         has_all(self.ends, pair_bit(pair))
     }
 
-    /// Whether a path shows something of it, of whose last two bytes this is the bit.
+    /// Whether some row without an end asks for bytes of the whole path, or one for its last byte alone.
     #[inline(always)]
-    pub(crate) fn is_seen(&self, probe: &Probe, bit: u64) -> bool
-        ensures { IsSeen self.now probe.now bit → IsTrue result }
+    pub(crate) fn has_paths(&self) -> bool {
+        self.paths != u64::MAX
+    }
+
+    /// Whether a path shows something of it.
+    #[inline(always)]
+    pub(crate) fn is_seen(&self, probe: &Probe) -> bool
+        ensures { IsSeen self.now probe.now → IsTrue result }
     {
-        if has_all(self.ends, bit) {
+        if has_all(self.ends, pair_bit(probe.key(2))) {
             return true;
         }
         if has_all(probe.bytes_for(true), self.names) {
@@ -130,16 +137,12 @@ fn first_two(key: u64, length: u8) -> u64
     requires { 2 ≤ length }
     ensures { result ≡ without_bytes key (length - 2) }
 {
-    let mut two = key;
-    'bytes: for n in 0..length - 2 {
-        two /= 256;
-    }
-    two
+    without_bytes(key, usize::from(length - 2))
 }
 
 /// The bit that stands for a pair of bytes in a set; other pairs have the same.
 #[inline(always)]
-pub(crate) fn pair_bit(pair: u64) -> u64
+fn pair_bit(pair: u64) -> u64
     ensures { result ≡ pair_bit pair }
 {
     1 << (pair % 61)

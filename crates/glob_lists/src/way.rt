@@ -17,11 +17,10 @@ ghost use Rattle.glob_lists.specs.Private.Ways.{IsLastOfList, IsPastAnswers, Spe
 use crate::chains::Link;
 use crate::folders::{Folder, is_last_up_to, last_up_to};
 use crate::laws;
-use crate::literals::LONGEST_END;
 use crate::path::RepositoryPath;
 use crate::probe::Probe;
 use crate::row::{Row, shown_up_to};
-use crate::sight::{Sight, pair_bit};
+use crate::sight::Sight;
 use gix_glob::pattern::{Case, PatternView};
 use gix_glob::search;
 use gix_glob::search::pattern::List;
@@ -143,7 +142,7 @@ impl<'i, T: search::Pattern> Ways<'i, T> {
     {
         // a law does nothing: it is called for what it ensures
         laws::answering_patterns_pass();
-        if self.is_passed_over(place, path.bytes(), probe) {
+        if self.is_passed_over(place, probe) {
             return None;
         }
         self.last_match(folder, path, probe, counts)
@@ -151,21 +150,14 @@ impl<'i, T: search::Pattern> Ways<'i, T> {
 
     /// Whether no row of the list of the folder at a place can pass.
     #[inline(always)]
-    fn is_passed_over(&self, place: usize, path: &[u8], probe: &Probe) -> bool
+    fn is_passed_over(&self, place: usize, probe: &Probe) -> bool
         requires sights { AreSights (map (entry_list_of T.seen) self.now.lists.now) self.now.rows.now self.now.folders.now self.now.sights.now }
-        requires shows { Shows path.now probe.now }
         ensures { IsTrue result → NoRowPasses (map (entry_list_of T.seen) self.now.lists.now) self.now.rows.now self.now.folders.now place probe.now }
     {
-        if path.len() < LONGEST_END {
-            return false;
-        }
         if place >= self.sights.len() {
             return false;
         }
-        if self.sights[place].is_seen(probe, pair_bit(probe.key(2))) {
-            return false;
-        }
-        true
+        !self.sights[place].is_seen(probe)
     }
 
     /// The place of the last mapping of a list that matches what its base leaves of a path.

@@ -43,8 +43,8 @@ holds_more text k set h j below = ⊎_elim
       more : ℕ
       more = bit_or set (1 * 2 ^ (byte % 32) % 2 ^ 32)
 
-pub all_bits_hold : (text : List ℕ) → HoldsBits text 18446744073709551615
-all_bits_hold text j inside = bit_at_ones 64 (bit_of (get_or text j 0)) (small (get_or text j 0))
+pub all_bytes_hold : (text : List ℕ) → HoldsBits text 4294967295
+all_bytes_hold text j inside = bit_at_ones 32 (bit_of (get_or text j 0)) (omega arith)
 
 -- ---- the bytes that a text needs
 

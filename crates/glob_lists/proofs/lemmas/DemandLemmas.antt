@@ -1,5 +1,5 @@
 -- What the entries of one list ask for: its rows, in order.
-use Rattle.std.proofs.Common.{◌≡◌, inl, inr, ℕ, ◌<◌, ◌≤◌, Bool, List, [], ◌∷◌, ◌++◌, Some, length, sym, ap, subst, ◌∙◌, arith}
+use Rattle.std.proofs.Common.{◌≡◌, inl, inr, ℕ, ◌<◌, ◌≤◌, Bool, List, [], ◌∷◌, ◌++◌, Some, ◌+◌, length, sym, ap, subst, ◌∙◌, arith}
 use Rattle.std.specs.Prelude.{slice_get}
 use Rattle.std.proofs.lemmas.Option.{same_Some, slice_get_cases, slice_get_within}
 use Rattle.gix_glob.specs.declared.pattern.Case.{Case}
@@ -13,10 +13,12 @@ use Rattle.glob_lists.specs.Deciding.{AnswersAt}
 use Rattle.glob_lists.specs.Private.PreparedLists.{AreDemandsOf}
 use Rattle.glob_lists.specs.Private.Rows.{Asks}
 use Rattle.glob_lists.specs.Private.Showing.{Shows}
+use Rattle.glob_lists.specs.Private.Sights.{IsSeen}
 use Rattle.glob_lists.specs.Private.Walking.{NonePasses}
 use Rattle.glob_lists.proofs.lemmas.Elements.{slice_get-push_cases}
 use Rattle.glob_lists.proofs.lemmas.LastNumbers.{NoneFrom}
 use Rattle.glob_lists.proofs.lemmas.PrefilterLemmas.{AnsweringPasses}
+use Rattle.glob_lists.proofs.lemmas.SightLemmas.{Passes-seen}
 
 -- an element at a place within the list
 there : {X : Type 0} (xs : List X) (i : ℕ) → i < length xs → (x : X) × (slice_get xs i ≡ Some x)
@@ -44,7 +46,7 @@ AskInOrder-more {V} entries rows m entry row many here asks before n other added
 -- ---- a list with its demands
 
 module _ {V : Type 0} (list : EntryList V) (demands : Demands) (are : AreDemandsOf list demands) where
-  pub rows_are_short : (m : ℕ) (row : Row) → slice_get demands.rows.items m ≡ Some row → row.length ≤ LONGEST_END
+  rows_are_short : (m : ℕ) (row : Row) → slice_get demands.rows.items m ≡ Some row → row.length ≤ LONGEST_END
   rows_are_short m row got =
       let inside = slice_get_within demands.rows.items m row got in
       let many = are.many in
@@ -62,3 +64,12 @@ module _ {V : Type 0} (list : EntryList V) (demands : Demands) (are : AreDemands
       let asks = are.each m answers.entry row.0 answers.there row.1 in
       let under = answers.answers in
       none m row.0 past (omega arith) row.1 (law answers.entry.text answers.entry.mode list.base path under.rest is_dir case row.0 probe shows asks under.left under.answers)
+
+  -- where a path shows nothing that the rows ask for together, no entry answers
+  pub none_seen_answers : (path : List ℕ) (is_dir : Bool) (case : Case) (probe : Probe) → AnsweringPasses → Shows path probe → ¬ IsSeen demands.sight probe → (m : ℕ) → ¬ AnswersAt list path is_dir case m
+  none_seen_answers path is_dir case probe law shows not m answers =
+      none_answers path is_dir case probe 0 law shows
+      (λ k row low below got passes.
+      let sees = are.seen k row below (let place : 0 + k ≡ k = omega arith in subst (λ (n : ℕ). slice_get demands.rows.items n ≡ Some row) (sym place) got) in
+      not (Passes-seen probe demands.sight row (rows_are_short k row got) sees passes))
+      m (omega arith) answers

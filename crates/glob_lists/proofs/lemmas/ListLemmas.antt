@@ -7,7 +7,7 @@ use Rattle.std.proofs.lemmas.List.Sums.{sum_by-take-drop}
 use Rattle.gix_glob.specs.declared.search.pattern.list.List as patterns
 use Rattle.gix_glob.specs.EntryLists.{entry_list_of}
 use Rattle.gix_glob.proofs.lemmas.Elements.{slice_get-map_at}
-use Rattle.std.proofs.lemmas.Option.{same_Some, slice_get_within}
+use Rattle.std.proofs.lemmas.Option.{same_Some}
 use Rattle.gix_glob.specs.declared.pattern.Case.{Case}
 use Rattle.gix_glob.specs.Entries.{Entry}
 use Rattle.gix_glob.specs.EntryLists.{EntryList}
@@ -17,7 +17,6 @@ use Rattle.gix_glob.specs.Stripping.{RestOf, strip_looks}
 use Rattle.glob_lists.specs.Deciding.{AnswersFor, PairAnswers}
 use Rattle.glob_lists.specs.Paths.{Path}
 use Rattle.glob_lists.specs.Private.Ways.{IsLastOfList, SpendsBelow, SpendsOn}
-use Rattle.glob_lists.proofs.lemmas.Answering.{PairAnswers-only}
 use Rattle.glob_lists.proofs.lemmas.Asking.{asked_rest}
 use Rattle.glob_lists.proofs.lemmas.DecisionSums.{counted-from, looks-under, steps-under, sum_by-from}
 use Rattle.glob_lists.proofs.lemmas.LastNumbers.{NoneFrom, NoneFrom-all, NoneFrom-last, NoneFrom-less}

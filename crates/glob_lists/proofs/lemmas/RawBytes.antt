@@ -12,7 +12,7 @@ no_capital zero = 0
 no_capital (suc n) = no_capital n * 256 + 32
 
 -- a byte that has the bit is no capital letter
-small_byte : (b : ℕ) → b < 256 → bit_and b 32 ≡ 32 → to_ascii_lowercase b ≡ b
+pub small_byte : (b : ℕ) → b < 256 → bit_and b 32 ≡ 32 → to_ascii_lowercase b ≡ b
 small_byte b fits has =
     let bit = and_pow b 5 in
     cond_both (nat_lt b 65) b (cond (nat_lt b 91) (b + 32) b) (λ (x : ℕ). x ≡ b) (λ low. refl)

@@ -1,6 +1,6 @@
 -- A row that passes is seen: the path ends in its pair of bytes, or has the bytes that it needs.
-use Rattle.std.proofs.Common.{◌≡◌, inl, inr, ⊎_elim, ℕ, zero, suc, ◌+◌, ◌-◌, ◌/◌, ◌<◌, ◌≤◌, Bool, true, false, List, [], ◌∷◌, ◌++◌, Some, length, get_or, take, refl, sym, ap, subst, ◌∙◌, arith}
-use Rattle.std.specs.Prelude.{slice_get, slice_index, if◌then◌else◌}
+use Rattle.std.proofs.Common.{◌≡◌, inl, inr, ⊎_elim, ℕ, ◌+◌, ◌-◌, ◌<◌, ◌≤◌, Bool, true, false, List, [], ◌∷◌, ◌++◌, Some, length, get_or, take, sym, ap, subst, ◌∙◌, arith}
+use Rattle.std.specs.Prelude.{slice_get, if◌then◌else◌}
 use Rattle.std.specs.Int.{bit_at}
 use Rattle.std.proofs.lemmas.Bool.{cases_eq, cases_lt}
 use Rattle.std.proofs.lemmas.Nat.Bits.{bit_at-zero}
@@ -13,73 +13,40 @@ use Rattle.glob_lists.specs.declared.probe.Probe.{Probe}
 use Rattle.glob_lists.specs.declared.row.Row.{Row}
 use Rattle.glob_lists.specs.declared.sight.Sight.{Sight}
 use Rattle.glob_lists.specs.Index.{entry_count}
-use Rattle.glob_lists.specs.Private.Fronts.{AreBytes}
-use Rattle.glob_lists.specs.Private.Literals.{end_key}
-use Rattle.glob_lists.specs.Private.Showing.{HasAll, Passes, PassesBy, Shows}
-use Rattle.glob_lists.specs.Private.Sights.{AreSights, IsSeen, Sees, SeesBy, SeesEnd, SeesFrom, SeesList, needs_of, pair_bit, without_bytes}
+use Rattle.glob_lists.specs.Private.Literals.{without_bytes}
+use Rattle.glob_lists.specs.Private.Showing.{HasAll, Passes, PassesBy}
+use Rattle.glob_lists.specs.Private.Sights.{AreSights, IsSeen, Sees, SeesBy, SeesEnd, SeesFrom, SeesList, needs_of, pair_bit}
 use Rattle.glob_lists.specs.Private.Tables.{AreRows}
 use Rattle.glob_lists.proofs.lemmas.CountLemmas.{entry_count-more_le}
 use Rattle.glob_lists.proofs.lemmas.Elements.{slice_get-push_cases}
-use Rattle.glob_lists.proofs.lemmas.FrontLemmas.{folded_at-short, room, room-le}
+use Rattle.glob_lists.proofs.lemmas.EndNumbers.{without_both}
 use Rattle.glob_lists.proofs.lemmas.RowLemmas.{rows_count}
-
--- ---- the numbers of ends
-
-end_key-short : (text : List ℕ) → AreBytes text → (n : ℕ) → end_key text n < room n
-end_key-short text bytes zero = omega arith
-end_key-short text bytes (suc n) =
-    let before = end_key-short text bytes n in
-    let here = folded_at-short text (length text - (n + 1)) bytes in
-    omega arith
-
-without_more : (key n : ℕ) → without_bytes key (suc n) ≡ without_bytes (key / 256) n
-without_more key zero = refl
-without_more key (suc n) = ap (λ (k : ℕ). k / 256) (without_more key n)
-
-one_less : (text : List ℕ) → AreBytes text → (n : ℕ) → n < 8 → end_key text (suc n) / 256 ≡ end_key text n
-one_less text bytes n few =
-    let short = end_key-short text bytes n in
-    let most : room n ≤ room 7 = room-le n 7 (omega arith) in
-    let here = folded_at-short text (length text - (n + 1)) bytes in
-    omega arith
-
--- the number of an end begins with that of its two last bytes
-pair_of_end : (text : List ℕ) → AreBytes text → (n : ℕ) → n + 2 ≤ 8 → without_bytes (end_key text (suc (suc n))) n ≡ end_key text 2
-pair_of_end text bytes zero few = refl
-pair_of_end text bytes (suc n) few =
-    without_more (end_key text (suc (suc (suc n)))) n ∙ (ap (λ (k : ℕ). without_bytes k n) (one_less text bytes (suc (suc n)) (omega arith)) ∙ pair_of_end text bytes n (omega arith))
-
-pair_is : (text : List ℕ) → AreBytes text → (n : ℕ) → 2 ≤ n → n ≤ 8 → without_bytes (end_key text n) (n - 2) ≡ end_key text 2
-pair_is text bytes n low high =
-    let next : suc (suc (n - 2)) ≡ n = omega arith in
-    subst (λ (k : ℕ). without_bytes (end_key text k) (n - 2) ≡ end_key text 2) next (pair_of_end text bytes (n - 2) (omega arith))
 
 -- ---- a row that passes is seen
 
 none_needed : (held set : ℕ) → set ≡ 0 → HasAll held set
 none_needed held set none i is = let zero_bit = bit_at-zero i in absurd (omega (arith, sym (ap (λ (s : ℕ). bit_at s i) none) ∙ is))
 
-bytes_seen : (sight : Sight) (probe : Probe) (bit asked : ℕ) (is_name : Bool) → HasAll (if is_name then probe.name_bytes else probe.bytes) asked → HasAll asked (needs_of sight is_name) → IsSeen sight probe bit
-bytes_seen sight probe bit asked true held needed = inr (inl (λ i is. held i (needed i is)))
-bytes_seen sight probe bit asked false held needed = inr (inr (λ i is. held i (needed i is)))
+bytes_seen : (sight : Sight) (probe : Probe) (asked : ℕ) (is_name : Bool) → HasAll (if is_name then probe.name_bytes else probe.bytes) asked → HasAll asked (needs_of sight is_name) → IsSeen sight probe
+bytes_seen sight probe asked true held needed = inr (inl (λ i is. held i (needed i is)))
+bytes_seen sight probe asked false held needed = inr (inr (λ i is. held i (needed i is)))
 
-module _ (path : List ℕ) (bytes : AreBytes path) (probe : Probe) (sight : Sight) (row : Row) (bit : ℕ) (bit_is : bit ≡ pair_bit (slice_index probe.keys 2)) (long : 8 ≤ length path) (short : row.length ≤ 8)
-    (shows : Shows path probe) where
-  end_seen : row.asked ≡ slice_index probe.keys row.length → SeesEnd sight row → IsSeen sight probe bit
+module _ (probe : Probe) (sight : Sight) (row : Row) (short : row.length ≤ 8) where
+  end_seen : row.asked ≡ without_bytes probe.end (8 - row.length) → SeesEnd sight row → IsSeen sight probe
   end_seen same seen = elim (cases_lt row.length 2) [
     | inl low ↦ inr (inr (none_needed probe.bytes sight.paths (seen.short low)))
     | inr high ↦
-        (let asked : row.asked ≡ end_key path row.length = same ∙ shows.ends row.length short (omega arith) in
-        let two : slice_index probe.keys 2 ≡ end_key path 2 = shows.ends 2 (omega arith) (omega arith) in
-        let pair : without_bytes row.asked (row.length - 2) ≡ slice_index probe.keys 2 = ap (λ (k : ℕ). without_bytes k (row.length - 2)) asked ∙ (pair_is path bytes row.length high short ∙ sym two) in
-        inl (subst (HasAll sight.ends) (ap pair_bit pair ∙ sym bit_is) (seen.pair high)))
+        (let place : row.length - 2 + (8 - row.length) ≡ 6 = omega arith in
+        let pair : without_bytes row.asked (row.length - 2) ≡ without_bytes probe.end 6 =
+        ap (λ (k : ℕ). without_bytes k (row.length - 2)) same ∙ (without_both probe.end (8 - row.length) (row.length - 2) ∙ ap (without_bytes probe.end) place) in
+        inl (subst (HasAll sight.ends) (ap pair_bit pair) (seen.pair high)))
   ]
 
-  class_seen : (class : Class) → PassesBy row probe class → SeesBy sight row class → IsSeen sight probe bit
-  class_seen Always passes sees = bytes_seen sight probe bit row.asked row.is_name passes sees
+  class_seen : (class : Class) → PassesBy row probe class → SeesBy sight row class → IsSeen sight probe
+  class_seen Always passes sees = bytes_seen sight probe row.asked row.is_name passes sees
   class_seen (EndsIn byte) passes sees = end_seen passes.1 sees
 
-  pub Passes-seen : Sees sight row → Passes row probe → IsSeen sight probe bit
+  pub Passes-seen : Sees sight row → Passes row probe → IsSeen sight probe
   Passes-seen sees passes = class_seen row.class passes.shown sees.seen
 
 -- ---- one row more, and one folder more

@@ -1,5 +1,5 @@
 -- The literal bytes of a text: the numbers and sets that are made of them, in which the case of letters doesn't count.
-use Rattle.std.specs.Prelude.{◌≡◌, ℕ, zero, suc, ◌+◌, ◌-◌, ◌*◌, ◌%◌, ◌^◌, ◌<◌, ◌≤◌, false, List, length, slice_index}
+use Rattle.std.specs.Prelude.{◌≡◌, ℕ, zero, suc, ◌+◌, ◌-◌, ◌*◌, ◌/◌, ◌%◌, ◌^◌, ◌<◌, ◌≤◌, false, List, length, slice_index}
 use Rattle.std.specs.Char.{to_ascii_lowercase}
 use Rattle.std.specs.Int.{bit_at}
 use Rattle.gix_glob.specs.Bytes.{HasByte}
@@ -13,6 +13,16 @@ from_end text m = slice_index text (length text - (m + 1))
 abbrev pub end_key : List ℕ → ℕ → ℕ
 end_key text zero = 0
 end_key text (suc n) = ((end_key text n * 256) % (2 ^ 64) + to_ascii_lowercase (from_end text n)) % (2 ^ 64)
+
+-- the number that the last n bytes make so, as they are
+abbrev pub raw_end : List ℕ → ℕ → ℕ
+raw_end text zero = 0
+raw_end text (suc n) = raw_end text n * 256 + from_end text n
+
+-- a number without so many of its last bytes
+abbrev pub without_bytes : ℕ → ℕ → ℕ
+without_bytes key zero = key
+without_bytes key (suc n) = without_bytes key n / 256
 
 -- each of the last n bytes is a token of its own, and ends no other
 pub record EndsLiterally (text : List ℕ) (n : ℕ) : Type 0 where

@@ -1,5 +1,5 @@
 -- What a path shows, and whether a row passes it.
-use Rattle.std.specs.Prelude.{◌≡◌, ℕ, ◌<◌, ◌≤◌, List, length, slice_index, drop, Option, None, Some, if◌then◌else◌}
+use Rattle.std.specs.Prelude.{◌≡◌, ℕ, ◌-◌, ◌<◌, ◌≤◌, List, length, slice_index, drop, Option, None, Some, if◌then◌else◌}
 use Rattle.std.specs.Char.{to_ascii_lowercase}
 use Rattle.std.specs.Int.{bit_at}
 use Rattle.gix_glob.specs.Bytes.{HasByte, slash}
@@ -8,15 +8,15 @@ use Rattle.glob_lists.specs.declared.chains.Class.TheVariants.{Always, EndsIn}
 use Rattle.glob_lists.specs.declared.literals.TheConstants.{LONGEST_END}
 use Rattle.glob_lists.specs.declared.probe.Probe.{Probe}
 use Rattle.glob_lists.specs.declared.row.Row.{Row}
-use Rattle.glob_lists.specs.Private.Literals.{bit_of, end_key, from_end}
+use Rattle.glob_lists.specs.Private.Literals.{bit_of, end_key, from_end, without_bytes}
 
 -- the set has each byte of the text
 abbrev pub HoldsBits : List ℕ → ℕ → Type 0
 HoldsBits text set = (j : ℕ) → j < length text → bit_at set (bit_of (slice_index text j)) ≡ 1
 
--- the numbers of the ends of a path, up to its own length and the longest
-abbrev pub HasEndKeys : List ℕ → List ℕ → Type 0
-HasEndKeys path keys = (n : ℕ) → n ≤ LONGEST_END → n ≤ length path → slice_index keys n ≡ end_key path n
+-- the number begins with those of the ends of a path, up to its own length and the longest
+abbrev pub HasEndKeys : List ℕ → ℕ → Type 0
+HasEndKeys path end = (n : ℕ) → n ≤ LONGEST_END → n ≤ length path → without_bytes end (LONGEST_END - n) ≡ end_key path n
 
 -- the set has each byte of the last part of the path: those that no slash follows
 abbrev pub HoldsNameBits : List ℕ → ℕ → Type 0
@@ -31,7 +31,7 @@ last_part (Some start) path = drop start path
 -- The path shows these numbers and sets.
 pub record Shows (path : List ℕ) (probe : Probe) : Type 0 where
   pub last : probe.last ≡ to_ascii_lowercase (from_end path 0)
-  pub ends : HasEndKeys path probe.keys
+  pub ends : HasEndKeys path probe.end
   pub bytes : HoldsBits path probe.bytes
   pub name_bytes : HoldsNameBits path probe.name_bytes
 
@@ -41,7 +41,7 @@ HasAll held needed = (i : ℕ) → bit_at needed i ≡ 1 → bit_at held i ≡ 1
 
 -- the path ends as the row's text does, as far as the numbers tell
 abbrev pub HasEnd : Row → Probe → Type 0
-HasEnd row probe = row.asked ≡ slice_index probe.keys row.length
+HasEnd row probe = row.asked ≡ without_bytes probe.end (LONGEST_END - row.length)
 
 -- the path, or its last part where the row looks at no more, has the bytes that the row needs
 abbrev pub HasBytes : Row → Probe → Type 0

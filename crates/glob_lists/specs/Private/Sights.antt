@@ -1,21 +1,18 @@
 -- What the rows of a list ask for together.
-use Rattle.std.specs.Prelude.{◌≡◌, ◌⊎◌, ℕ, zero, suc, ◌+◌, ◌-◌, ◌*◌, ◌/◌, ◌%◌, ◌^◌, ◌<◌, ◌≤◌, Bool, List, Some, slice_get, if◌then◌else◌}
+use Rattle.std.specs.Prelude.{◌≡◌, ◌⊎◌, ℕ, ◌+◌, ◌-◌, ◌*◌, ◌%◌, ◌^◌, ◌<◌, ◌≤◌, Bool, List, Some, slice_get, if◌then◌else◌}
 use Rattle.gix_glob.specs.Entries.{Entry}
 use Rattle.gix_glob.specs.EntryLists.{EntryList}
 use Rattle.glob_lists.specs.declared.chains.Class.{Class}
 use Rattle.glob_lists.specs.declared.chains.Class.TheVariants.{Always, EndsIn}
 use Rattle.glob_lists.specs.declared.folders.Folder.{Folder}
+use Rattle.glob_lists.specs.declared.literals.TheConstants.{LONGEST_END}
 use Rattle.glob_lists.specs.declared.probe.Probe.{Probe}
 use Rattle.glob_lists.specs.declared.row.Row.{Row}
 use Rattle.glob_lists.specs.declared.sight.Sight.{Sight}
+use Rattle.glob_lists.specs.Private.Literals.{without_bytes}
 use Rattle.glob_lists.specs.Private.Rows.{Asks}
 use Rattle.glob_lists.specs.Private.Showing.{HasAll, Passes}
 use Rattle.glob_lists.specs.Private.Tables.{IsEntryAt}
-
--- a number without so many of its last bytes
-abbrev pub without_bytes : ℕ → ℕ → ℕ
-without_bytes key zero = key
-without_bytes key (suc n) = without_bytes key n / 256
 
 -- the set of the one bit that stands for a pair of bytes
 abbrev pub pair_bit : ℕ → ℕ
@@ -54,8 +51,8 @@ AreSights lists rows folders sights =
     (k : ℕ) (folder : Folder) (sight : Sight) → slice_get folders k ≡ Some folder → slice_get sights k ≡ Some sight → SeesList lists rows folder sight
 
 -- the path shows something of what a sight has
-abbrev pub IsSeen : Sight → Probe → ℕ → Type 0
-IsSeen sight probe bit = HasAll sight.ends bit ⊎ (HasAll probe.name_bytes sight.names ⊎ HasAll probe.bytes sight.paths)
+abbrev pub IsSeen : Sight → Probe → Type 0
+IsSeen sight probe = HasAll sight.ends (pair_bit (without_bytes probe.end (LONGEST_END - 2))) ⊎ (HasAll probe.name_bytes sight.names ⊎ HasAll probe.bytes sight.paths)
 
 -- no row of the list of the folder at place k passes
 abbrev pub NoRowPasses : {V : Type 0} → List (EntryList V) → List Row → List Folder → ℕ → Probe → Type 0

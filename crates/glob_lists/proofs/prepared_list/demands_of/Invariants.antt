@@ -1,8 +1,5 @@
-use Rattle.std.proofs.Common.{◌≡◌, ℕ, Some, length, map}
-use Rattle.std.specs.Prelude.{slice_get}
-use Rattle.gix_glob.specs.Entries.{Entry, entry_of}
-use Rattle.glob_lists.specs.declared.row.Row.{Row}
-use Rattle.glob_lists.specs.Private.Rows.{Asks}
+use Rattle.std.proofs.Common.{◌≡◌, length, map}
+use Rattle.gix_glob.specs.Entries.{entry_of}
 use Rattle.glob_lists.proofs.lemmas.DemandLemmas.{AskInOrder}
 use Rattle.glob_lists.proofs.prepared_list.demands_of.Given as goal
 

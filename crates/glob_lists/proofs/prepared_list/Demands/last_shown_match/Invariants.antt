@@ -1,7 +1,7 @@
 use Rattle.gix_glob.specs.EntryLists.{entry_list_of}
 use Rattle.glob_lists.specs.Deciding.{AnswersAt}
 use Rattle.glob_lists.proofs.lemmas.LastNumbers.{NoneFrom}
-use Rattle.glob_lists.proofs.prepared_list.Demands.last_match.Given as goal
+use Rattle.glob_lists.proofs.prepared_list.Demands.last_shown_match.Given as goal
 
 -- no mapping from here on answers
 abbrev pub invariant-mappings : goal.invariant-mappings

@@ -1,0 +1,14 @@
+-- The last part's bytes are those that no slash follows.
+use Rattle.std.proofs.Common.{List, ℕ, subst}
+use Rattle.glob_lists.specs.Private.Showing.{HoldsBits}
+use Rattle.glob_lists.proofs.lemmas.KeyLemmas.{name_bits}
+use Rattle.glob_lists.proofs.probe.Probe.with_name.Goals as goal
+
+pub returns-clause-shows : goal.returns-clause-shows
+returns-clause-shows g c = record {
+  last = c.requires.shows.last;
+  ends = c.requires.shows.ends;
+  bytes = c.requires.shows.bytes;
+  name_bytes = name_bits c.args.path.now c.args.basename_start c.bytes_of.result c.requires.basename
+      (subst (λ (name : List ℕ). HoldsBits name c.bytes_of.result) c.last_part-name.ensures c.bytes_of.ensures);
+}
