@@ -82,11 +82,16 @@ impl<T: search::Pattern> PreparedList<T> {
         has_folder(&self.list)
     }
 
-    /// Whether some pattern asks for bytes of the whole path.
+    /// Whether a path shows nothing that the patterns ask for together, so that none of them matches it.
     #[inline(always)]
-    fn has_paths(&self) -> bool {
+    fn is_passed_over(&self, path: &RepositoryPath<'_>, probe: &Probe, case: Case) -> bool
+        requires shows { Shows path.now.bytes probe.now }
+        ensures { IsTrue result → (m : ℕ) → ¬ AnswersAt (entry_list_of T.seen self.now) path.now.bytes path.now.is_dir case m }
+    {
+        // a law does nothing: it is called for what it ensures
+        laws::answering_patterns_pass();
         match &self.demands {
-            Some(demands) => demands.sight.has_paths(),
+            Some(demands) => !demands.sight.is_seen(probe),
             None => false,
         }
     }
@@ -134,8 +139,8 @@ fn demands_of<T: search::Pattern>(
 }
 
 impl Demands {
-    /// The place of the last mapping of the list that matches what its base leaves of a path; none, where a path shows nothing that
-    /// its patterns ask for.
+    /// The place of the last mapping of the list that matches what its base leaves of a path. A mapping isn't tested where it asks for
+    /// what the path doesn't show. All bytes of the path are read only where a row may need some, which few lists have.
     #[inline(always)]
     fn last_match<T: search::Pattern, S: Ledger, L: Ledger>(
         &self,
@@ -153,16 +158,15 @@ impl Demands {
             (λ last. AnswersAt (entry_list_of T.seen list.now) path.now.bytes path.now.is_dir case last
             × ((m : ℕ) → AnswersAt (entry_list_of T.seen list.now) path.now.bytes path.now.is_dir case m → m ≤ last)) }
     {
-        // a law does nothing: it is called for what it ensures
-        laws::answering_patterns_pass();
-        if self.sight.is_seen(probe) {
-            return self.last_shown_match(list, path, probe, case, counts);
+        if self.sight.has_paths() {
+            let whole = probe.with_path(path.bytes(), counts);
+            return self.last_shown_match(list, path, &whole, case, counts);
         }
-        None
+        self.last_shown_match(list, path, probe, case, counts)
     }
 
-    /// What [`Demands::last_match`] answers. A mapping isn't tested where it asks for what the path doesn't show.
-    // most lists don't come this far, which costs less where their loop has less in it
+    /// What [`Demands::last_match`] answers by what is known to be shown.
+    // most lists are passed over, which costs less where their loop has less in it
     #[inline(never)]
     fn last_shown_match<T: search::Pattern, S: Ledger, L: Ledger>(
         &self,
@@ -225,28 +229,23 @@ fn decide_with_new_counts<T: search::Pattern, S: Ledger, L: Ledger>(
     ensures { Decides (map (entry_list_of T.seen) lists.now) path.now.bytes path.now.is_dir case result }
 {
     let mut counts = Counts::<S, L>::new(blanks.0, blanks.1);
-    let probe = probe_of(lists, path, &mut counts);
+    let probe = probe_of(path, &mut counts);
     for i in (0..lists.len()).rev() {
-        if let Some(m) = lists[i].last_match(path, &probe, case, &mut counts) {
+        let list = &lists[i];
+        if list.is_passed_over(path, &probe, case) {
+            continue;
+        }
+        if let Some(m) = list.last_match(path, &probe, case, &mut counts) {
             return Some((i, m));
         }
     }
     None
 }
 
-/// What a path shows. The set of all its bytes is made only where some list asks for it, which most don't.
+/// What a path shows. Of the set of all its bytes nothing is known yet.
 #[inline(always)]
-fn probe_of<T: search::Pattern, S: Ledger, L: Ledger>(
-    lists: &[PreparedList<T>],
-    path: &RepositoryPath<'_>,
-    counts: &mut Counts<S, L>,
-) -> Probe
+fn probe_of<S: Ledger, L: Ledger>(path: &RepositoryPath<'_>, counts: &mut Counts<S, L>) -> Probe
     ensures { Shows path.now.bytes result }
 {
-    let bytes = path.bytes();
-    let probe = Probe::of_end(bytes, counts).with_name(bytes, path.basename_start(), counts);
-    if lists.iter().any(PreparedList::has_paths) {
-        return probe.with_path(bytes, counts);
-    }
-    probe
+    Probe::of_end(path.bytes(), counts).with_name(path.bytes(), path.basename_start(), counts)
 }

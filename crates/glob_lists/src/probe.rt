@@ -1,5 +1,5 @@
 //! What a path shows: the numbers of its ends, and the sets of its bytes.
-ghost use Rattle.std.specs.Prelude.{◌≡◌, ◌+◌, ◌-◌, ◌*◌, length, if◌then◌else◌};
+ghost use Rattle.std.specs.Prelude.{◌≡◌, ◌+◌, ◌-◌, ◌*◌, ◌≤◌, length, min, if◌then◌else◌};
 ghost use Rattle.std.specs.Char.{to_ascii_lowercase};
 ghost use Rattle.gix_glob.specs.RepositoryPaths.{IsBasenameStart};
 ghost use Rattle.glob_lists.specs.Private.Literals.{from_end, without_bytes};
@@ -53,6 +53,7 @@ impl Probe {
     pub(crate) fn of_end<S: Ledger, L: Ledger>(path: &[u8], counts: &mut Counts<S, L>) -> Probe
         ensures shows { Shows path.now result }
         ensures looks { LooksUpTo counts.old counts.new (length path.now + 1) }
+        ensures each { counts.old.looks + min (length path.now) LONGEST_END + 1 ≤ counts.new.looks }
     {
         counts.looks(path.len().min(LONGEST_END) + 1);
         Probe {
@@ -75,6 +76,7 @@ impl Probe {
         requires shows { Shows path.now self }
         ensures shows { Shows path.now result }
         ensures looks { LooksUpTo counts.old counts.new (length path.now) }
+        ensures each { counts.old.looks + length (last_part basename_start path.now) ≤ counts.new.looks }
     {
         let name = last_part(path, basename_start);
         counts.looks(name.len());
@@ -94,6 +96,7 @@ impl Probe {
         requires shows { Shows path.now self }
         ensures shows { Shows path.now result }
         ensures looks { LooksUpTo counts.old counts.new (length path.now) }
+        ensures each { counts.old.looks + length path.now ≤ counts.new.looks }
     {
         counts.looks(path.len());
         Probe {

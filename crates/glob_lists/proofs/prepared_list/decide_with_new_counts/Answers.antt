@@ -26,6 +26,14 @@ returns-in-Some g c =
     Decides-found _ _ _ _ c.loop-i.i (c.loop-i.i - 1) c.in-Some.m (entry_list_of g.T.Pattern.seen c.index-lists-i.result) next
     (asked_list g (goal.at.returns-in-Some g c).After-last_match) c.loop-i.invariant.none c.in-Some.ensures
 
+pub loop-i-preserved-then-is_passed_over : goal.loop-i-preserved-then-is_passed_over
+loop-i-preserved-then-is_passed_over g c =
+    let next : c.loop-i.i ≡ c.loop-i.i - 1 + 1 = omega (arith, c.loop-i-test.true) in
+    let within : c.loop-i.i - 1 < length c.args.lists.now = omega (arith, c.loop-i.auto.i, c.loop-i-test.true) in record {
+      none = NoListFrom-less _ _ _ _ c.loop-i.i (c.loop-i.i - 1) (entry_list_of g.T.Pattern.seen c.index-lists-i.result) next
+          (slice_get-map_at (entry_list_of g.T.Pattern.seen) c.args.lists.now (c.loop-i.i - 1) c.index-lists-i.result within c.index-lists-i.is) c.loop-i.invariant.none (c.is_passed_over.ensures c.if-is_passed_over.true);
+    }
+
 pub loop-i-preserved : goal.loop-i-preserved
 loop-i-preserved g c =
     let next : c.loop-i.i ≡ c.loop-i.i - 1 + 1 = omega (arith, c.loop-i-test.true) in record {
