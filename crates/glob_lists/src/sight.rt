@@ -1,19 +1,27 @@
 //! What the rows of a list ask for together: where a path shows none of it, no row of the list passes.
-ghost use Rattle.std.specs.Prelude.{◌≡◌, ◌-◌, ◌+◌, ◌≤◌, IsTrue, length};
+ghost use Rattle.std.specs.Prelude.{◌≡◌, ◌↔◌, ◌-◌, ◌+◌, ◌<◌, ◌≤◌, IsTrue, length};
 ghost use Rattle.glob_lists.specs.Private.Literals.{without_bytes};
 ghost use Rattle.glob_lists.specs.Private.Showing.{HasAll};
-ghost use Rattle.glob_lists.specs.Private.Sights.{IsSeen, Sees, SeesEnd, SeesFrom, needs_of, pair_bit};
+ghost use Rattle.glob_lists.specs.Private.Sights.{HasPair, IsSeen, Sees, SeesEnd, SeesFrom, needs_of, pair_bit};
 
 use crate::chains::Class;
 use crate::literals::{has_all, without_bytes};
 use crate::probe::Probe;
 use crate::row::Row;
 
+/// How many bits a set of ends has.
+const ENDS: u64 = 61;
+
+/// How many bits the other set has.
+const OTHER_ENDS: u64 = 59;
+
 /// What the rows of a list ask for together.
 #[derive(Debug, Copy, Clone)]
 pub(crate) struct Sight {
     /// The bits of the last two bytes that texts end in, as a set.
     ends: u64,
+    /// The same with other bits: few ends that share a bit of the one set with another share one of this, too.
+    other_ends: u64,
     /// The bytes that each row without an end needs that looks at the last part of a path alone, as a set.
     names: u64,
     /// The bytes that each other row without an end needs, as a set; none where a row asks for one last byte alone.
@@ -27,6 +35,7 @@ impl Sight {
     {
         let mut sight = Sight {
             ends: 0,
+            other_ends: 0,
             names: u64::MAX,
             paths: u64::MAX,
         };
@@ -65,7 +74,8 @@ impl Sight {
         }
         let pair = first_two(row.asked(), row.length());
         Sight {
-            ends: self.ends | pair_bit(pair),
+            ends: self.ends | pair_bit(pair, ENDS),
+            other_ends: self.other_ends | pair_bit(pair, OTHER_ENDS),
             ..self
         }
     }
@@ -108,7 +118,7 @@ impl Sight {
             return self.paths == 0;
         }
         let pair = first_two(row.asked(), row.length());
-        has_all(self.ends, pair_bit(pair))
+        self.has_pair(pair)
     }
 
     /// Whether some row without an end asks for bytes of the whole path, or one for its last byte alone.
@@ -117,12 +127,21 @@ impl Sight {
         self.paths != u64::MAX
     }
 
+    /// Whether it has a pair of bytes that texts end in.
+    #[inline(always)]
+    fn has_pair(&self, pair: u64) -> bool
+        ensures { IsTrue result ↔ HasPair self.now pair }
+    {
+        has_all(self.ends, pair_bit(pair, ENDS))
+            && has_all(self.other_ends, pair_bit(pair, OTHER_ENDS))
+    }
+
     /// Whether a path shows something of it.
     #[inline(always)]
     pub(crate) fn is_seen(&self, probe: &Probe) -> bool
         ensures { IsSeen self.now probe.now → IsTrue result }
     {
-        if has_all(self.ends, pair_bit(probe.key(2))) {
+        if self.has_pair(probe.key(2)) {
             return true;
         }
         if has_all(probe.bytes_for(true), self.names) {
@@ -140,10 +159,11 @@ fn first_two(key: u64, length: u8) -> u64
     without_bytes(key, usize::from(length - 2))
 }
 
-/// The bit that stands for a pair of bytes in a set; other pairs have the same.
+/// The bit that stands for a pair of bytes in a set of so many; other pairs have the same.
 #[inline(always)]
-fn pair_bit(pair: u64) -> u64
-    ensures { result ≡ pair_bit pair }
+fn pair_bit(pair: u64, size: u64) -> u64
+    requires { (0 < size) × (size ≤ 64) }
+    ensures { result ≡ pair_bit size pair }
 {
-    1 << (pair % 61)
+    1 << (pair % size)
 }

@@ -15,7 +15,7 @@ use Rattle.glob_lists.specs.declared.sight.Sight.{Sight}
 use Rattle.glob_lists.specs.Index.{entry_count}
 use Rattle.glob_lists.specs.Private.Literals.{without_bytes}
 use Rattle.glob_lists.specs.Private.Showing.{HasAll, Passes, PassesBy}
-use Rattle.glob_lists.specs.Private.Sights.{AreSights, IsSeen, Sees, SeesBy, SeesEnd, SeesFrom, SeesList, needs_of, pair_bit}
+use Rattle.glob_lists.specs.Private.Sights.{AreSights, HasPair, IsSeen, Sees, SeesBy, SeesEnd, SeesFrom, SeesList, needs_of}
 use Rattle.glob_lists.specs.Private.Tables.{AreRows}
 use Rattle.glob_lists.proofs.lemmas.CountLemmas.{entry_count-more_le}
 use Rattle.glob_lists.proofs.lemmas.Elements.{slice_get-push_cases}
@@ -39,7 +39,7 @@ module _ (probe : Probe) (sight : Sight) (row : Row) (short : row.length ≤ 8) 
         (let place : row.length - 2 + (8 - row.length) ≡ 6 = omega arith in
         let pair : without_bytes row.asked (row.length - 2) ≡ without_bytes probe.end 6 =
         ap (λ (k : ℕ). without_bytes k (row.length - 2)) same ∙ (without_both probe.end (8 - row.length) (row.length - 2) ∙ ap (without_bytes probe.end) place) in
-        inl (subst (HasAll sight.ends) (ap pair_bit pair) (seen.pair high)))
+        inl (subst (HasPair sight) pair (seen.pair high)))
   ]
 
   class_seen : (class : Class) → PassesBy row probe class → SeesBy sight row class → IsSeen sight probe

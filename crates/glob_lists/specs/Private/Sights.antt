@@ -9,14 +9,20 @@ use Rattle.glob_lists.specs.declared.literals.TheConstants.{LONGEST_END}
 use Rattle.glob_lists.specs.declared.probe.Probe.{Probe}
 use Rattle.glob_lists.specs.declared.row.Row.{Row}
 use Rattle.glob_lists.specs.declared.sight.Sight.{Sight}
+use Rattle.glob_lists.specs.declared.sight.TheConstants.{ENDS, OTHER_ENDS}
 use Rattle.glob_lists.specs.Private.Literals.{without_bytes}
 use Rattle.glob_lists.specs.Private.Rows.{Asks}
 use Rattle.glob_lists.specs.Private.Showing.{HasAll, Passes}
 use Rattle.glob_lists.specs.Private.Tables.{IsEntryAt}
 
--- the set of the one bit that stands for a pair of bytes
-abbrev pub pair_bit : ℕ → ℕ
-pair_bit pair = 1 * 2 ^ (pair % 61) % 2 ^ 64
+-- the set of the one bit that stands for a pair of bytes in a set of so many
+abbrev pub pair_bit : ℕ → ℕ → ℕ
+pair_bit size pair = 1 * 2 ^ (pair % size) % 2 ^ 64
+
+-- Both sets of a sight have the bit that stands for a pair of bytes.
+pub record HasPair (sight : Sight) (pair : ℕ) : Type 0 where
+  pub ends : HasAll sight.ends (pair_bit ENDS pair)
+  pub other_ends : HasAll sight.other_ends (pair_bit OTHER_ENDS pair)
 
 -- what a sight has of the bytes that rows need: of those that look at the last part of a path alone, or of the others
 abbrev pub needs_of : Sight → Bool → ℕ
@@ -25,7 +31,7 @@ needs_of sight is_name = if is_name then sight.names else sight.paths
 -- The sight has the pair of bytes that the row's end begins with; of a row with one byte it has that nothing else is needed.
 pub record SeesEnd (sight : Sight) (row : Row) : Type 0 where
   pub short : row.length < 2 → sight.paths ≡ 0
-  pub pair : 2 ≤ row.length → HasAll sight.ends (pair_bit (without_bytes row.asked (row.length - 2)))
+  pub pair : 2 ≤ row.length → HasPair sight (without_bytes row.asked (row.length - 2))
 
 -- the sight has what a row of this class asks for
 abbrev pub SeesBy : Sight → Row → Class → Type 0
@@ -52,7 +58,7 @@ AreSights lists rows folders sights =
 
 -- the path shows something of what a sight has
 abbrev pub IsSeen : Sight → Probe → Type 0
-IsSeen sight probe = HasAll sight.ends (pair_bit (without_bytes probe.end (LONGEST_END - 2))) ⊎ (HasAll probe.name_bytes sight.names ⊎ HasAll probe.bytes sight.paths)
+IsSeen sight probe = HasPair sight (without_bytes probe.end (LONGEST_END - 2)) ⊎ (HasAll probe.name_bytes sight.names ⊎ HasAll probe.bytes sight.paths)
 
 -- no row of the list of the folder at place k passes
 abbrev pub NoRowPasses : {V : Type 0} → List (EntryList V) → List Row → List Folder → ℕ → Probe → Type 0
