@@ -84,7 +84,7 @@ pub struct CountedDecision {
 
 impl<'a, T: search::Pattern> ListIndex<'a, T> {
     /// The index of the lists, whose bases have to be those of folders: [`bases_are_folders`](crate::bases_are_folders). It
-    /// takes 24 bytes for each pattern, 56 for each of 16 lists or more, and some 2 KB once.
+    /// takes 24 bytes for each pattern, 64 for each of 16 lists or more, and some 2 KB once.
     ///
     /// # Errors
     /// [`IndexError::TooMany`] where there are 2^32 patterns or more, or more than 2^32 lists, and there alone;
