@@ -91,9 +91,9 @@ impl<'a> RepositoryPath<'a> {
         self.bytes
     }
 
-    /// Where the last part begins, past the last slash; `None` where there is no slash.
+    /// Where the last part of the path begins: the place, in bytes from 0, past the last slash; `None` where there is no slash.
     #[inline(always)]
-    pub(crate) fn basename_start(&self) -> Option<usize>
+    pub fn basename_start(&self) -> Option<usize>
         ensures { IsBasenameStart self.now.bytes result }
     {
         self.basename_start
