@@ -1,5 +1,6 @@
 pub mod Asking
 pub mod AtHand
+pub mod BeginningLemmas
 pub mod Emptied
 pub mod Entering
 pub mod FoldedMatches
@@ -7,6 +8,7 @@ pub mod FoldedPaths
 pub mod FoldedTexts
 pub mod Folders
 pub mod Ignoring
+pub mod InFolder
 pub mod InTree
 pub mod Kept
 pub mod OnWay

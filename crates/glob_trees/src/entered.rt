@@ -4,11 +4,12 @@ ghost use Rattle.std.specs.List.{Contains};
 ghost use Rattle.std.specs.Vec.{vec_items};
 ghost use Rattle.gix_glob.specs.Bytes.{HasByte, slash};
 ghost use Rattle.gix_glob.specs.EntryLists.{entry_list_of};
-ghost use Rattle.glob_trees.specs.Private.Entered.{EndsInFolder, IsAsideOrNew, IsFrontOf, IsReady, IsSomewhere, IsUnderWay, KeepsOn};
+ghost use Rattle.glob_trees.specs.Private.Entered.{EndsInFolder, IsAsideOrNew, IsFresh, IsFrontOf, IsReady, IsSomewhere, IsUnderWay, KeepsOn};
 ghost use Rattle.glob_trees.specs.Private.Left.{HasMoreRooms, HasRoom};
 ghost use Rattle.glob_trees.specs.Trees.{DecidesInTree, Ignores};
 ghost use Rattle.glob_trees.specs.Ways.{AreOnTheWay, GivesOnly, GoesOn, IsAskedFor, IsListOf, folders_to};
 
+use crate::beginning::begins_with;
 use crate::deciding::ignoring_prepared;
 use crate::fault::TreeFault;
 use crate::folders::FolderLists;
@@ -48,6 +49,47 @@ impl<T: search::Pattern, S: FolderLists<T>> Entered<T, S> {
         ensures keeps { KeepsOn (S.shows T.Seen) self.old self.new }
         ensures asks { GivesOnly (IsAskedFor (map (entry_list_of T.seen) self.new.lists.items) self.new.case path.now.bytes) (S.gave self.old.source) (S.gave self.new.source) }
     {
+        if self.is_in_folder_of(path) {
+            return Ok(decide_prepared(&self.lists, path, self.case));
+        }
+        self.find_elsewhere(path)
+    }
+
+    /// Whether a path lies right in the folder entered last.
+    #[inline(always)]
+    fn is_in_folder_of(&self, path: &RepositoryPath<'_>) -> bool
+        requires ready { IsReady (S.shows T.Seen) S.gave T.seen self.now }
+        ensures { IsTrue result → IsUnderWay (S.shows T.Seen) S.gave T.seen self.now path.now.bytes }
+    {
+        if self.lists.len() <= self.front_count {
+            return false;
+        }
+        let Some(list) = self.lists.last() else {
+            return false;
+        };
+        match (&list.list().base, path.basename_start()) {
+            (Some(base), Some(start)) => base.len() == start && begins_with(path.bytes(), base),
+            (None, None) => true,
+            _ => false,
+        }
+    }
+
+    /// What [`Entered::find`] answers, where the folder of the path is yet to be entered.
+    ///
+    /// # Errors
+    /// Where the source fails, or memory was refused.
+    #[inline(never)]
+    fn find_elsewhere(
+        &mut self,
+        path: &RepositoryPath<'_>,
+    ) -> Result<Option<(usize, usize)>, TreeFault<S::Fault>>
+        requires ready { IsReady (S.shows T.Seen) S.gave T.seen self.old }
+        ensures decides { IfOk result (λ pair. DecidesInTree (map (entry_list_of T.seen) self.new.lists.items) path.now.bytes path.now.is_dir self.new.case pair) }
+        ensures way { OnOk result (AreOnTheWay (S.shows T.Seen self.new.source) self.new.front_count (map (entry_list_of T.seen) self.new.lists.items) self.new.case path.now.bytes) }
+        ensures ready { IsReady (S.shows T.Seen) S.gave T.seen self.new }
+        ensures keeps { KeepsOn (S.shows T.Seen) self.old self.new }
+        ensures asks { GivesOnly (IsAskedFor (map (entry_list_of T.seen) self.new.lists.items) self.new.case path.now.bytes) (S.gave self.old.source) (S.gave self.new.source) }
+    {
         self.enter_top()?;
         let bytes = path.bytes();
         let start = self.leave_to(bytes);
@@ -73,6 +115,7 @@ impl<T: search::Pattern, S: FolderLists<T>> Entered<T, S> {
     ///
     /// # Errors
     /// Where the source fails, or memory was refused.
+    #[inline(always)]
     fn enter_top(&mut self) -> Result<(), TreeFault<S::Fault>>
         requires ready { IsReady (S.shows T.Seen) S.gave T.seen self.old }
         ensures under { OnOk result (IsSomewhere (S.shows T.Seen) S.gave T.seen self.new) }
@@ -83,6 +126,21 @@ impl<T: search::Pattern, S: FolderLists<T>> Entered<T, S> {
         if self.lists.len() > self.front_count {
             return Ok(());
         }
+        self.begin()
+    }
+
+    /// Asks for the list of the top, and enters it.
+    ///
+    /// # Errors
+    /// Where the source fails, or memory was refused.
+    #[inline(never)]
+    fn begin(&mut self) -> Result<(), TreeFault<S::Fault>>
+        requires fresh { IsFresh (S.shows T.Seen) S.gave T.seen self.old }
+        ensures under { OnOk result (IsSomewhere (S.shows T.Seen) S.gave T.seen self.new) }
+        ensures ready { OnErr result (IsReady (S.shows T.Seen) S.gave T.seen self.new) }
+        ensures keeps { KeepsOn (S.shows T.Seen) self.old self.new }
+        ensures asks { GivesOnly (λ folder. folder ≡ []) (S.gave self.old.source) (S.gave self.new.source) }
+    {
         self.lists.reserve(1)?;
         let list = self.source.list_of(&[]).map_err(TreeFault::Source)?;
         let prepared = PreparedList::new(self.left.alloc, list);
@@ -94,6 +152,7 @@ impl<T: search::Pattern, S: FolderLists<T>> Entered<T, S> {
     ///
     /// # Errors
     /// Only where memory was refused.
+    #[inline(never)]
     fn enter_again(&mut self, path: &[u8], place: usize) -> Result<bool, AllocError>
         requires slash { HasByte path.now place slash }
         requires under { IsUnderWay (S.shows T.Seen) S.gave T.seen self.old (take place path.now) }
@@ -119,6 +178,7 @@ impl<T: search::Pattern, S: FolderLists<T>> Entered<T, S> {
     ///
     /// # Errors
     /// Where the source fails, or memory was refused.
+    #[inline(never)]
     fn enter(&mut self, path: &[u8], place: usize) -> Result<(), TreeFault<S::Fault>>
         requires slash { HasByte path.now place slash }
         requires under { IsUnderWay (S.shows T.Seen) S.gave T.seen self.old (take place path.now) }
@@ -157,6 +217,7 @@ impl<T: search::Pattern, S: FolderLists<T>> Entered<T, S> {
     }
 
     /// Leaves the folder entered last, which isn't the top.
+    #[inline(never)]
     fn leave(&mut self)
         requires under { IsSomewhere (S.shows T.Seen) S.gave T.seen self.old }
         requires deep { EndsInFolder self.old.lists.items }
@@ -179,7 +240,7 @@ fn length_on_the_way<T: search::Pattern>(list: &PreparedList<T>, path: &[u8]) ->
         (IsFrontOf (option_map vec_items list.now.base) path.now) }
 {
     match &list.list().base {
-        Some(base) if path.starts_with(base) => Some(base.len()),
+        Some(base) if begins_with(path, base) => Some(base.len()),
         Some(_) => None,
         None => Some(0),
     }

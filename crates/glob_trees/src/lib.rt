@@ -3,6 +3,7 @@
 #![tactic(auto)]
 
 mod answering;
+mod beginning;
 mod buffers;
 mod deciding;
 mod entered;

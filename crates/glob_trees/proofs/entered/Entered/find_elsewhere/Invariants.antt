@@ -2,7 +2,7 @@ use Rattle.std.proofs.Common.{take}
 use Rattle.std.specs.List.{Contains}
 use Rattle.glob_trees.specs.Private.Entered.{IsUnderWay, KeepsOn}
 use Rattle.glob_trees.specs.Ways.{GivesOnly, folders_to}
-use Rattle.glob_trees.proofs.entered.Entered.find.Given as goal
+use Rattle.glob_trees.proofs.entered.Entered.find_elsewhere.Given as goal
 
 -- the folders on the way to what stands before the place are entered, and no other one was asked for
 abbrev pub invariant-bytes : goal.invariant-bytes
