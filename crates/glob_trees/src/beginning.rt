@@ -16,11 +16,11 @@ pub(crate) fn begins_with(text: &[u8], front: &[u8]) -> bool
         return false;
     }
     match front.len() {
-        0..=3 => is_same_by_bytes(text, front),
-        4..=7 => is_same_by_ends::<4>(text, front),
-        8..=15 => is_same_by_ends::<8>(text, front),
-        16..=32 => is_same_by_ends::<16>(text, front),
-        _ => is_same_by_blocks(text, front),
+        33.. => is_same_by_blocks(text, front),
+        16.. => is_same_by_ends::<16>(text, front),
+        8.. => is_same_by_ends::<8>(text, front),
+        4.. => is_same_by_ends::<4>(text, front),
+        _ => is_same_by_bytes(text, front),
     }
 }
 

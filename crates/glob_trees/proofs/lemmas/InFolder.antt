@@ -1,11 +1,11 @@
 -- The folders that are entered lie on the way to what lies right in the last of them.
-use Rattle.std.proofs.Common.{◌≡◌, inl, inr, ⊎_elim, ℕ, zero, suc, ◌+◌, ◌<◌, ◌≤◌, List, [], ◌∷◌, ◌++◌, length, map, take, take_all, Vec, option_map, slice_index, sym, subst, ◌∙◌, arith}
+use Rattle.std.proofs.Common.{◌≡◌, inl, inr, ℕ, zero, suc, ◌+◌, ◌<◌, ◌≤◌, List, [], ◌∷◌, ◌++◌, length, map, take, take_all, option_map, slice_index, subst, arith}
 use Rattle.std.specs.Vec.{vec_items}
 use Rattle.gix_glob.specs.declared.search.pattern.list.List as patterns
 use Rattle.gix_glob.specs.Bytes.{HasByte, slash}
 use Rattle.gix_glob.specs.EntryLists.{EntryList, entry_list_of}
 use Rattle.glob_trees.specs.declared.entered.Entered.{Entered}
-use Rattle.glob_trees.specs.Private.Entered.{AreEntered, IsFresh, IsFrontOf, IsReady, IsSomewhere, IsUnderWay}
+use Rattle.glob_trees.specs.Private.Entered.{AreEntered, IsFrontOf, IsReady, IsSomewhere, IsUnderWay}
 use Rattle.glob_trees.specs.Ways.{folders_to}
 use Rattle.glob_trees.proofs.lemmas.AtHand.{at_hand_same_way, rooms_same_way}
 use Rattle.glob_trees.proofs.lemmas.Settled.{settled_same_way}
