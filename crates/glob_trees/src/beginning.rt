@@ -15,6 +15,7 @@ pub(crate) fn begins_with(text: &[u8], front: &[u8]) -> bool
     if text.len() < front.len() {
         return false;
     }
+    // two blocks, which may overlap, make up to twice their size
     match front.len() {
         33.. => is_same_by_blocks(text, front),
         16.. => is_same_by_ends::<16>(text, front),
@@ -41,7 +42,7 @@ fn is_same_by_blocks(text: &[u8], front: &[u8]) -> bool
     is_same_block::<BLOCK_SIZE>(text, front, last)
 }
 
-/// Whether a text begins with a front, which is no longer than two blocks. These may overlap.
+/// Whether a text begins with a front, which is no shorter than a block and no longer than two. These may overlap.
 #[inline(always)]
 #[tactic(auto, using(crate::proofs::lemmas::BeginningLemmas::same_part, crate::proofs::lemmas::BeginningLemmas::same_parts))]
 fn is_same_by_ends<const N: usize>(text: &[u8], front: &[u8]) -> bool

@@ -49,6 +49,7 @@ impl<T: search::Pattern, S: FolderLists<T>> Entered<T, S> {
         ensures keeps { KeepsOn (S.shows T.Seen) self.old self.new }
         ensures asks { GivesOnly (IsAskedFor (map (entry_list_of T.seen) self.new.lists.items) self.new.case path.now.bytes) (S.gave self.old.source) (S.gave self.new.source) }
     {
+        // most paths lie in the folder of the one before, and the way of these is kept short
         if self.is_in_folder_of(path) {
             return Ok(decide_prepared(&self.lists, path, self.case));
         }
@@ -74,7 +75,7 @@ impl<T: search::Pattern, S: FolderLists<T>> Entered<T, S> {
         }
     }
 
-    /// What [`Entered::find`] answers, where the folder of the path is yet to be entered.
+    /// What [`Entered::find`] answers, whichever folder was entered last.
     ///
     /// # Errors
     /// Where the source fails, or memory was refused.
@@ -126,7 +127,7 @@ impl<T: search::Pattern, S: FolderLists<T>> Entered<T, S> {
         if self.lists.len() > self.front_count {
             return Ok(());
         }
-        self.begin()
+        self.ask_for_top()
     }
 
     /// Asks for the list of the top, and enters it.
@@ -134,7 +135,7 @@ impl<T: search::Pattern, S: FolderLists<T>> Entered<T, S> {
     /// # Errors
     /// Where the source fails, or memory was refused.
     #[inline(never)]
-    fn begin(&mut self) -> Result<(), TreeFault<S::Fault>>
+    fn ask_for_top(&mut self) -> Result<(), TreeFault<S::Fault>>
         requires fresh { IsFresh (S.shows T.Seen) S.gave T.seen self.old }
         ensures under { OnOk result (IsSomewhere (S.shows T.Seen) S.gave T.seen self.new) }
         ensures ready { OnErr result (IsReady (S.shows T.Seen) S.gave T.seen self.new) }

@@ -6,7 +6,7 @@ use Rattle.glob_trees.specs.Private.Entered.{AreEntered, AreSettled}
 use Rattle.glob_trees.specs.Ways.{GivesOnly, base_of_folder}
 use Rattle.glob_trees.proofs.lemmas.AtHand.{at_hand_at_top, rooms_at_top}
 use Rattle.glob_trees.proofs.lemmas.Stepping.{pushed, starting, starting_settled}
-use Rattle.glob_trees.proofs.entered.Entered.begin.Goals as goal
+use Rattle.glob_trees.proofs.entered.Entered.ask_for_top.Goals as goal
 
 pub returns-clause-under : goal.returns-clause-under
 returns-clause-under g c =
