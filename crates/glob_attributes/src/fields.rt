@@ -1,5 +1,6 @@
 //! The fields that are written about an attribute of a path.
 ghost use Rattle.std.specs.Prelude.{◌≡◌, ◌++◌, OnOk};
+ghost use Rattle.std.specs.Io.{StartsWith};
 ghost use Rattle.glob_attributes.specs.Answers.{fields_of, state_text};
 ghost use Rattle.glob_attributes.specs.Views.{state_with};
 
@@ -28,7 +29,8 @@ pub fn append_fields(
     name: &[u8],
     state: &[u8],
 ) -> Result<(), AllocError>
-    ensures { OnOk result (text.new.items ≡ text.old.items ++ fields_of told.now name.now state.now) }
+    ensures written { OnOk result (text.new.items ≡ text.old.items ++ fields_of told.now name.now state.now) }
+    ensures kept { StartsWith text.new.items text.old.items }
 {
     text.extend_from_slice(told)?;
     text.push(0)?;

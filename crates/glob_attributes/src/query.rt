@@ -1,5 +1,6 @@
 //! What is asked of each path, and what is written about one.
 ghost use Rattle.std.specs.Prelude.{◌≡◌, ◌++◌, IfOk, OnOk, map};
+ghost use Rattle.std.specs.Io.{StartsWith};
 ghost use Rattle.gix_glob.specs.EntryLists.{entry_list_of};
 ghost use Rattle.glob_trees.specs.Records.{Adds};
 ghost use Rattle.glob_attributes.specs.Answers.{IsAnswer, IsAssignedTo, states_text};
@@ -57,7 +58,8 @@ impl<'a> AttributeQuery<'a> {
         text: &mut Vec<u8>,
         told: &[u8],
     ) -> Result<(), AllocError>
-        ensures { OnOk result (Adds (IsAnswer self.now told.now) text.old.items text.new.items) }
+        ensures written { OnOk result (Adds (IsAnswer self.now told.now) text.old.items text.new.items) }
+        ensures kept { StartsWith text.new.items text.old.items }
     {
         let assigned = self.assigned_to(alloc, told)?;
         append_states(text, told, self.names, &assigned)
@@ -81,7 +83,8 @@ fn append_states(
     names: &[&[u8]],
     assigned: &PathAttributes<'_>,
 ) -> Result<(), AllocError>
-    ensures { OnOk result (text.new.items ≡ text.old.items ++ states_text assigned.now told.now (map (λ name. name.now) names.now)) }
+    ensures written { OnOk result (text.new.items ≡ text.old.items ++ states_text assigned.now told.now (map (λ name. name.now) names.now)) }
+    ensures kept { StartsWith text.new.items text.old.items }
 {
     'names: for name in names {
         append_fields(text, told, name, state_text(&assigned.state_of(name)))?;

@@ -2,7 +2,8 @@
 
 /// What answers records, each by a text.
 pub trait Answerer {
-    ghost use Rattle.std.specs.Prelude.{ℕ, List, OnOk};
+    ghost use Rattle.std.specs.Prelude.{ℕ, List, OnErr, OnOk};
+    ghost use Rattle.std.specs.Io.{StartsWith};
     ghost use Rattle.glob_trees.specs.Records.{Adds, StaysAllowed};
 
     /// Why a record got no answer.
@@ -11,9 +12,10 @@ pub trait Answerer {
     // Whether a text may be written for a record: the record's bytes come first, then the text's.
     ghost answers: { Self → List ℕ → List ℕ → Type 0 };
 
-    /// Appends the text of a record. The record comes without the byte that ended it. Where this fails, what was appended
-    /// doesn't count.
+    /// Appends the text of a record to those of the records before it, which stay. The record comes without the byte that ended
+    /// it. Where this fails, what was appended doesn't count.
     fn answer(&mut self, text: &mut Vec<u8>, bytes: &[u8]) -> Result<(), Self::Fault>
         ensures stays { StaysAllowed (answers self.old) (answers self.new) }
-        ensures written { OnOk result (Adds (answers self.new bytes.now) text.old.items text.new.items) };
+        ensures written { OnOk result (Adds (answers self.new bytes.now) text.old.items text.new.items) }
+        ensures kept { OnErr result (StartsWith text.new.items text.old.items) };
 }

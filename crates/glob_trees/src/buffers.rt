@@ -23,8 +23,6 @@ const MUCH: usize = 16 * 1024;
 #[derive(Drop)]
 pub(crate) struct Buffers {
     begun: Vec<u8>,
-    /// The text of one record.
-    answer: Vec<u8>,
     /// The texts that aren't written yet.
     text: Vec<u8>,
 }
@@ -37,7 +35,6 @@ impl Buffers {
     {
         Buffers {
             begun: Vec::new(alloc),
-            answer: Vec::new(alloc),
             text: Vec::new(alloc),
         }
     }
@@ -109,6 +106,7 @@ impl Buffers {
     }
 
     /// Appends the text of the record that ends in these bytes.
+    #[inline(always)]
     fn append_answer<A: Answerer>(
         &mut self,
         last: &[u8],
@@ -122,12 +120,12 @@ impl Buffers {
         ensures endless { is_endless result ≡ false }
         ensures write { is_write_fault result ≡ false }
     {
-        self.answer.clear();
+        let answered = self.text.len();
         let record = whole_record(&mut self.begun, last)?;
-        if let Err(fault) = answerer.answer(&mut self.answer, record) {
+        if let Err(fault) = answerer.answer(&mut self.text, record) {
+            self.text.truncate(answered);
             return Err(RecordFault::Answer(fault));
         }
-        self.text.extend_from_slice(&self.answer)?;
         self.begun.clear();
         Ok(())
     }

@@ -1,3 +1,4 @@
+pub mod FrontLemmas
 pub mod LaneLemmas
 pub mod NameLemmas
 pub mod PathLemmas

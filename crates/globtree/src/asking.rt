@@ -1,5 +1,6 @@
 //! What answers each told path.
 ghost use Rattle.std.specs.Prelude.{IsTrue};
+ghost use Rattle.std.specs.Io.{StartsWith};
 ghost use Rattle.glob_lists.specs.Paths.{IsPlainPath};
 
 use crate::fault::CheckFault;
@@ -89,7 +90,9 @@ impl<'a, R: Files + Eprint> PathAnswerer for Asker<'a, R> {
 
 impl<'a, R: Files + Eprint> Asker<'a, R> {
     /// Appends what is written about a told path.
-    pub(crate) fn append(&mut self, text: &mut Vec<u8>, told: &[u8]) -> Result<(), CheckFault> {
+    pub(crate) fn append(&mut self, text: &mut Vec<u8>, told: &[u8]) -> Result<(), CheckFault>
+        ensures { StartsWith text.new.items text.old.items }
+    {
         let is_usual = are_usual_names(told);
         let pair = self.find(told, is_usual)?;
         let shown = shown_at(&self.finder.tree, pair, self.flags);
@@ -109,6 +112,12 @@ impl<'a, R: Files + Eprint> Asker<'a, R> {
         if is_usual && self.standpoint.is_at_top() {
             return self.finder.find(told, false);
         }
+        self.find_led(told)
+    }
+
+    /// The same, of a path that has to be led to.
+    #[inline(never)]
+    fn find_led(&mut self, told: &[u8]) -> Result<Option<(usize, usize)>, CheckFault> {
         let is_folder = self.standpoint.lead(self.alloc, &mut self.path, told)?;
         self.finder.find_if_plain(&self.path, is_folder)
     }

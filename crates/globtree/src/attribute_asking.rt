@@ -1,5 +1,7 @@
 //! What answers each told path by the states of its attributes.
 
+ghost use Rattle.std.specs.Io.{StartsWith};
+
 use crate::asking::Standpoint;
 use crate::attribute_text::{append_answer, append_label, path_text};
 use crate::fault::CheckFault;
@@ -64,7 +66,9 @@ impl<'a, R: Files + Eprint> AttributeAsker<'a, R> {
     }
 
     /// Appends what is written about the path that was led to, as it is shown.
-    fn append(&self, text: &mut Vec<u8>, shown: &[u8], is_folder: bool) -> Result<(), CheckFault> {
+    fn append(&self, text: &mut Vec<u8>, shown: &[u8], is_folder: bool) -> Result<(), CheckFault>
+        ensures { StartsWith text.new.items text.old.items }
+    {
         let Some(path) = RepositoryPath::new(&self.path, is_folder) else {
             self.append_nothing(text, shown)?;
             return Ok(());
@@ -85,12 +89,15 @@ impl<'a, R: Files + Eprint> AttributeAsker<'a, R> {
     }
 
     /// Appends the states that are asked for.
+    #[tactic(auto, using(crate::proofs::lemmas::FrontLemmas::front_of_front))]
     fn append_states(
         &self,
         text: &mut Vec<u8>,
         shown: &[u8],
         attributes: &PathAttributes<'_>,
-    ) -> Result<(), AllocError> {
+    ) -> Result<(), AllocError>
+        ensures { StartsWith text.new.items text.old.items }
+    {
         if let Some(all) = &self.folders.reader.names {
             let states = attributes.states_of(self.alloc, all.as_slice())?;
             return self.append_all(text, shown, &states);
@@ -103,12 +110,15 @@ impl<'a, R: Files + Eprint> AttributeAsker<'a, R> {
     }
 
     /// Appends the states of all attributes that have one.
+    #[tactic(auto, using(crate::proofs::lemmas::FrontLemmas::front_of_front))]
     fn append_all(
         &self,
         text: &mut Vec<u8>,
         shown: &[u8],
         states: &[Assignment<&[u8]>],
-    ) -> Result<(), AllocError> {
+    ) -> Result<(), AllocError>
+        ensures { StartsWith text.new.items text.old.items }
+    {
         let mut label = Vec::new(self.alloc);
         'all: for assigned in states {
             label.clear();
@@ -119,7 +129,10 @@ impl<'a, R: Files + Eprint> AttributeAsker<'a, R> {
     }
 
     /// Appends that nothing is said of the attributes that are asked for.
-    fn append_nothing(&self, text: &mut Vec<u8>, shown: &[u8]) -> Result<(), AllocError> {
+    #[tactic(auto, using(crate::proofs::lemmas::FrontLemmas::front_of_front))]
+    fn append_nothing(&self, text: &mut Vec<u8>, shown: &[u8]) -> Result<(), AllocError>
+        ensures { StartsWith text.new.items text.old.items }
+    {
         'labels: for label in &self.labels {
             append_answer(text, shown, label, &State::Unspecified, self.is_nul)?;
         }

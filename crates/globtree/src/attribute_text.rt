@@ -1,9 +1,11 @@
 //! What is written about an attribute of a path.
 ghost use Rattle.std.specs.Prelude.{◌≡◌, ◌++◌, IfOk, OnOk};
+ghost use Rattle.std.specs.Io.{StartsWith};
 ghost use Rattle.glob_attributes.specs.Views.{state_with};
 ghost use Rattle.globtree.specs.AttributeText.{answer_of, label_of, path_text};
 
-use crate::quoting::{append_quoted, has_unusual};
+use crate::quoting::append_quoted;
+use crate::unusual::has_unusual;
 use glob_attributes::{State, state_text};
 use std::alloc::AllocError;
 
@@ -48,7 +50,8 @@ pub(crate) fn append_answer(
     state: &State<&[u8]>,
     is_nul: bool,
 ) -> Result<(), AllocError>
-    ensures { OnOk result (text.new.items ≡ text.old.items ++ answer_of is_nul shown.now label.now (state_with (λ bytes. bytes.now) state.now)) }
+    ensures written { OnOk result (text.new.items ≡ text.old.items ++ answer_of is_nul shown.now label.now (state_with (λ bytes. bytes.now) state.now)) }
+    ensures kept { StartsWith text.new.items text.old.items }
 {
     text.extend_from_slice(shown)?;
     text.extend_from_slice(label)?;

@@ -261,7 +261,6 @@ fn answer_records<R: Files + Eprint, I: Read, O: Write>(
     let mut records = RecordAnswerer {
         paths: asker,
         is_nul,
-        alloc,
         name: Vec::new(alloc),
     };
     let end = if is_nul { 0 } else { b'\n' };

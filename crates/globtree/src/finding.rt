@@ -46,7 +46,46 @@ impl<'a, R: Files + Eprint> Finder<'a, R> {
         requires { IsPlainPath path.now }
     {
         let folder = RepositoryPath::from_plain(path, true);
-        let pair = self.tree.find(&folder).map_err(fault_of)?;
+        let pair = match self.tree.find(&folder) {
+            Ok(pair) => pair,
+            Err(fault) => return Err(fault_of(fault)),
+        };
+        if is_told_folder || self.has_unseen_folder(&folder) || self.wants_folder(pair) {
+            return self.find_by_looks(path, is_told_folder, pair);
+        }
+        Ok(pair)
+    }
+
+    /// Whether the folder of a path is neither one that the tree entered on its way, nor the one that was asked for last.
+    fn has_unseen_folder(&self, path: &RepositoryPath<'_>) -> bool {
+        let Some(start) = path.basename_start() else {
+            return false;
+        };
+        start > entered_length(&self.tree) && !self.unlinked.is_last(&path.bytes()[..start - 1])
+    }
+
+    /// Whether the pattern at a pair of places matches folders alone. Where it doesn't, it decides about a file, too.
+    fn wants_folder(&self, pair: Option<(usize, usize)>) -> bool {
+        let Some(pair) = pair else {
+            return false;
+        };
+        let Some(decision) = self.tree.decision(pair) else {
+            return false;
+        };
+        decision.mapping.pattern.mode().contains(Mode::MUST_BE_DIR)
+    }
+
+    /// Which pattern decides about a path, if this one does where the path is a folder's. The file system is asked about links,
+    /// and whether the path is a folder's.
+    #[inline(never)]
+    fn find_by_looks(
+        &mut self,
+        path: &[u8],
+        is_told_folder: bool,
+        pair: Option<(usize, usize)>,
+    ) -> Result<Option<(usize, usize)>, CheckFault>
+        requires { IsPlainPath path.now }
+    {
         self.check_links(path, is_told_folder)?;
         if is_told_folder || !self.wants_folder(pair) {
             return Ok(pair);
@@ -62,17 +101,6 @@ impl<'a, R: Files + Eprint> Finder<'a, R> {
         } else {
             Ok(other)
         }
-    }
-
-    /// Whether the pattern at a pair of places matches folders alone. Where it doesn't, it decides about a file, too.
-    fn wants_folder(&self, pair: Option<(usize, usize)>) -> bool {
-        let Some(pair) = pair else {
-            return false;
-        };
-        let Some(decision) = self.tree.decision(pair) else {
-            return false;
-        };
-        decision.mapping.pattern.mode().contains(Mode::MUST_BE_DIR)
     }
 
     /// Refuses a path of which a folder that the tree didn't enter is a link.

@@ -1,5 +1,6 @@
 //! What is written about a path: the path, and with `-v` the line of the file that decides about it.
 ghost use Rattle.std.specs.Prelude.{◌≡◌, ◌++◌, false, IsTrue, OnOk};
+ghost use Rattle.std.specs.Io.{StartsWith};
 ghost use Rattle.std.specs.List.{list_any};
 ghost use Rattle.globtree.specs.Lines.{name_of};
 ghost use Rattle.globtree.specs.Quoting.{is_unusual};
@@ -32,6 +33,7 @@ pub(crate) fn append_line(
     flags: Flags,
 ) -> Result<(), AllocError>
     requires { IsTrue is_usual → list_any is_unusual told.now ≡ false }
+    ensures { StartsWith text.new.items text.old.items }
 {
     if flags.verbose {
         append_decision(text, shown, flags)?;
@@ -46,12 +48,23 @@ fn append_decision(
     text: &mut Vec<u8>,
     shown: &Option<Shown<'_>>,
     flags: Flags,
-) -> Result<(), AllocError> {
+) -> Result<(), AllocError>
+    ensures { StartsWith text.new.items text.old.items }
+{
+    if let Some(shown) = shown {
+        return append_shown(text, shown, flags);
+    }
     let behind = if flags.nul { 0 } else { b':' };
     let last = if flags.nul { 0 } else { b'\t' };
-    let Some(shown) = shown else {
-        return text.extend_from_slice(&[behind, behind, last]);
-    };
+    text.extend_from_slice(&[behind, behind, last])
+}
+
+/// The same of a line that decides.
+fn append_shown(text: &mut Vec<u8>, shown: &Shown<'_>, flags: Flags) -> Result<(), AllocError>
+    ensures { StartsWith text.new.items text.old.items }
+{
+    let behind = if flags.nul { 0 } else { b':' };
+    let last = if flags.nul { 0 } else { b'\t' };
     append_name(text, shown.source, flags)?;
     text.push(behind)?;
     let mut buffer = Buffer::new();
@@ -68,7 +81,8 @@ fn append_told(
     flags: Flags,
 ) -> Result<(), AllocError>
     requires { IsTrue is_usual → list_any is_unusual told.now ≡ false }
-    ensures { OnOk result (text.new.items ≡ text.old.items ++ name_of flags told.now) }
+    ensures written { OnOk result (text.new.items ≡ text.old.items ++ name_of flags told.now) }
+    ensures kept { StartsWith text.new.items text.old.items }
 {
     if is_usual {
         return text.extend_from_slice(told);
@@ -78,7 +92,8 @@ fn append_told(
 
 /// Appends a name, in quotes where a line needs them.
 fn append_name(text: &mut Vec<u8>, name: &[u8], flags: Flags) -> Result<(), AllocError>
-    ensures { OnOk result (text.new.items ≡ text.old.items ++ name_of flags name.now) }
+    ensures written { OnOk result (text.new.items ≡ text.old.items ++ name_of flags name.now) }
+    ensures kept { StartsWith text.new.items text.old.items }
 {
     if flags.nul {
         return text.extend_from_slice(name);
@@ -87,7 +102,9 @@ fn append_name(text: &mut Vec<u8>, name: &[u8], flags: Flags) -> Result<(), Allo
 }
 
 /// Appends a pattern as its line has it, and the byte behind it.
-fn append_pattern(text: &mut Vec<u8>, pattern: &Pattern, last: u8) -> Result<(), AllocError> {
+fn append_pattern(text: &mut Vec<u8>, pattern: &Pattern, last: u8) -> Result<(), AllocError>
+    ensures { StartsWith text.new.items text.old.items }
+{
     let is_absolute = pattern.mode().contains(Mode::ABSOLUTE);
     let is_escaped = !pattern.is_negative() && !is_absolute && begins_with_sign(pattern.text());
     append_if(text, b'\\', is_escaped)?;
@@ -102,7 +119,9 @@ fn append_pattern(text: &mut Vec<u8>, pattern: &Pattern, last: u8) -> Result<(),
 }
 
 /// Appends a byte, where it is wanted.
-fn append_if(text: &mut Vec<u8>, byte: u8, is_wanted: bool) -> Result<(), AllocError> {
+fn append_if(text: &mut Vec<u8>, byte: u8, is_wanted: bool) -> Result<(), AllocError>
+    ensures { StartsWith text.new.items text.old.items }
+{
     if is_wanted {
         text.push(byte)?;
     }

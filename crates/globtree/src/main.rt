@@ -24,6 +24,7 @@ mod running;
 mod sources;
 mod unlinked;
 mod unquoting;
+mod unusual;
 mod usual;
 mod words;
 

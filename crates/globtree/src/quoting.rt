@@ -1,45 +1,39 @@
 //! Names as Git quotes them: in double quotes, as C writes a text, where a byte is unusual.
-ghost use Rattle.std.specs.Prelude.{◌≡◌, ◌++◌, OnOk};
-ghost use Rattle.std.specs.List.{flat_map, list_any};
-ghost use Rattle.globtree.specs.Quoting.{escaped, is_unusual, letter_of, quoted};
+ghost use Rattle.std.specs.Prelude.{◌≡◌, ◌++◌, OnOk, codes};
+ghost use Rattle.std.specs.Io.{StartsWith};
+ghost use Rattle.std.specs.List.{flat_map};
+ghost use Rattle.globtree.specs.Quoting.{escaped, letter_of, quoted};
 
+use crate::unusual::{has_unusual, is_unusual};
 use std::alloc::AllocError;
 
 /// Appends a name, in quotes where a byte of it is unusual.
 pub(crate) fn append_quoted(text: &mut Vec<u8>, name: &[u8]) -> Result<(), AllocError>
-    ensures { OnOk result (text.new.items ≡ text.old.items ++ quoted name.now) }
+    ensures written { OnOk result (text.new.items ≡ text.old.items ++ quoted name.now) }
+    ensures kept { StartsWith text.new.items text.old.items }
 {
-    if !has_unusual(name) {
-        return text.extend_from_slice(name);
+    if has_unusual(name) {
+        return append_in_quotes(text, name);
     }
+    text.extend_from_slice(name)
+}
+
+/// Appends a name in quotes.
+#[inline(never)]
+fn append_in_quotes(text: &mut Vec<u8>, name: &[u8]) -> Result<(), AllocError>
+    ensures written { OnOk result (text.new.items ≡ text.old.items ++ (codes "\"" ++ (flat_map escaped name.now ++ codes "\""))) }
+    ensures kept { StartsWith text.new.items text.old.items }
+{
     text.push(b'"')?;
     append_escaped_bytes(text, name)?;
     text.push(b'"')?;
     Ok(())
 }
 
-/// Whether some byte of a name is unusual.
-pub(crate) fn has_unusual(name: &[u8]) -> bool
-    ensures { result ≡ list_any is_unusual name.now }
-{
-    let mut is_any = false;
-    // no byte ends this loop, so that many bytes are looked at in one step
-    'bytes: for byte in name {
-        is_any = is_any | is_unusual(*byte);
-    }
-    is_any
-}
-
-/// Whether a byte is no letter or sign of ASCII by itself: a control character, a double quote, a backslash, or one past ASCII.
-pub(crate) fn is_unusual(byte: u8) -> bool
-    ensures { result ≡ is_unusual byte }
-{
-    byte < 32 || byte >= 127 || byte == b'"' || byte == b'\\'
-}
-
 /// Appends each byte of a name, escaped where it is unusual.
 fn append_escaped_bytes(text: &mut Vec<u8>, name: &[u8]) -> Result<(), AllocError>
-    ensures { OnOk result (text.new.items ≡ text.old.items ++ flat_map escaped name.now) }
+    ensures written { OnOk result (text.new.items ≡ text.old.items ++ flat_map escaped name.now) }
+    ensures kept { StartsWith text.new.items text.old.items }
 {
     'bytes: for byte in name {
         append_escaped(text, *byte)?;
@@ -49,7 +43,8 @@ fn append_escaped_bytes(text: &mut Vec<u8>, name: &[u8]) -> Result<(), AllocErro
 
 /// Appends a byte, escaped where it is unusual.
 fn append_escaped(text: &mut Vec<u8>, byte: u8) -> Result<(), AllocError>
-    ensures { OnOk result (text.new.items ≡ text.old.items ++ escaped byte) }
+    ensures written { OnOk result (text.new.items ≡ text.old.items ++ escaped byte) }
+    ensures kept { StartsWith text.new.items text.old.items }
 {
     if !is_unusual(byte) {
         return text.push(byte).map_err(AllocError::from);

@@ -1,21 +1,24 @@
 //! What answers each line or record of the input by the path that it tells.
 
+ghost use Rattle.std.specs.Io.{StartsWith};
+
 use crate::fault::CheckFault;
 use crate::unquoting::unquote;
 use glob_trees::Answerer;
-use std::alloc::Global;
 
 /// What answers told paths.
 pub(crate) trait PathAnswerer: Drop {
-    /// Appends what is written about a told path.
-    fn answer_path(&mut self, text: &mut Vec<u8>, told: &[u8]) -> Result<(), CheckFault>;
+    ghost use Rattle.std.specs.Io.{StartsWith};
+
+    /// Appends what is written about a told path to the text. Where this fails, what was appended doesn't count.
+    fn answer_path(&mut self, text: &mut Vec<u8>, told: &[u8]) -> Result<(), CheckFault>
+        ensures { StartsWith text.new.items text.old.items };
 }
 
 /// What answers each line or record of the input.
 #[derive(Drop)]
 pub(crate) struct RecordAnswerer<A> {
     pub(crate) paths: A,
-    pub(crate) alloc: Global,
     /// Whether a NUL ends each record: then none is quoted.
     pub(crate) is_nul: bool,
     /// The name that stood in quotes.
@@ -27,28 +30,23 @@ impl<A: PathAnswerer> Answerer for RecordAnswerer<A> {
 
     ghost answers = { λ _ _ _. Unit {0} };
 
+    #[inline(always)]
     fn answer(&mut self, text: &mut Vec<u8>, bytes: &[u8]) -> Result<(), CheckFault> {
-        if text.is_empty() {
-            // all of the text will be about this record
-            return self.answer_record(text, bytes);
+        if let [b'"', quoted @ ..] = bytes {
+            if !self.is_nul {
+                return self.answer_quoted(text, quoted);
+            }
         }
-        let mut line = Vec::new(self.alloc);
-        self.answer_record(&mut line, bytes)?;
-        text.extend_from_slice(&line)?;
-        Ok(())
+        self.paths.answer_path(text, bytes)
     }
 }
 
 impl<A: PathAnswerer> RecordAnswerer<A> {
-    /// Appends what is written about a record.
-    #[inline(always)]
-    fn answer_record(&mut self, text: &mut Vec<u8>, bytes: &[u8]) -> Result<(), CheckFault> {
-        if self.is_nul {
-            return self.paths.answer_path(text, bytes);
-        }
-        let [b'"', quoted @ ..] = bytes else {
-            return self.paths.answer_path(text, bytes);
-        };
+    /// Appends what is written about a path that is told in quotes, by what stands behind the first quote.
+    #[inline(never)]
+    fn answer_quoted(&mut self, text: &mut Vec<u8>, quoted: &[u8]) -> Result<(), CheckFault>
+        ensures { StartsWith text.new.items text.old.items }
+    {
         if !unquote(&mut self.name, quoted)? {
             return Err(CheckFault::BadlyQuoted);
         }

@@ -249,7 +249,6 @@ fn answer_records<R: Files + Eprint, I: Read, O: Write>(
     let mut records = RecordAnswerer {
         is_nul: asker.flags.nul,
         paths: asker,
-        alloc,
         name: Vec::new(alloc),
     };
     RecordStream { alloc, end }.run(input, output, &mut records)?;

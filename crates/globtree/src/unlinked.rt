@@ -31,7 +31,7 @@ impl UnlinkedFolders {
 
     /// Whether a folder is remembered.
     pub(crate) fn contains(&mut self, folder: &[u8]) -> Result<bool, AllocError> {
-        if !folder.is_empty() && folder == self.last.as_slice() {
+        if self.is_last(folder) {
             return Ok(true);
         }
         let is_known = self.folders.contains(folder);
@@ -39,6 +39,11 @@ impl UnlinkedFolders {
             self.set_last(folder)?;
         }
         Ok(is_known)
+    }
+
+    /// Whether a folder is remembered as the one that was asked for last.
+    pub(crate) fn is_last(&self, folder: &[u8]) -> bool {
+        !folder.is_empty() && folder == self.last.as_slice()
     }
 
     /// Keeps a folder as the one that was asked for last.

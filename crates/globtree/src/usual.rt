@@ -4,13 +4,10 @@ ghost use Rattle.std.specs.List.{list_any};
 ghost use Rattle.glob_lists.specs.Paths.{IsPlainPath};
 ghost use Rattle.globtree.specs.Paths.{below, names_folder, parts_of, walk};
 ghost use Rattle.globtree.specs.Quoting.{is_unusual};
-ghost use Rattle.globtree.specs.Private.Usual.{BeginAsNames, HasNoneOdd, HasNoneUnusual, is_odd};
+ghost use Rattle.globtree.specs.Private.Usual.{BeginAsNames, HasNoneOdd, is_odd};
 
-use crate::quoting::is_unusual;
+use crate::unusual::{BLOCK_SIZE, is_unusual, is_usual_block};
 use std::simd::prelude::*;
-
-/// So many bytes are looked at in one step.
-const BLOCK_SIZE: usize = 16;
 
 /// Whether a path is told by names with a slash between each two, none of which begins with a dot or has an unusual byte.
 #[tactic(auto, using(crate::proofs::lemmas::UsualLemmas::plain_if_usual, crate::proofs::lemmas::UsualLemmas::none_unusual))]
@@ -64,18 +61,6 @@ fn is_even_block(told: &[u8], place: usize) -> bool
     ensures { IsTrue result → HasNoneOdd told.now place (place + BLOCK_SIZE) }
 {
     is_usual_block(told, place) && begins_names_in_block(told, place)
-}
-
-/// Whether no byte of a block is unusual.
-#[inline(always)]
-fn is_usual_block(told: &[u8], place: usize) -> bool
-    requires { place + BLOCK_SIZE ≤ length told.now }
-    ensures { IsTrue result → HasNoneUnusual told.now place (place + BLOCK_SIZE) }
-{
-    let bytes = u8x16::from_slice(&told[place..]);
-    let is_no_sign = bytes.simd_lt(u8x16::splat(32)) | bytes.simd_ge(u8x16::splat(127));
-    let is_escaped = bytes.simd_eq(u8x16::splat(b'"')) | bytes.simd_eq(u8x16::splat(b'\\'));
-    (is_no_sign | is_escaped).to_bitmask() == 0
 }
 
 /// Whether no byte of a block is a slash or a dot right behind a slash.

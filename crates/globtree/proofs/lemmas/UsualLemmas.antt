@@ -3,6 +3,8 @@ use Rattle.std.proofs.Common.{◌≡◌, ◌≢◌, inl, inr, ℕ, zero, suc, �
 use Rattle.std.specs.Prelude.{◌||◌, if◌then◌else◌, Some, slice_index}
 use Rattle.std.specs.List.{list_any}
 use Rattle.std.proofs.lemmas.Bool.{cases_lt, false≢true, ne_eqb}
+use Rattle.std.proofs.lemmas.List.Elements.{All-from_get_or}
+use Rattle.std.proofs.lemmas.List.Folds.{list_any_none}
 use Rattle.gix_glob.specs.Bytes.{HasByte, slash}
 use Rattle.glob_lists.specs.Paths.{IsPlainPath}
 use Rattle.globtree.specs.Paths.{below, is_slash, names_folder, parts_of, walk}
@@ -42,6 +44,15 @@ both_runs told i j m n first second meet k from to = elim (cases_lt k j) [
   | inl early ↦ first k from early
   | inr late ↦ second k (omega arith) to
 ]
+
+pub both_usual_runs : (told : List ℕ) (i j m n : ℕ) → HasNoneUnusual told i j → HasNoneUnusual told m n → m ≤ j → HasNoneUnusual told i n
+both_usual_runs told i j m n first second meet k from to = elim (cases_lt k j) [
+  | inl early ↦ first k from early
+  | inr late ↦ second k (omega arith) to
+]
+
+pub has_no_unusual : (name : List ℕ) → HasNoneUnusual name 0 (length name) → list_any is_unusual name ≡ false
+has_no_unusual name none = list_any_none is_unusual name (All-from_get_or (λ b. is_unusual b ≡ false) name 0 (λ i inside. none i (omega arith) inside))
 
 -- bytes of which none is unusual, and before which names begin
 pub none_odd : (told : List ℕ) (i j : ℕ) → HasNoneUnusual told i j → BeginAsNames told i j → HasNoneOdd told i j

@@ -3,15 +3,15 @@ use Rattle.std.proofs.lemmas.Simd.{zip2_splat, length-chunk}
 use lib.Lanes.{chunk}
 use Rattle.globtree.specs.Quoting.{is_unusual}
 use Rattle.globtree.proofs.lemmas.LaneLemmas.{hit, below, at_most, joined, from_splat, none_is}
-use Rattle.globtree.proofs.usual.is_usual_block.Goals as goal
+use Rattle.globtree.proofs.unusual.is_usual_block.Goals as goal
 
 pub returns : goal.returns
 returns c none =
-    let told = c.args.told.now in
+    let told = c.args.bytes.now in
     let at = c.args.place in
     let v = chunk at 16 told in
     let long = length-chunk at 16 told c.requires in
-    none_is is_unusual told at 16 _ c.requires (omega arith) c.type_inv.told none _
+    none_is is_unusual told at 16 _ c.requires (omega arith) c.type_inv.bytes none _
     (joined bit_or _ _ v
     (joined bit_or _ _ v (zip2_splat below v 16 32 long) (from_splat at_most v 16 127 long))
     (joined bit_or _ _ v (zip2_splat hit v 16 34 long) (zip2_splat hit v 16 92 long)))
