@@ -50,8 +50,7 @@ impl Answerer for Brackets {
 
     fn answer(&mut self, text: &mut Vec<u8>, bytes: &[u8]) -> Result<(), Unanswered> {
         if self.left == 0 {
-            // what stands in the text then doesn't count
-            text.clear();
+            // what is appended then doesn't count
             text.extend_from_slice(b"lost")?;
             return Err(Unanswered::Chosen);
         }
