@@ -59,7 +59,7 @@ fn append_decision(
     text.extend_from_slice(&[behind, behind, last])
 }
 
-/// The same of a line that decides.
+/// Appends them of a line that decides.
 fn append_shown(text: &mut Vec<u8>, shown: &Shown<'_>, flags: Flags) -> Result<(), AllocError>
     ensures { StartsWith text.new.items text.old.items }
 {
@@ -67,10 +67,23 @@ fn append_shown(text: &mut Vec<u8>, shown: &Shown<'_>, flags: Flags) -> Result<(
     let last = if flags.nul { 0 } else { b'\t' };
     append_name(text, shown.source, flags)?;
     text.push(behind)?;
-    let mut buffer = Buffer::new();
-    text.extend_from_slice(buffer.format(shown.number).as_bytes())?;
+    append_number(text, shown.number)?;
     text.push(behind)?;
     append_pattern(text, shown.pattern, last)
+}
+
+/// Appends the number of a line.
+#[inline(always)]
+fn append_number(text: &mut Vec<u8>, number: usize) -> Result<(), AllocError>
+    ensures { StartsWith text.new.items text.old.items }
+{
+    if number < 10 {
+        // most lines of a folder's own file have one digit, which needs no buffer
+        text.push(b'0' + number as u8)?;
+        return Ok(());
+    }
+    let mut buffer = Buffer::new();
+    text.extend_from_slice(buffer.format(number).as_bytes())
 }
 
 /// Appends a told path, in quotes where a line needs them.
