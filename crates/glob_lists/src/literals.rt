@@ -3,7 +3,7 @@ ghost use Rattle.std.specs.Prelude.{◌≡◌, ◌↔◌, ◌==◌, ◌||◌, �
 ghost use Rattle.std.specs.Char.{to_ascii_lowercase};
 ghost use Rattle.gix_glob.specs.Bytes.{backslash, open_bracket};
 ghost use Rattle.gix_glob.specs.LiteralBytes.{is_joining};
-ghost use Rattle.glob_lists.specs.Private.Literals.{EndsLiterally, NeedsBits, bit_of, end_key, from_end, raw_end, without_bytes};
+ghost use Rattle.glob_lists.specs.Private.Literals.{EndsLiterally, NeedsBits, bit_of, end_key, from_end, raw_end, spare_bits, without_bytes};
 ghost use Rattle.glob_lists.specs.Private.Showing.{HasAll, HasEndKeys, HoldsBits};
 
 use crate::fronts::NO_CAPITAL;
@@ -112,6 +112,16 @@ pub(crate) fn without_bytes(key: u64, count: usize) -> u64
         return 0;
     }
     key >> (8 * count)
+}
+
+/// How many bits the number of the longest end that is looked at has more than that of an end of so many bytes; 0 where that has no
+/// byte or more than the longest.
+#[inline(always)]
+pub(crate) fn spare_bits(length: u8) -> u8
+    ensures { result ≡ spare_bits length }
+{
+    const LONGEST: u8 = LONGEST_END as u8;
+    LONGEST.saturating_sub(length) % LONGEST * 8
 }
 
 /// The number of one byte more.

@@ -1,5 +1,5 @@
 //! What a path shows: the numbers of its ends, and the sets of its bytes.
-ghost use Rattle.std.specs.Prelude.{◌≡◌, ◌+◌, ◌-◌, ◌*◌, ◌≤◌, length, min, if◌then◌else◌};
+ghost use Rattle.std.specs.Prelude.{◌≡◌, ◌+◌, ◌-◌, ◌*◌, ◌/◌, ◌%◌, ◌^◌, ◌≤◌, length, min, if◌then◌else◌};
 ghost use Rattle.std.specs.Char.{to_ascii_lowercase};
 ghost use Rattle.gix_glob.specs.RepositoryPaths.{IsBasenameStart};
 ghost use Rattle.glob_lists.specs.Private.Literals.{from_end, without_bytes};
@@ -118,6 +118,14 @@ impl Probe {
         ensures { result ≡ without_bytes self.now.end (LONGEST_END - length) }
     {
         without_bytes(self.end, LONGEST_END.saturating_sub(usize::from(length)))
+    }
+
+    /// The number of the longest end, without so many of its last bits modulo 64.
+    #[inline(always)]
+    pub(crate) fn key_without(&self, spare: u8) -> u64
+        ensures { result ≡ self.now.end / 2 ^ (spare % 64) }
+    {
+        self.end >> (spare % 64)
     }
 
     /// The bytes of the last part or of the whole path, as a set.

@@ -1,12 +1,12 @@
 //! One pattern as the index sees it: what its text asks of a path, and where its mapping stands.
 ghost use Rattle.std.specs.Prelude.{◌≡◌, ◌↔◌, ◌+◌, ◌≤◌, IsTrue, length};
 ghost use Rattle.gix_glob.specs.PatternParts.{mode_of, text_of};
-ghost use Rattle.glob_lists.specs.Private.Rows.{Asks};
+ghost use Rattle.glob_lists.specs.Private.Rows.{Asks, length_of};
 ghost use Rattle.glob_lists.specs.Private.Showing.{HasBytes, HasEnd, Passes};
 ghost use Rattle.glob_lists.specs.Private.Walking.{NonePasses};
 
 use crate::chains::{Class, Link};
-use crate::literals::{end_key, has_all, literal_end, needed_bytes};
+use crate::literals::{LONGEST_END, end_key, has_all, literal_end, needed_bytes, spare_bits};
 use crate::probe::Probe;
 use gix_glob::Pattern;
 use gix_glob::pattern::PatternView;
@@ -27,8 +27,8 @@ pub(crate) struct Row {
     pub(crate) mapping: u32,
     /// How the text ends.
     pub(crate) class: Class,
-    /// The length of the literal end, in bytes.
-    pub(crate) length: u8,
+    /// How many bits the number of a path's longest end has more than that of the literal end: a shift by so many takes them off.
+    pub(crate) spare: u8,
     /// Whether the pattern looks at the last part of a path alone.
     pub(crate) is_name: bool,
 }
@@ -59,7 +59,7 @@ impl Row {
                 list,
                 mapping,
                 class: Class::Always,
-                length: 0,
+                spare: 0,
                 is_name,
             };
         }
@@ -69,7 +69,7 @@ impl Row {
             list,
             mapping,
             class: Class::EndsIn(text[text.len() - 1].to_ascii_lowercase()),
-            length: length as u8,
+            spare: spare_bits(length as u8),
             is_name,
         }
     }
@@ -89,12 +89,12 @@ impl Row {
         self.asked
     }
 
-    /// The length of the literal end, in bytes.
+    /// The length of the literal end, in bytes, where there is one.
     #[inline(always)]
     pub(crate) fn length(&self) -> u8
-        ensures { result ≡ self.now.length }
+        ensures { result ≡ length_of self.now }
     {
-        self.length
+        (LONGEST_END as u8).saturating_sub(self.spare / 8)
     }
 
     /// Whether the pattern looks at the last part of a path alone.
@@ -143,7 +143,7 @@ impl Row {
     pub(crate) fn has_end(&self, probe: &Probe) -> bool
         ensures { IsTrue result ↔ HasEnd self.now probe.now }
     {
-        self.asked == probe.key(self.length)
+        self.asked == probe.key_without(self.spare)
     }
 
     /// Whether the path has the bytes that are needed.

@@ -4,6 +4,7 @@ ghost use Rattle.glob_lists.specs.Private.Rows.{Asks};
 ghost use Rattle.glob_lists.specs.Private.Stored.{row_of};
 
 use crate::chains::{Class, Link};
+use crate::literals::spare_bits;
 use crate::row::Row;
 use gix_glob::pattern::PatternView;
 
@@ -40,7 +41,7 @@ impl StoredRow {
         let row = Row::of_view(pattern, 0, 0);
         let (last, length) = match row.class {
             Class::Always => (0, 0),
-            Class::EndsIn(last) => (last, row.length),
+            Class::EndsIn(last) => (last, row.length()),
         };
         StoredRow {
             asked: row.asked,
@@ -67,7 +68,7 @@ impl StoredRow {
             list: 0,
             mapping: 0,
             class,
-            length: self.length,
+            spare: spare_bits(self.length),
             is_name: self.is_name != 0,
         }
     }

@@ -1,5 +1,5 @@
 -- What the entries of one list ask for: its rows, in order.
-use Rattle.std.proofs.Common.{◌≡◌, inl, inr, ℕ, ◌<◌, ◌≤◌, Bool, List, [], ◌∷◌, ◌++◌, Some, ◌+◌, length, sym, ap, subst, ◌∙◌, arith}
+use Rattle.std.proofs.Common.{◌≡◌, inl, inr, ℕ, ◌<◌, ◌≤◌, Bool, List, [], ◌∷◌, ◌++◌, Some, ◌+◌, ◌-◌, ◌*◌, length, sym, ap, subst, ◌∙◌, arith}
 use Rattle.std.specs.Prelude.{slice_get}
 use Rattle.std.proofs.lemmas.Option.{same_Some, slice_get_cases, slice_get_within}
 use Rattle.gix_glob.specs.declared.pattern.Case.{Case}
@@ -11,7 +11,7 @@ use Rattle.glob_lists.specs.declared.probe.Probe.{Probe}
 use Rattle.glob_lists.specs.declared.row.Row.{Row}
 use Rattle.glob_lists.specs.Deciding.{AnswersAt}
 use Rattle.glob_lists.specs.Private.PreparedLists.{AreDemandsOf}
-use Rattle.glob_lists.specs.Private.Rows.{Asks}
+use Rattle.glob_lists.specs.Private.Rows.{Asks, length_of}
 use Rattle.glob_lists.specs.Private.Showing.{Shows}
 use Rattle.glob_lists.specs.Private.Sights.{IsSeen}
 use Rattle.glob_lists.specs.Private.Walking.{NonePasses}
@@ -46,13 +46,13 @@ AskInOrder-more {V} entries rows m entry row many here asks before n other added
 -- ---- a list with its demands
 
 module _ {V : Type 0} (list : EntryList V) (demands : Demands) (are : AreDemandsOf list demands) where
-  rows_are_short : (m : ℕ) (row : Row) → slice_get demands.rows.items m ≡ Some row → row.length ≤ LONGEST_END
-  rows_are_short m row got =
+  rows_spare_bytes : (m : ℕ) (row : Row) → slice_get demands.rows.items m ≡ Some row → row.spare ≡ 8 * (LONGEST_END - length_of row)
+  rows_spare_bytes m row got =
       let inside = slice_get_within demands.rows.items m row got in
       let many = are.many in
       let entry = there list.entries m (omega arith) in
       let asks = are.each m entry.0 row entry.1 got in
-      asks.short
+      asks.spare
 
   -- where no row from a place on passes, no entry from there on answers
   pub none_answers : (path : List ℕ) (is_dir : Bool) (case : Case) (probe : Probe) (end : ℕ) → AnsweringPasses → Shows path probe → NonePasses demands.rows.items probe end (length demands.rows.items)
@@ -71,5 +71,5 @@ module _ {V : Type 0} (list : EntryList V) (demands : Demands) (are : AreDemands
       none_answers path is_dir case probe 0 law shows
       (λ k row low below got passes.
       let sees = are.seen k row below (let place : 0 + k ≡ k = omega arith in subst (λ (n : ℕ). slice_get demands.rows.items n ≡ Some row) (sym place) got) in
-      not (Passes-seen probe demands.sight row (rows_are_short k row got) sees passes))
+      not (Passes-seen probe demands.sight row (rows_spare_bytes k row got) sees passes))
       m (omega arith) answers

@@ -23,8 +23,9 @@ use Rattle.glob_lists.specs.declared.literals.TheConstants.{LONGEST_END}
 use Rattle.glob_lists.specs.declared.probe.Probe.{Probe}
 use Rattle.glob_lists.specs.declared.row.Row.{Row}
 use Rattle.glob_lists.specs.Private.Literals.{EndsLiterally, NeedsBits, bit_of, end_key, from_end}
-use Rattle.glob_lists.specs.Private.Rows.{Asks, AsksFor, HasLiteralEnd}
+use Rattle.glob_lists.specs.Private.Rows.{Asks, AsksFor, HasLiteralEnd, length_of}
 use Rattle.glob_lists.specs.Private.Showing.{HasBytes, HasEnd, Passes, PassesBy, Shows}
+use Rattle.glob_lists.proofs.lemmas.EndNumbers.{without_bytes-shift}
 
 -- The laws `matched_values_end_as_the_text` and `matched_values_have_the_literal_bytes`, restated: a lemma can't cite a clause.
 abbrev pub EndsAsTheText : Type 0
@@ -134,16 +135,18 @@ module _ (ends : EndsAsTheText) (bytes : HasTheBytes) (text path value : List �
   value_length : length value ≡ length path - at
   value_length = ap (λ (xs : List ℕ). length xs) is ∙ length-drop at path
 
-  class_and_end : (byte : ℕ) → HasLiteralEnd text row.length byte row.asked → row.length ≤ LONGEST_END → (byte ≡ probe.last) × HasEnd row probe
-  class_and_end byte e short =
+  class_and_end : (byte : ℕ) → HasLiteralEnd text (length_of row) byte row.asked → row.spare ≡ 8 * (LONGEST_END - length_of row) → (byte ≡ probe.last) × HasEnd row probe
+  class_and_end byte e spare =
+      let n : ℕ = length_of row in
       let some = e.some in
-      let alike = ends_alike ends text value mode row.length e.literal s in
+      let alike = ends_alike ends text value mode n e.literal s in
       let fits = alike.0 in
       let whole = value_length in
-      let same : SameEnd text path row.length =
+      let cut : row.spare % 64 ≡ 8 * (8 - n) = omega arith in
+      let same : SameEnd text path n =
       λ m below. alike.1 m below ∙ ap to_ascii_lowercase (end_of path value at is m (omega arith)) in (
         e.last ∙ (same 0 (omega arith) ∙ sym shows.last),
-        e.number ∙ (same_key text path row.length same ∙ sym (shows.ends row.length short (omega arith))),
+        e.number ∙ (same_key text path n same ∙ (sym (shows.ends n (omega arith) (omega arith)) ∙ sym (without_bytes-shift probe.end (8 - n) (row.spare % 64) cut))),
       )
 
   -- a byte of the value stands in the path
@@ -171,9 +174,9 @@ module _ (ends : EndsAsTheText) (bytes : HasTheBytes) (text path value : List �
       ap (λ (b : ℕ). b % 32) (ap to_ascii_lowercase (sym (byte_in_path has.place)) ∙ fold_lower mode (get_or value has.place 0) n.byte has.alike) ∙ sym n.bit in
       subst (λ (k : ℕ). bit_at (if row.is_name then probe.name_bytes else probe.bytes) k ≡ 1) same (bit_is_shown has.place has.inside bare)
 
-  passes_by : (class : Class) → row.length ≤ LONGEST_END → AsksFor text row.length row.asked class → (row.is_name ≡ true → (m : ℕ) → ¬ HasByte value m slash) → PassesBy row probe class
-  passes_by Always short needs bare = HasBytes-needed needs bare
-  passes_by (EndsIn byte) short needs bare = class_and_end byte needs short
+  passes_by : (class : Class) → row.spare ≡ 8 * (LONGEST_END - length_of row) → AsksFor text (length_of row) row.asked class → (row.is_name ≡ true → (m : ℕ) → ¬ HasByte value m slash) → PassesBy row probe class
+  passes_by Always spare needs bare = HasBytes-needed needs bare
+  passes_by (EndsIn byte) spare needs bare = class_and_end byte needs spare
 
 -- the law `answering_patterns_pass`, restated: a lemma can't cite a clause
 abbrev pub AnsweringPasses : Type 0
@@ -190,6 +193,6 @@ answering_passes ends bytes text pattern_mode base path rest is_dir case row pro
     let at : ℕ = below.0 + within.0 in
     let is : value ≡ drop at path = within.1 ∙ (ap (drop within.0) below.1 ∙ drop-drop within.0 below.0 path) in
     let s = answers.answers.splits in record {
-      shown = passes_by ends bytes text path value (with_case path_mode case) at row probe shows is s row.class asks.short asks.needs
+      shown = passes_by ends bytes text path value (with_case path_mode case) at row probe shows is s row.class asks.spare asks.needs
           (λ name. name_has_no_slash pattern_mode rest start (sym asks.name ∙ name) answers.basename);
     }

@@ -1,5 +1,5 @@
 -- A row that passes is seen: the path ends in its pair of bytes, or has the bytes that it needs.
-use Rattle.std.proofs.Common.{◌≡◌, inl, inr, ⊎_elim, ℕ, ◌+◌, ◌-◌, ◌<◌, ◌≤◌, Bool, true, false, List, [], ◌∷◌, ◌++◌, Some, length, get_or, take, sym, ap, subst, ◌∙◌, arith}
+use Rattle.std.proofs.Common.{◌≡◌, inl, inr, ⊎_elim, ℕ, ◌+◌, ◌-◌, ◌*◌, ◌%◌, ◌<◌, ◌≤◌, Bool, true, false, List, [], ◌∷◌, ◌++◌, Some, length, get_or, take, sym, ap, subst, ◌∙◌, arith}
 use Rattle.std.specs.Prelude.{slice_get, if◌then◌else◌}
 use Rattle.std.specs.Int.{bit_at}
 use Rattle.std.proofs.lemmas.Bool.{cases_eq, cases_lt}
@@ -14,12 +14,13 @@ use Rattle.glob_lists.specs.declared.row.Row.{Row}
 use Rattle.glob_lists.specs.declared.sight.Sight.{Sight}
 use Rattle.glob_lists.specs.Index.{entry_count}
 use Rattle.glob_lists.specs.Private.Literals.{without_bytes}
-use Rattle.glob_lists.specs.Private.Showing.{HasAll, Passes, PassesBy}
+use Rattle.glob_lists.specs.Private.Rows.{length_of}
+use Rattle.glob_lists.specs.Private.Showing.{HasAll, HasEnd, Passes, PassesBy}
 use Rattle.glob_lists.specs.Private.Sights.{AreSights, HasPair, IsSeen, Sees, SeesBy, SeesEnd, SeesFrom, SeesList, needs_of}
 use Rattle.glob_lists.specs.Private.Tables.{AreRows}
 use Rattle.glob_lists.proofs.lemmas.CountLemmas.{entry_count-more_le}
 use Rattle.glob_lists.proofs.lemmas.Elements.{slice_get-push_cases}
-use Rattle.glob_lists.proofs.lemmas.EndNumbers.{without_both}
+use Rattle.glob_lists.proofs.lemmas.EndNumbers.{without_both, without_bytes-shift}
 use Rattle.glob_lists.proofs.lemmas.RowLemmas.{rows_count}
 
 -- ---- a row that passes is seen
@@ -31,14 +32,17 @@ bytes_seen : (sight : Sight) (probe : Probe) (asked : ℕ) (is_name : Bool) → 
 bytes_seen sight probe asked true held needed = inr (inl (λ i is. held i (needed i is)))
 bytes_seen sight probe asked false held needed = inr (inr (λ i is. held i (needed i is)))
 
-module _ (probe : Probe) (sight : Sight) (row : Row) (short : row.length ≤ 8) where
-  end_seen : row.asked ≡ without_bytes probe.end (8 - row.length) → SeesEnd sight row → IsSeen sight probe
-  end_seen same seen = elim (cases_lt row.length 2) [
+module _ (probe : Probe) (sight : Sight) (row : Row) (spare : row.spare ≡ 8 * (8 - length_of row)) where
+  end_seen : HasEnd row probe → SeesEnd sight row → IsSeen sight probe
+  end_seen same seen = elim (cases_lt (length_of row) 2) [
     | inl low ↦ inr (inr (none_needed probe.bytes sight.paths (seen.short low)))
     | inr high ↦
-        (let place : row.length - 2 + (8 - row.length) ≡ 6 = omega arith in
-        let pair : without_bytes row.asked (row.length - 2) ≡ without_bytes probe.end 6 =
-        ap (λ (k : ℕ). without_bytes k (row.length - 2)) same ∙ (without_both probe.end (8 - row.length) (row.length - 2) ∙ ap (without_bytes probe.end) place) in
+        (let n : ℕ = length_of row in
+        let place : n - 2 + (8 - n) ≡ 6 = omega arith in
+        let cut : row.spare % 64 ≡ 8 * (8 - n) = omega arith in
+        let is_end : row.asked ≡ without_bytes probe.end (8 - n) = same ∙ without_bytes-shift probe.end (8 - n) (row.spare % 64) cut in
+        let pair : without_bytes row.asked (n - 2) ≡ without_bytes probe.end 6 =
+        ap (λ (k : ℕ). without_bytes k (n - 2)) is_end ∙ (without_both probe.end (8 - n) (n - 2) ∙ ap (without_bytes probe.end) place) in
         inl (subst (HasPair sight) pair (seen.pair high)))
   ]
 

@@ -1,5 +1,5 @@
 -- What a pattern asks of a path.
-use Rattle.std.specs.Prelude.{◌≡◌, ℕ, ◌<◌, ◌≤◌, List}
+use Rattle.std.specs.Prelude.{◌≡◌, ℕ, ◌-◌, ◌*◌, ◌/◌, ◌<◌, List}
 use Rattle.std.specs.Char.{to_ascii_lowercase}
 use Rattle.gix_glob.specs.declared.pattern.Mode.{Mode}
 use Rattle.gix_glob.specs.Patterns.{looks_at_name}
@@ -16,6 +16,10 @@ pub record HasLiteralEnd (text : List ℕ) (n byte key : ℕ) : Type 0 where
   pub last : byte ≡ to_ascii_lowercase (from_end text 0)
   pub number : key ≡ end_key text n
 
+-- the length of the literal end of a row, where it has one
+abbrev pub length_of : Row → ℕ
+length_of row = LONGEST_END - row.spare / 8
+
 -- what a row of this class asks for: a literal end of the text, of this length, or the bytes that are needed
 abbrev pub AsksFor : List ℕ → ℕ → ℕ → Class → Type 0
 AsksFor text n asked Always = NeedsBits text asked
@@ -23,6 +27,6 @@ AsksFor text n asked (EndsIn byte) = HasLiteralEnd text n byte asked
 
 -- The row asks of a path what a pattern of this text and mode does: a literal end, or the bytes that are needed.
 pub record Asks (text : List ℕ) (mode : Mode) (row : Row) : Type 0 where
-  pub short : row.length ≤ LONGEST_END
-  pub needs : AsksFor text row.length row.asked row.class
+  pub spare : row.spare ≡ 8 * (LONGEST_END - length_of row)
+  pub needs : AsksFor text (length_of row) row.asked row.class
   pub name : row.is_name ≡ looks_at_name mode

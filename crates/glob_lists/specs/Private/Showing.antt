@@ -1,5 +1,5 @@
 -- What a path shows, and whether a row passes it.
-use Rattle.std.specs.Prelude.{◌≡◌, ℕ, ◌-◌, ◌<◌, ◌≤◌, List, length, slice_index, drop, Option, None, Some, if◌then◌else◌}
+use Rattle.std.specs.Prelude.{◌≡◌, ℕ, ◌-◌, ◌/◌, ◌%◌, ◌^◌, ◌<◌, ◌≤◌, List, length, slice_index, drop, Option, None, Some, if◌then◌else◌}
 use Rattle.std.specs.Char.{to_ascii_lowercase}
 use Rattle.std.specs.Int.{bit_at}
 use Rattle.gix_glob.specs.Bytes.{HasByte, slash}
@@ -41,7 +41,7 @@ HasAll held needed = (i : ℕ) → bit_at needed i ≡ 1 → bit_at held i ≡ 1
 
 -- the path ends as the row's text does, as far as the numbers tell
 abbrev pub HasEnd : Row → Probe → Type 0
-HasEnd row probe = row.asked ≡ without_bytes probe.end (LONGEST_END - row.length)
+HasEnd row probe = row.asked ≡ probe.end / 2 ^ (row.spare % 64)
 
 -- the path, or its last part where the row looks at no more, has the bytes that the row needs
 abbrev pub HasBytes : Row → Probe → Type 0

@@ -11,7 +11,7 @@ use Rattle.glob_lists.specs.declared.row.Row.{Row}
 use Rattle.glob_lists.specs.declared.sight.Sight.{Sight}
 use Rattle.glob_lists.specs.declared.sight.TheConstants.{ENDS, OTHER_ENDS}
 use Rattle.glob_lists.specs.Private.Literals.{without_bytes}
-use Rattle.glob_lists.specs.Private.Rows.{Asks}
+use Rattle.glob_lists.specs.Private.Rows.{Asks, length_of}
 use Rattle.glob_lists.specs.Private.Showing.{HasAll, Passes}
 use Rattle.glob_lists.specs.Private.Tables.{IsEntryAt}
 
@@ -30,8 +30,8 @@ needs_of sight is_name = if is_name then sight.names else sight.paths
 
 -- The sight has the pair of bytes that the row's end begins with; of a row with one byte it has that nothing else is needed.
 pub record SeesEnd (sight : Sight) (row : Row) : Type 0 where
-  pub short : row.length < 2 → sight.paths ≡ 0
-  pub pair : 2 ≤ row.length → HasPair sight (without_bytes row.asked (row.length - 2))
+  pub short : length_of row < 2 → sight.paths ≡ 0
+  pub pair : 2 ≤ length_of row → HasPair sight (without_bytes row.asked (length_of row - 2))
 
 -- the sight has what a row of this class asks for
 abbrev pub SeesBy : Sight → Row → Class → Type 0

@@ -8,6 +8,7 @@ use Rattle.glob_lists.specs.declared.row.Row.{Row}
 use Rattle.glob_lists.specs.declared.stored.StoredRow.{StoredRow}
 use Rattle.glob_lists.specs.declared.table.Walk.{Walk}
 use Rattle.glob_lists.specs.Private.Chains.{IsChained, classes_of, links_of}
+use Rattle.glob_lists.specs.Private.Literals.{spare_bits}
 use Rattle.glob_lists.specs.Private.Walking.{IsWalkDown, NonePasses}
 
 -- the class of a row: one without a literal end is always looked at
@@ -22,7 +23,7 @@ row_of row = record {
   list = 0;
   mapping = 0;
   class = class_of row;
-  length = row.length;
+  spare = spare_bits row.length;
   is_name = if row.is_name == 0 then false else true;
 }
 
