@@ -114,8 +114,8 @@ pub(crate) fn without_bytes(key: u64, count: usize) -> u64
     key >> (8 * count)
 }
 
-/// How many bits the number of the longest end that is looked at has more than that of an end of so many bytes; 0 where that has no
-/// byte or more than the longest.
+/// How many bits the number of the longest end that is looked at has more than that of an end of so many bytes; 0 where there
+/// is no byte, or more than in the longest.
 #[inline(always)]
 pub(crate) fn spare_bits(length: u8) -> u8
     ensures { result ≡ spare_bits length }
