@@ -13,7 +13,8 @@ mod lists;
 pub use glob_matcher::laws::{
     a_crossing_run_splits_from_before, a_double_star_splits_from_before,
     a_local_run_splits_from_before, a_pattern_has_one_reading, each_pattern_has_a_reading,
-    one_more_star_changes_nothing_in_plain_mode, star_tokens_are_as_many_in_each_mode,
+    no_slash_is_special_where_the_value_has_none, one_more_star_changes_nothing_in_plain_mode,
+    star_tokens_are_as_many_in_each_mode,
 };
 pub use glob_patterns::laws::{
     case_counts_by_default, flags_do_not_count, line_has_one_reading, literal_text_splits_itself,

@@ -1,8 +1,10 @@
-//! Laws of readings and of star tokens.
+//! Laws of modes, of readings and of star tokens.
 
+mod modes;
 mod readings;
 mod stars;
 
+pub use modes::no_slash_is_special_where_the_value_has_none;
 pub use readings::{
     a_pattern_has_one_reading, each_pattern_has_a_reading, star_tokens_are_as_many_in_each_mode,
 };

@@ -1,4 +1,5 @@
 pub mod Agreement
+pub mod BareNames
 pub mod ByteSearches
 pub mod LiteralLemmas
 pub mod LiteralBytes

@@ -4,3 +4,4 @@ pub mod PlaceLemmas
 pub mod Engines
 pub mod SlashLemmas
 pub mod OneMoreStar
+pub mod NoSlashes

@@ -1,45 +1,69 @@
 //! The comparisons that decide without the matcher whether a value matches. They read both texts in counted looks alone.
-ghost use Rattle.std.specs.Prelude.{◌≡◌, ◌↔◌, ◌||◌, ◌+◌, ◌*◌, ◌<◌, ◌≤◌, not, IsTrue, IfSome, length, slice_index, take, drop};
-ghost use Rattle.glob_matcher.specs.Bytes.{fold, has_slash, is_path, slash};
+ghost use Rattle.std.specs.Prelude.{◌≡◌, ◌↔◌, ◌||◌, ◌+◌, ◌*◌, ◌<◌, ◌≤◌, false, not, IsTrue, IfSome, length, slice_index, take, drop};
+ghost use Rattle.glob_matcher.specs.Bytes.{HasByte, fold, has_slash, is_path, slash, star};
 ghost use Rattle.glob_matcher.specs.Matching.{Splits};
 ghost use Rattle.glob_matcher.specs.Private.Takes.{Takes};
 ghost use Rattle.glob_patterns.specs.Laws.LiteralBytes.{AreAlike, EndsAlike};
 ghost use Rattle.glob_patterns.specs.Patterns.{IsPattern};
 ghost use Rattle.glob_patterns.specs.Private.Fronts.{AgreeFrom, BeginsAlike};
+ghost use Rattle.glob_patterns.specs.Private.Shown.{IsShown};
 
 use crate::mode::Mode;
 use bitflags::Flags;
-use glob_matcher::wildmatch;
 use glob_matcher::wildmatch::{CountedTexts, Counts, Texts};
+use glob_matcher::{laws, wildmatch};
 use std::marker::Model;
 use std::sync::ledger::Ledger;
+
+/// What comparisons show of a value.
+#[derive(Copy, Clone)]
+pub(super) enum Shown {
+    /// The text matches it.
+    Match,
+    /// The text doesn't match it.
+    Miss,
+    /// Neither: the matcher is to be asked, in this mode.
+    Open(wildmatch::Mode),
+}
 
 /// The text of a pattern beside a value. Contracts see the counts, and the two texts by `M`.
 #[derive(Drop)]
 pub(super) struct Comparison<'c, 'a, S: Ledger, L: Ledger, M: Texts> {
     texts: CountedTexts<'c, 'a, S, L, M>,
+    /// Whether it is known that the value has no slash.
+    is_bare: bool,
     mode: wildmatch::Mode,
 }
 
 impl<'c, 'a, S: Ledger, L: Ledger, M: Texts> Model for Comparison<'c, 'a, S, L, M> {
-    ghost use Rattle.std.specs.Prelude.{◌≡◌};
+    ghost use Rattle.std.specs.Prelude.{◌≡◌, false, IsTrue};
+    ghost use Rattle.glob_matcher.specs.Bytes.{has_slash};
     ghost use Rattle.glob_matcher.specs.Steps.{Counts};
 
     ghost Value = { Counts };
 
     ghost view = { λ c. c.texts };
 
-    ghost invariant = { λ c. c.mode ≡ M.mode };
+    ghost invariant = { λ c. (c.mode ≡ M.mode) × (IsTrue c.is_bare → has_slash M.value ≡ false) };
 }
 
 impl<'c, 'a, S: Ledger, L: Ledger, M: Texts> Comparison<'c, 'a, S, L, M> {
-    /// Two texts that are to be compared.
+    /// Two texts that are to be compared. Where `is_bare`, the value has no slash.
     #[inline(always)]
-    pub(super) fn new(texts: CountedTexts<'c, 'a, S, L, M>, mode: wildmatch::Mode) -> Self
-        requires { mode ≡ M.mode }
+    pub(super) fn new(
+        texts: CountedTexts<'c, 'a, S, L, M>,
+        is_bare: bool,
+        mode: wildmatch::Mode,
+    ) -> Self
+        requires mode { mode ≡ M.mode }
+        requires bare { IsTrue is_bare → has_slash M.value ≡ false }
         ensures { result ≡ texts.entry }
     {
-        Comparison { texts, mode }
+        Comparison {
+            texts,
+            is_bare,
+            mode,
+        }
     }
 
     /// The counts, by the reference that they came by.
@@ -51,14 +75,23 @@ impl<'c, 'a, S: Ledger, L: Ledger, M: Texts> Comparison<'c, 'a, S, L, M> {
         self.texts.into_counts()
     }
 
+    /// What the comparisons show.
+    #[inline(always)]
+    pub(super) fn shown(&mut self, pattern_mode: Mode, first_wildcard_pos: Option<usize>) -> Shown
+        ensures meaning { IsPattern M.pattern pattern_mode first_wildcard_pos → IsShown result M.value M.pattern M.mode }
+        ensures count { Takes self.old self.new 0 (2 * length M.pattern + length M.value + 2) }
+    {
+        match self.answer(pattern_mode, first_wildcard_pos) {
+            Some(true) => Shown::Match,
+            Some(false) => Shown::Miss,
+            None => Shown::Open(self.matcher_mode()),
+        }
+    }
+
     /// The answer, where a comparison alone shows it: of a text without special bytes, of a star and a literal, and of a value
     /// that doesn't begin with the literal front.
     #[inline(always)]
-    pub(super) fn answer(
-        &mut self,
-        pattern_mode: Mode,
-        first_wildcard_pos: Option<usize>,
-    ) -> Option<bool>
+    fn answer(&mut self, pattern_mode: Mode, first_wildcard_pos: Option<usize>) -> Option<bool>
         ensures meaning { IsPattern M.pattern pattern_mode first_wildcard_pos →
             IfSome result (λ answer. IsTrue answer ↔ Splits M.value M.pattern M.mode) }
         ensures count { Takes self.old self.new 0 (2 * length M.pattern + length M.value) }
@@ -161,7 +194,7 @@ impl<'c, 'a, S: Ledger, L: Ledger, M: Texts> Comparison<'c, 'a, S, L, M> {
         ensures exact { result ≡ (not (is_path M.mode) || not (has_slash M.value)) }
         ensures count { Takes self.old self.new 0 (length M.value) }
     {
-        if !self.mode.contains(wildmatch::Mode::NO_MATCH_SLASH_LITERAL) {
+        if self.is_bare || !self.mode.contains(wildmatch::Mode::NO_MATCH_SLASH_LITERAL) {
             return true;
         }
         let len = self.texts.value_len();
@@ -181,5 +214,40 @@ impl<'c, 'a, S: Ledger, L: Ledger, M: Texts> Comparison<'c, 'a, S, L, M> {
         ensures count { Takes self.old self.new 0 1 }
     {
         self.texts.value_byte(at) == b'/'
+    }
+
+    /// The mode in which the matcher is asked. Where the value has no slash, plain mode answers sooner, and answers the same for
+    /// a text that doesn't begin with two stars.
+    #[inline(always)]
+    fn matcher_mode(&mut self) -> wildmatch::Mode
+        ensures same { Splits M.value M.pattern result ↔ Splits M.value M.pattern M.mode }
+        ensures count { Takes self.old self.new 0 2 }
+    {
+        // laws do nothing: they are called for what they ensure
+        laws::no_slash_is_special_where_the_value_has_none();
+        if !self.is_bare || self.begins_with_two_stars() {
+            return self.mode;
+        }
+        self.mode
+            .difference(wildmatch::Mode::NO_MATCH_SLASH_LITERAL)
+    }
+
+    /// Whether the text begins with two stars.
+    #[inline(always)]
+    fn begins_with_two_stars(&mut self) -> bool
+        ensures exact { IsTrue result ↔ (HasByte M.pattern 0 star × HasByte M.pattern 1 star) }
+        ensures count { Takes self.old self.new 0 2 }
+    {
+        // few texts have a star there
+        self.has_star(1) && self.has_star(0)
+    }
+
+    /// Whether the text has a star at a place.
+    #[inline(always)]
+    fn has_star(&mut self, place: usize) -> bool
+        ensures exact { IsTrue result ↔ HasByte M.pattern place star }
+        ensures count { Takes self.old self.new 0 1 }
+    {
+        self.texts.pattern_at(place) == Some(b'*')
     }
 }

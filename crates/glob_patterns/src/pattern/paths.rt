@@ -37,17 +37,26 @@ pub(super) struct Asked<'p> {
 }
 
 impl<'p> Asked<'p> {
+    ghost use Rattle.std.specs.Prelude.{◌<◌, ◌≤◌, drop, false, length};
     ghost use Rattle.std.specs.Option.{ForSome};
+    ghost use Rattle.glob_matcher.specs.Bytes.{has_slash};
     ghost use Rattle.glob_patterns.specs.RepositoryPaths.{IsAfterLastSlash, subject};
 
-    /// The bytes of the path that a pattern of this mode looks at.
-    pub(super) fn subject(self, pattern_mode: Mode) -> &'p [u8]
+    /// The place of the path, counted from 0, from which on a pattern of this mode looks at it: 0, or where the last part
+    /// begins, which has no slash.
+    #[inline(always)]
+    pub(super) fn subject_start(self, pattern_mode: Mode) -> usize
         requires { ForSome self.basename_start_pos (IsAfterLastSlash self.path.now) }
-        ensures { result.now ≡ subject pattern_mode self.entry.path.now self.entry.basename_start_pos }
+        ensures inside { result ≤ length self.entry.path.now }
+        ensures subject { drop result self.entry.path.now ≡ subject pattern_mode self.entry.path.now self.entry.basename_start_pos }
+        ensures bare { 0 < result → has_slash (drop result self.entry.path.now) ≡ false }
     {
-        match self.basename_start_pos {
-            Some(start) if pattern_mode.looks_at_name() => &self.path[start..],
-            _ => self.path,
+        // The place of the last part is one for all patterns.
+        let start = self.basename_start_pos.unwrap_or(0);
+        if pattern_mode.looks_at_name() {
+            start
+        } else {
+            0
         }
     }
 }

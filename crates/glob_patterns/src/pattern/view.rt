@@ -1,7 +1,7 @@
 //! A pattern whose text is borrowed: the parts of a line that was read, without a copy of its text.
-ghost use Rattle.std.specs.Prelude.{◌≡◌, ◌↔◌, ◌+◌, ◌*◌, ◌≤◌, length, true, IsNone, IsTrue, MatchOption, IfSome};
+ghost use Rattle.std.specs.Prelude.{◌≡◌, ◌↔◌, ◌+◌, ◌*◌, ◌≤◌, length, true, false, IsNone, IsTrue, MatchOption, IfSome};
 ghost use Rattle.std.specs.Option.{ForSome};
-ghost use Rattle.glob_matcher.specs.Bytes.{HasByte, slash};
+ghost use Rattle.glob_matcher.specs.Bytes.{HasByte, has_slash, slash};
 ghost use Rattle.glob_matcher.specs.Matching.{Splits};
 ghost use Rattle.glob_matcher.specs.Private.Takes.{Takes};
 ghost use Rattle.glob_matcher.specs.Steps.{IsBlankOf, NeverFall, step_limit};
@@ -9,8 +9,9 @@ ghost use Rattle.glob_patterns.specs.PatternLimits.{pattern_look_limit};
 ghost use Rattle.glob_patterns.specs.Patterns.{HasReading, IsPattern, Reads, is_blank, without_negation};
 ghost use Rattle.glob_patterns.specs.RepositoryPaths.{Answers, IsAfterLastSlash};
 ghost use Rattle.glob_patterns.specs.Private.Asked.{IsAnswered};
+ghost use Rattle.glob_patterns.specs.Private.Shown.{IsShown};
 
-use super::comparisons::Comparison;
+use super::comparisons::{Comparison, Shown};
 use super::paths::{Asked, with_case};
 use super::{Case, Mode};
 use crate::parse;
@@ -95,38 +96,61 @@ impl<'a> PatternView<'a> {
             ≤ counts.old.looks + pattern_look_limit (length self.entry.text.now) (length value.now) }
         ensures grows { NeverFall counts.old counts.new }
     {
+        self.decide(value, false, mode, counts)
+    }
+
+    /// Whether the text matches the value, as [`PatternView::matches_with_counts`] answers it. Where `is_bare`, the value has no
+    /// slash.
+    #[inline(always)]
+    fn decide<S: Ledger, L: Ledger>(
+        self,
+        value: &[u8],
+        is_bare: bool,
+        mode: wildmatch::Mode,
+        counts: &mut Counts<S, L>,
+    ) -> bool
+        requires { IsTrue is_bare → has_slash value.now ≡ false }
+        ensures exact { IsPattern self.entry.text.now self.entry.mode self.entry.first_wildcard_pos →
+            IsTrue result ↔ Splits value.now self.entry.text.now mode }
+        ensures steps { counts.new.steps ≤ counts.old.steps + step_limit (length self.entry.text.now) (length value.now) }
+        ensures looks { counts.new.looks
+            ≤ counts.old.looks + pattern_look_limit (length self.entry.text.now) (length value.now) }
+        ensures grows { NeverFall counts.old counts.new }
+    {
         text_is_short(self.text);
         text_is_short(value);
-        let (answer, counts) = self.compared::<S, L, Brand>(value, mode, counts);
+        let (shown, counts) = self.compared::<S, L, Brand>(value, is_bare, mode, counts);
         // Each arm names its answer: a bit that is handed on costs every call an instruction.
-        match answer {
-            Some(true) => true,
-            Some(false) => false,
-            None => wildmatch::marked(self.text, value, mode, counts),
+        match shown {
+            Shown::Match => true,
+            Shown::Miss => false,
+            Shown::Open(mode) => wildmatch::marked(self.text, value, mode, counts),
         }
     }
 
-    /// What a comparison of text and value answers, and the counts of what it took.
+    /// What a comparison of text and value shows, and the counts of what it took.
     #[inline(always)]
     fn compared<'c, S: Ledger, L: Ledger, M: Texts>(
         self,
         value: &'a [u8],
+        is_bare: bool,
         mode: wildmatch::Mode,
         counts: &'c mut Counts<S, L>,
-    ) -> (Option<bool>, &'c mut Counts<S, L>)
+    ) -> (Shown, &'c mut Counts<S, L>)
         requires pattern { self.text.now ≡ M.pattern }
         requires value { value.now ≡ M.value }
         requires mode { mode ≡ M.mode }
         requires counts { counts.ghost_name ≡ M.counts }
+        requires bare { IsTrue is_bare → has_slash value.now ≡ false }
         ensures meaning { IsPattern self.entry.text.now self.entry.mode self.entry.first_wildcard_pos →
-            IfSome result.0 (λ answer. IsTrue answer ↔ Splits value.now self.entry.text.now mode) }
+            IsShown result.0 value.now self.entry.text.now mode }
         ensures same { result.1.ghost_name ≡ counts.entry.ghost_name }
-        ensures count { Takes counts.old result.1.now 0 (2 * length self.entry.text.now + length value.now) }
+        ensures count { Takes counts.old result.1.now 0 (2 * length self.entry.text.now + length value.now + 2) }
     {
         let texts = CountedTexts::<'c, 'a, S, L, M>::new(self.text, value, counts);
-        let mut comparison = Comparison::new(texts, mode);
-        let answer = comparison.answer(self.mode, self.first_wildcard_pos);
-        (answer, comparison.into_counts())
+        let mut comparison = Comparison::new(texts, is_bare, mode);
+        let shown = comparison.shown(self.mode, self.first_wildcard_pos);
+        (shown, comparison.into_counts())
     }
 
     /// Whether a path of a repository matches, as [`super::Pattern::matches_repo_relative_path`] answers, and
@@ -217,7 +241,8 @@ impl<'a> PatternView<'a> {
         if self.mode.contains(Mode::MUST_BE_DIR) && asked.is_dir != Some(true) {
             return false;
         }
-        let subject = asked.subject(self.mode);
-        self.matches_with_counts(subject, with_case(asked.mode, asked.case), counts)
+        let mode = with_case(asked.mode, asked.case);
+        let start = asked.subject_start(self.mode);
+        self.decide(&asked.path[start..], start > 0, mode, counts)
     }
 }

@@ -1,7 +1,7 @@
 -- The texts are those of the call, and the counts are kept behind the reference that is passed.
 use Rattle.std.proofs.Common.{◌-◌, ◌^◌, take}
 use Rattle.glob_matcher.proofs.lemmas.two_marks.Texts.{short}
-use Rattle.glob_patterns.proofs.pattern.view.PatternView.matches_with_counts.Given as goal
+use Rattle.glob_patterns.proofs.pattern.view.PatternView.decide.Given as goal
 
 abbrev pub ghosts-compared : goal.ghosts-compared
 ghosts-compared g a = record {
