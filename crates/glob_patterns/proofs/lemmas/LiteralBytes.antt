@@ -84,9 +84,9 @@ literal_pairs p v mode i a b clean here next plain plain' s =
     let in_text = next.inside in
     let each : (y : ℕ) → i ≤ y → y < i + 2 → is_special (get_or p y 0) ≡ false =
     λ y low high. ⊎_elim
-        (λ (first : y ≡ i). subst (λ (m : ℕ). is_special (get_or p m 0) ≡ false) (sym first) (not_special p i a here plain))
-        (λ (other : y ≡ i → ⊥). (let second : i + 1 ≡ y = omega arith in subst (λ (m : ℕ). is_special (get_or p m 0) ≡ false) second (not_special p (i + 1) b next plain')))
-        (cases_eq y i) in
+    (λ (first : y ≡ i). subst (λ (m : ℕ). is_special (get_or p m 0) ≡ false) (sym first) (not_special p i a here plain))
+    (λ (other : y ≡ i → ⊥). (let second : i + 1 ≡ y = omega arith in subst (λ (m : ℕ). is_special (get_or p m 0) ≡ false) second (not_special p (i + 1) b next plain')))
+    (cases_eq y i) in
     let out = literal_out mode p v 2 from.place (from.place + 2) i (i + 2) refl refl (omega arith) from.inside (record { at = each }) from.split in
     let reach = out.0 in record {
       place = from.place;
