@@ -8,7 +8,7 @@ use Rattle.std.specs.Str.{byte}
 use Rattle.gix_glob.specs.Bytes.{backslash, is_special, is_wildcard, open_bracket, slash, star}
 use Rattle.gix_glob.specs.LiteralBytes.{IsUnescapedUpTo, is_joining}
 use Rattle.glob_lists.specs.Private.Literals.{NeedsBits, bit_of, pair_of}
-use Rattle.glob_lists.specs.Private.Showing.{HasAll, HoldsBits, HoldsBytes}
+use Rattle.glob_lists.specs.Private.Showing.{HasAll, HoldsBits}
 
 -- the two cases of a letter have one bit
 pub same_bit : (b : ℕ) → b % 32 ≡ bit_of b
@@ -205,16 +205,19 @@ IsReadUpTo-pair text k set inside opens plain plain' h =
     let past = clean_more text (k + 1) set (not_opening second plain') (record { clean = clean; needs = h.needs }) in record {
       clean = clean;
       needs = λ i is. ⊎_elim
-          (λ (same : i ≡ place). (k, inr (record {
-            first = first;
-            second = second;
-            there = record { inside = omega arith; is = refl };
-            behind = record { inside = inside; is = refl };
-            unescaped = IsUnescapedUpTo-clean text (k + 1) past;
-            literal = plain;
-            both = plain';
-            bit = same;
-          })))
+          (λ (same : i ≡ place). (
+            k,
+            inr (record {
+              first = first;
+              second = second;
+              there = record { inside = omega arith; is = refl };
+              behind = record { inside = inside; is = refl };
+              unescaped = IsUnescapedUpTo-clean text (k + 1) past;
+              literal = plain;
+              both = plain';
+              bit = same;
+            }),
+          ))
           (λ (other : i ≡ place → ⊥). h.needs i (sym (bit_at_set_other w64 set place (omega arith) i other) ∙ is))
           (cases_eq i place);
     }

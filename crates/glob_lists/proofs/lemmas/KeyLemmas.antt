@@ -1,5 +1,5 @@
 -- The sets of a path and of its last part.
-use Rattle.std.proofs.Common.{◌≡◌, ⊎_elim, ℕ, ◌+◌, ◌-◌, ◌<◌, ◌≤◌, List, length, get_or, drop, take, Option, None, Some, sym, ◌∙◌, ap, subst, arith, bit_or, length-drop, length-take}
+use Rattle.std.proofs.Common.{◌≡◌, ⊎_elim, ℕ, ◌+◌, ◌-◌, ◌<◌, ◌≤◌, List, get_or, drop, Option, None, Some, sym, ◌∙◌, ap, subst, arith, bit_or, length-drop, length-take}
 use Rattle.std.specs.Int.{bit_at}
 use Rattle.std.proofs.lemmas.Bool.{cases_lt}
 use Rattle.std.proofs.lemmas.List.{drop-drop, get_or-drop, get_or-take}
