@@ -14,6 +14,7 @@ ghost use Rattle.glob_lists.specs.Private.Showing.{Passes, Shows};
 
 use gix_glob::laws::{
     bases_end_in_a_slash, matched_values_end_as_the_text, matched_values_have_the_literal_bytes,
+    matched_values_have_the_literal_pairs,
 };
 use gix_glob::search;
 
@@ -40,4 +41,5 @@ pub(crate) fn answering_patterns_pass()
 {
     matched_values_end_as_the_text();
     matched_values_have_the_literal_bytes();
+    matched_values_have_the_literal_pairs();
 }

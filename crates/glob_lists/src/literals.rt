@@ -1,18 +1,22 @@
-//! The literal bytes of texts: the bytes that each value that a pattern matches has to end in, and those that it has to hold.
+//! The literal bytes of texts: the bytes that each value that a pattern matches has to end in, and those that it has to hold, alone and
+//! side by side.
 ghost use Rattle.std.specs.Prelude.{◌≡◌, ◌↔◌, ◌==◌, ◌||◌, ◌+◌, ◌*◌, ◌%◌, ◌<◌, ◌≤◌, ◌^◌, IsTrue, length};
 ghost use Rattle.std.specs.Char.{to_ascii_lowercase};
 ghost use Rattle.gix_glob.specs.Bytes.{backslash, open_bracket};
 ghost use Rattle.gix_glob.specs.LiteralBytes.{is_joining};
-ghost use Rattle.glob_lists.specs.Private.Literals.{EndsLiterally, NeedsBits, bit_of, end_key, from_end, raw_end, spare_bits, without_bytes};
-ghost use Rattle.glob_lists.specs.Private.Showing.{HasAll, HasEndKeys, HoldsBits};
+ghost use Rattle.glob_lists.specs.Private.Literals.{EndsLiterally, NeedsBits, bit_of, end_key, from_end, pair_of, raw_end, spare_bits, without_bytes};
+ghost use Rattle.glob_lists.specs.Private.Showing.{HasAll, HasEndKeys, HoldsBits, HoldsBytes};
 
 use crate::fronts::NO_CAPITAL;
 
 /// The longest end of a text that is looked at, in bytes.
 pub(crate) const LONGEST_END: usize = 8;
 
-/// The set of all bytes.
-pub(crate) const ALL_BYTES: u64 = 0xFFFF_FFFF;
+/// The set of all bytes and all pairs.
+pub(crate) const ALL_BITS: u64 = u64::MAX;
+
+/// The set of all pairs.
+pub(crate) const ALL_PAIRS: u64 = 0xFFFF_FFFF_0000_0000;
 
 /// Whether a byte may be the last of a token of more than one byte.
 fn is_joining(byte: u8) -> bool
@@ -139,9 +143,24 @@ fn bit_of(byte: u8) -> u64
     1 << (byte % 32)
 }
 
-/// The bytes that each value has to hold that a text matches, as a set: those that stand for themselves before the first `[`
-/// and the first `\`.
-pub(crate) fn needed_bytes(text: &[u8]) -> u64
+/// The place of a pair of bytes among the pairs, which are the upper half of a set; the case of letters doesn't count.
+#[inline(always)]
+fn pair_of(first: u8, second: u8) -> u8
+    ensures { result ≡ pair_of first second }
+{
+    first.wrapping_mul(5).wrapping_add(second) % 32
+}
+
+/// What each value has to hold that a text matches, as a set: the bytes that stand for themselves before the first `[` and the
+/// first `\`, and the pairs of those that stand side by side.
+pub(crate) fn needed_bits(text: &[u8]) -> u64
+    ensures { NeedsBits text.now result }
+{
+    needed_bytes(text) | needed_pairs(text)
+}
+
+/// The bytes of [`needed_bits`].
+fn needed_bytes(text: &[u8]) -> u64
     ensures { NeedsBits text.now result }
 {
     let mut bits = 0;
@@ -156,9 +175,25 @@ pub(crate) fn needed_bytes(text: &[u8]) -> u64
     bits
 }
 
-/// The bytes of a text, as a set.
+/// The pairs of [`needed_bits`].
+fn needed_pairs(text: &[u8]) -> u64
+    ensures { NeedsBits text.now result }
+{
+    let mut bits = 0;
+    'pairs: for n in 0..text.len().saturating_sub(1) {
+        if is_opening(text[n]) {
+            return bits;
+        }
+        if !is_joining(text[n]) && !is_joining(text[n + 1]) {
+            bits |= 1 << (32 + pair_of(text[n], text[n + 1]));
+        }
+    }
+    bits
+}
+
+/// The bytes of a text, as a set without pairs.
 pub(crate) fn bytes_of(text: &[u8]) -> u64
-    ensures { HoldsBits text.now result }
+    ensures { HoldsBytes text.now result }
 {
     // half of the width, so that more bytes are read at once
     let mut bits: u32 = 0;
@@ -166,6 +201,22 @@ pub(crate) fn bytes_of(text: &[u8]) -> u64
         bits |= 1 << (*byte % 32);
     }
     u64::from(bits)
+}
+
+/// The bytes of a text and its pairs, as a set.
+pub(crate) fn bits_of(text: &[u8]) -> u64
+    ensures { HoldsBits text.now result }
+{
+    let [first, ..] = text else {
+        return 0;
+    };
+    let mut bytes: u32 = 1 << (*first % 32);
+    let mut pairs: u32 = 0;
+    'bytes: for n in 1..text.len() {
+        bytes |= 1 << (text[n] % 32);
+        pairs |= 1 << pair_of(text[n - 1], text[n]);
+    }
+    (u64::from(pairs) << 32) | u64::from(bytes)
 }
 
 /// Whether a set has all that another one has.

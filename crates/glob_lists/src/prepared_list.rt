@@ -159,7 +159,7 @@ impl Demands {
             × ((m : ℕ) → AnswersAt (entry_list_of T.seen list.now) path.now.bytes path.now.is_dir case m → m ≤ last)) }
     {
         if self.sight.has_paths() {
-            let whole = probe.with_path(path.bytes(), counts);
+            let whole = probe.with_path(path.bytes(), path.basename_start(), counts);
             return self.last_shown_match(list, path, &whole, case, counts);
         }
         self.last_shown_match(list, path, probe, case, counts)

@@ -1,12 +1,14 @@
-//! What a path shows: the numbers of its ends, and the sets of its bytes.
+//! What a path shows: the numbers of its ends, and the sets of its bytes and pairs.
 ghost use Rattle.std.specs.Prelude.{◌≡◌, ◌+◌, ◌-◌, ◌*◌, ◌/◌, ◌%◌, ◌^◌, ◌≤◌, length, min, if◌then◌else◌};
 ghost use Rattle.std.specs.Char.{to_ascii_lowercase};
 ghost use Rattle.gix_glob.specs.RepositoryPaths.{IsBasenameStart};
 ghost use Rattle.glob_lists.specs.Private.Literals.{from_end, without_bytes};
 ghost use Rattle.glob_lists.specs.Private.Looking.{LooksUpTo};
-ghost use Rattle.glob_lists.specs.Private.Showing.{Shows, last_part};
+ghost use Rattle.glob_lists.specs.Private.Showing.{Shows, front_part, last_part};
 
-use crate::literals::{ALL_BYTES, LONGEST_END, bytes_of, end_number, without_bytes};
+use crate::literals::{
+    ALL_BITS, ALL_PAIRS, LONGEST_END, bits_of, bytes_of, end_number, without_bytes,
+};
 use gix_glob::wildmatch::Counts;
 use std::sync::ledger::Ledger;
 
@@ -17,14 +19,14 @@ pub(crate) struct Probe {
     end: u64,
     /// The last byte, letters as small ones.
     last: u8,
-    /// The bytes of the path, as a set.
+    /// The bytes of the path, as a set, with all pairs: a whole path has too many for them to tell much.
     bytes: u64,
-    /// The bytes of the last part of the path, as a set.
+    /// The bytes and pairs of the last part of the path, as a set.
     name_bytes: u64,
 }
 
 impl Probe {
-    /// What a path shows whose last part begins at `basename_start`. Where `has_sets` is false the sets have each byte.
+    /// What a path shows whose last part begins at `basename_start`. Where `has_sets` is false the sets have all.
     ///
     /// A look is counted at each byte that is read.
     pub(crate) fn new<S: Ledger, L: Ledger>(
@@ -43,10 +45,10 @@ impl Probe {
         }
         probe
             .with_name(path, basename_start, counts)
-            .with_path(path, counts)
+            .with_path(path, basename_start, counts)
     }
 
-    /// What the end of a path shows. The sets have each byte.
+    /// What the end of a path shows. The sets have all.
     ///
     /// A look is counted at each byte that is read.
     #[inline(always)]
@@ -59,12 +61,13 @@ impl Probe {
         Probe {
             end: end_number(path),
             last: last_byte(path),
-            bytes: ALL_BYTES,
-            name_bytes: ALL_BYTES,
+            bytes: ALL_BITS,
+            name_bytes: ALL_BITS,
         }
     }
 
-    /// The same, with the set of the bytes of the last part of the path, which begins at `basename_start`. A look is counted at each.
+    /// The same, with the set of the last part of the path, which begins at `basename_start`. A look is counted at each of its
+    /// bytes.
     #[inline(always)]
     pub(crate) fn with_name<S: Ledger, L: Ledger>(
         self,
@@ -81,18 +84,21 @@ impl Probe {
         let name = last_part(path, basename_start);
         counts.looks(name.len());
         Probe {
-            name_bytes: bytes_of(name),
+            name_bytes: bits_of(name),
             ..self
         }
     }
 
-    /// The same, with the set of the bytes of the whole path. A look is counted at each.
+    /// The same, with the set of the whole path, whose last part begins at `basename_start`: what the set of that part has isn't read
+    /// again. A look is counted at each byte of the path.
     #[inline(always)]
     pub(crate) fn with_path<S: Ledger, L: Ledger>(
         self,
         path: &[u8],
+        basename_start: Option<usize>,
         counts: &mut Counts<S, L>,
     ) -> Probe
+        requires basename { IsBasenameStart path.now basename_start }
         requires shows { Shows path.now self }
         ensures shows { Shows path.now result }
         ensures looks { LooksUpTo counts.old counts.new (length path.now) }
@@ -100,7 +106,7 @@ impl Probe {
     {
         counts.looks(path.len());
         Probe {
-            bytes: bytes_of(path),
+            bytes: self.name_bytes | bytes_of(front_part(path, basename_start)) | ALL_PAIRS,
             ..self
         }
     }
@@ -128,7 +134,7 @@ impl Probe {
         self.end >> (spare % 64)
     }
 
-    /// The bytes of the last part or of the whole path, as a set.
+    /// The set of the last part or of the whole path.
     #[inline(always)]
     pub(crate) fn bytes_for(&self, is_name: bool) -> u64
         ensures { result ≡ (if is_name then self.now.name_bytes else self.now.bytes) }
@@ -157,5 +163,17 @@ fn last_part(path: &[u8], basename_start: Option<usize>) -> &[u8]
     match basename_start {
         Some(start) => &path[start..],
         None => path,
+    }
+}
+
+/// What stands before the last part of a path, which begins at `basename_start`; nothing where the whole path is that part.
+#[inline(always)]
+fn front_part(path: &[u8], basename_start: Option<usize>) -> &[u8]
+    requires { IsBasenameStart path.now basename_start }
+    ensures { result.now ≡ front_part basename_start path.now }
+{
+    match basename_start {
+        Some(start) => &path[..start],
+        None => &[],
     }
 }

@@ -6,7 +6,7 @@ ghost use Rattle.glob_lists.specs.Private.Showing.{HasBytes, HasEnd, Passes};
 ghost use Rattle.glob_lists.specs.Private.Walking.{NonePasses};
 
 use crate::chains::{Class, Link};
-use crate::literals::{LONGEST_END, end_key, has_all, literal_end, needed_bytes, spare_bits};
+use crate::literals::{LONGEST_END, end_key, has_all, literal_end, needed_bits, spare_bits};
 use crate::probe::Probe;
 use gix_glob::Pattern;
 use gix_glob::pattern::PatternView;
@@ -16,8 +16,8 @@ use std::sync::ledger::Ledger;
 /// What a pattern asks of a path, and where its mapping stands.
 #[derive(Debug, Copy, Clone)]
 pub(crate) struct Row {
-    /// What is asked for: the number of the text's literal end; in the class [`Class::Always`] the set of the bytes that are
-    /// needed.
+    /// What is asked for: the number of the text's literal end; in the class [`Class::Always`] the set of the bytes and pairs that
+    /// are needed.
     pub(crate) asked: u64,
     /// The row before this one that has its class.
     pub(crate) before: Link,
@@ -54,7 +54,7 @@ impl Row {
         let is_name = pattern.mode.looks_at_name();
         if length == 0 {
             return Row {
-                asked: needed_bytes(text),
+                asked: needed_bits(text),
                 before: Link::NONE,
                 list,
                 mapping,
@@ -81,7 +81,7 @@ impl Row {
         self.class
     }
 
-    /// The number of the literal end, or the set of the bytes that are needed.
+    /// The number of the literal end, or the set of the bytes and pairs that are needed.
     #[inline(always)]
     pub(crate) fn asked(&self) -> u64
         ensures { result ≡ self.now.asked }
@@ -146,7 +146,7 @@ impl Row {
         self.asked == probe.key_without(self.spare)
     }
 
-    /// Whether the path has the bytes that are needed.
+    /// Whether the path has the bytes and pairs that are needed.
     #[inline(always)]
     pub(crate) fn has_bytes(&self, probe: &Probe) -> bool
         ensures { IsTrue result ↔ HasBytes self.now probe.now }

@@ -1,5 +1,5 @@
 -- What a pattern that answers for a path asks for is shown by the path.
-use Rattle.std.proofs.Common.{◌≡◌, ⊎_elim, ℕ, zero, suc, ◌+◌, ◌-◌, ◌*◌, ◌%◌, ◌^◌, ◌<◌, ◌≤◌, Bool, true, false, List, ◌++◌, length, get_or, take, drop, Option, None, Some, refl, sym, ◌∙◌, ap, subst, arith, length-drop, if◌then◌else◌}
+use Rattle.std.proofs.Common.{◌≡◌, ◌⊎◌, inl, inr, ⊎_elim, ℕ, zero, suc, ◌+◌, ◌-◌, ◌*◌, ◌%◌, ◌^◌, ◌<◌, ◌≤◌, Bool, true, false, List, ◌++◌, length, get_or, take, drop, Option, None, Some, refl, sym, ◌∙◌, ap, subst, arith, length-drop, if◌then◌else◌}
 use Rattle.std.specs.List.{list_any}
 use Rattle.std.specs.Char.{to_ascii_lowercase}
 use Rattle.std.specs.Int.{bit_at}
@@ -11,7 +11,7 @@ use Rattle.gix_glob.specs.declared.pattern.Case.{Case}
 use Rattle.gix_glob.specs.declared.pattern.Mode as pattern
 use Rattle.gix_glob.specs.declared.wildmatch.Mode as wildmatch
 use Rattle.gix_glob.specs.Bytes.{HasByte, fold, folds, slash}
-use Rattle.gix_glob.specs.LiteralBytes.{AreAlike, EndsAlike, HasAlike, IsUnescapedUpTo, is_joining}
+use Rattle.gix_glob.specs.LiteralBytes.{AreAlike, EndsAlike, HasAlike, HasAlikePair, IsUnescapedUpTo, is_joining}
 use Rattle.gix_glob.specs.Matching.{Splits}
 use Rattle.gix_glob.specs.Patterns.{looks_at_name}
 use Rattle.gix_glob.specs.RepositoryPaths.{IsBasenameStart, subject, with_case}
@@ -22,17 +22,22 @@ use Rattle.glob_lists.specs.declared.chains.Class.TheVariants.{Always, EndsIn}
 use Rattle.glob_lists.specs.declared.literals.TheConstants.{LONGEST_END}
 use Rattle.glob_lists.specs.declared.probe.Probe.{Probe}
 use Rattle.glob_lists.specs.declared.row.Row.{Row}
-use Rattle.glob_lists.specs.Private.Literals.{EndsLiterally, NeedsBits, bit_of, end_key, from_end}
+use Rattle.glob_lists.specs.Private.Literals.{EndsLiterally, IsNeededAt, IsNeededPairAt, NeedsBits, bit_of, end_key, from_end, pair_of}
 use Rattle.glob_lists.specs.Private.Rows.{Asks, AsksFor, HasLiteralEnd, length_of}
-use Rattle.glob_lists.specs.Private.Showing.{HasBytes, HasEnd, Passes, PassesBy, Shows}
+use Rattle.glob_lists.specs.Private.Showing.{HasBytes, HasEnd, HoldsBits, Passes, PassesBy, Shows}
+use Rattle.glob_lists.proofs.lemmas.BitLemmas.{HoldsBits-drop}
 use Rattle.glob_lists.proofs.lemmas.EndNumbers.{without_bytes-shift}
 
--- The laws `matched_values_end_as_the_text` and `matched_values_have_the_literal_bytes`, restated: a lemma can't cite a clause.
+-- The laws `matched_values_end_as_the_text` and `matched_values_have_the_literal_bytes` and `.._pairs`, restated: a lemma can't cite a clause.
 abbrev pub EndsAsTheText : Type 0
 EndsAsTheText = (front end value : List ℕ) (mode : wildmatch.Mode) → list_any is_joining end ≡ false → Splits value (front ++ end) mode → EndsAlike mode value end
 
 abbrev pub HasTheBytes : Type 0
 HasTheBytes = (text value : List ℕ) (mode : wildmatch.Mode) (i b : ℕ) → IsUnescapedUpTo text i → HasByte text i b → is_joining b ≡ false → Splits value text mode → HasAlike mode value b
+
+abbrev pub HasThePairs : Type 0
+HasThePairs = (text value : List ℕ) (mode : wildmatch.Mode) (i a b : ℕ) → IsUnescapedUpTo text (i + 1) → HasByte text i a → HasByte text (i + 1) b
+    → is_joining a ≡ false → is_joining b ≡ false → Splits value text mode → HasAlikePair mode value a b
 
 -- ---- folding
 
@@ -130,7 +135,7 @@ name_has_no_slash pattern_mode rest (Some k) name start m there =
 
 -- ---- a row
 
-module _ (ends : EndsAsTheText) (bytes : HasTheBytes) (text path value : List ℕ) (mode : wildmatch.Mode) (at : ℕ) (row : Row) (probe : Probe)
+module _ (ends : EndsAsTheText) (bytes : HasTheBytes) (pairs : HasThePairs) (text path value : List ℕ) (mode : wildmatch.Mode) (at : ℕ) (row : Row) (probe : Probe)
     (shows : Shows path probe) (is : value ≡ drop at path) (s : Splits value text mode) where
   value_length : length value ≡ length path - at
   value_length = ap (λ (xs : List ℕ). length xs) is ∙ length-drop at path
@@ -149,30 +154,32 @@ module _ (ends : EndsAsTheText) (bytes : HasTheBytes) (text path value : List �
         e.number ∙ (same_key text path n same ∙ (sym (shows.ends n (omega arith) (omega arith)) ∙ sym (without_bytes-shift probe.end (8 - n) (row.spare % 64) cut))),
       )
 
-  -- a byte of the value stands in the path
-  byte_in_path : (x : ℕ) → get_or value x 0 ≡ get_or path (at + x) 0
-  byte_in_path x = ap (λ (xs : List ℕ). get_or xs x 0) is ∙ get_or-drop at path x 0
+  -- the set that the row looks at has what the value has
+  abbrev held : ℕ
+  held = if row.is_name then probe.name_bytes else probe.bytes
 
-  bit_is_shown : (x : ℕ) → x < length value → (row.is_name ≡ true → (m : ℕ) → ¬ HasByte value m slash)
-      → bit_at (if row.is_name then probe.name_bytes else probe.bytes) (bit_of (get_or path (at + x) 0)) ≡ 1
-  bit_is_shown x inside bare =
-      let whole = value_length in
-      cond_both row.is_name probe.name_bytes probe.bytes (λ (held : ℕ). bit_at held (bit_of (get_or path (at + x) 0)) ≡ 1)
-      (λ name. shows.name_bytes (at + x) (omega arith)
-      (λ m past there.
-      let within = there.inside in
-      let place : at + (m - at) ≡ m = omega arith in
-      bare name (m - at) (record { inside = omega arith; is = byte_in_path (m - at) ∙ (ap (λ (k : ℕ). get_or path k 0) place ∙ there.is) })))
-      (λ other. shows.bytes (at + x) (omega arith))
+  value_is_held : (row.is_name ≡ true → (m : ℕ) → ¬ HasByte value m slash) → HoldsBits value held
+  value_is_held bare = subst (λ (xs : List ℕ). HoldsBits xs held) (sym is)
+      (cond_both row.is_name probe.name_bytes probe.bytes (λ (set : ℕ). HoldsBits (drop at path) set)
+      (λ name. shows.name_bytes at (λ m. subst (λ (xs : List ℕ). ¬ HasByte xs m slash) is (bare name m)))
+      (λ other. HoldsBits-drop path at probe.bytes shows.bytes))
+
+  bit_is_held : (i j : ℕ) → HoldsBits value held → IsNeededAt text j i ⊎ IsNeededPairAt text j i → bit_at held i ≡ 1
+  bit_is_held i j all (inl n) =
+      let has = bytes text value mode j n.byte n.unescaped n.there n.literal s in
+      let same : bit_of (get_or value has.place 0) ≡ i = ap (λ (b : ℕ). b % 32) (fold_lower mode (get_or value has.place 0) n.byte has.alike) ∙ sym n.bit in
+      subst (λ (k : ℕ). bit_at held k ≡ 1) same (all.bytes has.place has.inside)
+  bit_is_held i j all (inr n) =
+      let has = pairs text value mode j n.first n.second n.unescaped n.there n.behind n.literal n.both s in
+      let first = fold_lower mode (get_or value has.place 0) n.first has.alike in
+      let second = fold_lower mode (get_or value (has.place + 1) 0) n.second has.next_alike in
+      let same : 32 + pair_of (get_or value has.place 0) (get_or value (has.place + 1) 0) ≡ i =
+      ap (λ (b : ℕ). 32 + (b * 5 + to_ascii_lowercase (get_or value (has.place + 1) 0)) % 32) first
+      ∙ (ap (λ (b : ℕ). 32 + (to_ascii_lowercase n.first * 5 + b) % 32) second ∙ sym n.bit) in
+      subst (λ (k : ℕ). bit_at held k ≡ 1) same (all.pairs has.place has.inside)
 
   HasBytes-needed : NeedsBits text row.asked → (row.is_name ≡ true → (m : ℕ) → ¬ HasByte value m slash) → HasBytes row probe
-  HasBytes-needed needs bare i bit =
-      let needed = needs i bit in
-      let n = needed.1 in
-      let has = bytes text value mode needed.0 n.byte n.unescaped n.there n.literal s in
-      let same : bit_of (get_or path (at + has.place) 0) ≡ i =
-      ap (λ (b : ℕ). b % 32) (ap to_ascii_lowercase (sym (byte_in_path has.place)) ∙ fold_lower mode (get_or value has.place 0) n.byte has.alike) ∙ sym n.bit in
-      subst (λ (k : ℕ). bit_at (if row.is_name then probe.name_bytes else probe.bytes) k ≡ 1) same (bit_is_shown has.place has.inside bare)
+  HasBytes-needed needs bare i bit = (let needed = needs i bit in bit_is_held i needed.0 (value_is_held bare) needed.1)
 
   passes_by : (class : Class) → row.spare ≡ 8 * (LONGEST_END - length_of row) → AsksFor text (length_of row) row.asked class → (row.is_name ≡ true → (m : ℕ) → ¬ HasByte value m slash) → PassesBy row probe class
   passes_by Always spare needs bare = HasBytes-needed needs bare
@@ -184,8 +191,8 @@ AnsweringPasses = (text : List ℕ) (pattern_mode : pattern.Mode) (base : Option
     (row : Row) (probe : Probe) → Shows path probe → Asks text pattern_mode row → RestOf case base path rest → AnswersFor text pattern_mode rest is_dir case → Passes row probe
 
 -- A pattern that answers for what a base leaves of a path asks for nothing that the path doesn't show.
-pub answering_passes : EndsAsTheText → HasTheBytes → AnsweringPasses
-answering_passes ends bytes text pattern_mode base path rest is_dir case row probe shows asks left answers =
+pub answering_passes : EndsAsTheText → HasTheBytes → HasThePairs → AnsweringPasses
+answering_passes ends bytes pairs text pattern_mode base path rest is_dir case row probe shows asks left answers =
     let start = answers.basename_start in
     let below = rest_is_end case base path rest left in
     let within = subject_is_end pattern_mode rest start in
@@ -193,6 +200,6 @@ answering_passes ends bytes text pattern_mode base path rest is_dir case row pro
     let at : ℕ = below.0 + within.0 in
     let is : value ≡ drop at path = within.1 ∙ (ap (drop within.0) below.1 ∙ drop-drop within.0 below.0 path) in
     let s = answers.answers.splits in record {
-      shown = passes_by ends bytes text path value (with_case path_mode case) at row probe shows is s row.class asks.spare asks.needs
+      shown = passes_by ends bytes pairs text path value (with_case path_mode case) at row probe shows is s row.class asks.spare asks.needs
           (λ name. name_has_no_slash pattern_mode rest start (sym asks.name ∙ name) answers.basename);
     }

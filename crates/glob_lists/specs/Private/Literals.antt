@@ -1,5 +1,5 @@
 -- The literal bytes of a text: the numbers and sets that are made of them, in which the case of letters doesn't count.
-use Rattle.std.specs.Prelude.{◌≡◌, ℕ, zero, suc, ◌+◌, ◌-◌, ◌*◌, ◌/◌, ◌%◌, ◌^◌, ◌<◌, ◌≤◌, false, List, length, slice_index}
+use Rattle.std.specs.Prelude.{◌≡◌, ◌⊎◌, ℕ, zero, suc, ◌+◌, ◌-◌, ◌*◌, ◌/◌, ◌%◌, ◌^◌, ◌<◌, ◌≤◌, false, List, length, slice_index}
 use Rattle.std.specs.Char.{to_ascii_lowercase}
 use Rattle.std.specs.Int.{bit_at}
 use Rattle.gix_glob.specs.Bytes.{HasByte}
@@ -34,9 +34,13 @@ pub record EndsLiterally (text : List ℕ) (n : ℕ) : Type 0 where
   pub fits : n ≤ length text
   pub literal : (m : ℕ) → m < n → is_joining (from_end text m) ≡ false
 
--- the place of a byte in a set of bytes that is a number of 64 bits
+-- the place of a byte in a set of bytes and pairs, a number of 64 bits: the bytes are its lower half
 abbrev pub bit_of : ℕ → ℕ
 bit_of b = to_ascii_lowercase b % 32
+
+-- the place of two neighbouring bytes in the upper half
+abbrev pub pair_of : ℕ → ℕ → ℕ
+pair_of a b = (to_ascii_lowercase a * 5 + to_ascii_lowercase b) % 32
 
 -- a byte at place j of the text that each value has to hold that the text matches, with its bit
 pub record IsNeededAt (text : List ℕ) (j i : ℕ) : Type 0 where
@@ -46,6 +50,17 @@ pub record IsNeededAt (text : List ℕ) (j i : ℕ) : Type 0 where
   pub literal : is_joining byte ≡ false
   pub bit : i ≡ bit_of byte
 
--- the set has no bit but those of bytes that are needed
+-- two bytes from place j on that each such value has to hold side by side, with the bit of the pair
+pub record IsNeededPairAt (text : List ℕ) (j i : ℕ) : Type 0 where
+  pub first : ℕ
+  pub second : ℕ
+  pub there : HasByte text j first
+  pub behind : HasByte text (j + 1) second
+  pub unescaped : IsUnescapedUpTo text (j + 1)
+  pub literal : is_joining first ≡ false
+  pub both : is_joining second ≡ false
+  pub bit : i ≡ 32 + pair_of first second
+
+-- the set has no bit but those of bytes and pairs that are needed
 abbrev pub NeedsBits : List ℕ → ℕ → Type 0
-NeedsBits text set = (i : ℕ) → bit_at set i ≡ 1 → (j : ℕ) × IsNeededAt text j i
+NeedsBits text set = (i : ℕ) → bit_at set i ≡ 1 → (j : ℕ) × (IsNeededAt text j i ⊎ IsNeededPairAt text j i)

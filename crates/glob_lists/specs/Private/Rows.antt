@@ -20,12 +20,12 @@ pub record HasLiteralEnd (text : List ℕ) (n byte key : ℕ) : Type 0 where
 abbrev pub length_of : Row → ℕ
 length_of row = LONGEST_END - row.spare / 8
 
--- what a row of this class asks for: a literal end of the text, of this length, or the bytes that are needed
+-- what a row of this class asks for: a literal end of the text, of this length, or the bytes and pairs that are needed
 abbrev pub AsksFor : List ℕ → ℕ → ℕ → Class → Type 0
 AsksFor text n asked Always = NeedsBits text asked
 AsksFor text n asked (EndsIn byte) = HasLiteralEnd text n byte asked
 
--- The row asks of a path what a pattern of this text and mode does: a literal end, or the bytes that are needed.
+-- The row asks of a path what a pattern of this text and mode does: a literal end, or the bytes and pairs that are needed.
 pub record Asks (text : List ℕ) (mode : Mode) (row : Row) : Type 0 where
   pub spare : row.spare ≡ 8 * (LONGEST_END - length_of row)
   pub needs : AsksFor text (length_of row) row.asked row.class

@@ -1,5 +1,5 @@
 -- What a path shows, and whether a row passes it.
-use Rattle.std.specs.Prelude.{◌≡◌, ℕ, ◌-◌, ◌/◌, ◌%◌, ◌^◌, ◌<◌, ◌≤◌, List, length, slice_index, drop, Option, None, Some, if◌then◌else◌}
+use Rattle.std.specs.Prelude.{◌≡◌, ℕ, ◌+◌, ◌-◌, ◌/◌, ◌%◌, ◌^◌, ◌<◌, ◌≤◌, List, [], length, slice_index, drop, take, Option, None, Some, if◌then◌else◌}
 use Rattle.std.specs.Char.{to_ascii_lowercase}
 use Rattle.std.specs.Int.{bit_at}
 use Rattle.gix_glob.specs.Bytes.{HasByte, slash}
@@ -8,25 +8,34 @@ use Rattle.glob_lists.specs.declared.chains.Class.TheVariants.{Always, EndsIn}
 use Rattle.glob_lists.specs.declared.literals.TheConstants.{LONGEST_END}
 use Rattle.glob_lists.specs.declared.probe.Probe.{Probe}
 use Rattle.glob_lists.specs.declared.row.Row.{Row}
-use Rattle.glob_lists.specs.Private.Literals.{bit_of, end_key, from_end, without_bytes}
+use Rattle.glob_lists.specs.Private.Literals.{bit_of, pair_of, end_key, from_end, without_bytes}
 
 -- the set has each byte of the text
-abbrev pub HoldsBits : List ℕ → ℕ → Type 0
-HoldsBits text set = (j : ℕ) → j < length text → bit_at set (bit_of (slice_index text j)) ≡ 1
+abbrev pub HoldsBytes : List ℕ → ℕ → Type 0
+HoldsBytes text set = (j : ℕ) → j < length text → bit_at set (bit_of (slice_index text j)) ≡ 1
+
+-- The set has each byte of the text and each two that stand side by side.
+pub record HoldsBits (text : List ℕ) (set : ℕ) : Type 0 where
+  pub bytes : HoldsBytes text set
+  pub pairs : (j : ℕ) → j + 1 < length text → bit_at set (32 + pair_of (slice_index text j) (slice_index text (j + 1))) ≡ 1
 
 -- the number begins with those of the ends of a path, up to its own length and the longest
 abbrev pub HasEndKeys : List ℕ → ℕ → Type 0
 HasEndKeys path end = (n : ℕ) → n ≤ LONGEST_END → n ≤ length path → without_bytes end (LONGEST_END - n) ≡ end_key path n
 
--- the set has each byte of the last part of the path: those that no slash follows
+-- the set has what each end of the path without a slash has: so all of its last part
 abbrev pub HoldsNameBits : List ℕ → ℕ → Type 0
-HoldsNameBits path set =
-    (j : ℕ) → j < length path → ((m : ℕ) → j ≤ m → ¬ HasByte path m slash) → bit_at set (bit_of (slice_index path j)) ≡ 1
+HoldsNameBits path set = (at : ℕ) → ((m : ℕ) → ¬ HasByte (drop at path) m slash) → HoldsBits (drop at path) set
 
 -- the last part of a path, which begins at a place; the whole path where there is none
 abbrev pub last_part : Option ℕ → List ℕ → List ℕ
 last_part None path = path
 last_part (Some start) path = drop start path
+
+-- what stands before it
+abbrev pub front_part : Option ℕ → List ℕ → List ℕ
+front_part None path = []
+front_part (Some start) path = take start path
 
 -- The path shows these numbers and sets.
 pub record Shows (path : List ℕ) (probe : Probe) : Type 0 where
@@ -43,7 +52,7 @@ HasAll held needed = (i : ℕ) → bit_at needed i ≡ 1 → bit_at held i ≡ 1
 abbrev pub HasEnd : Row → Probe → Type 0
 HasEnd row probe = row.asked ≡ probe.end / 2 ^ (row.spare % 64)
 
--- the path, or its last part where the row looks at no more, has the bytes that the row needs
+-- the path, or its last part where the row looks at no more, has the bytes and pairs that the row needs
 abbrev pub HasBytes : Row → Probe → Type 0
 HasBytes row probe = HasAll (if row.is_name then probe.name_bytes else probe.bytes) row.asked
 

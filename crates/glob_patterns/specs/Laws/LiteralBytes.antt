@@ -1,5 +1,5 @@
 -- What a value has of a text that matches it: bytes and ends that are equal up to the case of letters, where the mode asks for it.
-use Rattle.std.specs.Prelude.{◌≡◌, ℕ, ◌-◌, ◌<◌, ◌≤◌, ◌||◌, ◌==◌, Bool, List, length, slice_index, drop}
+use Rattle.std.specs.Prelude.{◌≡◌, ℕ, ◌+◌, ◌-◌, ◌<◌, ◌≤◌, ◌||◌, ◌==◌, Bool, List, length, slice_index, drop}
 use Rattle.std.specs.Str.{byte}
 use Rattle.glob_matcher.specs.declared.wildmatch.mode.Mode.{Mode}
 use Rattle.glob_matcher.specs.Bytes.{HasByte, fold, is_special, open_bracket, backslash, slash}
@@ -19,6 +19,13 @@ pub record HasAlike (mode : Mode) (value : List ℕ) (b : ℕ) : Type 0 where
   pub place : ℕ
   pub inside : place < length value
   pub alike : fold mode (slice_index value place) ≡ fold mode b
+
+-- the value has the one byte at some place and the other right behind it, up to case where the mode folds
+pub record HasAlikePair (mode : Mode) (value : List ℕ) (a b : ℕ) : Type 0 where
+  pub place : ℕ
+  pub inside : place + 1 < length value
+  pub alike : fold mode (slice_index value place) ≡ fold mode a
+  pub next_alike : fold mode (slice_index value (place + 1)) ≡ fold mode b
 
 -- whether a byte may be the last of a token of more than one byte: a special one, the slash, or the closing bracket
 abbrev pub is_joining : ℕ → Bool

@@ -1,5 +1,5 @@
 //! Laws of pattern lines and patterns.
-ghost use Rattle.std.specs.Prelude.{◌≡◌, ◌↔◌, ◌||◌, ◌++◌, ℕ, Bool, true, false, IsTrue, List, Option, Some, None, codes, nat_eq};
+ghost use Rattle.std.specs.Prelude.{◌≡◌, ◌↔◌, ◌+◌, ◌||◌, ◌++◌, ℕ, Bool, true, false, IsTrue, List, Option, Some, None, codes, nat_eq};
 ghost use Rattle.std.specs.List.{list_any, starts_with};
 ghost use Rattle.std.specs.Str.{IsUtf8};
 ghost use Rattle.std.specs.declared.cmp.Ordering.TheVariants.{Equal, Less};
@@ -7,7 +7,7 @@ ghost use Rattle.glob_matcher.specs.declared.wildmatch.mode.Mode as wildmatch;
 ghost use Rattle.glob_patterns.specs.declared.mode.Mode as pattern;
 ghost use Rattle.glob_patterns.specs.declared.pattern.Pattern.{Pattern};
 ghost use Rattle.glob_patterns.specs.declared.pattern.case.Case.{Case};
-ghost use Rattle.glob_patterns.specs.Laws.LiteralBytes.{AreAlike, EndsAlike, HasAlike, IsUnescapedUpTo, is_joining};
+ghost use Rattle.glob_patterns.specs.Laws.LiteralBytes.{AreAlike, EndsAlike, HasAlike, HasAlikePair, IsUnescapedUpTo, is_joining};
 ghost use Rattle.glob_matcher.specs.Bytes.{HasByte, is_special};
 ghost use Rattle.glob_matcher.specs.Matching.{Splits};
 ghost use Rattle.glob_patterns.specs.PatternParts.{text_of, SamePattern, pattern_cmp};
@@ -35,6 +35,12 @@ pub fn matched_values_end_as_the_text()
 pub fn matched_values_have_the_literal_bytes()
     ensures { (text value : List ℕ) (mode : wildmatch.Mode) (i b : ℕ) → IsUnescapedUpTo text i → HasByte text i b → is_joining b ≡ false
         → Splits value text mode → HasAlike mode value b }
+{}
+
+/// A value that is matched has any two such bytes that stand side by side in the text side by side, too.
+pub fn matched_values_have_the_literal_pairs()
+    ensures { (text value : List ℕ) (mode : wildmatch.Mode) (i a b : ℕ) → IsUnescapedUpTo text (i + 1) → HasByte text i a → HasByte text (i + 1) b
+        → is_joining a ≡ false → is_joining b ≡ false → Splits value text mode → HasAlikePair mode value a b }
 {}
 
 /// Two answers that are each yes exactly if the text matches the value are the same. So [`Pattern::matches`] and

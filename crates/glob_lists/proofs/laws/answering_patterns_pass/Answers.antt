@@ -1,6 +1,6 @@
--- By the two laws of matched values.
+-- By the three laws of matched values.
 use Rattle.glob_lists.proofs.lemmas.PrefilterLemmas.{answering_passes}
 use Rattle.glob_lists.proofs.laws.answering_patterns_pass.Goals as goal
 
 pub returns : goal.returns
-returns c = answering_passes c.matched_values_end_as_the_text.ensures c.matched_values_have_the_literal_bytes.ensures
+returns c = answering_passes c.matched_values_end_as_the_text.ensures c.matched_values_have_the_literal_bytes.ensures c.matched_values_have_the_literal_pairs.ensures

@@ -1,4 +1,4 @@
--- The last part's bytes are those that no slash follows.
+-- An end without slash is one of the last part.
 use Rattle.std.proofs.Common.{List, ℕ, subst}
 use Rattle.glob_lists.specs.Private.Showing.{HoldsBits}
 use Rattle.glob_lists.proofs.lemmas.KeyLemmas.{name_bits}
@@ -9,6 +9,6 @@ returns-clause-shows g c = record {
   last = c.requires.shows.last;
   ends = c.requires.shows.ends;
   bytes = c.requires.shows.bytes;
-  name_bytes = name_bits c.args.path.now c.args.basename_start c.bytes_of.result c.requires.basename
-      (subst (λ (name : List ℕ). HoldsBits name c.bytes_of.result) c.last_part-name.ensures c.bytes_of.ensures);
+  name_bytes = name_bits c.args.path.now c.args.basename_start c.bits_of.result c.requires.basename
+      (subst (λ (name : List ℕ). HoldsBits name c.bits_of.result) c.last_part-name.ensures c.bits_of.ensures);
 }
