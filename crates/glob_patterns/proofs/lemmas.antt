@@ -1,8 +1,10 @@
 pub mod Agreement
 pub mod ByteSearches
+pub mod Insides
 pub mod LiteralLemmas
 pub mod LiteralBytes
 pub mod LiteralEnds
+pub mod LoneStars
 pub mod ModeBits
 pub mod PathLimits
 pub mod PatternOrder

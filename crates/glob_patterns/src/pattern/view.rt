@@ -9,6 +9,7 @@ ghost use Rattle.glob_patterns.specs.PatternLimits.{pattern_look_limit};
 ghost use Rattle.glob_patterns.specs.Patterns.{HasReading, IsPattern, Reads, is_blank, without_negation};
 ghost use Rattle.glob_patterns.specs.RepositoryPaths.{Answers, IsAfterLastSlash};
 ghost use Rattle.glob_patterns.specs.Private.Asked.{IsAnswered};
+ghost use Rattle.glob_patterns.specs.Private.Insides.{compared_limit};
 
 use super::comparisons::Comparison;
 use super::paths::{Asked, with_case};
@@ -121,7 +122,7 @@ impl<'a> PatternView<'a> {
         ensures meaning { IsPattern self.entry.text.now self.entry.mode self.entry.first_wildcard_pos →
             IfSome result.0 (λ answer. IsTrue answer ↔ Splits value.now self.entry.text.now mode) }
         ensures same { result.1.ghost_name ≡ counts.entry.ghost_name }
-        ensures count { Takes counts.old result.1.now 0 (2 * length self.entry.text.now + length value.now) }
+        ensures count { Takes counts.old result.1.now 0 (compared_limit result.0 (length self.entry.text.now) (length value.now)) }
     {
         let texts = CountedTexts::<'c, 'a, S, L, M>::new(self.text, value, counts);
         let mut comparison = Comparison::new(texts, mode);
