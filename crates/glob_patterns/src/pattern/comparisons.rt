@@ -16,6 +16,9 @@ use glob_matcher::wildmatch::{CountedTexts, Counts, Texts};
 use std::marker::Model;
 use std::sync::ledger::Ledger;
 
+/// The longest value, in bytes, that is searched here for a literal. The matcher scans a longer one by vectors.
+const LONGEST_SEARCHED: usize = 64;
+
 /// The text of a pattern beside a value. Contracts see the counts, and the two texts by `M`.
 #[derive(Drop)]
 pub(super) struct Comparison<'c, 'a, S: Ledger, L: Ledger, M: Texts> {
@@ -93,7 +96,10 @@ impl<'c, 'a, S: Ledger, L: Ledger, M: Texts> Comparison<'c, 'a, S, L, M> {
         ensures meaning { IfSome result (λ answer. IsTrue answer ↔ Splits M.value M.pattern M.mode) }
         ensures count { Takes self.old self.new 0 (compared_limit result (length M.pattern) (length M.value)) }
     {
-        if !self.is_between_stars() || !self.is_one_component() {
+        if self.texts.value_len() > LONGEST_SEARCHED
+            || !self.is_between_stars()
+            || !self.is_one_component()
+        {
             return None;
         }
         Some(self.has_inside())
