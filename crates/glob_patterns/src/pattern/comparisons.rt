@@ -16,7 +16,7 @@ use glob_matcher::wildmatch::{CountedTexts, Counts, Texts};
 use std::marker::Model;
 use std::sync::ledger::Ledger;
 
-/// The longest value, in bytes, that is searched here for a literal. The matcher scans a longer one by vectors.
+/// How many bytes a value may have that is searched here for a literal. In a longer one the matcher scans many at once.
 const LONGEST_SEARCHED: usize = 64;
 
 /// The text of a pattern beside a value. Contracts see the counts, and the two texts by `M`.
@@ -56,8 +56,8 @@ impl<'c, 'a, S: Ledger, L: Ledger, M: Texts> Comparison<'c, 'a, S, L, M> {
         self.texts.into_counts()
     }
 
-    /// The answer, where a comparison alone shows it: of a text without special bytes, of a star and a literal, and of a value
-    /// that doesn't begin with the literal front.
+    /// The answer, where a comparison alone shows it: of a text without special bytes, of a star and a literal, of a literal
+    /// between two stars, and of a value that doesn't begin with the literal front.
     #[inline(always)]
     pub(super) fn answer(
         &mut self,
@@ -89,8 +89,8 @@ impl<'c, 'a, S: Ledger, L: Ledger, M: Texts> Comparison<'c, 'a, S, L, M> {
         None
     }
 
-    /// The answer for a text that is a star, literal bytes and a star, where a star may take all bytes of the value: whether the
-    /// value has the literal bytes.
+    /// The answer for a literal between two stars, where a star may take all bytes of the value: whether the value has the
+    /// literal. A long value is left to the matcher.
     #[inline(always)]
     fn between_stars(&mut self) -> Option<bool>
         ensures meaning { IfSome result (λ answer. IsTrue answer ↔ Splits M.value M.pattern M.mode) }

@@ -52,8 +52,8 @@ impl<'a> PatternView<'a> {
 
     /// Whether the text matches the value, as [`super::Pattern::matches`] answers.
     ///
-    /// A text without special bytes is decided without the matcher; a literal front, and the literal after a star, refuse
-    /// without it.
+    /// A text without special bytes is decided without the matcher, and so mostly is a literal after a star or between two; a
+    /// literal front refuses without it.
     #[inline(always)]
     pub fn matches(self, value: &[u8], mode: wildmatch::Mode) -> bool
         ensures { IsPattern self.entry.text.now self.entry.mode self.entry.first_wildcard_pos →

@@ -1,5 +1,5 @@
 -- No byte so far is special, and a look was taken for each and for the last byte.
-use Rattle.std.proofs.Common.{◌≡◌, ℕ, ◌+◌, ◌-◌, ◌*◌, ◌<◌, ◌≤◌, length, get_or}
+use Rattle.std.proofs.Common.{ℕ, ◌+◌, ◌<◌, ◌≤◌, get_or}
 use Rattle.glob_matcher.specs.Bytes.{StandsForItself}
 use Rattle.glob_matcher.specs.Private.Takes.{Takes}
 use Rattle.glob_patterns.proofs.pattern.comparisons.Comparison.is_between_stars.Given as goal
