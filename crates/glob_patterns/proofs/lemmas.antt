@@ -1,9 +1,11 @@
 pub mod Agreement
 pub mod BareNames
 pub mod ByteSearches
+pub mod Insides
 pub mod LiteralLemmas
 pub mod LiteralBytes
 pub mod LiteralEnds
+pub mod LoneStars
 pub mod ModeBits
 pub mod PathLimits
 pub mod PatternOrder

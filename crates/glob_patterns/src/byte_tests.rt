@@ -14,10 +14,12 @@ pub(crate) fn first_special(text: &[u8]) -> Option<usize>
 }
 
 /// Whether a byte may mean more than itself.
-fn is_special(b: u8) -> bool
+#[inline(always)]
+pub(crate) fn is_special(b: u8) -> bool
     ensures { result ≡ is_special b }
 {
-    matches!(b, b'*' | b'?' | b'[' | b'\\')
+    // most bytes fail the first test
+    b <= b'\\' && matches!(b, b'*' | b'?' | b'[' | b'\\')
 }
 
 /// Whether some byte may mean more than itself.

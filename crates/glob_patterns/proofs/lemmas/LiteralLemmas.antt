@@ -1,7 +1,7 @@
 -- What a stretch without special bytes splits: the value has the same bytes there, up to case where the mode folds.
-use Rattle.std.proofs.Common.{◌≡◌, ◌↔◌, ◌⊎◌, ⊎_elim, ℕ, zero, suc, ◌+◌, ◌-◌, ◌<◌, ◌≤◌, true, false, ◌==◌, List, ◌∷◌, length, get_or, take, drop, map, None, Some, refl, sym, ◌∙◌, ap, subst, arith, codes, nat_lt}
+use Rattle.std.proofs.Common.{◌≡◌, ◌↔◌, ◌⊎◌, ⊎_elim, ℕ, zero, suc, ◌+◌, ◌-◌, ◌<◌, ◌≤◌, true, false, List, ◌∷◌, length, get_or, take, drop, map, None, Some, refl, sym, ◌∙◌, ap, subst, arith, codes, nat_lt}
 use Rattle.std.specs.List.{list_any, position_or_len}
-use Rattle.std.proofs.lemmas.Bool.{and_parts, eq-eqb, ltb-false, cases_Bool, cases_eq, false≢true, false_from_ne_true, not-true}
+use Rattle.std.proofs.lemmas.Bool.{and_parts, ltb-false, cases_Bool, cases_eq, false≢true, false_from_ne_true, not-true}
 use Rattle.std.proofs.lemmas.Bool.Decides.{Decides-eqb}
 use Rattle.std.proofs.lemmas.List.{get_or-map, ext_get_or, length-map, length-take, length-drop, get_or-take, get_or-drop}
 use Rattle.std.proofs.lemmas.List.Folds.{list_any_at, list_any_none}
@@ -9,13 +9,14 @@ use Rattle.std.proofs.lemmas.List.Quantifiers.{position-Some}
 use Rattle.std.proofs.lemmas.List.Sums.{fails_before_first}
 use Rattle.std.proofs.lemmas.Slice.Eq.{starts_is}
 use Rattle.glob_matcher.specs.declared.wildmatch.mode.Mode.{Mode}
-use Rattle.glob_matcher.specs.Bytes.{HasByte, NoSlash, fold, has_slash, is_path, is_special, slash, star}
+use Rattle.glob_matcher.specs.Bytes.{fold, has_slash, is_path, is_special}
 use Rattle.glob_patterns.specs.Laws.LiteralBytes.{AreAlike}
 use Rattle.glob_patterns.specs.Patterns.{is_star_and_literal, first_special}
-use Rattle.glob_matcher.specs.Tokens.{Byte, Free, Local, TokenAt, IsRun}
+use Rattle.glob_matcher.specs.Tokens.{Byte, IsRun}
 use Rattle.glob_matcher.specs.Matching.{Splits, SplitsFrom}
 use Rattle.glob_matcher.proofs.lemmas.reading.Reading.{TokenAt-bare}
-use Rattle.glob_matcher.proofs.lemmas.cutting.CutLemmas.{end_in, end_out, one_in, one_out, free_in, free_out, local_in, local_out}
+use Rattle.glob_matcher.proofs.lemmas.cutting.CutLemmas.{end_in, end_out, one_in, one_out}
+use Rattle.glob_patterns.proofs.lemmas.LoneStars.{lone_star_is_run, lone_star_in, lone_star_out}
 
 -- no byte is special from place i up to place j
 pub record IsLiteral (p : List ℕ) (i j : ℕ) : Type 0 where
@@ -104,10 +105,6 @@ literal_front p v mode n inside plain s =
           ap (fold mode) (get_or-take n p m 0 small) ∙ sym (out.1.at m m (omega arith) small refl) ∙ ap (fold mode) (sym (get_or-take n v m 0 small))),
     )
 
--- where the test finds no slash, no place has one
-no_slash : (v : List ℕ) → has_slash v ≡ false → NoSlash v 0 (length v)
-no_slash v none = record { at = λ m low inside is. false≢true (sym none ∙ list_any_at (λ b. b == slash) v m 0 inside (eq-eqb _ _ is)) }
-
 -- A star before a literal.
 literal_behind : (lit : List ℕ) → list_any is_special lit ≡ false → (y : ℕ) → 1 ≤ y → y < suc (length lit) → is_special (get_or (42 ∷ lit) y 0) ≡ false
 literal_behind lit none zero low high = absurd (omega arith)
@@ -115,18 +112,9 @@ literal_behind lit none (suc m) low high = (literal_everywhere lit none).at m (o
 
 module _ (mode : Mode) (lit : List ℕ) (none : list_any is_special lit ≡ false) where
   leading_star_is_run : IsRun (42 ∷ lit) 0 1
-  leading_star_is_run = record {
-    some = omega arith;
-    stars = λ k low high. let first : 0 ≡ k = omega arith in subst (λ (m : ℕ). HasByte (42 ∷ lit) m star) first (record { inside = omega arith; is = refl });
-    whole = λ h. let inside = h.inside in
-        false≢true (sym (literal_behind lit none 1 (omega arith) (omega arith)) ∙ ap is_special h.is);
-  }
-
-  leading_star_is_free : is_path mode ≡ false → TokenAt mode (42 ∷ lit) 0 Free 1
-  leading_star_is_free plain = (leading_star_is_run, λ path. absurd (false≢true (sym plain ∙ path)))
-
-  leading_star_is_local : is_path mode ≡ true → TokenAt mode (42 ∷ lit) 0 Local 1
-  leading_star_is_local path = (leading_star_is_run, path, λ b. let many = b.many in absurd (omega arith))
+  leading_star_is_run = lone_star_is_run (42 ∷ lit) 0 1 refl (record { inside = omega arith; is = refl })
+      (λ h. let inside = h.inside in
+      false≢true (sym (literal_behind lit none 1 (omega arith) (omega arith)) ∙ ap is_special h.is))
 
   plain_behind : IsLiteral (42 ∷ lit) 1 (length (42 ∷ lit))
   plain_behind = record { at = literal_behind lit none }
@@ -145,10 +133,8 @@ module _ (mode : Mode) (lit : List ℕ) (none : list_any is_special lit ≡ fals
       )
 
   star_before_literal_out : (v : List ℕ) → Splits v (42 ∷ lit) mode → (length lit ≤ length v) × AreAlike mode lit (drop (length v - length lit) v)
-  star_before_literal_out v s = ⊎_elim
-      (λ path. (let out = local_out mode (42 ∷ lit) v 0 1 0 (leading_star_is_local path) (omega arith) s in literal_end v out.0 out.2 out.4))
-      (λ plain. (let out = free_out mode (42 ∷ lit) v 0 1 0 (leading_star_is_free plain) (omega arith) s in literal_end v out.0 out.2 out.3))
-      (cases_Bool (is_path mode))
+  star_before_literal_out v s =
+      let out = lone_star_out mode (42 ∷ lit) 0 1 refl leading_star_is_run v 0 (omega arith) s in literal_end v out.0 out.2 out.3
 
   -- a value that ends in the literal has its bytes there
   ends_copied : (v : List ℕ) → length lit ≤ length v → AreAlike mode lit (drop (length v - length lit) v) → (x y : ℕ) → 1 ≤ y → y < suc (length lit)
@@ -167,12 +153,7 @@ module _ (mode : Mode) (lit : List ℕ) (none : list_any is_special lit ≡ fals
       literal_in mode (42 ∷ lit) v (length lit) (length v - length lit) (length v) 1 (length (42 ∷ lit)) (omega arith) (omega arith) (omega arith) (omega arith) plain_behind
       (record { at = ends_copied v fits same })
       (end_in mode (42 ∷ lit) v (length (42 ∷ lit)) (length v) refl (omega arith)) in
-      let bare : is_path mode ≡ true → NoSlash v 0 (length v) =
-      λ path. ⊎_elim (λ (plain : is_path mode ≡ false). absurd (false≢true (sym plain ∙ path))) (no_slash v) open_or_bare in
-      ⊎_elim
-      (λ path. local_in mode (42 ∷ lit) v 0 1 0 (length v - length lit) (leading_star_is_local path) (omega arith) (omega arith) (record { at = λ m low high. (bare path).at m low (omega arith) }) later)
-      (λ plain. free_in mode (42 ∷ lit) v 0 1 0 (length v - length lit) (leading_star_is_free plain) (omega arith) (omega arith) later)
-      (cases_Bool (is_path mode))
+      lone_star_in mode (42 ∷ lit) 0 1 refl leading_star_is_run v 0 (length v - length lit) (omega arith) (omega arith) open_or_bare later
 
 -- A star and a literal split only values that end in the literal, up to case where the mode folds.
 pub star_literal_out : (p v : List ℕ) (mode : Mode) → is_star_and_literal p ≡ true → Splits v p mode

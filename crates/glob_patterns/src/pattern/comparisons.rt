@@ -6,14 +6,19 @@ ghost use Rattle.glob_matcher.specs.Private.Takes.{Takes};
 ghost use Rattle.glob_patterns.specs.Laws.LiteralBytes.{AreAlike, EndsAlike};
 ghost use Rattle.glob_patterns.specs.Patterns.{IsPattern};
 ghost use Rattle.glob_patterns.specs.Private.Fronts.{AgreeFrom, BeginsAlike};
-ghost use Rattle.glob_patterns.specs.Private.Shown.{IsShown};
+ghost use Rattle.glob_patterns.specs.Private.Insides.{HasInside, IsBetweenStars, answer_limit};
+ghost use Rattle.glob_patterns.specs.Private.Shown.{IsShown, shown_limit};
 
+use crate::byte_tests::is_special;
 use crate::mode::Mode;
 use bitflags::Flags;
 use glob_matcher::wildmatch::{CountedTexts, Counts, Texts};
 use glob_matcher::{laws, wildmatch};
 use std::marker::Model;
 use std::sync::ledger::Ledger;
+
+/// How many bytes a value may have that is searched here for a literal. In a longer one the matcher scans many at once.
+const LONGEST_SEARCHED: usize = 64;
 
 /// What comparisons show of a value.
 #[derive(Copy, Clone)]
@@ -79,7 +84,7 @@ impl<'c, 'a, S: Ledger, L: Ledger, M: Texts> Comparison<'c, 'a, S, L, M> {
     #[inline(always)]
     pub(super) fn shown(&mut self, pattern_mode: Mode, first_wildcard_pos: Option<usize>) -> Shown
         ensures meaning { IsPattern M.pattern pattern_mode first_wildcard_pos → IsShown result M.value M.pattern M.mode }
-        ensures count { Takes self.old self.new 0 (2 * length M.pattern + length M.value + 2) }
+        ensures count { Takes self.old self.new 0 (shown_limit result (length M.pattern) (length M.value)) }
     {
         match self.answer(pattern_mode, first_wildcard_pos) {
             Some(true) => Shown::Match,
@@ -88,18 +93,21 @@ impl<'c, 'a, S: Ledger, L: Ledger, M: Texts> Comparison<'c, 'a, S, L, M> {
         }
     }
 
-    /// The answer, where a comparison alone shows it: of a text without special bytes, of a star and a literal, and of a value
-    /// that doesn't begin with the literal front.
+    /// The answer, where a comparison alone shows it: of a text without special bytes, of a star and a literal, of a literal
+    /// between two stars, and of a value that doesn't begin with the literal front.
     #[inline(always)]
     fn answer(&mut self, pattern_mode: Mode, first_wildcard_pos: Option<usize>) -> Option<bool>
         ensures meaning { IsPattern M.pattern pattern_mode first_wildcard_pos →
             IfSome result (λ answer. IsTrue answer ↔ Splits M.value M.pattern M.mode) }
-        ensures count { Takes self.old self.new 0 (2 * length M.pattern + length M.value) }
+        ensures count { Takes self.old self.new 0 (answer_limit result (length M.pattern) (length M.value)) }
     {
         let Some(pos) = first_wildcard_pos else {
             return Some(self.are_alike());
         };
         if !pattern_mode.contains(Mode::ENDS_WITH) {
+            if pos == 0 {
+                return self.between_stars();
+            }
             if self.begins_alike(pos) {
                 return None;
             }
@@ -112,6 +120,60 @@ impl<'c, 'a, S: Ledger, L: Ledger, M: Texts> Comparison<'c, 'a, S, L, M> {
             return Some(true);
         }
         None
+    }
+
+    /// The answer for a literal between two stars, where a star may take all bytes of the value: whether the value has the
+    /// literal. A long value is left to the matcher.
+    #[inline(always)]
+    fn between_stars(&mut self) -> Option<bool>
+        ensures meaning { IfSome result (λ answer. IsTrue answer ↔ Splits M.value M.pattern M.mode) }
+        ensures count { Takes self.old self.new 0 (answer_limit result (length M.pattern) (length M.value)) }
+    {
+        if self.texts.value_len() > LONGEST_SEARCHED
+            || !self.is_between_stars()
+            || !self.is_one_component()
+        {
+            return None;
+        }
+        Some(self.has_inside())
+    }
+
+    /// Whether the text is a star, bytes that aren't special, one at least, and a star.
+    #[inline(always)]
+    fn is_between_stars(&mut self) -> bool
+        ensures exact { IsTrue result ↔ IsBetweenStars M.pattern }
+        ensures count { Takes self.old self.new 0 (length M.pattern) }
+    {
+        let len = self.texts.pattern_len();
+        if len < 3 || self.text_byte(len - 1) != b'*' || self.text_byte(0) != b'*' {
+            return false;
+        }
+        'bytes: for place in 1..len - 1 {
+            if is_special(self.text_byte(place)) {
+                return false;
+            }
+        }
+        true
+    }
+
+    /// Whether the value has the bytes between the first of the text and its last, up to case where the mode folds.
+    #[inline(always)]
+    fn has_inside(&mut self) -> bool
+        requires { 3 ≤ length M.pattern }
+        ensures exact { IsTrue result ↔ HasInside M.mode M.value M.pattern }
+        ensures count { Takes self.old self.new 0 (2 * length M.pattern * (length M.value + 1)) }
+    {
+        let len = self.texts.pattern_len() - 2;
+        let value_len = self.texts.value_len();
+        if value_len < len {
+            return false;
+        }
+        'places: for at in 0..value_len - len + 1 {
+            if self.agree_from(1, at, len) {
+                return true;
+            }
+        }
+        false
     }
 
     /// Whether the two texts are equal, up to case where the mode folds.
@@ -186,6 +248,16 @@ impl<'c, 'a, S: Ledger, L: Ledger, M: Texts> Comparison<'c, 'a, S, L, M> {
             return true;
         }
         self.mode.contains(wildmatch::Mode::IGNORE_CASE) && one.eq_ignore_ascii_case(&other)
+    }
+
+    /// The byte at a place inside the text.
+    #[inline(always)]
+    fn text_byte(&mut self, place: usize) -> u8
+        requires { place < length M.pattern }
+        ensures here { result ≡ slice_index M.pattern place }
+        ensures count { Takes self.old self.new 0 1 }
+    {
+        self.texts.pattern_byte(place)
     }
 
     /// Whether a star may take all bytes of the value: in plain mode, and where the value has no slash.

@@ -9,7 +9,7 @@ ghost use Rattle.glob_patterns.specs.PatternLimits.{pattern_look_limit};
 ghost use Rattle.glob_patterns.specs.Patterns.{HasReading, IsPattern, Reads, is_blank, without_negation};
 ghost use Rattle.glob_patterns.specs.RepositoryPaths.{Answers, IsAfterLastSlash};
 ghost use Rattle.glob_patterns.specs.Private.Asked.{IsAnswered};
-ghost use Rattle.glob_patterns.specs.Private.Shown.{IsShown};
+ghost use Rattle.glob_patterns.specs.Private.Shown.{IsShown, shown_limit};
 
 use super::comparisons::{Comparison, Shown};
 use super::paths::{Asked, with_case};
@@ -52,8 +52,8 @@ impl<'a> PatternView<'a> {
 
     /// Whether the text matches the value, as [`super::Pattern::matches`] answers.
     ///
-    /// A text without special bytes is decided without the matcher; a literal front, and the literal after a star, refuse
-    /// without it.
+    /// A text without special bytes is decided without the matcher, and so mostly is a literal after a star or between two; a
+    /// literal front refuses without it.
     #[inline(always)]
     pub fn matches(self, value: &[u8], mode: wildmatch::Mode) -> bool
         ensures { IsPattern self.entry.text.now self.entry.mode self.entry.first_wildcard_pos →
@@ -145,7 +145,7 @@ impl<'a> PatternView<'a> {
         ensures meaning { IsPattern self.entry.text.now self.entry.mode self.entry.first_wildcard_pos →
             IsShown result.0 value.now self.entry.text.now mode }
         ensures same { result.1.ghost_name ≡ counts.entry.ghost_name }
-        ensures count { Takes counts.old result.1.now 0 (2 * length self.entry.text.now + length value.now + 2) }
+        ensures count { Takes counts.old result.1.now 0 (shown_limit result.0 (length self.entry.text.now) (length value.now)) }
     {
         let texts = CountedTexts::<'c, 'a, S, L, M>::new(self.text, value, counts);
         let mut comparison = Comparison::new(texts, is_bare, mode);
