@@ -1,5 +1,5 @@
-//! The literal bytes of texts: the bytes that each value that a pattern matches has to end in, and those that it has to hold, alone and
-//! side by side.
+//! The literal bytes of texts: the bytes that each value that a pattern matches has to end in, and those that it has to hold, alone
+//! and side by side.
 ghost use Rattle.std.specs.Prelude.{◌≡◌, ◌↔◌, ◌==◌, ◌||◌, ◌+◌, ◌*◌, ◌%◌, ◌<◌, ◌≤◌, ◌^◌, IsTrue, length};
 ghost use Rattle.std.specs.Char.{to_ascii_lowercase};
 ghost use Rattle.gix_glob.specs.Bytes.{backslash, open_bracket};

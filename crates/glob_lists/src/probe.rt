@@ -89,8 +89,8 @@ impl Probe {
         }
     }
 
-    /// The same, with the set of the whole path, whose last part begins at `basename_start`: what the set of that part has isn't read
-    /// again. A look is counted at each byte of the path.
+    /// The same, with the set of the whole path, whose last part begins at `basename_start`: what the set of that part has isn't
+    /// read again. A look is counted at each byte of the path.
     #[inline(always)]
     pub(crate) fn with_path<S: Ledger, L: Ledger>(
         self,

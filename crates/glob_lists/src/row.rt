@@ -16,8 +16,8 @@ use std::sync::ledger::Ledger;
 /// What a pattern asks of a path, and where its mapping stands.
 #[derive(Debug, Copy, Clone)]
 pub(crate) struct Row {
-    /// What is asked for: the number of the text's literal end; in the class [`Class::Always`] the set of the bytes and pairs that
-    /// are needed.
+    /// What is asked for: the number of the text's literal end; in the class [`Class::Always`] the set of the bytes and pairs
+    /// that are needed.
     pub(crate) asked: u64,
     /// The row before this one that has its class.
     pub(crate) before: Link,

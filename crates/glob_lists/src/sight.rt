@@ -22,9 +22,9 @@ pub(crate) struct Sight {
     ends: u64,
     /// The same with other bits: few ends that share a bit of the one set with another share one of this, too.
     other_ends: u64,
-    /// The bytes that each row without an end needs that looks at the last part of a path alone, as a set.
+    /// The bytes and pairs that each row without an end needs that looks at the last part of a path alone, as a set.
     names: u64,
-    /// The bytes that each other row without an end needs, as a set; none where a row asks for one last byte alone.
+    /// The bytes and pairs that each other row without an end needs, as a set; none where a row asks for one last byte alone.
     paths: u64,
 }
 

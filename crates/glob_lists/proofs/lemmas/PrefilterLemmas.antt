@@ -28,7 +28,8 @@ use Rattle.glob_lists.specs.Private.Showing.{HasBytes, HasEnd, HoldsBits, Passes
 use Rattle.glob_lists.proofs.lemmas.BitLemmas.{HoldsBits-drop}
 use Rattle.glob_lists.proofs.lemmas.EndNumbers.{without_bytes-shift}
 
--- The laws `matched_values_end_as_the_text` and `matched_values_have_the_literal_bytes` and `.._pairs`, restated: a lemma can't cite a clause.
+-- The laws `matched_values_end_as_the_text`, `matched_values_have_the_literal_bytes` and `matched_values_have_the_literal_pairs`,
+-- restated: a lemma can't cite a clause.
 abbrev pub EndsAsTheText : Type 0
 EndsAsTheText = (front end value : List ℕ) (mode : wildmatch.Mode) → list_any is_joining end ≡ false → Splits value (front ++ end) mode → EndsAlike mode value end
 
