@@ -1,7 +1,6 @@
 -- The last part of a path has no slash, and so no mode tells slashes apart there.
-use Rattle.std.proofs.Common.{◌≡◌, ℕ, ◌+◌, ◌<◌, ◌≤◌, false, ◌==◌, List, length, get_or, drop, Option, None, Some, refl, sym, ◌∙◌, ap, arith, get_or-drop, length-drop, eqb-true}
+use Rattle.std.proofs.Common.{◌≡◌, ℕ, ◌+◌, ◌<◌, false, ◌==◌, List, length, get_or, drop, sym, ◌∙◌, ap, arith, get_or-drop, length-drop, eqb-true}
 use Rattle.std.specs.Prelude.{bit_and}
-use Rattle.std.specs.Option.{ForSome, unwrap_or}
 use Rattle.std.proofs.lemmas.Bool.{false_from_ne_true}
 use Rattle.std.proofs.lemmas.List.{get_or_default}
 use Rattle.std.proofs.lemmas.List.Folds.{list_any_none}
@@ -15,23 +14,9 @@ pub folds_without : (mode other : Mode) → other.0 ≡ bit_and mode.0 254 → f
 folds_without mode other is = ap (λ (n : ℕ). n == 2) (sym (ap (λ (n : ℕ). bit_and n 2) is ∙ and_assoc 2 mode.0 254))
 
 -- behind the last slash there is none
-after_last_slash : (path : List ℕ) (k : ℕ) → IsAfterLastSlash path k → has_slash (drop k path) ≡ false
+pub after_last_slash : (path : List ℕ) (k : ℕ) → IsAfterLastSlash path k → has_slash (drop k path) ≡ false
 after_last_slash path k last = list_any_none (λ b. b == slash) (drop k path) (λ m d below.
     let long = length-drop k path in
     let inside : k + m < length path = omega arith in
     false_from_ne_true (get_or (drop k path) m d == slash) (λ is.
     last.last (k + m) (omega arith) (record { inside = inside; is = get_or_default path (k + m) 0 d inside ∙ sym (get_or-drop k path m d) ∙ eqb-true _ slash is })))
-
-module _ (path : List ℕ) where
-  pub start_inside : (start : Option ℕ) → ForSome start (IsAfterLastSlash path) → unwrap_or start 0 ≤ length path
-  start_inside None last = omega arith
-  start_inside (Some k) last =
-      let basename = last k refl in
-      let inside = basename.after.inside in
-      let some = basename.some in
-      omega arith
-
-  pub start_bare : (start : Option ℕ) → ForSome start (IsAfterLastSlash path) → 0 < unwrap_or start 0
-      → has_slash (drop (unwrap_or start 0) path) ≡ false
-  start_bare None last past = absurd (omega arith)
-  start_bare (Some k) last past = after_last_slash path k (last k refl)

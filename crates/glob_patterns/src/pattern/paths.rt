@@ -51,12 +51,9 @@ impl<'p> Asked<'p> {
         ensures subject { drop result self.entry.path.now ≡ subject pattern_mode self.entry.path.now self.entry.basename_start_pos }
         ensures bare { 0 < result → has_slash (drop result self.entry.path.now) ≡ false }
     {
-        // The place of the last part is one for all patterns.
-        let start = self.basename_start_pos.unwrap_or(0);
-        if pattern_mode.looks_at_name() {
-            start
-        } else {
-            0
+        match self.basename_start_pos {
+            Some(start) if pattern_mode.looks_at_name() => start,
+            _ => 0,
         }
     }
 }
