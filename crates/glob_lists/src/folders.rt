@@ -4,7 +4,7 @@
 //! The last base that doesn't come after a path is searched by halves. So each base is asked for among the same others, and what
 //! those on either side of them have alike, all of them have, and the path that is searched for among them, too. Each folder knows
 //! the number of the bytes behind that, which mostly tells: then its base isn't read.
-ghost use Rattle.std.specs.Prelude.{◌≡◌, ◌↔◌, ◌+◌, ◌*◌, ◌^◌, ◌++◌, ◌∷◌, [], ◌-◌, ◌/◌, ◌<◌, ◌≤◌, ℕ, IfOk, IfSome, IsTrue, OnOk, Some, length, map, slice_get, take};
+ghost use Rattle.std.specs.Prelude.{◌≡◌, ◌↔◌, ◌+◌, ◌*◌, ◌^◌, ◌++◌, ◌∷◌, [], ◌-◌, ◌/◌, ◌<◌, ◌≤◌, ℕ, IfOk, IfSome, IsTrue, OnOk, Some, length, map, min, slice_get, take};
 ghost use Rattle.gix_glob.specs.EntryLists.{entry_list_of};
 ghost use Rattle.glob_lists.specs.Index.{AreTooMany, entry_count};
 ghost use Rattle.glob_lists.specs.Private.Folders.{AllUpTo, AreAllAfter, AreFolders, AreFoldersUpTo, AreSameFolders, IsBegunBy, IsChained, IsFolderOf, IsForest, IsLastBeginning, IsLastUpTo, IsNarrow, IsSameFolder, SharesAround, base_at};
@@ -13,9 +13,7 @@ ghost use Rattle.glob_lists.specs.Private.Indexes.{AreFolderedBy};
 ghost use Rattle.glob_lists.specs.Private.Looking.{LooksUpTo};
 
 use crate::chains::Link;
-use crate::fronts::{
-    FRONT, Front, alike, begins, front_key, is_up_to, is_up_to_behind, is_up_to_from,
-};
+use crate::fronts::{FRONT, Front, alike, begins, front_key, is_up_to, is_up_to_from};
 use gix_glob::search;
 use gix_glob::search::pattern::List;
 use gix_glob::wildmatch::Counts;
@@ -319,7 +317,7 @@ fn last_beginning<T: search::Pattern>(folders: &[Folder], lists: &[List<T>], tex
 /// The last folder whose base doesn't come after a path.
 ///
 /// A look is counted at each byte that may be read: eight of the path at each place behind which its number is asked for, and of the
-/// path and each base that is read as many as both have behind those that are known.
+/// path and each base that is read as many as both have behind those that are known, or the last eight.
 pub(crate) fn last_up_to<T: search::Pattern, S: Ledger, L: Ledger>(
     folders: &[Folder],
     lists: &[List<T>],
@@ -335,15 +333,15 @@ pub(crate) fn last_up_to<T: search::Pattern, S: Ledger, L: Ledger>(
     let mut low: usize = 0;
     let mut size = folders.len();
     'halves: while size > 0 {
-        let half = size / 2;
-        let found = compare_folder(&folders[low + half], lists, path, size, front, counts);
+        let middle = low + size / 2;
+        let found = compare_folder(&folders[middle], lists, path, size, front, counts);
         front = found.front;
         let is_up_to = found.is_up_to;
         if is_up_to {
-            low += half + 1;
-            size -= half + 1;
+            low = middle + 1;
+            size = (size - 1) / 2;
         } else {
-            size = half;
+            size /= 2;
         }
     }
     Link::up_to(low)
@@ -468,6 +466,7 @@ fn compare_folder<T: search::Pattern, S: Ledger, L: Ledger>(
 }
 
 /// Whether the base of the list at a place comes before a path or is the same. Up to a place that is known they agree.
+#[inline(always)]
 fn is_base_up_to<T: search::Pattern, S: Ledger, L: Ledger>(
     lists: &[List<T>],
     list: u32,
@@ -477,13 +476,15 @@ fn is_base_up_to<T: search::Pattern, S: Ledger, L: Ledger>(
 ) -> bool
     requires { AgreeUpTo (base_at (map (entry_list_of T.seen) lists.now) list) path.now known }
     ensures order { IsTrue result ↔ IsUpTo (base_at (map (entry_list_of T.seen) lists.now) list) path.now }
-    ensures looks { LooksUpTo counts.old counts.new (2 * (length path.now - known)) }
+    ensures looks { LooksUpTo counts.old counts.new (2 * (length path.now - min known FRONT)) }
 {
     let base = base_at(lists, list);
     let most = base.len().min(path.len());
-    let from = known.min(most);
+    // the last ones are read with some that are known, so that they make a number
+    let last = if most < 2 * FRONT { most } else { most - FRONT };
+    let from = known.min(last);
     counts.looks(2 * (most - from));
-    is_up_to_behind(base, path, from)
+    is_up_to_from(base, path, from)
 }
 
 /// The base of the list at a place; empty where it has none, or there is no such list.

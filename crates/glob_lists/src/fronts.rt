@@ -100,6 +100,8 @@ fn bytes_key(text: &[u8], place: usize) -> u64
 }
 
 /// What [`front_key`] says, byte by byte.
+#[cold]
+#[inline(never)]
 fn folded_key(text: &[u8], place: usize) -> u64
     requires { place + FRONT < 2 ^ 64 }
     ensures number { result ≡ front_key text.now place FRONT }
@@ -138,15 +140,39 @@ pub(crate) fn alike(left: &[u8], right: &[u8]) -> usize
 
 /// Whether a text comes before another one or is the same, which are known to have so many bytes from the front alike: these aren't
 /// read.
+#[inline(always)]
 pub(crate) fn is_up_to_from(left: &[u8], right: &[u8], known: usize) -> bool
+    requires { AreSameUpTo left.now right.now known }
+    ensures { IsTrue result ↔ IsUpTo left.now right.now }
+{
+    let most = left.len().min(right.len());
+    if known + FRONT <= most {
+        let key = bytes_key(left, known);
+        let other = bytes_key(right, known);
+        // one test for both
+        if key & NO_CAPITAL == NO_CAPITAL && other & NO_CAPITAL == NO_CAPITAL && key != other {
+            return key < other;
+        }
+    }
+    is_up_to_past(left, right, known)
+}
+
+/// What [`is_up_to_from`] says, by as many bytes at once as make a number.
+#[cold]
+#[inline(never)]
+fn is_up_to_past(left: &[u8], right: &[u8], known: usize) -> bool
     requires { AreSameUpTo left.now right.now known }
     ensures { IsTrue result ↔ IsUpTo left.now right.now }
 {
     let most = left.len().min(right.len());
     let mut known = known;
     'numbers: while known + FRONT <= most {
-        let key = whole_key(left, known);
-        let other = whole_key(right, known);
+        let key = bytes_key(left, known);
+        let other = bytes_key(right, known);
+        // one test for both
+        if key & NO_CAPITAL != NO_CAPITAL || other & NO_CAPITAL != NO_CAPITAL {
+            return is_up_to_behind(left, right, known);
+        }
         if key != other {
             return key < other;
         }

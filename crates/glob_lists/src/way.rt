@@ -1,5 +1,5 @@
 //! The lists on the way of a path, whose base it begins with: they are gone through from the path's own folder up.
-ghost use Rattle.std.specs.Prelude.{◌≡◌, ◌+◌, ◌*◌, ◌^◌, ◌<◌, ◌≤◌, IsTrue, Some, length, map, slice_get};
+ghost use Rattle.std.specs.Prelude.{◌≡◌, ◌+◌, ◌*◌, ◌^◌, ◌<◌, ◌≤◌, IsTrue, length, map};
 ghost use Rattle.gix_glob.specs.EntryLists.{entry_list_of};
 ghost use Rattle.gix_glob.specs.PatternLimits.{pattern_look_limit};
 ghost use Rattle.gix_glob.specs.Steps.{NeverFall, step_limit};
@@ -12,7 +12,7 @@ ghost use Rattle.glob_lists.specs.Private.Showing.{Shows};
 ghost use Rattle.glob_lists.specs.Private.Sights.{AreSights, NoRowPasses};
 ghost use Rattle.glob_lists.specs.Private.Tables.{AreRows};
 ghost use Rattle.glob_lists.specs.Private.Walking.{NonePasses};
-ghost use Rattle.glob_lists.specs.Private.Ways.{IsLastOfList, IsPastAnswers, SpendsBelow, SpendsOn, TellsBelow};
+ghost use Rattle.glob_lists.specs.Private.Ways.{IsLastOfList, IsPastAnswers, LeadsOn, SpendsBelow, SpendsOn, TellsBelow};
 
 use crate::chains::Link;
 use crate::folders::{Folder, is_last_up_to, last_up_to};
@@ -110,42 +110,39 @@ impl<'i, T: search::Pattern> Ways<'i, T> {
         laws::answering_patterns_pass();
         let has_sets = path.bytes().len() <= self.rows.len();
         let probe = Probe::new(path.bytes(), path.basename_start(), has_sets, counts);
-        let mut link = last;
+        let mut link = self.seen_from(last, &probe);
         'folders: while let Some(place) = link.place() {
             let folder = &self.folders[place];
-            if let Some(mapping) = self.last_at(place, folder, path, &probe, counts) {
+            if let Some(mapping) = self.last_match(folder, path, &probe, counts) {
                 return Some((folder.list(), mapping));
             }
-            link = folder.above();
+            link = self.seen_from(folder.above(), &probe);
         }
         None
     }
 
-    /// What [`Ways::last_match`] answers for the folder at a place, whose list is passed over where none of its rows can pass.
+    /// The first folder on the way from one on whose list isn't passed over.
+    ///
+    /// The loop calls nothing, so it keeps in registers what it needs.
     #[inline(always)]
-    fn last_at<S: Ledger, L: Ledger>(
-        &self,
-        place: usize,
-        folder: &Folder,
-        path: &RepositoryPath<'_>,
-        probe: &Probe,
-        counts: &mut Counts<S, L>,
-    ) -> Option<usize>
-        requires bases { BasesAreFolders (map (entry_list_of T.seen) self.now.lists.now) }
+    fn seen_from(&self, from: Link, probe: &Probe) -> Link
         requires rows { AreRows (map (entry_list_of T.seen) self.now.lists.now) self.now.rows.now }
-        requires there { slice_get self.now.folders.now place ≡ Some folder.now }
-        requires of { IsFolderOf (map (entry_list_of T.seen) self.now.lists.now) folder.now }
+        requires forest { IsForest (map (entry_list_of T.seen) self.now.lists.now) self.now.folders.now }
         requires sights { AreSights (map (entry_list_of T.seen) self.now.lists.now) self.now.rows.now self.now.folders.now self.now.sights.now }
-        requires shows { Shows path.now.bytes probe.now }
-        ensures last { IsLastOfList (map (entry_list_of T.seen) self.now.lists.now) path.now.bytes path.now.is_dir self.now.case folder.now.list result }
-        ensures spends { SpendsOn (map (entry_list_of T.seen) self.now.lists.now) folder.now.list (length path.now.bytes) counts.old counts.new }
+        requires within { from.0 ≤ length self.now.folders.now }
+        ensures up { result.0 ≤ from.0 }
+        ensures leads { LeadsOn (map (entry_list_of T.seen) self.now.lists.now) self.now.folders.now self.now.case probe.now from result }
     {
         // a law does nothing: it is called for what it ensures
         laws::answering_patterns_pass();
-        if self.is_passed_over(place, probe) {
-            return None;
+        let mut link = from;
+        'folders: while let Some(place) = link.place() {
+            if !self.is_passed_over(place, probe) {
+                return link;
+            }
+            link = self.folders[place].above();
         }
-        self.last_match(folder, path, probe, counts)
+        link
     }
 
     /// Whether no row of the list of the folder at a place can pass.

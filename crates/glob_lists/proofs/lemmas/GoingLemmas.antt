@@ -13,7 +13,7 @@ use Rattle.glob_lists.specs.DecisionLimits.{decision_look_limit, decision_step_l
 use Rattle.glob_lists.specs.Index.{entry_count}
 use Rattle.glob_lists.specs.Private.Folders.{HasFolders, IsFolderAt, IsForest, IsLastUpTo, base_at}
 use Rattle.glob_lists.specs.Private.Fronts.{Begins, IsUpTo}
-use Rattle.glob_lists.specs.Private.Ways.{IsLastOfList, SpendsOn}
+use Rattle.glob_lists.specs.Private.Ways.{IsLastOfList, IsOnWay, SpendsOn}
 use Rattle.glob_lists.proofs.lemmas.FolderLemmas.{above_up_to, between_begins}
 use Rattle.glob_lists.proofs.lemmas.FrontLemmas.{Begins-between, IsUpTo-begins}
 use Rattle.glob_lists.proofs.lemmas.WayLemmas.{Begins-answers}
@@ -22,30 +22,17 @@ use Rattle.glob_lists.proofs.lemmas.Spending.{sum_by-drop-le}
 use Rattle.std.proofs.lemmas.List.Sums.{sum_by-take-drop}
 
 module _ {V : Type 0} (lists : List (EntryList V)) (folders : List Folder) (path : List ℕ) (is_dir : Bool) (case : Case) where
-  -- no list answers whose folder stands at place k or after it
-  abbrev pub NoneAnswersFrom : ℕ → Type 0
-  NoneAnswersFrom k = (m : ℕ) (folder : Folder) → k ≤ m → slice_get folders m ≡ Some folder → (e : ℕ) → ¬ PairAnswers lists path is_dir case folder.list e
-
   -- the folder of a pair that answers
   folder_of_pair : HasFolders lists folders → (i m : ℕ) → PairAnswers lists path is_dir case i m → (k : ℕ) × IsFolderAt folders i k
   folder_of_pair all i m h =
       all i m (slice_get_within lists i h.list h.there) (h.answers.entry, record { list = h.list; there = h.there; here = h.answers.there })
 
-  -- The next folder is that of the link: none that was passed has an answer, and the lists that were asked come after its own.
-  pub record IsOnWay (link : Link) (before after : Counts) : Type 0 where
-    pub within : link.0 ≤ length folders
-    pub up_to : (m : ℕ) (folder : Folder) → m + 1 ≡ link.0 → slice_get folders m ≡ Some folder → IsUpTo (base_at lists folder.list) path
-    pub none : NoneAnswersFrom link.0
-    pub reached : ℕ
-    pub nearer : (m : ℕ) (folder : Folder) → m + 1 ≡ link.0 → slice_get folders m ≡ Some folder → folder.list < reached
-    pub grows : NeverFall before after
-    pub steps : after.steps ≤ before.steps + sum_by (λ list. list_step_limit list (length path)) (drop reached lists)
-    pub looks : after.looks
-        ≤ before.looks + (3 * length path + 1) + sum_by (λ list. list_look_limit list (length path)) (drop reached lists) + entry_count (drop reached lists)
+  abbrev OnWay : Link → Counts → Counts → Type 0
+  OnWay link before after = IsOnWay lists folders path is_dir case link before after
 
   module _ (forest : IsForest lists folders) where
     pub IsOnWay-start : (last : Link) (before after : Counts) → IsLastUpTo lists folders path last → NeverFall before after → after.steps ≤ before.steps → after.looks ≤ before.looks + (3 * length path + 1)
-        → IsOnWay last before after
+        → OnWay last before after
     IsOnWay-start last before after h grows steps looks = record {
       within = h.within;
       up_to = h.here;
@@ -57,7 +44,7 @@ module _ {V : Type 0} (lists : List (EntryList V)) (folders : List Folder) (path
       looks = omega arith;
     }
 
-    module _ (place : ℕ) (folder : Folder) (link : Link) (before middle after : Counts) (found : IsOnWay link before middle) (next : place + 1 ≡ link.0) (there : slice_get folders place ≡ Some folder)
+    module _ (place : ℕ) (folder : Folder) (link : Link) (before middle after : Counts) (found : OnWay link before middle) (next : place + 1 ≡ link.0) (there : slice_get folders place ≡ Some folder)
         (spends : SpendsOn lists folder.list (length path) middle after) where
       -- what the lists from the one that is asked on may take
       spent_steps : (list : EntryList V) → slice_get lists folder.list ≡ Some list → after.steps ≤ before.steps + sum_by (λ l. list_step_limit l (length path)) (drop folder.list lists)
@@ -94,7 +81,7 @@ module _ {V : Type 0} (lists : List (EntryList V)) (folders : List Folder) (path
           record { steps = (let a = one.steps in let b = two.steps in omega arith); looks = (let a = one.looks in let b = two.looks in omega arith) }
 
       -- the list has no answer, and the next folder is the one that its own is linked to
-      pub IsOnWay-next : ((e : ℕ) → ¬ PairAnswers lists path is_dir case folder.list e) → IsOnWay folder.above before after
+      pub IsOnWay-next : ((e : ℕ) → ¬ PairAnswers lists path is_dir case folder.list e) → OnWay folder.above before after
       IsOnWay-next not =
           let chained = forest.chained place folder there in
           let up_to = found.up_to place folder next there in
@@ -155,18 +142,18 @@ module _ {V : Type 0} (lists : List (EntryList V)) (folders : List Folder) (path
       }
 
     -- no folder is left
-    pub Decides-nowhere : (link : Link) (before after : Counts) → IsOnWay link before after → link.0 ≡ 0 → HasFolders lists folders → Decides lists path is_dir case None
+    pub Decides-nowhere : (link : Link) (before after : Counts) → OnWay link before after → link.0 ≡ 0 → HasFolders lists folders → Decides lists path is_dir case None
     Decides-nowhere link before after found none all i m answers =
         let at = folder_of_pair all i m answers in
         found.none at.0 at.1.folder (omega arith) at.1.there m (subst (λ (k : ℕ). PairAnswers lists path is_dir case k m) (sym at.1.list) answers)
 
-  pub steps_in_all : (link : Link) (before after : Counts) → IsOnWay link before after → after.steps ≤ before.steps + decision_step_limit lists (length path)
+  pub steps_in_all : (link : Link) (before after : Counts) → OnWay link before after → after.steps ≤ before.steps + decision_step_limit lists (length path)
   steps_in_all link before after found =
       let spent = found.steps in
       let all = sum_by-take-drop (λ (l : EntryList V). list_step_limit l (length path)) lists found.reached in
       omega arith
 
-  pub looks_in_all : (link : Link) (before after : Counts) → IsOnWay link before after → after.looks ≤ before.looks + (3 * length path + 1) + decision_look_limit lists (length path) + entry_count lists
+  pub looks_in_all : (link : Link) (before after : Counts) → OnWay link before after → after.looks ≤ before.looks + (3 * length path + 1) + decision_look_limit lists (length path) + entry_count lists
   looks_in_all link before after found =
       let spent = found.looks in
       let all = sum_by-take-drop (λ (l : EntryList V). list_look_limit l (length path)) lists found.reached in

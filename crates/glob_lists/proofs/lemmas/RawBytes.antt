@@ -1,5 +1,5 @@
 -- The number of bytes of which none is a capital letter: each has the bit that those lack.
-use Rattle.std.proofs.Common.{◌≡◌, ℕ, zero, suc, ◌+◌, ◌*◌, ◌<◌, List, bit_and, cond, nat_lt, get_or, refl, arith}
+use Rattle.std.proofs.Common.{◌≡◌, ℕ, zero, suc, ◌+◌, ◌*◌, ◌<◌, List, bit_and, cond, nat_lt, get_or, refl, sym, ap, ◌∙◌, arith}
 use Rattle.std.specs.Char.{to_ascii_lowercase}
 use Rattle.std.proofs.lemmas.Bool.{cond_both}
 use Rattle.std.proofs.lemmas.Nat.{and_block, and_le_r}
@@ -29,3 +29,7 @@ front_key-bytes text bytes from (suc n) has =
     let before = front_key-bytes text bytes from n (omega (arith, block, most, has)) in
     let here : to_ascii_lowercase byte ≡ byte = small_byte byte fits (omega (arith, block, most, has)) in
     omega (arith, before, here)
+
+-- a number of eight bytes of which none is a capital letter
+pub small_front : (text : List ℕ) → AreBytes text → (from key : ℕ) → key ≡ bytes_key text from 8 → bit_and key (no_capital 8) ≡ no_capital 8 → key ≡ front_key text from 8
+small_front text bytes from key is small = is ∙ front_key-bytes text bytes from 8 (ap (λ (n : ℕ). bit_and n (no_capital 8)) (sym is) ∙ small)

@@ -1,6 +1,6 @@
 use Rattle.std.proofs.Common.{map}
 use Rattle.gix_glob.specs.EntryLists.{entry_list_of}
-use Rattle.glob_lists.proofs.lemmas.GoingLemmas.{IsOnWay}
+use Rattle.glob_lists.specs.Private.Ways.{IsOnWay}
 use Rattle.glob_lists.proofs.way.Ways.decide.Given as goal
 
 -- no folder that was passed has an answer, and what was counted is what their lists may take

@@ -1,6 +1,6 @@
 use Rattle.std.proofs.Common.{◌-◌, length}
 use Rattle.glob_lists.specs.Private.Fronts.{AreSameUpTo}
-use Rattle.glob_lists.proofs.fronts.is_up_to_from.Given as goal
+use Rattle.glob_lists.proofs.fronts.is_up_to_past.Given as goal
 
 -- the bytes so far are the same
 abbrev pub invariant-numbers : goal.invariant-numbers
