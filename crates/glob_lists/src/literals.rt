@@ -4,7 +4,7 @@ ghost use Rattle.std.specs.Prelude.{◌≡◌, ◌↔◌, ◌==◌, ◌||◌, �
 ghost use Rattle.std.specs.Char.{to_ascii_lowercase};
 ghost use Rattle.gix_glob.specs.Bytes.{backslash, open_bracket};
 ghost use Rattle.gix_glob.specs.LiteralBytes.{is_joining};
-ghost use Rattle.glob_lists.specs.Private.Literals.{EndsLiterally, NeedsBits, bit_of, end_key, from_end, pair_of, raw_end, spare_bits, without_bytes};
+ghost use Rattle.glob_lists.specs.Private.Literals.{AsksForBits, EndsLiterally, NeedsBits, bit_of, end_key, from_end, pair_of, raw_end, spare_bits, without_bytes};
 ghost use Rattle.glob_lists.specs.Private.Showing.{HasAll, HasEndKeys, HoldsBits, HoldsBytes};
 
 use crate::fronts::NO_CAPITAL;
@@ -12,8 +12,9 @@ use crate::fronts::NO_CAPITAL;
 /// The longest end of a text that is looked at, in bytes.
 pub(crate) const LONGEST_END: usize = 8;
 
-/// The set of all bytes and all pairs.
-pub(crate) const ALL_BITS: u64 = u64::MAX;
+/// The set of all pairs, and of all bytes but those of place 0, for which no pattern asks. So it isn't the set of a list that has no
+/// pattern that asks for any, which has each place.
+pub(crate) const ALL_BITS: u64 = u64::MAX - 1;
 
 /// The set of all pairs.
 pub(crate) const ALL_PAIRS: u64 = 0xFFFF_FFFF_0000_0000;
@@ -152,11 +153,11 @@ fn pair_of(first: u8, second: u8) -> u8
 }
 
 /// What each value has to hold that a text matches, as a set: the bytes that stand for themselves before the first `[` and the
-/// first `\`, and the pairs of those that stand side by side.
+/// first `\`, and the pairs of those that stand side by side; not those of place 0.
 pub(crate) fn needed_bits(text: &[u8]) -> u64
-    ensures { NeedsBits text.now result }
+    ensures { AsksForBits text.now result }
 {
-    needed_bytes(text) | needed_pairs(text)
+    (needed_bytes(text) | needed_pairs(text)) & ALL_BITS
 }
 
 /// The bytes of [`needed_bits`].

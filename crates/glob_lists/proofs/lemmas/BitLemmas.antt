@@ -3,11 +3,11 @@ use Rattle.std.proofs.Common.{◌≡◌, inl, inr, ⊎_elim, ℕ, ◌+◌, ◌-�
 use Rattle.std.specs.Int.{bit_at, bit_not}
 use Rattle.std.proofs.lemmas.Bool.{cond_both, cases_eq, cases_lt, eqb-false, or_from, or_parts}
 use Rattle.std.proofs.lemmas.List.{get_or-drop}
-use Rattle.std.proofs.lemmas.Nat.Bits.{bit_at-lt, bit_at-zero, bit_at_above, bit_at_and, bit_at_cat_high, bit_at_mask_inside, bit_at_not, bit_at_ones, bit_at_or, bit_at_set_other, bit_at_set_same, same_from_bits}
+use Rattle.std.proofs.lemmas.Nat.Bits.{bit_at-lt, bit_at-zero, bit_at_above, bit_at_and, bit_at_cat_high, bit_at_mask_inside, bit_at_not, bit_at_or, bit_at_set_other, bit_at_set_same, same_from_bits}
 use Rattle.std.specs.Str.{byte}
 use Rattle.gix_glob.specs.Bytes.{backslash, is_special, is_wildcard, open_bracket, slash, star}
 use Rattle.gix_glob.specs.LiteralBytes.{IsUnescapedUpTo, is_joining}
-use Rattle.glob_lists.specs.Private.Literals.{NeedsBits, bit_of, pair_of}
+use Rattle.glob_lists.specs.Private.Literals.{AsksForBits, NeedsBits, bit_of, pair_of}
 use Rattle.glob_lists.specs.Private.Showing.{HasAll, HoldsBits}
 
 -- the two cases of a letter have one bit
@@ -123,7 +123,7 @@ upper_bit set i fits is =
 pub HoldsBits-both : (text : List ℕ) (bytes pairs : ℕ) → pairs < 2 ^ 32 → HoldsUpTo text (length text) bytes → PairsUpTo text (length text) pairs
     → HoldsBits text (bit_or ((pairs * 2 ^ 32) % 2 ^ 64) bytes)
 HoldsBits-both text bytes pairs fits h h' = record {
-  bytes = λ j inside. bit_right _ bytes (bit_of (get_or text j 0)) (h j inside);
+  bytes = λ j inside some. bit_right _ bytes (bit_of (get_or text j 0)) (h j inside);
   pairs = λ j inside. bit_left _ bytes (32 + pair_of (get_or text j 0) (get_or text (j + 1) 0)) (upper_bit pairs _ fits (h' j inside));
 }
 
@@ -131,7 +131,7 @@ HoldsBits-both text bytes pairs fits h h' = record {
 pub HoldsBits-drop : (text : List ℕ) (at set : ℕ) → HoldsBits text set → HoldsBits (drop at text) set
 HoldsBits-drop text at set h =
     let long = length-drop at text in record {
-      bytes = λ j inside. subst (λ (b : ℕ). bit_at set (bit_of b) ≡ 1) (sym (get_or-drop at text j 0)) (h.bytes (at + j) (omega arith));
+      bytes = λ j inside. subst (λ (b : ℕ). 0 < bit_of b → bit_at set (bit_of b) ≡ 1) (sym (get_or-drop at text j 0)) (h.bytes (at + j) (omega arith));
       pairs = λ j inside.
           let next : at + (j + 1) ≡ at + j + 1 = omega arith in
           let second : get_or (drop at text) (j + 1) 0 ≡ get_or text (at + j + 1) 0 = get_or-drop at text (j + 1) 0 ∙ ap (λ (m : ℕ). get_or text m 0) next in
@@ -139,10 +139,10 @@ HoldsBits-drop text at set h =
           (subst (λ (b : ℕ). bit_at set (32 + pair_of (get_or text (at + j) 0) b) ≡ 1) (sym second) (h.pairs (at + j) (omega arith)));
     }
 
-pub all_bits_hold : (text : List ℕ) → HoldsBits text 18446744073709551615
+pub all_bits_hold : (text : List ℕ) → HoldsBits text 18446744073709551614
 all_bits_hold text = record {
-  bytes = λ j inside. bit_at_ones 64 (bit_of (get_or text j 0)) (omega arith);
-  pairs = λ j inside. bit_at_ones 64 (32 + pair_of (get_or text j 0) (get_or text (j + 1) 0)) (omega arith);
+  bytes = λ j inside some. bit_at_mask_inside 1 64 (bit_of (get_or text j 0)) (omega arith) (omega arith);
+  pairs = λ j inside. bit_at_mask_inside 1 64 (32 + pair_of (get_or text j 0) (get_or text (j + 1) 0)) (omega arith) (omega arith);
 }
 
 -- the set of all pairs has each of them
@@ -228,6 +228,15 @@ NeedsBits-or text a b h h' i is = ⊎_elim
     (λ (first : bit_at a i ≡ 1). h i first)
     (λ (other : bit_at a i ≡ 1 → ⊥). h' i (let both = bit_at_or a b i in let two = bit_at-lt a i in omega arith))
     (cases_eq (bit_at a i) 1)
+
+-- without place 0
+pub AsksForBits-free : (text : List ℕ) (set : ℕ) → NeedsBits text set → AsksForBits text (bit_and set 18446744073709551614)
+AsksForBits-free text set needs = record {
+  free = (let both = bit_at_and set 18446744073709551614 0 in omega (arith, both));
+  needs = λ i is.
+      let both = bit_at_and set 18446744073709551614 i in
+      let two = bit_at-lt set i in needs i (omega (arith, both, is));
+}
 
 -- ---- sets in sets
 

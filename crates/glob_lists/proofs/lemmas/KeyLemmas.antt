@@ -35,22 +35,22 @@ bare_part path start base m there =
 
 path_bytes : (path : List ℕ) (basename_start : Option ℕ) (name front : ℕ) → IsBasenameStart path basename_start → HoldsNameBits path name
     → HoldsBytes (front_part basename_start path) front → HoldsBytes path (bit_or name front)
-path_bytes path None name front base h h' j inside = bit_left name front (bit_of (get_or path j 0)) ((h 0 base).bytes j inside)
-path_bytes path (Some start) name front base h h' j inside = ⊎_elim
+path_bytes path None name front base h h' j inside some = bit_left name front (bit_of (get_or path j 0)) ((h 0 base).bytes j inside some)
+path_bytes path (Some start) name front base h h' j inside some = ⊎_elim
     (λ (before : j < start).
     let long = length-take start path in
-    bit_right name front (bit_of (get_or path j 0)) (subst (λ (b : ℕ). bit_at front (bit_of b) ≡ 1) (get_or-take start path j 0 before) (h' j (omega arith))))
+    bit_right name front (bit_of (get_or path j 0)) (subst (λ (b : ℕ). 0 < bit_of b → bit_at front (bit_of b) ≡ 1) (get_or-take start path j 0 before) (h' j (omega arith)) some))
     (λ (past : start ≤ j).
     let long = length-drop start path in
     let place : start + (j - start) ≡ j = omega arith in
     let same : get_or (drop start path) (j - start) 0 ≡ get_or path j 0 = get_or-drop start path (j - start) 0 ∙ ap (λ (k : ℕ). get_or path k 0) place in
-    bit_left name front (bit_of (get_or path j 0)) (subst (λ (b : ℕ). bit_at name (bit_of b) ≡ 1) same ((h start (bare_part path start base)).bytes (j - start) (omega arith))))
+    bit_left name front (bit_of (get_or path j 0)) (subst (λ (b : ℕ). 0 < bit_of b → bit_at name (bit_of b) ≡ 1) same ((h start (bare_part path start base)).bytes (j - start) (omega arith)) some))
     (cases_lt j start)
 
 -- the sets of the last part and of what stands before it, with all pairs, have the path's
 pub path_bits : (path : List ℕ) (basename_start : Option ℕ) (name front : ℕ) → IsBasenameStart path basename_start → HoldsNameBits path name
     → HoldsBytes (front_part basename_start path) front → HoldsBits path (bit_or (bit_or name front) 18446744069414584320)
 path_bits path basename_start name front base h h' = record {
-  bytes = λ j inside. bit_left (bit_or name front) 18446744069414584320 (bit_of (get_or path j 0)) (path_bytes path basename_start name front base h h' j inside);
+  bytes = λ j inside some. bit_left (bit_or name front) 18446744069414584320 (bit_of (get_or path j 0)) (path_bytes path basename_start name front base h h' j inside some);
   pairs = λ j inside. bit_right (bit_or name front) 18446744069414584320 (32 + pair_of (get_or path j 0) (get_or path (j + 1) 0)) (all_pairs_hold _ (omega arith));
 }

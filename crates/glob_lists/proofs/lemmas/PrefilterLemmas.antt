@@ -4,7 +4,7 @@ use Rattle.std.specs.List.{list_any}
 use Rattle.std.specs.Char.{to_ascii_lowercase}
 use Rattle.std.specs.Int.{bit_at}
 use Rattle.std.proofs.Math.Seq.{drop-append_seam}
-use Rattle.std.proofs.lemmas.Bool.{cases_Bool, cond_both}
+use Rattle.std.proofs.lemmas.Bool.{cases_Bool, cases_eq, cond_both}
 use Rattle.std.proofs.lemmas.List.{drop-drop, get_or-drop, get_or-map, get_or_default, take-append-drop}
 use Rattle.std.proofs.lemmas.List.Folds.{list_any_none}
 use Rattle.gix_glob.specs.declared.pattern.Case.{Case}
@@ -22,7 +22,7 @@ use Rattle.glob_lists.specs.declared.chains.Class.TheVariants.{Always, EndsIn}
 use Rattle.glob_lists.specs.declared.literals.TheConstants.{LONGEST_END}
 use Rattle.glob_lists.specs.declared.probe.Probe.{Probe}
 use Rattle.glob_lists.specs.declared.row.Row.{Row}
-use Rattle.glob_lists.specs.Private.Literals.{EndsLiterally, IsNeededAt, IsNeededPairAt, NeedsBits, bit_of, end_key, from_end, pair_of}
+use Rattle.glob_lists.specs.Private.Literals.{AsksForBits, EndsLiterally, IsNeededAt, IsNeededPairAt, bit_of, end_key, from_end, pair_of}
 use Rattle.glob_lists.specs.Private.Rows.{Asks, AsksFor, HasLiteralEnd, length_of}
 use Rattle.glob_lists.specs.Private.Showing.{HasBytes, HasEnd, HoldsBits, Passes, PassesBy, Shows}
 use Rattle.glob_lists.proofs.lemmas.BitLemmas.{HoldsBits-drop}
@@ -165,12 +165,12 @@ module _ (ends : EndsAsTheText) (bytes : HasTheBytes) (pairs : HasThePairs) (tex
       (λ name. shows.name_bytes at (λ m. subst (λ (xs : List ℕ). ¬ HasByte xs m slash) is (bare name m)))
       (λ other. HoldsBits-drop path at probe.bytes shows.bytes))
 
-  bit_is_held : (i j : ℕ) → HoldsBits value held → IsNeededAt text j i ⊎ IsNeededPairAt text j i → bit_at held i ≡ 1
-  bit_is_held i j all (inl n) =
+  bit_is_held : (i j : ℕ) → 0 < i → HoldsBits value held → IsNeededAt text j i ⊎ IsNeededPairAt text j i → bit_at held i ≡ 1
+  bit_is_held i j some all (inl n) =
       let has = bytes text value mode j n.byte n.unescaped n.there n.literal s in
       let same : bit_of (get_or value has.place 0) ≡ i = ap (λ (b : ℕ). b % 32) (fold_lower mode (get_or value has.place 0) n.byte has.alike) ∙ sym n.bit in
-      subst (λ (k : ℕ). bit_at held k ≡ 1) same (all.bytes has.place has.inside)
-  bit_is_held i j all (inr n) =
+      subst (λ (k : ℕ). bit_at held k ≡ 1) same (all.bytes has.place has.inside (subst (λ (k : ℕ). 0 < k) (sym same) some))
+  bit_is_held i j some all (inr n) =
       let has = pairs text value mode j n.first n.second n.unescaped n.there n.behind n.literal n.both s in
       let first = fold_lower mode (get_or value has.place 0) n.first has.alike in
       let second = fold_lower mode (get_or value (has.place + 1) 0) n.second has.next_alike in
@@ -179,8 +179,11 @@ module _ (ends : EndsAsTheText) (bytes : HasTheBytes) (pairs : HasThePairs) (tex
       ∙ (ap (λ (b : ℕ). 32 + (to_ascii_lowercase n.first * 5 + b) % 32) second ∙ sym n.bit) in
       subst (λ (k : ℕ). bit_at held k ≡ 1) same (all.pairs has.place has.inside)
 
-  HasBytes-needed : NeedsBits text row.asked → (row.is_name ≡ true → (m : ℕ) → ¬ HasByte value m slash) → HasBytes row probe
-  HasBytes-needed needs bare i bit = (let needed = needs i bit in bit_is_held i needed.0 (value_is_held bare) needed.1)
+  HasBytes-needed : AsksForBits text row.asked → (row.is_name ≡ true → (m : ℕ) → ¬ HasByte value m slash) → HasBytes row probe
+  HasBytes-needed asks bare i bit = ⊎_elim
+      (λ (first : i ≡ 0). absurd (let zero_bit = ap (bit_at row.asked) first ∙ asks.free in omega (arith, bit, zero_bit)))
+      (λ (past : i ≡ 0 → ⊥). let needed = asks.needs i bit in bit_is_held i needed.0 (omega arith) (value_is_held bare) needed.1)
+      (cases_eq i 0)
 
   passes_by : (class : Class) → row.spare ≡ 8 * (LONGEST_END - length_of row) → AsksFor text (length_of row) row.asked class → (row.is_name ≡ true → (m : ℕ) → ¬ HasByte value m slash) → PassesBy row probe class
   passes_by Always spare needs bare = HasBytes-needed needs bare

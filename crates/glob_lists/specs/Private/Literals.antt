@@ -64,3 +64,8 @@ pub record IsNeededPairAt (text : List ℕ) (j i : ℕ) : Type 0 where
 -- the set has no bit but those of bytes and pairs that are needed
 abbrev pub NeedsBits : List ℕ → ℕ → Type 0
 NeedsBits text set = (i : ℕ) → bit_at set i ≡ 1 → (j : ℕ) × (IsNeededAt text j i ⊎ IsNeededPairAt text j i)
+
+-- and none at place 0, which stays free: so a set of all else tells that nothing is known
+pub record AsksForBits (text : List ℕ) (set : ℕ) : Type 0 where
+  pub free : bit_at set 0 ≡ 0
+  pub needs : NeedsBits text set

@@ -7,7 +7,7 @@ use Rattle.glob_lists.specs.declared.chains.Class.{Class}
 use Rattle.glob_lists.specs.declared.chains.Class.TheVariants.{Always, EndsIn}
 use Rattle.glob_lists.specs.declared.literals.TheConstants.{LONGEST_END}
 use Rattle.glob_lists.specs.declared.row.Row.{Row}
-use Rattle.glob_lists.specs.Private.Literals.{EndsLiterally, NeedsBits, end_key, from_end}
+use Rattle.glob_lists.specs.Private.Literals.{AsksForBits, EndsLiterally, end_key, from_end}
 
 -- a literal end of the text: its length, its last byte and its number
 pub record HasLiteralEnd (text : List ℕ) (n byte key : ℕ) : Type 0 where
@@ -22,7 +22,7 @@ length_of row = LONGEST_END - row.spare / 8
 
 -- what a row of this class asks for: a literal end of the text, of this length, or the bytes and pairs that are needed
 abbrev pub AsksFor : List ℕ → ℕ → ℕ → Class → Type 0
-AsksFor text n asked Always = NeedsBits text asked
+AsksFor text n asked Always = AsksForBits text asked
 AsksFor text n asked (EndsIn byte) = HasLiteralEnd text n byte asked
 
 -- The row asks of a path what a pattern of this text and mode does: a literal end, or the bytes and pairs that are needed.

@@ -10,11 +10,11 @@ use Rattle.glob_lists.specs.declared.probe.Probe.{Probe}
 use Rattle.glob_lists.specs.declared.row.Row.{Row}
 use Rattle.glob_lists.specs.Private.Literals.{bit_of, pair_of, end_key, from_end, without_bytes}
 
--- the set has each byte of the text
+-- the set has each byte of the text but those of place 0, for which no row asks
 abbrev pub HoldsBytes : List ℕ → ℕ → Type 0
-HoldsBytes text set = (j : ℕ) → j < length text → bit_at set (bit_of (slice_index text j)) ≡ 1
+HoldsBytes text set = (j : ℕ) → j < length text → 0 < bit_of (slice_index text j) → bit_at set (bit_of (slice_index text j)) ≡ 1
 
--- The set has each byte of the text and each two that stand side by side.
+-- The set has each such byte of the text and each two that stand side by side.
 pub record HoldsBits (text : List ℕ) (set : ℕ) : Type 0 where
   pub bytes : HoldsBytes text set
   pub pairs : (j : ℕ) → j + 1 < length text → bit_at set (32 + pair_of (slice_index text j) (slice_index text (j + 1))) ≡ 1

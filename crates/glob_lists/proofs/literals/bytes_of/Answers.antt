@@ -7,4 +7,4 @@ pub loop-byte-preserved : goal.loop-byte-preserved
 loop-byte-preserved c = holds_more c.args.text.now c.loop-byte.byte-index c.loop-byte.bits c.loop-byte.invariant
 
 pub returns : goal.returns
-returns c = λ j inside. rw (← c.from.ensures) at (c.loop-byte.invariant j (let all = c.loop-byte-test.false in omega arith))
+returns c = λ j inside some. rw (← c.from.ensures) at (c.loop-byte.invariant j (let all = c.loop-byte-test.false in omega arith))
