@@ -88,6 +88,23 @@ fn short_lists_over_few_letters(rt: HostRuntime) -> Result<(), Fail> {
     Ok(())
 }
 
+#[test]
+fn paths_longer_than_their_list(rt: HostRuntime) -> Result<(), Fail> {
+    // the sets of a path's bytes aren't made where they are more than the patterns
+    let lists = [lines_of(&rt, "*@*\n1\n2\n3\n4\n5\n6\n7\n", None)?];
+    let rows = [
+        ("aaaaaaa@a", 1),
+        ("aaaaaaaaa", 0),
+        ("a@a", 1),
+        ("@aaaaaa/a", 0),
+    ];
+    for (path, wanted) in rows {
+        let count = compare(&rt, &lists, path, Case::Sensitive)?;
+        same(&rt, count, wanted, "the matches of", path);
+    }
+    Ok(())
+}
+
 /// Words of a realistic mixture.
 const WORDS: [&str; 10] = [
     "src", "lib", "test", "build", "main", "util", "node", "core", "tmp", "log",

@@ -34,6 +34,13 @@ fn values(rt: HostRuntime) -> Result<(), Fail> {
         ("*a/b", "x/a/b", path(), false),
         ("*a/b", "x/a/b", plain(), true),
         ("*a/b", "x/a/ba/b", plain(), true),
+        ("*b*", "abc", path(), true),
+        ("*b*", "ac", path(), false),
+        ("*b*", "a/b", path(), false),
+        ("*b*", "a/b", plain(), true),
+        ("*B*", "abc", fold(), true),
+        ("*ab*", "aab", plain(), true),
+        ("*ab*", "ba", plain(), false),
     ];
     for (line, value, mode, wanted) in rows {
         let row = (line, value, mode);
