@@ -13,15 +13,18 @@ use std::test::Fail;
 /// Pattern lines, a path, and what an index of the lines answers for it.
 type Row<'a> = (&'a str, &'a str, Option<(usize, usize)>, usize);
 
-/// A pattern is asked where the path ends as its literal end does; where it has none, where the path has its literal bytes.
-const ROWS: [Row<'static>; 7] = [
+/// A pattern is asked where the path ends as its literal end does; where it has none, where the path's last part has its literal bytes,
+/// side by side as they stand in it.
+const ROWS: [Row<'static>; 9] = [
     ("a\nb\na\n/c/a\n", "a", Some((0, 2)), 2),
     ("a\nb\na\n/c/a\n", "c/a", Some((0, 3)), 1),
     ("a\nb\na\n/c/a\n", "b", Some((0, 1)), 1),
     ("a\nb\na\n/c/a\n", "x", None, 0),
     ("*.rs\n*.c\nx.rs\n", "y.rs", Some((0, 0)), 1),
     ("*ab*\n*ac*\n*b*\n", "cba", Some((0, 2)), 1),
-    ("*ab*\n*ac*\n*d*\n", "cba", None, 2),
+    ("*ab*\n*ac*\n*d*\n", "cba", None, 0),
+    ("*cb*\n*ab*\n*d*\n", "cba", Some((0, 0)), 1),
+    ("*c*a*\n*a*c*\n*a?b*\n", "cba", Some((0, 0)), 3),
 ];
 
 /// Lines that no path of the rows ends as: with so many of them the look-up pays.
