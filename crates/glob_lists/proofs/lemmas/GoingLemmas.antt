@@ -1,5 +1,5 @@
 -- A path goes up through the folders that begin it, and meets later lists first.
-use Rattle.std.proofs.Common.{◌≡◌, inl, inr, ℕ, ◌+◌, ◌*◌, ◌<◌, ◌≤◌, Bool, List, [], drop, length, get_or, None, Some, refl, sym, ap, subst, ◌∙◌, arith}
+use Rattle.std.proofs.Common.{◌≡◌, inl, inr, ℕ, ◌+◌, ◌*◌, ◌≤◌, Bool, List, [], drop, length, get_or, None, Some, refl, sym, ap, subst, ◌∙◌, arith}
 use Rattle.std.specs.Prelude.{slice_get, sum_by}
 use Rattle.std.proofs.lemmas.Bool.{cases_order}
 use Rattle.std.proofs.lemmas.Option.{same_Some, slice_get-get_or, slice_get_within}
@@ -12,7 +12,7 @@ use Rattle.glob_lists.specs.Deciding.{Decides, PairAnswers}
 use Rattle.glob_lists.specs.DecisionLimits.{decision_look_limit, decision_step_limit, list_look_limit, list_step_limit}
 use Rattle.glob_lists.specs.Index.{entry_count}
 use Rattle.glob_lists.specs.Private.Folders.{HasFolders, IsFolderAt, IsForest, IsLastUpTo, base_at}
-use Rattle.glob_lists.specs.Private.Fronts.{Begins, IsUpTo}
+use Rattle.glob_lists.specs.Private.Fronts.{Begins}
 use Rattle.glob_lists.specs.Private.Ways.{IsLastOfList, IsOnWay, SpendsOn}
 use Rattle.glob_lists.proofs.lemmas.FolderLemmas.{above_up_to, between_begins}
 use Rattle.glob_lists.proofs.lemmas.FrontLemmas.{Begins-between, IsUpTo-begins}
