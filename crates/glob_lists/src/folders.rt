@@ -4,16 +4,19 @@
 //! The last base that doesn't come after a path is searched by halves. So each base is asked for among the same others, and what
 //! those on either side of them have alike, all of them have, and the path that is searched for among them, too. Each folder knows
 //! the number of the bytes behind that, which mostly tells: then its base isn't read.
-ghost use Rattle.std.specs.Prelude.{◌≡◌, ◌↔◌, ◌+◌, ◌*◌, ◌^◌, ◌++◌, ◌∷◌, [], ◌-◌, ◌/◌, ◌<◌, ◌≤◌, ℕ, IfOk, IfSome, IsTrue, OnOk, Some, length, map, min, slice_get, take};
+ghost use Rattle.std.specs.Prelude.{◌≡◌, ◌↔◌, ◌+◌, ◌*◌, ◌^◌, ◌++◌, ◌∷◌, [], ◌-◌, ◌/◌, ◌<◌, ◌≤◌, ◌⊎◌, ℕ, IfOk, IfSome, IsTrue, OnOk, Some, length, map, min, slice_get, take};
 ghost use Rattle.gix_glob.specs.EntryLists.{entry_list_of};
 ghost use Rattle.glob_lists.specs.Index.{AreTooMany, entry_count};
-ghost use Rattle.glob_lists.specs.Private.Folders.{AllUpTo, AreAllAfter, AreFolders, AreFoldersUpTo, AreSameFolders, IsBegunBy, IsChained, IsFolderOf, IsForest, IsLastBeginning, IsLastUpTo, IsNarrow, IsSameFolder, SharesAround, base_at};
+ghost use Rattle.glob_lists.specs.Private.Folders.{AllUpTo, AreAllAfter, AreFolders, AreFoldersUpTo, AreSameFolders, IsBegunBy, IsChained, IsFolderOf, IsForest, IsLastBeginning, IsLastUpTo, IsNarrow, IsSameFolder, SharesAround, base_at, base_of};
 ghost use Rattle.glob_lists.specs.Private.Fronts.{AgreeUpTo, AreSameUpTo, IsFrontOf, IsUpTo};
 ghost use Rattle.glob_lists.specs.Private.Indexes.{AreFolderedBy};
 ghost use Rattle.glob_lists.specs.Private.Looking.{LooksUpTo};
 
 use crate::chains::Link;
-use crate::fronts::{FRONT, Front, alike, begins, front_key, is_up_to, is_up_to_from};
+use crate::fronts::{
+    FRONT, Front, alike, begins, front_key, have_other_fronts, is_up_to, is_up_to_from,
+    is_up_to_past, is_up_to_within,
+};
 use gix_glob::search;
 use gix_glob::search::pattern::List;
 use gix_glob::wildmatch::Counts;
@@ -23,6 +26,9 @@ use std::sync::ledger::Ledger;
 
 /// The fewest lists for which looking up the folder of a path costs less than going through all of them.
 const FEWEST_LISTS: usize = 16;
+
+/// The fewest bytes of a base of which some may be read twice.
+const SHORT_BASE: usize = FRONT + FRONT / 2;
 
 /// A list that has patterns, at the place of its base among all.
 #[derive(Debug, Copy, Clone)]
@@ -364,7 +370,10 @@ pub(crate) fn is_last_up_to<T: search::Pattern>(
     if place >= folders.len() {
         return false;
     }
-    let base = base_at(lists, folders[place].list);
+    let base = base_there(lists, folders[place].list);
+    if have_other_fronts(base, path) {
+        return false;
+    }
     if path.starts_with(base) {
         return all_after_begun(folders, lists, path, place, base.len());
     }
@@ -442,27 +451,43 @@ fn compare_folder<T: search::Pattern, S: Ledger, L: Ledger>(
 ) -> Compared
     requires of { IsFolderOf (map (entry_list_of T.seen) lists.now) folder.now }
     requires front { IsFrontOf path.now front }
-    requires shared { folder.now.size ≡ size
+    requires shared { (folder.now.shared ≡ front.from) ⊎ (folder.now.size ≡ size)
         → AreSameUpTo (base_at (map (entry_list_of T.seen) lists.now) folder.now.list) path.now folder.now.shared }
     ensures order { IsTrue result.is_up_to ↔ IsUpTo (base_at (map (entry_list_of T.seen) lists.now) folder.now.list) path.now }
     ensures front { IsFrontOf path.now result.front }
+    ensures moved { (result.front.from ≡ front.from) ⊎ ((folder.now.size ≡ size) × (result.front.from ≡ folder.now.shared)) }
     ensures looks { LooksUpTo counts.old counts.new (2 * length path.now) }
 {
-    // never so where the folders are as many as they were
-    if folder.size as usize != size {
+    if !is_shared(folder, size, front) {
         let is_up_to = is_base_up_to(lists, folder.list, path, 0, counts);
         return Compared { is_up_to, front };
     }
     let front = front.moved(path, folder.shared, counts);
-    if folder.key != front.key {
+    if folder.key < front.key {
         return Compared {
-            is_up_to: folder.key < front.key,
+            is_up_to: true,
+            front,
+        };
+    }
+    if folder.key > front.key {
+        return Compared {
+            is_up_to: false,
             front,
         };
     }
     let known = folder.shared as usize + FRONT;
     let is_up_to = is_base_up_to(lists, folder.list, path, known, counts);
     Compared { is_up_to, front }
+}
+
+/// Whether what a folder says that it shares is known of a path, too, that is searched for among so many folders. All those share
+/// with it what stands before its front.
+#[inline(always)]
+fn is_shared(folder: &Folder, size: usize, front: Front) -> bool
+    ensures { IsTrue result → (folder.now.shared ≡ front.from) ⊎ (folder.now.size ≡ size) }
+{
+    // the second is always so where the folders are as many as they were
+    folder.shared == front.from() || folder.size as usize == size
 }
 
 /// Whether the base of the list at a place comes before a path or is the same. Up to a place that is known they agree.
@@ -474,17 +499,22 @@ fn is_base_up_to<T: search::Pattern, S: Ledger, L: Ledger>(
     known: usize,
     counts: &mut Counts<S, L>,
 ) -> bool
-    requires { AgreeUpTo (base_at (map (entry_list_of T.seen) lists.now) list) path.now known }
+    requires inside { list < length (map (entry_list_of T.seen) lists.now) }
+    requires same { AgreeUpTo (base_at (map (entry_list_of T.seen) lists.now) list) path.now known }
     ensures order { IsTrue result ↔ IsUpTo (base_at (map (entry_list_of T.seen) lists.now) list) path.now }
-    ensures looks { LooksUpTo counts.old counts.new (2 * (length path.now - min known FRONT)) }
+    ensures looks { LooksUpTo counts.old counts.new (2 * length path.now - min known FRONT) }
 {
-    let base = base_at(lists, list);
-    let most = base.len().min(path.len());
+    let base = base_there(lists, list);
+    if base.len() < SHORT_BASE || base.len() > path.len() {
+        let most = base.len().min(path.len());
+        let from = known.min(most);
+        counts.looks(2 * (most - from));
+        return is_up_to_past(base, path, from);
+    }
     // the last ones are read with some that are known, so that they make a number
-    let last = if most < 2 * FRONT { most } else { most - FRONT };
-    let from = known.min(last);
-    counts.looks(2 * (most - from));
-    is_up_to_from(base, path, from)
+    let from = known.min(base.len() - FRONT);
+    counts.looks(2 * (base.len() - from));
+    is_up_to_within(base, path, from)
 }
 
 /// The base of the list at a place; empty where it has none, or there is no such list.
@@ -492,10 +522,27 @@ fn base_at<T: search::Pattern>(lists: &[List<T>], place: u32) -> &[u8]
     ensures { result.now ≡ base_at (map (entry_list_of T.seen) lists.now) place }
 {
     match lists.get(place as usize) {
-        Some(list) => match &list.base {
-            Some(base) => base.as_slice(),
-            None => b"",
-        },
+        Some(list) => base_of(list),
+        None => b"",
+    }
+}
+
+/// The base of the list at a place where there is one.
+#[inline(always)]
+fn base_there<T: search::Pattern>(lists: &[List<T>], place: u32) -> &[u8]
+    requires { place < length (map (entry_list_of T.seen) lists.now) }
+    ensures { result.now ≡ base_at (map (entry_list_of T.seen) lists.now) place }
+{
+    base_of(&lists[place as usize])
+}
+
+/// The base of a list; empty where it has none.
+#[inline(always)]
+fn base_of<T: search::Pattern>(list: &List<T>) -> &[u8]
+    ensures { result.now ≡ base_of (Some (entry_list_of T.seen list.now)) }
+{
+    match &list.base {
+        Some(base) => base.as_slice(),
         None => b"",
     }
 }

@@ -39,6 +39,14 @@ impl Front {
         }
     }
 
+    /// The place.
+    #[inline(always)]
+    pub(crate) fn from(self) -> u32
+        ensures { result ≡ self.from }
+    {
+        self.from
+    }
+
     /// The bytes of the path from another place on.
     #[inline(always)]
     pub(crate) fn moved<S: Ledger, L: Ledger>(
@@ -145,22 +153,60 @@ pub(crate) fn is_up_to_from(left: &[u8], right: &[u8], known: usize) -> bool
     requires { AreSameUpTo left.now right.now known }
     ensures { IsTrue result ↔ IsUpTo left.now right.now }
 {
-    let most = left.len().min(right.len());
-    if known + FRONT <= most {
-        let key = bytes_key(left, known);
-        let other = bytes_key(right, known);
-        // one test for both
-        if key & NO_CAPITAL == NO_CAPITAL && other & NO_CAPITAL == NO_CAPITAL && key != other {
-            return key < other;
+    if known + FRONT > left.len() || known + FRONT > right.len() {
+        return is_up_to_past(left, right, known);
+    }
+    is_up_to_within(left, right, known)
+}
+
+/// What [`is_up_to_from`] says, where both texts have as many bytes more as make a number.
+#[inline(always)]
+pub(crate) fn is_up_to_within(left: &[u8], right: &[u8], known: usize) -> bool
+    requires left { known + FRONT ≤ length left.now }
+    requires right { known + FRONT ≤ length right.now }
+    requires same { AreSameUpTo left.now right.now known }
+    ensures { IsTrue result ↔ IsUpTo left.now right.now }
+{
+    let key = bytes_key(left, known);
+    let other = bytes_key(right, known);
+    // one test for both
+    if key & NO_CAPITAL == NO_CAPITAL && other & NO_CAPITAL == NO_CAPITAL {
+        if key < other {
+            return true;
         }
+        if key > other {
+            return false;
+        }
+        if ends_alike(left, right, known + FRONT) {
+            return true;
+        }
+        return is_up_to_past(left, right, known + FRONT);
     }
     is_up_to_past(left, right, known)
+}
+
+/// Whether a text begins with another one, of which few bytes behind those that are known to be alike are left: they are read with
+/// some of those, so that they make a number.
+#[inline(always)]
+fn ends_alike(left: &[u8], right: &[u8], known: usize) -> bool
+    requires { AreSameUpTo left.now right.now known }
+    ensures { IsTrue result → Begins left.now right.now }
+{
+    if left.len() > right.len() || left.len() > known + FRONT || left.len() < FRONT {
+        return false;
+    }
+    let last = left.len() - FRONT;
+    let key = bytes_key(left, last);
+    if key & NO_CAPITAL != NO_CAPITAL {
+        return false;
+    }
+    key == bytes_key(right, last)
 }
 
 /// What [`is_up_to_from`] says, by as many bytes at once as make a number.
 #[cold]
 #[inline(never)]
-fn is_up_to_past(left: &[u8], right: &[u8], known: usize) -> bool
+pub(crate) fn is_up_to_past(left: &[u8], right: &[u8], known: usize) -> bool
     requires { AreSameUpTo left.now right.now known }
     ensures { IsTrue result ↔ IsUpTo left.now right.now }
 {
@@ -200,6 +246,12 @@ pub(crate) fn is_up_to_behind(left: &[u8], right: &[u8], known: usize) -> bool
         }
     }
     left.len() <= right.len()
+}
+
+/// Whether two texts begin with other bytes.
+#[inline(always)]
+pub(crate) fn have_other_fronts(left: &[u8], right: &[u8]) -> bool {
+    left.len() >= FRONT && right.len() >= FRONT && bytes_key(left, 0) != bytes_key(right, 0)
 }
 
 /// Whether a text comes before another one or is the same.

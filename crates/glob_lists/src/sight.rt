@@ -2,23 +2,33 @@
 ghost use Rattle.std.specs.Prelude.{◌≡◌, ◌↔◌, ◌-◌, ◌+◌, ◌<◌, ◌≤◌, IsTrue, length};
 ghost use Rattle.glob_lists.specs.Private.Literals.{without_bytes};
 ghost use Rattle.glob_lists.specs.Private.Showing.{HasAll};
-ghost use Rattle.glob_lists.specs.Private.Sights.{HasPair, IsSeen, Sees, SeesEnd, SeesFrom, needs_of, pair_bit};
+ghost use Rattle.glob_lists.specs.Private.Sights.{HasEnding, IsSeen, Lacks, Sees, SeesBytes, SeesEnd, SeesFrom, end_bit, needs_of};
 
 use crate::chains::Class;
 use crate::literals::{has_all, without_bytes};
 use crate::probe::Probe;
 use crate::row::Row;
 
-/// How many bits a set of ends has.
-const ENDS: u64 = 61;
+/// How many last bytes of a long end are looked at: many names share the last two.
+const LONG_END: u8 = 5;
 
-/// How many bits the other set has.
-const OTHER_ENDS: u64 = 59;
+/// How many last bytes of a shorter end are looked at.
+const SHORT_END: u8 = 2;
+
+/// What the number of an end is multiplied by for its place in a set of ends.
+const ENDS: u64 = 0x9E37_79B9_7F4A_7C15;
+
+/// The same for the other set.
+const OTHER_ENDS: u64 = 0xC2B2_AE3D_27D4_EB4F;
+
+/// The bit of the first set that tells that some row asks for something else than an end; some ends have the same.
+const NO_END: u64 = 0x8000_0000_0000_0000;
 
 /// What the rows of a list ask for together.
 #[derive(Debug, Copy, Clone)]
 pub(crate) struct Sight {
-    /// The bits of the last two bytes that texts end in, as a set.
+    /// The bits of the last bytes that texts end in, as a set: of five, or of two where an end is shorter. It has another one where a
+    /// row asks for something else.
     ends: u64,
     /// The same with other bits: few ends that share a bit of the one set with another share one of this, too.
     other_ends: u64,
@@ -57,11 +67,13 @@ impl Sight {
     fn with_bytes(self, row: &Row) -> Sight {
         if row.is_name() {
             return Sight {
+                ends: self.ends | NO_END,
                 names: self.names & row.asked(),
                 ..self
             };
         }
         Sight {
+            ends: self.ends | NO_END,
             paths: self.paths & row.asked(),
             ..self
         }
@@ -69,13 +81,17 @@ impl Sight {
 
     /// What is asked for where there is one row more that has an end.
     fn with_end(self, row: &Row) -> Sight {
-        if row.length() < 2 {
-            return Sight { paths: 0, ..self };
+        if row.length() < SHORT_END {
+            return Sight {
+                ends: self.ends | NO_END,
+                paths: 0,
+                ..self
+            };
         }
-        let pair = first_two(row.asked(), row.length());
+        let end = seen_end(row.asked(), row.length());
         Sight {
-            ends: self.ends | pair_bit(pair, ENDS),
-            other_ends: self.other_ends | pair_bit(pair, OTHER_ENDS),
+            ends: self.ends | end_bit(end, ENDS),
+            other_ends: self.other_ends | end_bit(end, OTHER_ENDS),
             ..self
         }
     }
@@ -98,9 +114,19 @@ impl Sight {
         ensures { IsTrue result → Sees self.now row.now }
     {
         match row.class() {
-            Class::Always => has_all(row.asked(), self.needs(row.is_name())),
+            Class::Always => self.sees_bytes(row),
             Class::EndsIn(_) => self.sees_end(row),
         }
+    }
+
+    /// Whether it has the bytes that a row without an end asks for.
+    fn sees_bytes(&self, row: &Row) -> bool
+        ensures { IsTrue result → SeesBytes self.now row.now }
+    {
+        if !has_all(self.ends, NO_END) {
+            return false;
+        }
+        has_all(row.asked(), self.needs(row.is_name()))
     }
 
     /// What it has of the bytes that rows without an end need.
@@ -114,11 +140,21 @@ impl Sight {
     fn sees_end(&self, row: &Row) -> bool
         ensures { IsTrue result → SeesEnd self.now row.now }
     {
-        if row.length() < 2 {
-            return self.paths == 0;
+        if row.length() < SHORT_END {
+            return self.has_all_paths();
         }
-        let pair = first_two(row.asked(), row.length());
-        self.has_pair(pair)
+        let end = seen_end(row.asked(), row.length());
+        self.has_ending(end)
+    }
+
+    /// Whether some row asks for something else than an end, and nothing is needed of a whole path.
+    fn has_all_paths(&self) -> bool
+        ensures { IsTrue result → (self.now.paths ≡ 0) × HasAll self.now.ends NO_END }
+    {
+        if self.paths != 0 {
+            return false;
+        }
+        has_all(self.ends, NO_END)
     }
 
     /// Whether some row without an end asks for bytes of the whole path, or one for its last byte alone.
@@ -127,13 +163,20 @@ impl Sight {
         self.paths != u64::MAX
     }
 
-    /// Whether it has a pair of bytes that texts end in.
+    /// Whether it has the number of last bytes that texts end in.
     #[inline(always)]
-    fn has_pair(&self, pair: u64) -> bool
-        ensures { IsTrue result ↔ HasPair self.now pair }
+    fn has_ending(&self, end: u64) -> bool
+        ensures { IsTrue result ↔ HasEnding self.now end }
     {
-        has_all(self.ends, pair_bit(pair, ENDS))
-            && has_all(self.other_ends, pair_bit(pair, OTHER_ENDS))
+        has_all(self.ends, end_bit(end, ENDS)) && has_all(self.other_ends, end_bit(end, OTHER_ENDS))
+    }
+
+    /// Whether it has neither of two ends, and no row that asks for something else: so it is for most lists, and one test tells.
+    #[inline(always)]
+    fn lacks(&self, short: u64, long: u64) -> bool
+        ensures { IsTrue result → Lacks self.now short long }
+    {
+        self.ends & (end_bit(short, ENDS) | end_bit(long, ENDS) | NO_END) == 0
     }
 
     /// Whether a path shows something of it.
@@ -141,7 +184,15 @@ impl Sight {
     pub(crate) fn is_seen(&self, probe: &Probe) -> bool
         ensures { IsSeen self.now probe.now → IsTrue result }
     {
-        if self.has_pair(probe.key(2)) {
+        let short = probe.key(SHORT_END);
+        let long = probe.key(LONG_END);
+        if self.lacks(short, long) {
+            return false;
+        }
+        if self.has_ending(short) {
+            return true;
+        }
+        if self.has_ending(long) {
             return true;
         }
         if has_all(probe.bytes_for(true), self.names) {
@@ -151,19 +202,22 @@ impl Sight {
     }
 }
 
-/// The number of two bytes that the number of so many bytes begins with.
-fn first_two(key: u64, length: u8) -> u64
-    requires { 2 ≤ length }
-    ensures { result ≡ without_bytes key (length - 2) }
+/// The number of the last bytes that are looked at of an end of so many bytes, whose number begins with it.
+fn seen_end(key: u64, length: u8) -> u64
+    requires { SHORT_END ≤ length }
+    ensures few { length < LONG_END → result ≡ without_bytes key (length - SHORT_END) }
+    ensures many { LONG_END ≤ length → result ≡ without_bytes key (length - LONG_END) }
 {
-    without_bytes(key, usize::from(length - 2))
+    if length < LONG_END {
+        return without_bytes(key, usize::from(length - SHORT_END));
+    }
+    without_bytes(key, usize::from(length - LONG_END))
 }
 
-/// The bit that stands for a pair of bytes in a set of so many; other pairs have the same.
+/// The bit that stands for an end in a set: its place are the first six bits of the product; other ends have the same.
 #[inline(always)]
-fn pair_bit(pair: u64, size: u64) -> u64
-    requires { (0 < size) × (size ≤ 64) }
-    ensures { result ≡ pair_bit size pair }
+fn end_bit(end: u64, factor: u64) -> u64
+    ensures { result ≡ end_bit factor end }
 {
-    1 << (pair % size)
+    1 << (end.wrapping_mul(factor) >> 58)
 }

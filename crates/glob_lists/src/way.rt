@@ -135,6 +135,10 @@ impl<'i, T: search::Pattern> Ways<'i, T> {
     {
         // a law does nothing: it is called for what it ensures
         laws::answering_patterns_pass();
+        // places on the way up are lesser ones, so one test is enough for all
+        if !self.has_sight(from) {
+            return from;
+        }
         let mut link = from;
         'folders: while let Some(place) = link.place() {
             if !self.is_passed_over(place, probe) {
@@ -145,15 +149,24 @@ impl<'i, T: search::Pattern> Ways<'i, T> {
         link
     }
 
+    /// Whether it is known what the list of a folder and those before it ask for.
+    #[inline(always)]
+    fn has_sight(&self, link: Link) -> bool
+        ensures { IsTrue result → link.0 ≤ length self.now.sights.now }
+    {
+        match link.place() {
+            Some(place) => place < self.sights.len(),
+            None => true,
+        }
+    }
+
     /// Whether no row of the list of the folder at a place can pass.
     #[inline(always)]
     fn is_passed_over(&self, place: usize, probe: &Probe) -> bool
+        requires inside { place < length self.now.sights.now }
         requires sights { AreSights (map (entry_list_of T.seen) self.now.lists.now) self.now.rows.now self.now.folders.now self.now.sights.now }
         ensures { IsTrue result → NoRowPasses (map (entry_list_of T.seen) self.now.lists.now) self.now.rows.now self.now.folders.now place probe.now }
     {
-        if place >= self.sights.len() {
-            return false;
-        }
         !self.sights[place].is_seen(probe)
     }
 

@@ -318,3 +318,16 @@ AgreeUpTo-numbers a b from n k is bytes others common same = record {
 -- texts that agree up to a place are the same up to it where neither ends before
 pub AreSameUpTo-agree : (a b : List ℕ) (n k : ℕ) → AgreeUpTo a b n → k ≤ n → k ≤ length a → k ≤ length b → AreSameUpTo a b k
 AreSameUpTo-agree a b n k h low within inside = record { within = within; inside = inside; same = λ j below. h.same j (omega arith) }
+
+-- the lesser number tells that its text comes first, and the greater one that it doesn't
+pub numbers_less : (a b : List ℕ) (from n : ℕ) → AreBytes a → AreBytes b → AreSameUpTo a b from → front_key a from n < front_key b from n → IsUpTo a b
+numbers_less a b from n bytes others common less = (numbers_tell a b from n bytes others common (λ (same : front_key a from n ≡ front_key b from n). omega arith)).1 less
+
+pub numbers_more : (a b : List ℕ) (from n : ℕ) → AreBytes a → AreSameUpTo a b from → front_key b from n < front_key a from n → ¬ IsUpTo a b
+numbers_more a b from n bytes common more up = let low = front_key-le a b from n bytes common up in omega arith
+
+-- a text begins another one that has the same number at its end, where they have in common what stands before
+pub Begins-number : (a b : List ℕ) (known from n : ℕ) → AreBytes a → AreBytes b → AreSameUpTo a b known → from ≤ known → from + n ≡ length a → length a ≤ length b → front_key a from n ≡ front_key b from n
+    → Begins a b
+Begins-number a b known from n bytes others common low ends fits same =
+    AreSameUpTo-agree a b (length a) (length a) (AgreeUpTo-numbers a b from n (length a) (sym ends) bytes others (AreSameUpTo-less a b known from low common) same) (omega arith) (omega arith) fits

@@ -1,5 +1,5 @@
 -- What the rows of a list ask for together.
-use Rattle.std.specs.Prelude.{◌≡◌, ◌⊎◌, ℕ, ◌+◌, ◌-◌, ◌*◌, ◌%◌, ◌^◌, ◌<◌, ◌≤◌, Bool, List, Some, slice_get, if◌then◌else◌}
+use Rattle.std.specs.Prelude.{◌≡◌, ◌⊎◌, ℕ, ◌+◌, ◌-◌, ◌*◌, ◌/◌, ◌%◌, ◌^◌, ◌<◌, ◌≤◌, Bool, List, Some, slice_get, if◌then◌else◌}
 use Rattle.gix_glob.specs.Entries.{Entry}
 use Rattle.gix_glob.specs.EntryLists.{EntryList}
 use Rattle.glob_lists.specs.declared.chains.Class.{Class}
@@ -9,33 +9,49 @@ use Rattle.glob_lists.specs.declared.literals.TheConstants.{LONGEST_END}
 use Rattle.glob_lists.specs.declared.probe.Probe.{Probe}
 use Rattle.glob_lists.specs.declared.row.Row.{Row}
 use Rattle.glob_lists.specs.declared.sight.Sight.{Sight}
-use Rattle.glob_lists.specs.declared.sight.TheConstants.{ENDS, OTHER_ENDS}
+use Rattle.glob_lists.specs.declared.sight.TheConstants.{ENDS, LONG_END, NO_END, OTHER_ENDS, SHORT_END}
 use Rattle.glob_lists.specs.Private.Literals.{without_bytes}
 use Rattle.glob_lists.specs.Private.Rows.{Asks, length_of}
 use Rattle.glob_lists.specs.Private.Showing.{HasAll, Passes}
 use Rattle.glob_lists.specs.Private.Tables.{IsEntryAt}
 
--- the set of the one bit that stands for a pair of bytes in a set of so many
-abbrev pub pair_bit : ℕ → ℕ → ℕ
-pair_bit size pair = 1 * 2 ^ (pair % size) % 2 ^ 64
+-- the place of the number of last bytes in a set: the first six bits of a product of 64
+abbrev pub end_place : ℕ → ℕ → ℕ
+end_place factor end = end * factor % 2 ^ 64 / 2 ^ 58
 
--- Both sets of a sight have the bit that stands for a pair of bytes.
-pub record HasPair (sight : Sight) (pair : ℕ) : Type 0 where
-  pub ends : HasAll sight.ends (pair_bit ENDS pair)
-  pub other_ends : HasAll sight.other_ends (pair_bit OTHER_ENDS pair)
+-- the set of the one bit that stands for it
+abbrev pub end_bit : ℕ → ℕ → ℕ
+end_bit factor end = 1 * 2 ^ end_place factor end % 2 ^ 64
+
+-- Both sets of a sight have the bit that stands for the number of last bytes.
+pub record HasEnding (sight : Sight) (end : ℕ) : Type 0 where
+  pub ends : HasAll sight.ends (end_bit ENDS end)
+  pub other_ends : HasAll sight.other_ends (end_bit OTHER_ENDS end)
 
 -- what a sight has of the bytes that rows need: of those that look at the last part of a path alone, or of the others
 abbrev pub needs_of : Sight → Bool → ℕ
 needs_of sight is_name = if is_name then sight.names else sight.paths
 
--- The sight has the pair of bytes that the row's end begins with; of a row with one byte it has that nothing else is needed.
+-- The sight has neither of two endings, and no row that asks for something else.
+pub record Lacks (sight : Sight) (short long : ℕ) : Type 0 where
+  pub no_short : ¬ HasEnding sight short
+  pub no_long : ¬ HasEnding sight long
+  pub no_others : ¬ HasAll sight.ends NO_END
+
+-- The sight tells that a row asks for something else than an end, and has what it asks for.
+pub record SeesBytes (sight : Sight) (row : Row) : Type 0 where
+  pub others : HasAll sight.ends NO_END
+  pub needs : HasAll row.asked (needs_of sight row.is_name)
+
+-- The sight has the last bytes of the row's end; of a row with one byte it has that nothing else is needed.
 pub record SeesEnd (sight : Sight) (row : Row) : Type 0 where
-  pub short : length_of row < 2 → sight.paths ≡ 0
-  pub pair : 2 ≤ length_of row → HasPair sight (without_bytes row.asked (length_of row - 2))
+  pub short : length_of row < SHORT_END → (sight.paths ≡ 0) × HasAll sight.ends NO_END
+  pub few : SHORT_END ≤ length_of row → length_of row < LONG_END → HasEnding sight (without_bytes row.asked (length_of row - SHORT_END))
+  pub many : LONG_END ≤ length_of row → HasEnding sight (without_bytes row.asked (length_of row - LONG_END))
 
 -- the sight has what a row of this class asks for
 abbrev pub SeesBy : Sight → Row → Class → Type 0
-SeesBy sight row Always = HasAll row.asked (needs_of sight row.is_name)
+SeesBy sight row Always = SeesBytes sight row
 SeesBy sight row (EndsIn byte) = SeesEnd sight row
 
 -- The sight has what the row asks for.
@@ -58,7 +74,9 @@ AreSights lists rows folders sights =
 
 -- the path shows something of what a sight has
 abbrev pub IsSeen : Sight → Probe → Type 0
-IsSeen sight probe = HasPair sight (without_bytes probe.end (LONGEST_END - 2)) ⊎ (HasAll probe.name_bytes sight.names ⊎ HasAll probe.bytes sight.paths)
+IsSeen sight probe =
+    HasEnding sight (without_bytes probe.end (LONGEST_END - SHORT_END)) ⊎ (HasEnding sight (without_bytes probe.end (LONGEST_END - LONG_END))
+    ⊎ (HasAll sight.ends NO_END × (HasAll probe.name_bytes sight.names ⊎ HasAll probe.bytes sight.paths)))
 
 -- no row of the list of the folder at place k passes
 abbrev pub NoRowPasses : {V : Type 0} → List (EntryList V) → List Row → List Folder → ℕ → Probe → Type 0

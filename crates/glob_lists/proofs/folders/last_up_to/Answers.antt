@@ -1,10 +1,12 @@
 -- Each test leaves half of the folders.
-use Rattle.std.proofs.Common.{◌+◌, ◌/◌, map, refl, arith}
+use Rattle.std.proofs.Common.{◌≡◌, ⊎_elim, ℕ, ◌+◌, ◌/◌, get_or, length, map, refl, sym, subst, arith}
 use Rattle.std.proofs.lemmas.Bool.{iff_false}
 use Rattle.std.proofs.lemmas.Option.{slice_get-get_or}
 use Rattle.gix_glob.specs.EntryLists.{entry_list_of}
 use Rattle.glob_lists.specs.declared.folders.Folder.{Folder}
-use Rattle.glob_lists.proofs.lemmas.SearchLemmas.{IsNarrow-path, IsSearched-all, IsSearched-down, IsSearched-up}
+use Rattle.glob_lists.specs.Private.Folders.{base_at}
+use Rattle.glob_lists.specs.Private.Fronts.{AreSameUpTo}
+use Rattle.glob_lists.proofs.lemmas.SearchLemmas.{IsNarrow-path, IsSearched-all, IsSearched-down, IsSearched-up, SharesFront, SharesFront-all, SharesFront-next}
 use Rattle.glob_lists.proofs.folders.last_up_to.Goals as goal
 
 pub halves-init : goal.halves-init
@@ -12,6 +14,8 @@ halves-init g c = record {
   searched = IsSearched-all (map (entry_list_of g.T.Pattern.seen) c.args.lists.now) c.args.folders.now c.args.path.now _ _ _ refl c.requires.fits
       (let looks = c.of-front.ensures.looks in let steps = looks.steps in let from = looks.from in let to = looks.to in record { steps = steps; from = from; to = omega arith });
   front = c.of-front.ensures.front;
+  shares = subst (λ (n : ℕ). SharesFront (map (entry_list_of g.T.Pattern.seen) c.args.lists.now) c.args.folders.now c.args.path.now 0 (length c.args.folders.now) n) (sym c.of-front.ensures.from)
+      (SharesFront-all (map (entry_list_of g.T.Pattern.seen) c.args.lists.now) c.args.folders.now c.args.path.now (length c.args.folders.now));
 }
 
 -- what stands for a folder that isn't there
@@ -25,11 +29,17 @@ compare_folder-found-requires-clause-of g c =
     c.requires.forest.each place _ (slice_get-get_or c.args.folders.now place none (omega arith))
 
 pub compare_folder-found-requires-clause-shared : goal.compare_folder-found-requires-clause-shared
-compare_folder-found-requires-clause-shared g c many =
+compare_folder-found-requires-clause-shared g c known =
     let place = c.halves.low + c.halves.size / 2 in
     let inside = c.halves.invariant.searched.inside in
-    IsNarrow-path (map (entry_list_of g.T.Pattern.seen) c.args.lists.now) c.args.folders.now c.args.path.now c.requires.forest c.halves.low c.halves.size _ _ c.halves.invariant.searched
-    place _ (slice_get-get_or c.args.folders.now place none (omega arith)) refl many
+    let lists = map (entry_list_of g.T.Pattern.seen) c.args.lists.now in
+    let folder = get_or c.args.folders.now place none in
+    let got = slice_get-get_or c.args.folders.now place none (omega arith) in
+    ⊎_elim
+    (λ (same : folder.shared ≡ c.halves.front.from). subst (AreSameUpTo (base_at lists folder.list) c.args.path.now) (sym same) (c.halves.invariant.shares place folder (omega arith) (omega arith) got))
+    (λ (many : folder.size ≡ c.halves.size).
+    IsNarrow-path lists c.args.folders.now c.args.path.now c.requires.forest c.halves.low c.halves.size _ _ c.halves.invariant.searched place folder got refl many)
+    known
 
 pub halves-preserved-then-is_up_to : goal.halves-preserved-then-is_up_to
 halves-preserved-then-is_up_to g c =
@@ -40,6 +50,8 @@ halves-preserved-then-is_up_to g c =
           (omega arith) (omega arith) (omega arith) c.compare_folder-found.ensures.looks _ _ (omega arith) (omega arith)
           (c.compare_folder-found.ensures.order.0 c.if-is_up_to.true);
       front = c.compare_folder-found.ensures.front;
+      shares = SharesFront-next _ _ _ c.requires.forest c.halves.low c.halves.size _ _ c.halves.invariant.searched place _ (slice_get-get_or c.args.folders.now place none (omega arith)) refl _ _
+          c.halves.invariant.shares c.compare_folder-found.ensures.moved _ _ (omega arith) (omega arith);
     }
 
 pub halves-preserved : goal.halves-preserved
@@ -51,6 +63,8 @@ halves-preserved g c =
           (omega arith) (omega arith) (omega arith) c.compare_folder-found.ensures.looks
           (iff_false c.compare_folder-found.ensures.order c.if-is_up_to.false);
       front = c.compare_folder-found.ensures.front;
+      shares = SharesFront-next _ _ _ c.requires.forest c.halves.low c.halves.size _ _ c.halves.invariant.searched place _ (slice_get-get_or c.args.folders.now place none (omega arith)) refl _ _
+          c.halves.invariant.shares c.compare_folder-found.ensures.moved _ _ (omega arith) (omega arith);
     }
 
 pub returns-clause-last : goal.returns-clause-last
