@@ -5,9 +5,10 @@ ghost use Rattle.gix_glob.specs.Steps.{IsBlankOf, NeverFall};
 ghost use Rattle.glob_lists.specs.Deciding.{BasesAreFolders, Decides};
 ghost use Rattle.glob_lists.specs.DecisionLimits.{decision_look_limit, decision_step_limit, index_look_limit};
 ghost use Rattle.glob_lists.specs.Index.{AreMatches, AreTooMany, entry_count};
+ghost use Rattle.glob_lists.specs.Private.Ends.{AreChainedRows};
 ghost use Rattle.glob_lists.specs.Private.Indexes.{AreWays};
 ghost use Rattle.glob_lists.specs.Private.Looking.{LooksUpTo};
-ghost use Rattle.glob_lists.specs.Private.Tables.{AreChained, AreRowsUpTo, HasEntryAt};
+ghost use Rattle.glob_lists.specs.Private.Tables.{AreRows, AreRowsUpTo, HasEntryAt};
 
 use crate::chains::Link;
 use crate::deciding::{decide, decide_with_counts};
@@ -20,7 +21,7 @@ use crate::reached::Reached;
 use crate::row::Row;
 use crate::sight::Sight;
 use crate::sights::sights_of;
-use crate::table::Table;
+use crate::table::{Chained, Table};
 use crate::way::Ways;
 use gix_glob::pattern::Case;
 use gix_glob::search;
@@ -84,7 +85,7 @@ pub struct CountedDecision {
 
 impl<'a, T: search::Pattern> ListIndex<'a, T> {
     /// The index of the lists, whose bases have to be those of folders: [`bases_are_folders`](crate::bases_are_folders). It
-    /// takes 24 bytes for each pattern, 64 for each of 16 lists or more, and some 2 KB once.
+    /// takes 32 bytes for each pattern, 64 for each of 16 lists or more, and some 2 KB once; while it is made, 9 more for each pattern.
     ///
     /// # Errors
     /// [`IndexError::TooMany`] where there are 2^32 patterns or more, or more than 2^32 lists, and there alone;
@@ -102,10 +103,11 @@ impl<'a, T: search::Pattern> ListIndex<'a, T> {
         if are_too_many(patterns, lists.len()) {
             return Err(IndexError::TooMany);
         }
-        let mut table = Table::with_capacity(alloc, patterns)?;
+        let mut rows = Vec::with_capacity(alloc, patterns)?;
         'lists: for i in 0..lists.len() {
-            add_list(&mut table, lists, i)?;
+            add_list(&mut rows, lists, i)?;
         }
+        let table = Table::of(alloc, rows)?;
         let Some(folders) = folders_of(alloc, lists)? else {
             return Ok(ListIndex {
                 lists,
@@ -281,10 +283,10 @@ impl<'a, T: search::Pattern> ListIndex<'a, T> {
             + (3 * length path.now.bytes + 2 + entry_count (map (entry_list_of T.seen) self.now.lists)) }
         ensures grows { NeverFall counts.old counts.new }
     {
-        if !self.pays_for(path, counts) {
-            return decide_with_counts(self.lists, path, self.case, counts);
+        match self.chained_for(path, counts) {
+            Some(chained) => self.decide_by_table(chained, path, counts).pair,
+            None => decide_with_counts(self.lists, path, self.case, counts),
         }
-        self.decide_by_table(path, counts).pair
     }
 
     /// Which pattern decides about a path, as [`ListIndex::decide`] answers it, and how many patterns the index left to be asked:
@@ -313,8 +315,8 @@ impl<'a, T: search::Pattern> ListIndex<'a, T> {
         ensures some { IsSome result.pair → 0 < result.asked }
     {
         let mut counts = Counts::<S, L>::new(steps, looks);
-        if self.pays_for(path, &mut counts) {
-            return self.decide_by_table(path, &mut counts);
+        if let Some(chained) = self.chained_for(path, &mut counts) {
+            return self.decide_by_table(chained, path, &mut counts);
         }
         let pair = decide(self.lists, path, self.case);
         let asked = match pair {
@@ -378,27 +380,31 @@ impl<'a, T: search::Pattern> ListIndex<'a, T> {
         ensures { OnOk result (AreMatches (map (entry_list_of T.seen) self.now.lists) path.now.bytes path.now.is_dir self.now.case pairs.new.items) }
     {
         let mut counts = Counts::<S, L>::new(steps, looks);
-        if !self.pays_for(path, &mut counts) {
-            return matches_into(self.lists, path, self.case, pairs);
+        match self.chained_for(path, &mut counts) {
+            Some(chained) => self.matches_by_table(chained, path, pairs, &mut counts),
+            None => matches_into(self.lists, path, self.case, pairs),
         }
-        self.matches_by_table(path, pairs, &mut counts)
     }
 
-    /// Whether few of the patterns can match a path, so that it costs less to ask those alone. It reads the last byte.
-    fn pays_for<S: Ledger, L: Ledger>(
+    /// The rows and their ends, where few of the patterns can match a path, so that it costs less to ask those alone. It reads the last
+    /// byte.
+    #[inline(always)]
+    fn chained_for<S: Ledger, L: Ledger>(
         &self,
         path: &RepositoryPath<'_>,
         counts: &mut Counts<S, L>,
-    ) -> bool
-        ensures some { IsTrue result → 0 < length path.now.bytes }
+    ) -> Option<Chained<'_>>
+        ensures some { IfSome result (λ chained. 0 < length path.now.bytes) }
+        ensures rows { IfSome result (λ chained. AreRows (map (entry_list_of T.seen) self.now.lists) chained.rows.now) }
+        ensures chained { IfSome result (λ chained. AreChainedRows chained.rows.now chained.ends.now) }
         ensures looks { LooksUpTo counts.old counts.new 1 }
     {
         match path.bytes() {
             [.., last] => {
                 counts.looks(1);
-                self.table.is_selective(*last)
+                self.table.selective(*last)
             }
-            [] => false,
+            [] => None,
         }
     }
 
@@ -406,10 +412,13 @@ impl<'a, T: search::Pattern> ListIndex<'a, T> {
     #[inline(always)]
     fn decide_by_table<S: Ledger, L: Ledger>(
         &self,
+        chained: Chained<'_>,
         path: &RepositoryPath<'_>,
         counts: &mut Counts<S, L>,
     ) -> CountedDecision
         requires some { 0 < length path.now.bytes }
+        requires rows { AreRows (map (entry_list_of T.seen) self.now.lists) chained.rows.now }
+        requires chained { AreChainedRows chained.rows.now chained.ends.now }
         ensures decides { Decides (map (entry_list_of T.seen) self.now.lists) path.now.bytes path.now.is_dir self.now.case result.pair }
         ensures each_once { result.asked ≤ entry_count (map (entry_list_of T.seen) self.now.lists) }
         ensures some { IsSome result.pair → 0 < result.asked }
@@ -423,13 +432,12 @@ impl<'a, T: search::Pattern> ListIndex<'a, T> {
         // a law does nothing: it is called for what it ensures
         laws::answering_patterns_pass();
         let probe = self.table.probe(path, counts);
-        let mut walk = self.table.walk(probe.last());
+        let mut walk = chained.walk(&probe);
         let mut reached = Reached::none(self.lists.len());
         let mut asked = 0;
-        'candidates: while let Some((list, mapping)) = self
-            .table
-            .next_pair(&probe, &mut walk, counts)
-        {
+        'candidates: while let Some((list, mapping)) = chained.next_pair(
+            &probe, &mut walk, counts,
+        ) {
             asked += 1;
             if reached.ask(self, path, (list, mapping), counts) {
                 let pair = Some((list, mapping));
@@ -442,23 +450,25 @@ impl<'a, T: search::Pattern> ListIndex<'a, T> {
     /// Puts into `pairs` the candidates that match a path, from the first one to the last.
     fn matches_by_table<S: Ledger, L: Ledger>(
         &self,
+        chained: Chained<'_>,
         path: &RepositoryPath<'_>,
         pairs: &mut Vec<(usize, usize)>,
         counts: &mut Counts<S, L>,
     ) -> Result<(), AllocError>
         requires some { 0 < length path.now.bytes }
+        requires rows { AreRows (map (entry_list_of T.seen) self.now.lists) chained.rows.now }
+        requires chained { AreChainedRows chained.rows.now chained.ends.now }
         ensures { OnOk result (AreMatches (map (entry_list_of T.seen) self.now.lists) path.now.bytes path.now.is_dir self.now.case pairs.new.items) }
     {
         // a law does nothing: it is called for what it ensures
         laws::answering_patterns_pass();
         let probe = self.table.probe(path, counts);
-        let mut walk = self.table.walk(probe.last());
+        let mut walk = chained.walk(&probe);
         let mut reached = Reached::none(self.lists.len());
         pairs.clear();
-        'candidates: while let Some((list, mapping)) = self
-            .table
-            .next_pair(&probe, &mut walk, counts)
-        {
+        'candidates: while let Some((list, mapping)) = chained.next_pair(
+            &probe, &mut walk, counts,
+        ) {
             if reached.ask(self, path, (list, mapping), counts) {
                 pairs.push((list, mapping))?;
             }
@@ -489,20 +499,18 @@ fn are_too_many(patterns: usize, lists: usize) -> bool
 
 /// Adds the rows of the list at place `i`.
 fn add_list<T: search::Pattern>(
-    table: &mut Table,
+    rows: &mut Vec<Row>,
     lists: &[List<T>],
     i: usize,
 ) -> Result<(), AllocError>
     requires inside { i < length lists.now }
     requires fits { ¬ AreTooMany (map (entry_list_of T.seen) lists.now) }
-    requires rows { AreRowsUpTo (map (entry_list_of T.seen) lists.now) i 0 table.old.rows.items }
-    requires chained { AreChained table.old }
-    ensures rows { OnOk result (AreRowsUpTo (map (entry_list_of T.seen) lists.now) (i + 1) 0 table.new.rows.items) }
-    ensures chained { OnOk result (AreChained table.new) }
+    requires rows { AreRowsUpTo (map (entry_list_of T.seen) lists.now) i 0 rows.old.items }
+    ensures rows { OnOk result (AreRowsUpTo (map (entry_list_of T.seen) lists.now) (i + 1) 0 rows.new.items) }
 {
     let mappings = lists[i].patterns.as_slice();
     'mappings: for m in 0..mappings.len() {
-        table.push(Row::new(&mappings[m].pattern, i as u32, m as u32))?;
+        rows.push(Row::new(&mappings[m].pattern, i as u32, m as u32))?;
     }
     Ok(())
 }

@@ -1,8 +1,10 @@
 //! What lists of patterns say of a path: the path, which pattern decides about it, and an index that finds that pattern fast.
 #![tactic(auto)]
 
+mod chaining;
 mod chains;
 mod deciding;
+mod ends;
 mod fault;
 mod folders;
 mod fronts;
@@ -20,6 +22,7 @@ mod sight;
 mod sights;
 pub mod stored;
 mod table;
+mod walk;
 mod way;
 
 pub use deciding::{bases_are_folders, decide, decide_with_counts};

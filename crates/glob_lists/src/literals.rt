@@ -49,9 +49,13 @@ pub(crate) fn literal_end(text: &[u8]) -> usize
 
 /// The number that the last bytes of a text make, as many as `count` says: letters of both cases are one.
 pub(crate) fn end_key(text: &[u8], count: usize) -> u64
-    requires { count ≤ length text.now }
+    requires inside { count ≤ length text.now }
+    requires few { count ≤ LONGEST_END }
     ensures { result ≡ end_key text.now count }
 {
+    if text.len() >= LONGEST_END {
+        return without_bytes(end_number(text), LONGEST_END - count);
+    }
     let mut key = 0;
     'bytes: for n in 0..count {
         key = longer_key(key, text[text.len() - (n + 1)]);

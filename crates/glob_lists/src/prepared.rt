@@ -7,8 +7,7 @@ ghost use Rattle.glob_lists.specs.Deciding.{Decides};
 ghost use Rattle.glob_lists.specs.Prepared.{ArePrepared, IsLawfulEntry, list_without_base};
 ghost use Rattle.glob_lists.specs.Private.Chains.{place_of};
 ghost use Rattle.glob_lists.specs.Private.Showing.{Shows};
-ghost use Rattle.glob_lists.specs.Private.Stored.{AreLinked, HasCome, class_of, rows_of};
-ghost use Rattle.glob_lists.specs.Private.Walking.{IsWalkDown};
+ghost use Rattle.glob_lists.specs.Private.Stored.{AreLinked, HasCome, IsWalkDown, class_of, rows_of};
 ghost use Rattle.glob_lists.specs.declared.chains.Link.{Link};
 ghost use Rattle.glob_lists.specs.declared.chains.TheConstants.Link.{NONE};
 
@@ -17,7 +16,6 @@ use crate::laws;
 use crate::path::RepositoryPath;
 use crate::probe::Probe;
 use crate::stored::StoredRow;
-use crate::table::Walk;
 use gix_glob::pattern::{Case, PatternView};
 use gix_glob::wildmatch::Counts;
 use std::marker::Brand;
@@ -25,6 +23,17 @@ use std::sync::ledger::{Blank, Ledger};
 
 /// The fewest rows for which a walk costs less than a test of each pattern.
 const FEWEST_ROWS: usize = 8;
+
+/// How far a walk down two chains has come.
+#[derive(Debug, Copy, Clone)]
+pub(crate) struct Walk {
+    /// The next row of the path's own class.
+    pub(crate) own: Link,
+    /// The next row of the class [`Class::Always`].
+    pub(crate) other: Link,
+    /// The place from which on all rows were passed.
+    pub(crate) passed_from: usize,
+}
 
 /// What can be seen as a pattern.
 pub trait Viewed {

@@ -111,6 +111,14 @@ impl Probe {
         }
     }
 
+    /// The number of the longest end.
+    #[inline(always)]
+    pub(crate) fn end(&self) -> u64
+        ensures { result ≡ self.now.end }
+    {
+        self.end
+    }
+
     /// The last byte, letters as small ones.
     pub(crate) fn last(&self) -> u8
         ensures { result ≡ self.now.last }

@@ -1,6 +1,7 @@
 //! One pattern as the index sees it: what its text asks of a path, and where its mapping stands.
-ghost use Rattle.std.specs.Prelude.{◌≡◌, ◌↔◌, ◌+◌, ◌≤◌, IsTrue, length};
+ghost use Rattle.std.specs.Prelude.{◌≡◌, ◌↔◌, ◌+◌, ◌%◌, ◌<◌, ◌≤◌, IsTrue, None, length};
 ghost use Rattle.gix_glob.specs.PatternParts.{mode_of, text_of};
+ghost use Rattle.glob_lists.specs.Private.Ends.{IsFront, end_of, whole_number};
 ghost use Rattle.glob_lists.specs.Private.Rows.{Asks, length_of};
 ghost use Rattle.glob_lists.specs.Private.Showing.{HasBytes, HasEnd, Passes};
 ghost use Rattle.glob_lists.specs.Private.Walking.{NonePasses};
@@ -72,6 +73,46 @@ impl Row {
             spare: spare_bits(length as u8),
             is_name,
         }
+    }
+
+    /// The number of the end as long as the longest: zeros stand behind it.
+    #[inline(always)]
+    pub(crate) fn whole_number(&self) -> u64
+        ensures { result ≡ whole_number self.now.asked self.now.spare }
+    {
+        self.asked << (self.spare % 64)
+    }
+
+    /// Whether the text has no literal end.
+    #[inline(always)]
+    pub(crate) fn is_always(&self) -> bool
+        ensures { IsTrue result ↔ (end_of self.now ≡ None) }
+    {
+        matches!(self.class, Class::Always)
+    }
+
+    /// Whether its end is that of another row that has one.
+    #[inline(always)]
+    pub(crate) fn has_same_end(&self, other: &Row) -> bool
+        ensures { IsTrue result → (self.now.asked ≡ other.now.asked) × (self.now.spare ≡ other.now.spare) }
+    {
+        self.asked == other.asked && self.spare == other.spare
+    }
+
+    /// Whether its end is one of whole bytes, as all are.
+    #[inline(always)]
+    pub(crate) fn has_whole_bytes(&self) -> bool
+        ensures { IsTrue result → (self.now.spare % 8 ≡ 0) × (self.now.spare < 64) }
+    {
+        self.spare % 8 == 0 && self.spare < 64
+    }
+
+    /// Whether a number begins with its end.
+    #[inline(always)]
+    pub(crate) fn begins(&self, number: u64) -> bool
+        ensures { IsTrue result ↔ IsFront self.now.asked self.now.spare number }
+    {
+        self.asked == number >> (self.spare % 64)
     }
 
     /// The class of the row.

@@ -1,15 +1,17 @@
-//! Rows in order, with a chain through those of each class: a path walks down two chains, and meets only rows that can pass.
-ghost use Rattle.std.specs.Prelude.{◌≡◌, ◌+◌, ◌-◌, ◌*◌, ◌^◌, ◌++◌, ◌∷◌, [], ◌<◌, ◌≤◌, IfOk, MatchOption, OnOk, length, slice_index_or};
-ghost use Rattle.glob_lists.specs.Private.Chains.{place_of};
+//! Rows in order, and their ends: a path meets only rows that can pass.
+ghost use Rattle.std.specs.Prelude.{◌≡◌, ◌+◌, ◌-◌, ◌*◌, ◌^◌, ◌<◌, ◌≤◌, IfOk, IfSome, MatchOption, length};
+ghost use Rattle.glob_lists.specs.Private.Ends.{AreChainedRows, AreSameRows, ends_of};
 ghost use Rattle.glob_lists.specs.Private.Looking.{LooksUpTo};
 ghost use Rattle.glob_lists.specs.Private.Showing.{Shows};
-ghost use Rattle.glob_lists.specs.Private.Tables.{AreChained};
-ghost use Rattle.glob_lists.specs.Private.Walking.{IsNextPair, IsWalkDown, NonePasses};
+ghost use Rattle.glob_lists.specs.Private.Walking.{IsNextPair, IsWalk, NonePasses};
 
-use crate::chains::{CLASSES, Class, Link};
+use crate::chaining::chain;
+use crate::chains::{CLASSES, Class};
+use crate::ends::Ends;
 use crate::path::RepositoryPath;
 use crate::probe::Probe;
 use crate::row::Row;
+use crate::walk::Walk;
 use gix_glob::wildmatch::Counts;
 use std::alloc::{AllocError, Global};
 use std::sync::ledger::Ledger;
@@ -17,37 +19,26 @@ use std::sync::ledger::Ledger;
 /// The fewest rows for which a walk costs less than a look at each row.
 const FEWEST_ROWS: usize = 8;
 
-/// Rows, and the last row of each class.
+/// Rows, and their ends.
 #[derive(Debug, Drop)]
 pub(crate) struct Table {
     rows: Vec<Row>,
-    /// The last row of each class.
-    heads: [Link; CLASSES],
+    /// The ends of the rows; none where the rows aren't chained.
+    ends: Option<Ends>,
     /// How many rows each class has.
     counts: [u32; CLASSES],
 }
 
-/// How far a walk down two chains has come.
-#[derive(Debug, Copy, Clone)]
-pub(crate) struct Walk {
-    /// The next row of the path's own class.
-    pub(crate) own: Link,
-    /// The next row of the class [`Class::Always`].
-    pub(crate) other: Link,
-    /// The place from which on all rows were passed.
-    pub(crate) passed_from: usize,
-}
-
 impl Table {
-    /// A table of no rows, with room for so many.
-    pub(crate) fn with_capacity(alloc: Global, capacity: usize) -> Result<Table, AllocError>
-        ensures { IfOk result (λ table. (table.rows.items ≡ []) × AreChained table) }
+    /// The table of some rows, of which only the links change.
+    pub(crate) fn of(alloc: Global, mut rows: Vec<Row>) -> Result<Table, AllocError>
+        requires fits { length rows.items < 2 ^ 32 }
+        ensures same { IfOk result (λ table. AreSameRows rows.items table.rows.items) }
+        ensures chained { IfOk result (λ table. IfSome table.ends (AreChainedRows table.rows.items)) }
     {
-        Ok(Table {
-            rows: Vec::with_capacity(alloc, capacity)?,
-            heads: [Link::NONE; CLASSES],
-            counts: [0; CLASSES],
-        })
+        let ends = chain(alloc, &mut rows)?;
+        let counts = counts_of(&rows);
+        Ok(Table { rows, ends, counts })
     }
 
     /// How many rows there are.
@@ -72,35 +63,6 @@ impl Table {
         own.saturating_add(other)
     }
 
-    /// Adds a row after the others.
-    pub(crate) fn push(&mut self, row: Row) -> Result<(), AllocError>
-        requires chained { AreChained self.old }
-        requires room { length self.old.rows.items + 1 < 2 ^ 32 }
-        ensures rows { OnOk result (self.new.rows.items ≡ self.old.rows.items ++ (record row { before = slice_index_or self.old.heads (place_of row.class) Link.NONE }) ∷ []) }
-        ensures chained { OnOk result (AreChained self.new) }
-    {
-        let head = Link::to(self.rows.len());
-        let class = row.class().place();
-        let chained_row = row.after(self.heads[class]);
-        self.rows.push(chained_row)?;
-        self.heads[class] = head;
-        self.counts[class] = self.counts[class].saturating_add(1);
-        Ok(())
-    }
-
-    /// The start of a walk that meets what can pass of a path with this last byte.
-    pub(crate) fn walk(&self, last: u8) -> Walk
-        requires { AreChained self.now }
-        ensures down { IsWalkDown self.now.rows.items last result }
-        ensures all { result.passed_from ≡ length self.now.rows.items }
-    {
-        Walk {
-            own: self.heads[Class::EndsIn(last).place()],
-            other: self.heads[Class::Always.place()],
-            passed_from: self.rows.len(),
-        }
-    }
-
     /// Whether a path that ends in this byte meets at most half of the rows, and there are enough rows for that to pay.
     pub(crate) fn is_selective(&self, last: u8) -> bool {
         let len = self.rows.len();
@@ -123,64 +85,74 @@ impl Table {
         Probe::new(path.bytes(), path.basename_start(), has_sets, counts)
     }
 
+    /// The rows and their ends, where a path that ends in this byte meets at most half of the rows, and there are enough rows for a walk
+    /// to pay.
+    #[inline(always)]
+    pub(crate) fn selective(&self, last: u8) -> Option<Chained<'_>>
+        requires { IfSome self.now.ends (AreChainedRows self.now.rows.items) }
+        ensures rows { IfSome result (λ chained. chained.rows.now ≡ self.now.rows.items) }
+        ensures chained { IfSome result (λ chained. AreChainedRows chained.rows.now chained.ends.now) }
+    {
+        if !self.is_selective(last) {
+            return None;
+        }
+        match &self.ends {
+            Some(ends) => Some(Chained {
+                rows: &self.rows,
+                ends,
+            }),
+            None => None,
+        }
+    }
+}
+
+/// Rows that are chained, and their ends.
+#[derive(Debug, Copy, Clone)]
+pub(crate) struct Chained<'a> {
+    pub(crate) rows: &'a [Row],
+    pub(crate) ends: &'a Ends,
+}
+
+impl<'a> Chained<'a> {
+    /// The start of a walk that meets what can pass of a path.
+    #[inline(always)]
+    pub(crate) fn walk(&self, probe: &Probe) -> Walk
+        requires { AreChainedRows self.now.rows.now self.now.ends.now }
+        ensures walk { IsWalk (ends_of self.now.rows.now) probe.now.end result }
+        ensures all { result.passed_from ≡ length self.now.rows.now }
+    {
+        Walk::down(self.ends, self.rows, probe)
+    }
+
     /// The places of the list and of the mapping of the next row of a walk that passes, from the last one to the first. A look is
     /// counted at each row that is met.
+    #[inline(always)]
     pub(crate) fn next_pair<S: Ledger, L: Ledger>(
         &self,
         probe: &Probe,
         walk: &mut Walk,
         counts: &mut Counts<S, L>,
     ) -> Option<(usize, usize)>
-        requires chained { AreChained self.now }
-        requires down { IsWalkDown self.now.rows.items probe.now.last walk.old }
-        ensures down { IsWalkDown self.now.rows.items probe.now.last walk.new }
+        requires chained { AreChainedRows self.now.rows.now self.now.ends.now }
+        requires walk { IsWalk (ends_of self.now.rows.now) probe.now.end walk.old }
+        ensures walk { IsWalk (ends_of self.now.rows.now) probe.now.end walk.new }
         ensures next { MatchOption result
-            (NonePasses self.now.rows.items probe.now 0 walk.old.passed_from)
-            (IsNextPair self.now.rows.items probe.now walk.new.passed_from walk.old.passed_from) }
+            (NonePasses self.now.rows.now probe.now 0 walk.old.passed_from)
+            (IsNextPair self.now.rows.now probe.now walk.new.passed_from walk.old.passed_from) }
         ensures falls { walk.new.passed_from ≤ walk.old.passed_from }
         ensures looks { LooksUpTo counts.old counts.new (walk.old.passed_from - walk.new.passed_from) }
     {
-        let place = self.next(probe, walk, counts)?;
+        let place = walk.next(self.rows, probe, counts)?;
         Some(self.rows[place].pair())
     }
+}
 
-    /// The next place of a walk whose row passes, from the last one to the first.
-    #[inline(always)]
-    fn next<S: Ledger, L: Ledger>(
-        &self,
-        probe: &Probe,
-        walk: &mut Walk,
-        counts: &mut Counts<S, L>,
-    ) -> Option<usize>
-        requires chained { AreChained self.now }
-        requires down { IsWalkDown self.now.rows.items probe.now.last walk.old }
-        ensures down { IsWalkDown self.now.rows.items probe.now.last walk.new }
-        ensures next { MatchOption result
-            (NonePasses self.now.rows.items probe.now 0 walk.old.passed_from)
-            (λ place. (place < walk.old.passed_from) × (walk.new.passed_from ≡ place) × NonePasses self.now.rows.items probe.now (place + 1) walk.old.passed_from) }
-        ensures falls { walk.new.passed_from ≤ walk.old.passed_from }
-        ensures looks { LooksUpTo counts.old counts.new (walk.old.passed_from - walk.new.passed_from) }
-    {
-        'places: loop {
-            if walk.own.is_after(walk.other) {
-                let place = walk.own.place()?;
-                counts.looks(1);
-                let row = &self.rows[place];
-                walk.own = row.before();
-                walk.passed_from = place;
-                if row.has_end(probe) {
-                    return Some(place);
-                }
-            } else {
-                let place = walk.other.place()?;
-                counts.looks(1);
-                let row = &self.rows[place];
-                walk.other = row.before();
-                walk.passed_from = place;
-                if row.has_bytes(probe) {
-                    return Some(place);
-                }
-            }
-        }
+/// How many rows each class has.
+fn counts_of(rows: &[Row]) -> [u32; CLASSES] {
+    let mut counts: [u32; CLASSES] = [0; CLASSES];
+    'rows: for row in rows {
+        let class = row.class().place();
+        counts[class] = counts[class].saturating_add(1);
     }
+    counts
 }

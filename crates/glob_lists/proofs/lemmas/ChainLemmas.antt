@@ -13,10 +13,11 @@ use Rattle.glob_lists.specs.declared.chains.TheConstants.{CLASSES}
 use Rattle.glob_lists.specs.declared.chains.TheConstants.Link.{NONE}
 use Rattle.glob_lists.specs.declared.probe.Probe.{Probe}
 use Rattle.glob_lists.specs.declared.row.Row.{Row}
-use Rattle.glob_lists.specs.declared.table.Walk.{Walk}
+use Rattle.glob_lists.specs.declared.prepared.Walk.{Walk}
 use Rattle.glob_lists.specs.Private.Chains.{IsChained, IsLastBelow, classes_of, links_of, place_of}
 use Rattle.glob_lists.specs.Private.Showing.{HasBytes, HasEnd, Passes, PassesBy}
-use Rattle.glob_lists.specs.Private.Walking.{IsWalkDown, NonePasses}
+use Rattle.glob_lists.specs.Private.Stored.{IsWalkDown}
+use Rattle.glob_lists.specs.Private.Walking.{NonePasses}
 
 -- ---- building
 

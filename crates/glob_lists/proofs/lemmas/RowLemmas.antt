@@ -1,14 +1,15 @@
 -- Making the rows of lists: one more row, and one more list.
-use Rattle.std.proofs.Common.{◌≡◌, inl, inr, ⊎_elim, ℕ, ◌+◌, ◌<◌, List, [], ◌∷◌, ◌++◌, length, Some, sym, ◌∙◌, ap, subst, arith, length-append, take, take_all}
+use Rattle.std.proofs.Common.{◌≡◌, inl, inr, ⊎_elim, ℕ, ◌+◌, ◌<◌, List, [], ◌∷◌, ◌++◌, length, get_or, Some, sym, ◌∙◌, ap, subst, arith, length-append, take, take_all}
 use Rattle.std.specs.Prelude.{slice_get}
 use Rattle.std.proofs.lemmas.Bool.{cases_eq}
-use Rattle.std.proofs.lemmas.Option.{same_Some, slice_get_within}
+use Rattle.std.proofs.lemmas.Option.{same_Some, slice_get-get_or, slice_get_within}
 use Rattle.gix_glob.specs.declared.pattern.Mode as pattern
 use Rattle.gix_glob.specs.Entries.{Entry}
 use Rattle.gix_glob.specs.EntryLists.{EntryList}
 use Rattle.glob_lists.specs.declared.chains.Link.{Link}
 use Rattle.glob_lists.specs.declared.row.Row.{Row}
 use Rattle.glob_lists.specs.Index.{ComesBefore, entry_count}
+use Rattle.glob_lists.specs.Private.Ends.{AreSameRows}
 use Rattle.glob_lists.specs.Private.Tables.{AreRows, AreRowsUpTo, IsEntryAt, IsRowOf}
 use Rattle.glob_lists.specs.Private.Rows.{Asks}
 use Rattle.glob_lists.proofs.lemmas.CountLemmas.{entry_count-more}
@@ -92,3 +93,41 @@ Asks-linked text mode row before a = record { spare = a.spare; needs = a.needs; 
 pub rows_count : {V : Type 0} (lists : List (EntryList V)) (rows : List Row) → AreRows lists rows → length rows ≡ entry_count lists
 rows_count {V} lists rows are =
     let whole : entry_count (take (length lists) lists) ≡ entry_count lists = ap (λ (l : List (EntryList V)). entry_count l) (take_all (length lists) lists (omega arith)) in omega (arith, are.count)
+
+-- ---- rows that are the same but for their links
+
+module _ (rows others : List Row) (same : AreSameRows rows others) where
+  -- the row that stood there
+  row_before : (k : ℕ) (other : Row) → slice_get others k ≡ Some other → (row : Row) × (slice_get rows k ≡ Some row) × (other ≡ record row { before = other.before })
+  row_before k other got =
+      let inside = slice_get_within others k other got in
+      let many = same.many in
+      let there = slice_get-get_or rows k other (omega arith) in (get_or rows k other, there, same.each k (get_or rows k other) other there got)
+
+  pub AreRowsUpTo-same : {V : Type 0} (lists : List (EntryList V)) (j n : ℕ) → AreRowsUpTo lists j n rows → AreRowsUpTo lists j n others
+  AreRowsUpTo-same {V} lists j n h = record {
+    each = λ k other got.
+        let r = row_before k other got in
+        let of = h.each k r.0 r.1 in
+        subst (IsRowOf lists) (sym r.2) (record { entry = of.entry; there = of.there; asks = Asks-linked of.entry.text of.entry.mode r.0 other.before of.asks });
+    before = λ k other got.
+        let r = row_before k other got in
+        subst (λ (x : Row). ComesBefore x.list x.mapping j n) (sym r.2) (h.before k r.0 r.1);
+    rising = λ k l a b less got_a got_b.
+        let r = row_before k a got_a in
+        let r' = row_before l b got_b in
+        subst (λ (x : Row). ComesBefore x.list x.mapping b.list b.mapping) (sym r.2)
+        (subst (λ (x : Row). ComesBefore r.0.list r.0.mapping x.list x.mapping) (sym r'.2) (h.rising k l r.0 r'.0 less r.1 r'.1));
+    all = λ i m has before.
+        let at = h.all i m has before in
+        let inside = slice_get_within rows at.0 at.1.row at.1.there in
+        let many = same.many in
+        let other : Row = get_or others at.0 at.1.row in
+        let there : slice_get others at.0 ≡ Some other = slice_get-get_or others at.0 at.1.row (omega arith) in
+        let is = same.each at.0 at.1.row other at.1.there there in
+        (at.0, record { row = other; there = there; list = ap (λ (x : Row). x.list) is ∙ at.1.list; mapping = ap (λ (x : Row). x.mapping) is ∙ at.1.mapping });
+    places = λ k other got.
+        let r = row_before k other got in
+        subst (λ (x : Row). k ≡ entry_count (take x.list lists) + x.mapping) (sym r.2) (h.places k r.0 r.1);
+    count = same.many ∙ h.count;
+  }

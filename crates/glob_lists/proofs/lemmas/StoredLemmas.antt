@@ -16,14 +16,14 @@ use Rattle.glob_lists.specs.declared.probe.Probe.{Probe}
 use Rattle.glob_lists.specs.declared.row.Row.{Row}
 use Rattle.glob_lists.specs.declared.stored.StoredRow.{StoredRow}
 use Rattle.glob_lists.specs.declared.stored.TheConstants.StoredRow.{BLANK}
-use Rattle.glob_lists.specs.declared.table.Walk.{Walk}
+use Rattle.glob_lists.specs.declared.prepared.Walk.{Walk}
 use Rattle.glob_lists.specs.Deciding.{AnswersAt, AnswersUnder, Decides}
 use Rattle.glob_lists.specs.Prepared.{ArePrepared, IsLawfulEntry, list_without_base}
 use Rattle.glob_lists.specs.Private.Chains.{IsChained, classes_of, links_of, place_of}
 use Rattle.glob_lists.specs.Private.Rows.{Asks}
 use Rattle.glob_lists.specs.Private.Showing.{HasBytes, HasEnd, Shows}
-use Rattle.glob_lists.specs.Private.Stored.{AreLinked, HasCome, class_of, row_of, rows_of}
-use Rattle.glob_lists.specs.Private.Walking.{IsWalkDown, NonePasses}
+use Rattle.glob_lists.specs.Private.Stored.{AreLinked, HasCome, IsWalkDown, class_of, row_of, rows_of}
+use Rattle.glob_lists.specs.Private.Walking.{NonePasses}
 use Rattle.glob_lists.proofs.lemmas.Answering.{AnswersAt-only, AnswersAt-yes}
 use Rattle.glob_lists.proofs.lemmas.ChainLemmas.{IsChained-push, NonePasses-above_chains, NonePasses-between, other_step, own_step, without_bytes, without_end}
 use Rattle.glob_lists.proofs.lemmas.Elements.{slice_get-push_cases}

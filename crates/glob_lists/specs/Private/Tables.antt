@@ -1,12 +1,12 @@
 -- The rows of lists: one for each entry, in order, and their chains.
-use Rattle.std.specs.Prelude.{◌≡◌, ℕ, ◌+◌, ◌<◌, List, Some, length, slice_get, take}
+use Rattle.std.specs.Prelude.{◌≡◌, ℕ, ◌+◌, ◌<◌, List, IfSome, Some, length, slice_get, take}
 use Rattle.gix_glob.specs.EntryLists.{EntryList}
 use Rattle.gix_glob.specs.Entries.{Entry}
 use Rattle.glob_lists.specs.declared.row.Row.{Row}
 use Rattle.glob_lists.specs.declared.table.Table.{Table}
 use Rattle.glob_lists.specs.Deciding.{BasesAreFolders}
 use Rattle.glob_lists.specs.Index.{ComesBefore, entry_count}
-use Rattle.glob_lists.specs.Private.Chains.{IsChained, classes_of, links_of}
+use Rattle.glob_lists.specs.Private.Ends.{AreChainedRows}
 use Rattle.glob_lists.specs.Private.Rows.{Asks}
 
 -- the entry at place m of the list at place i
@@ -45,14 +45,10 @@ pub record AreRowsUpTo {V : Type 0} (lists : List (EntryList V)) (j n : ℕ) (ro
 abbrev pub AreRows : {V : Type 0} → List (EntryList V) → List Row → Type 0
 AreRows lists rows = AreRowsUpTo lists (length lists) 0 rows
 
--- the rows of the table are chained
-abbrev pub AreChained : Table → Type 0
-AreChained table = IsChained (classes_of table.rows.items) (links_of table.rows.items) table.heads
-
--- The table has the rows of the lists, and they are chained.
+-- The table has the rows of the lists, and where they are chained, their ends.
 pub record IsTableOf {V : Type 0} (lists : List (EntryList V)) (table : Table) : Type 0 where
   pub rows : AreRows lists table.rows.items
-  pub chained : AreChained table
+  pub chained : IfSome table.ends (AreChainedRows table.rows.items)
 
 -- The bases of the lists are those of folders, and the table is theirs.
 pub record IsIndexOf {V : Type 0} (lists : List (EntryList V)) (table : Table) : Type 0 where

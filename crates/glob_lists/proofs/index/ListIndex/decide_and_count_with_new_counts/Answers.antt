@@ -6,7 +6,7 @@ use Rattle.glob_lists.proofs.index.ListIndex.decide_and_count_with_new_counts.Go
 pub count_from-asked-requires : goal.count_from-asked-requires
 count_from-asked-requires g c =
     let decided = to_value g.T.Pattern.seen _ _ c.self.view_is
-    (λ lists case. IsLastAnswer lists c.args.path.now.bytes c.args.path.now.is_dir case (c.in-Some.list, c.in-Some.mapping)) c.in-Some.ensures in
+    (λ lists case. IsLastAnswer lists c.args.path.now.bytes c.args.path.now.is_dir case (c.in-Some-pair.list, c.in-Some-pair.mapping)) c.in-Some-pair.ensures in
     let at = decided.answers in
     record { there = (at.answers.entry, record { list = at.list; there = at.there; here = at.answers.there }) }
 

@@ -1,7 +1,8 @@
 use Rattle.std.proofs.Common.{map}
 use Rattle.gix_glob.specs.EntryLists.{entry_list_of}
+use Rattle.glob_lists.specs.Private.Ends.{ends_of}
 use Rattle.glob_lists.specs.Private.Reaching.{HasRest}
-use Rattle.glob_lists.specs.Private.Walking.{IsWalkDown}
+use Rattle.glob_lists.specs.Private.Walking.{IsWalk}
 use Rattle.glob_lists.proofs.lemmas.CandidateLemmas.{AreBefore}
 use Rattle.glob_lists.proofs.lemmas.FoundPairs.{AreFoundFrom}
 use Rattle.glob_lists.proofs.index.ListIndex.matches_by_table.Given as goal
@@ -9,9 +10,9 @@ use Rattle.glob_lists.proofs.index.ListIndex.matches_by_table.Given as goal
 -- what answers of the rows that were passed was found
 abbrev pub invariant-candidates : goal.invariant-candidates
 invariant-candidates g l = record {
-  down : IsWalkDown l.self-inside.table.rows.items l.probe.last l.walk;
-  found : AreFoundFrom (map (entry_list_of g.T.Pattern.seen) l.self.lists) l.self-inside.table.rows.items l.path.bytes l.path.is_dir l.self.case l.walk.passed_from l.pairs.items;
-  before : AreBefore l.self-inside.table.rows.items l.walk.passed_from l.reached.pair;
+  walk : IsWalk (ends_of l.chained.rows.now) l.probe.end l.walk;
+  found : AreFoundFrom (map (entry_list_of g.T.Pattern.seen) l.self.lists) l.chained.rows.now l.path.bytes l.path.is_dir l.self.case l.walk.passed_from l.pairs.items;
+  before : AreBefore l.chained.rows.now l.walk.passed_from l.reached.pair;
   rest : HasRest (map (entry_list_of g.T.Pattern.seen) l.self.lists) l.self.case l.path l.reached;
 }
 

@@ -1,14 +1,14 @@
--- The lists' rows are added one list after the other.
+-- The lists' rows are added one list after the other, and then chained, which changes their links alone.
 use Rattle.std.proofs.Common.{◌≡◌, ℕ, length, map, sym, subst, arith}
 use Rattle.std.proofs.lemmas.List.{length-map}
 use Rattle.gix_glob.specs.EntryLists.{entry_list_of}
 use Rattle.glob_lists.specs.Private.Folders.{AreFolders}
 use Rattle.glob_lists.specs.Private.Tables.{AreRows, AreRowsUpTo}
-use Rattle.glob_lists.proofs.lemmas.RowLemmas.{rows_none}
+use Rattle.glob_lists.proofs.lemmas.RowLemmas.{AreRowsUpTo-same, rows_none}
 use Rattle.glob_lists.proofs.index.ListIndex.new.Goals as goal
 
 pub lists-init : goal.lists-init
-lists-init g c = record { rows = rows_none _ _ c.in_ok-table.ensures.0; chained = c.in_ok-table.ensures.1 }
+lists-init g c = rows_none _ _ c.in_ok-rows.ensures.items
 
 pub invariant_of-result : goal.invariant_of-result
 invariant_of-result g c =
@@ -17,8 +17,9 @@ invariant_of-result g c =
       index = record {
         folders = c.requires.folders;
         made = record {
-          rows = subst (λ (i : ℕ). AreRowsUpTo lists i 0 c.lists.table.rows.items) all c.lists.invariant.rows;
-          chained = c.lists.invariant.chained;
+          rows = AreRowsUpTo-same c.lists.rows.items c.in_ok-table.table.rows.items c.in_ok-table.ensures.same lists (length lists) 0
+              (subst (λ (i : ℕ). AreRowsUpTo lists i 0 c.lists.rows.items) all c.lists.invariant);
+          chained = c.in_ok-table.ensures.chained;
         };
       };
       foldered = tt;
@@ -29,7 +30,9 @@ pub sights_of-requires-clause-rows : goal.sights_of-requires-clause-rows
 sights_of-requires-clause-rows g c =
     let lists = map (entry_list_of g.T.Pattern.seen) c.args.lists.now in
     let all : c.lists.i ≡ length lists = omega (arith, length-map c.args.lists.now (entry_list_of g.T.Pattern.seen), c.lists-test.false, c.lists.auto.i-end) in
-    subst (AreRows lists) (sym c.rows.ensures) (subst (λ (i : ℕ). AreRowsUpTo lists i 0 c.lists.table.rows.items) all c.lists.invariant.rows)
+    subst (AreRows lists) (sym c.rows.ensures)
+    (AreRowsUpTo-same c.lists.rows.items c.in_ok-table.table.rows.items c.in_ok-table.ensures.same lists (length lists) 0
+    (subst (λ (i : ℕ). AreRowsUpTo lists i 0 c.lists.rows.items) all c.lists.invariant))
 
 pub sights_of-requires-clause-each : goal.sights_of-requires-clause-each
 sights_of-requires-clause-each g c =
@@ -42,8 +45,9 @@ invariant_of-result-2 g c =
       index = record {
         folders = c.requires.folders;
         made = record {
-          rows = subst (λ (i : ℕ). AreRowsUpTo lists i 0 c.lists.table.rows.items) all c.lists.invariant.rows;
-          chained = c.lists.invariant.chained;
+          rows = AreRowsUpTo-same c.lists.rows.items c.in_ok-table.table.rows.items c.in_ok-table.ensures.same lists (length lists) 0
+              (subst (λ (i : ℕ). AreRowsUpTo lists i 0 c.lists.rows.items) all c.lists.invariant);
+          chained = c.in_ok-table.ensures.chained;
         };
       };
       foldered = rw c.in-Some.is at c.in_ok-folders.ensures;
