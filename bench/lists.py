@@ -62,6 +62,10 @@ class Load:
             text += "/"
         return "!" + text if self.random.random() < 0.05 else text
 
+    def name_pattern(self):
+        """A plain name or a literal end."""
+        return self.word(3) + ("" if self.random.random() < 0.5 else "." + self.ending()) if self.random.random() < 0.65 else "*." + self.ending()
+
     def path(self):
         parts = [self.random.choice(self.names) for _ in range(self.random.choice((0, 1, 2, 3, 3, 4, 5)))]
         parts.append(self.word(2) + ("" if self.random.random() < 0.1 else "." + self.ending()))
@@ -191,6 +195,31 @@ def count_folders(o):
         draw.folders(o.draw, points)
 
 
+def count_names(o):
+    """What a path costs against plain names and literal ends alone; of the last size once more by the clock, with 10,000 paths."""
+    print("| Patterns | Instructions a path |\n|---|---|")
+    sizes = [int(size) for size in o.names.split(",")]
+    costs = []
+    for size in sizes[:-1]:
+        load = Load(o.seed)
+        names = [load.name_pattern() for _ in range(size)]
+        paths = [load.path() for _ in range(o.paths)]
+        with tempfile.TemporaryDirectory() as folder:
+            write(f"{folder}/.gitignore", names)
+            costs.append(counted(lambda folder: [PROGRAM, "ignore", "sensitive", "-", f"{folder}/.gitignore"], size, folder, paths)[0])
+        print(f"| {size:,} | {costs[-1]:,.0f} |", flush=True)
+    load = Load(o.seed)
+    with tempfile.TemporaryDirectory() as folder:
+        write(f"{folder}/.gitignore", [load.name_pattern() for _ in range(sizes[-1])])
+        write(f"{folder}/paths", [load.path() for _ in range(10_000)])
+        with open(f"{folder}/paths", "rb") as given:
+            run = subprocess.Popen([PROGRAM, "ignore", "sensitive", "-", f"{folder}/.gitignore"], stdin=given, stdout=subprocess.DEVNULL)
+            used = os.wait4(run.pid, 0)[2]
+    seconds, megabytes = used.ru_utime + used.ru_stime, used.ru_maxrss * 1024 / 1e6
+    print(f"{sizes[-1]:,} patterns by 10,000 paths: {seconds:.2f} seconds of the processor, {megabytes:.1f} MB")
+    sys.exit(1 if costs[-1] > 2 * costs[0] or seconds > 3 or megabytes > 130 else 0)
+
+
 def hostile_stacks(load, root, count):
     """Stacks on which an index has most to lose, made below a folder: for each its name, how case counts, its files and its paths."""
 
@@ -237,6 +266,7 @@ def main():
     args.add_argument("--make", metavar="FOLDER")
     args.add_argument("--draw", metavar="FILE.svg")
     args.add_argument("--folders", metavar="COUNTS", help="count paths among the ignore files of so many folders, as 20,200,2000, and nothing else")
+    args.add_argument("--names", metavar="COUNTS", help="count paths against so many plain names and literal ends alone, as 100,1000,100000,1000000, of which the last is timed, and nothing else; status 1 where a goal is missed")
     args.add_argument("--hostile-stacks", metavar="PROGRAM", help="count paths among hostile stacks of lists, beside a PROGRAM that tests each pattern in turn, and nothing else; status 1 where one takes more than 1.05 of that")
     args.add_argument("--lists", type=int, default=10000, help="of how many lists a hostile stack is")
     o = args.parse_args()
@@ -244,6 +274,8 @@ def main():
         return count_hostile(o)
     if o.folders:
         return count_folders(o)
+    if o.names:
+        return count_names(o)
     sizes = [int(size) for size in o.sizes.split(",")]
     rows = {} if o.make else programs()
     points = {name: [] for name in rows}
