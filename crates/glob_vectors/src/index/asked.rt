@@ -15,7 +15,7 @@ type Row<'a> = (&'a str, &'a str, Option<(usize, usize)>, usize);
 
 /// A pattern is asked where the path ends as its literal end does; where it has none, where the path's last part has its literal bytes,
 /// side by side as they stand in it.
-const ROWS: [Row<'static>; 9] = [
+const ROWS: [Row<'static>; 13] = [
     ("a\nb\na\n/c/a\n", "a", Some((0, 2)), 2),
     ("a\nb\na\n/c/a\n", "c/a", Some((0, 3)), 1),
     ("a\nb\na\n/c/a\n", "b", Some((0, 1)), 1),
@@ -25,6 +25,15 @@ const ROWS: [Row<'static>; 9] = [
     ("*ab*\n*ac*\n*d*\n", "cba", None, 0),
     ("*cb*\n*ab*\n*d*\n", "cba", Some((0, 0)), 1),
     ("*c*a*\n*a*c*\n*a?b*\n", "cba", Some((0, 0)), 3),
+    ("*c/\n*bc/\nabc\n*xc\n", "yabc", None, 3),
+    ("*c\n*bc\nabc\n*xc\n", "abc", Some((0, 2)), 1),
+    ("*.b\n*a.b\n*.b\n*a.b/\n", "xa.b", Some((0, 2)), 2),
+    (
+        "abcdefghi\nxbcdefghi\nbcdefghi\n",
+        "abcdefghi",
+        Some((0, 0)),
+        3,
+    ),
 ];
 
 /// Lines that no path of the rows ends as: with so many of them the look-up pays.
