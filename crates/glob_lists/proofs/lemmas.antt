@@ -11,6 +11,7 @@ pub mod DecisionSums
 pub mod DemandLemmas
 pub mod Elements
 pub mod EndNumbers
+pub mod FirstsLemmas
 pub mod FoundPairs
 pub mod FrontLemmas
 pub mod FolderLemmas
@@ -29,6 +30,7 @@ pub mod PlaceOrder
 pub mod PrefilterLemmas
 pub mod RawBytes
 pub mod RowLemmas
+pub mod RowPlaces
 pub mod SearchLemmas
 pub mod SightLemmas
 pub mod Spending

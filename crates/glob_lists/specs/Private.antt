@@ -1,5 +1,6 @@
 -- Words that only private clauses cite: what the functions of the crate say to one another.
 pub mod Chains
+pub mod Firsts
 pub mod Folders
 pub mod Fronts
 pub mod Indexes

@@ -61,6 +61,14 @@ impl Link {
         (self.0 as usize).checked_sub(1)
     }
 
+    /// The number: one more than the place of the row, or 0.
+    #[inline(always)]
+    pub(crate) fn number(self) -> usize
+        ensures { result ≡ self.0 }
+    {
+        self.0 as usize
+    }
+
     /// Whether there is a row, and it stands after that of another link, if that has one.
     #[inline(always)]
     pub(crate) fn is_after(self, other: Link) -> bool

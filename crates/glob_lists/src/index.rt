@@ -7,11 +7,12 @@ ghost use Rattle.glob_lists.specs.DecisionLimits.{decision_look_limit, decision_
 ghost use Rattle.glob_lists.specs.Index.{AreMatches, AreTooMany, entry_count};
 ghost use Rattle.glob_lists.specs.Private.Indexes.{AreWays};
 ghost use Rattle.glob_lists.specs.Private.Looking.{LooksUpTo};
-ghost use Rattle.glob_lists.specs.Private.Tables.{AreChained, AreRowsUpTo, HasEntryAt};
+ghost use Rattle.glob_lists.specs.Private.Tables.{AreChained, AreRowsUpTo, HasEntryAt, place_at};
 
 use crate::chains::Link;
 use crate::deciding::{decide, decide_with_counts};
 use crate::fault::IndexError;
+use crate::firsts::Firsts;
 use crate::folders::{Folder, can_pay, folders_of};
 use crate::laws;
 use crate::matching::matches_into;
@@ -40,6 +41,8 @@ pub struct ListIndex<'a, T: search::Pattern> {
     lists: &'a [List<T>],
     case: Case,
     table: Table,
+    /// Where the rows of each list begin.
+    firsts: Firsts,
     /// The folders of the lists, where going through those on the way of a path can pay.
     folders: Option<Vec<Folder>>,
     /// What the rows of the list of each folder ask for together.
@@ -57,7 +60,7 @@ impl<'a, T: search::Pattern> Model for ListIndex<'a, T> {
 
     ghost view = { λ index. record { lists = index.lists.now; case = index.case } };
 
-    ghost invariant = { λ index. IsIndexBy (map (entry_list_of T.seen) index.lists.now) index.table (option_map vec_items index.folders) index.sights.items };
+    ghost invariant = { λ index. IsIndexBy (map (entry_list_of T.seen) index.lists.now) index.table index.firsts.before.items (option_map vec_items index.folders) index.sights.items };
 }
 
 /// What an index found for the path before, for the next one: where paths come in order they share their folders.
@@ -84,7 +87,7 @@ pub struct CountedDecision {
 
 impl<'a, T: search::Pattern> ListIndex<'a, T> {
     /// The index of the lists, whose bases have to be those of folders: [`bases_are_folders`](crate::bases_are_folders). It
-    /// takes 24 bytes for each pattern, 64 for each of 16 lists or more, and some 2 KB once.
+    /// takes 16 bytes for each pattern, 4 for each list and 64 more for each of 16 lists or more, and some 2 KB once.
     ///
     /// # Errors
     /// [`IndexError::TooMany`] where there are 2^32 patterns or more, or more than 2^32 lists, and there alone;
@@ -106,11 +109,13 @@ impl<'a, T: search::Pattern> ListIndex<'a, T> {
         'lists: for i in 0..lists.len() {
             add_list(&mut table, lists, i)?;
         }
+        let firsts = Firsts::of(alloc, lists)?;
         let Some(folders) = folders_of(alloc, lists)? else {
             return Ok(ListIndex {
                 lists,
                 case,
                 table,
+                firsts,
                 folders: None,
                 sights: Vec::new(alloc),
             });
@@ -120,6 +125,7 @@ impl<'a, T: search::Pattern> ListIndex<'a, T> {
             lists,
             case,
             table,
+            firsts,
             folders: Some(folders),
             sights,
         })
@@ -426,17 +432,28 @@ impl<'a, T: search::Pattern> ListIndex<'a, T> {
         let mut walk = self.table.walk(probe.last());
         let mut reached = Reached::none(self.lists.len());
         let mut asked = 0;
-        'candidates: while let Some((list, mapping)) = self
-            .table
-            .next_pair(&probe, &mut walk, counts)
-        {
+        'candidates: while let Some(number) = self.table.next(&probe, &mut walk, counts) {
             asked += 1;
+            let (list, mapping) = self.pair_of(number, reached.list());
             if reached.ask(self, path, (list, mapping), counts) {
                 let pair = Some((list, mapping));
                 return CountedDecision { pair, asked };
             }
         }
         CountedDecision { pair: None, asked }
+    }
+
+    /// The places of the list and of the mapping of a row with this number, which comes before the rows of all lists after that at the
+    /// place `near`.
+    #[inline(always)]
+    fn pair_of(&self, number: usize, near: usize) -> (usize, usize)
+        requires some { 0 < number }
+        requires inside { number ≤ entry_count (map (entry_list_of T.seen) self.now.lists) }
+        requires near { number ≤ place_at (map (entry_list_of T.seen) self.now.lists) (near + 1) 0 }
+        ensures there { HasEntryAt (map (entry_list_of T.seen) self.now.lists) result.0 result.1 }
+        ensures place { number ≡ place_at (map (entry_list_of T.seen) self.now.lists) result.0 result.1 + 1 }
+    {
+        self.firsts.pair_near(number, near)
     }
 
     /// Puts into `pairs` the candidates that match a path, from the first one to the last.
@@ -455,10 +472,8 @@ impl<'a, T: search::Pattern> ListIndex<'a, T> {
         let mut walk = self.table.walk(probe.last());
         let mut reached = Reached::none(self.lists.len());
         pairs.clear();
-        'candidates: while let Some((list, mapping)) = self
-            .table
-            .next_pair(&probe, &mut walk, counts)
-        {
+        'candidates: while let Some(number) = self.table.next(&probe, &mut walk, counts) {
+            let (list, mapping) = self.pair_of(number, reached.list());
             if reached.ask(self, path, (list, mapping), counts) {
                 pairs.push((list, mapping))?;
             }
@@ -502,7 +517,7 @@ fn add_list<T: search::Pattern>(
 {
     let mappings = lists[i].patterns.as_slice();
     'mappings: for m in 0..mappings.len() {
-        table.push(Row::new(&mappings[m].pattern, i as u32, m as u32))?;
+        table.push(Row::new(&mappings[m].pattern))?;
     }
     Ok(())
 }

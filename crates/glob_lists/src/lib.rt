@@ -4,6 +4,7 @@
 mod chains;
 mod deciding;
 mod fault;
+mod firsts;
 mod folders;
 mod fronts;
 mod index;

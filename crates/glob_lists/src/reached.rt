@@ -37,6 +37,14 @@ impl<'p> Reached<'p> {
         }
     }
 
+    /// The place of the list of the pair.
+    #[inline(always)]
+    pub(crate) fn list(&self) -> usize
+        ensures { result ≡ self.now.pair.0 }
+    {
+        self.pair.0
+    }
+
     /// Asks whether the pattern of a pair matches what the base of its list leaves of a path.
     ///
     /// Its steps and looks are counted, and those of taking off the base where the pair before was of another list.

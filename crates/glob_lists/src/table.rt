@@ -4,7 +4,7 @@ ghost use Rattle.glob_lists.specs.Private.Chains.{place_of};
 ghost use Rattle.glob_lists.specs.Private.Looking.{LooksUpTo};
 ghost use Rattle.glob_lists.specs.Private.Showing.{Shows};
 ghost use Rattle.glob_lists.specs.Private.Tables.{AreChained};
-ghost use Rattle.glob_lists.specs.Private.Walking.{IsNextPair, IsWalkDown, NonePasses};
+ghost use Rattle.glob_lists.specs.Private.Walking.{IsNextRow, IsWalkDown, NonePasses};
 
 use crate::chains::{CLASSES, Class, Link};
 use crate::path::RepositoryPath;
@@ -123,30 +123,11 @@ impl Table {
         Probe::new(path.bytes(), path.basename_start(), has_sets, counts)
     }
 
-    /// The places of the list and of the mapping of the next row of a walk that passes, from the last one to the first. A look is
+    /// The next row of a walk that passes, from the last one to the first: its number, which is one more than its place. A look is
     /// counted at each row that is met.
-    pub(crate) fn next_pair<S: Ledger, L: Ledger>(
-        &self,
-        probe: &Probe,
-        walk: &mut Walk,
-        counts: &mut Counts<S, L>,
-    ) -> Option<(usize, usize)>
-        requires chained { AreChained self.now }
-        requires down { IsWalkDown self.now.rows.items probe.now.last walk.old }
-        ensures down { IsWalkDown self.now.rows.items probe.now.last walk.new }
-        ensures next { MatchOption result
-            (NonePasses self.now.rows.items probe.now 0 walk.old.passed_from)
-            (IsNextPair self.now.rows.items probe.now walk.new.passed_from walk.old.passed_from) }
-        ensures falls { walk.new.passed_from ≤ walk.old.passed_from }
-        ensures looks { LooksUpTo counts.old counts.new (walk.old.passed_from - walk.new.passed_from) }
-    {
-        let place = self.next(probe, walk, counts)?;
-        Some(self.rows[place].pair())
-    }
-
-    /// The next place of a walk whose row passes, from the last one to the first.
+    // a place in its stead would take the loop one instruction more
     #[inline(always)]
-    fn next<S: Ledger, L: Ledger>(
+    pub(crate) fn next<S: Ledger, L: Ledger>(
         &self,
         probe: &Probe,
         walk: &mut Walk,
@@ -157,28 +138,30 @@ impl Table {
         ensures down { IsWalkDown self.now.rows.items probe.now.last walk.new }
         ensures next { MatchOption result
             (NonePasses self.now.rows.items probe.now 0 walk.old.passed_from)
-            (λ place. (place < walk.old.passed_from) × (walk.new.passed_from ≡ place) × NonePasses self.now.rows.items probe.now (place + 1) walk.old.passed_from) }
+            (IsNextRow self.now.rows.items probe.now walk.new.passed_from walk.old.passed_from) }
         ensures falls { walk.new.passed_from ≤ walk.old.passed_from }
         ensures looks { LooksUpTo counts.old counts.new (walk.old.passed_from - walk.new.passed_from) }
     {
         'places: loop {
             if walk.own.is_after(walk.other) {
+                let number = walk.own.number();
                 let place = walk.own.place()?;
                 counts.looks(1);
                 let row = &self.rows[place];
                 walk.own = row.before();
                 walk.passed_from = place;
                 if row.has_end(probe) {
-                    return Some(place);
+                    return Some(number);
                 }
             } else {
+                let number = walk.other.number();
                 let place = walk.other.place()?;
                 counts.looks(1);
                 let row = &self.rows[place];
                 walk.other = row.before();
                 walk.passed_from = place;
                 if row.has_bytes(probe) {
-                    return Some(place);
+                    return Some(number);
                 }
             }
         }

@@ -14,13 +14,6 @@ use Rattle.glob_lists.proofs.lemmas.CountLemmas.{place_fits}
 use Rattle.glob_lists.proofs.lemmas.RowLemmas.{Asks-linked, rows_more, rows_of_list}
 use Rattle.glob_lists.proofs.index.add_list.Goals as goal
 
-pub overflow_cast-m : goal.overflow_cast-m
-overflow_cast-m g c =
-    let held = get_or c.args.lists.now c.args.i c.index-lists-i.result in
-    let held_is = get_or_default c.args.lists.now c.args.i c.index-lists-i.result held c.requires.inside in
-    let within : c.mappings.m < length held.patterns.items = omega (arith, ap length c.as_slice-mappings.ensures.value) in
-    omega (arith, place_fits g.T.Pattern.seen c.args.lists.now c.args.i held c.requires.inside held_is c.mappings.m c.requires.fits within)
-
 pub push-requires-clause-room : goal.push-requires-clause-room
 push-requires-clause-room g c =
     let held = get_or c.args.lists.now c.args.i c.index-lists-i.result in
@@ -34,7 +27,7 @@ mappings-preserved g c =
     let held_is = get_or_default c.args.lists.now c.args.i c.index-lists-i.result held c.requires.inside in
     let within : c.mappings.m < length held.patterns.items = omega (arith, ap length c.as_slice-mappings.ensures.value) in
     let is = rw c.as_slice-mappings.ensures.value at c.index-mappings-m.is in
-    let asks = rw (← c.index-mappings-m.is) at c.new.ensures.asks in
+    let asks = rw (← c.index-mappings-m.is) at c.new.ensures in
     let link : Link = get_or c.mappings.table.heads (place_of c.new.result.class) NONE in
     let added : Row = record c.new.result { before = link } in record {
       rows = subst (AreRowsUpTo (map (entry_list_of g.T.Pattern.seen) c.args.lists.now) c.args.i (c.mappings.m + 1)) (sym c.in_ok-push.ensures.rows)
@@ -45,8 +38,7 @@ mappings-preserved g c =
             there = slice_get-map_at (entry_list_of g.T.Pattern.seen) c.args.lists.now c.args.i held c.requires.inside held_is;
             here = slice_get-map_at (entry_of g.T.Pattern.seen) held.patterns.items c.mappings.m c.index-mappings-m.result within is;
           })
-          (Asks-linked (text_of c.index-mappings-m.result.pattern) (mode_of c.index-mappings-m.result.pattern) c.new.result link asks)
-          (omega (arith, c.new.ensures.list)) (omega (arith, c.new.ensures.mapping)));
+          (Asks-linked (text_of c.index-mappings-m.result.pattern) (mode_of c.index-mappings-m.result.pattern) c.new.result link asks));
       chained = c.in_ok-push.ensures.chained;
     }
 

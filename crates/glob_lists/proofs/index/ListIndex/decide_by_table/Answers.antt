@@ -2,13 +2,12 @@
 use Rattle.std.proofs.Common.{◌≡◌, ℕ, length, map, subst, arith}
 use Rattle.std.proofs.lemmas.Bool.{iff_false}
 use Rattle.std.proofs.lemmas.List.{length-map}
-use Rattle.std.proofs.lemmas.Option.{slice_get_within}
 use Rattle.gix_glob.specs.EntryLists.{entry_list_of}
 use Rattle.glob_lists.specs.Private.Tables.{IsIndexOf}
 use Rattle.glob_lists.specs.Private.Walking.{IsWalkDown, NonePasses}
-use Rattle.glob_lists.proofs.lemmas.AnsweringRows.{NoneAnswers-passed, decides_none, law_holds}
+use Rattle.glob_lists.proofs.lemmas.AnsweringRows.{NoneAnswers-passed, NoneAnswers-past}
 use Rattle.glob_lists.proofs.lemmas.Asking.{looks_from-all, steps_from-all}
-use Rattle.glob_lists.proofs.lemmas.CandidateLemmas.{AreBefore-all, AreBefore-next, HasRest-none, entry_of_next, last_answer, next_before, none_answers}
+use Rattle.glob_lists.proofs.lemmas.CandidateLemmas.{AreBefore-all, AreBefore-next, HasRest-none, last_answer, next_before, none_answers, number_near}
 use Rattle.glob_lists.proofs.lemmas.IndexLemmas.{to_value}
 use Rattle.glob_lists.proofs.lemmas.RowLemmas.{rows_count}
 use Rattle.glob_lists.proofs.index.ListIndex.decide_by_table.Goals as goal
@@ -18,15 +17,23 @@ ask-requires-clause-folders g c =
     let made = to_value g.T.Pattern.seen _ _ c.self.view_is (λ lists _. IsIndexOf lists c.self.inside.table) c.self.invariant.index in
     made.folders
 
-pub ask-requires-clause-there : goal.ask-requires-clause-there
-ask-requires-clause-there g c =
+pub pair_of-list-requires-clause-some : goal.pair_of-list-requires-clause-some
+pair_of-list-requires-clause-some g c = omega (arith, c.in-Some.ensures.next.here)
+
+pub pair_of-list-requires-clause-inside : goal.pair_of-list-requires-clause-inside
+pair_of-list-requires-clause-inside g c =
     let made = to_value g.T.Pattern.seen _ _ c.self.view_is (λ lists _. IsIndexOf lists c.self.inside.table) c.self.invariant.index in
-    entry_of_next _ _ _ _ _ _ _ made.made.rows c.in-Some.ensures.next
+    let lists = map (entry_list_of g.T.Pattern.seen) c.args.self.now.lists in
+    omega (arith, c.in-Some.ensures.next.here, c.in-Some.ensures.next.below, c.candidates.invariant.down.inside, rows_count lists c.self.inside.table.rows.items made.made.rows)
+
+pub pair_of-list-requires-clause-near : goal.pair_of-list-requires-clause-near
+pair_of-list-requires-clause-near g c = number_near _ _ _ _ _ _ _ _ c.in-Some.ensures.next c.candidates.invariant.before c.list.ensures
+
+pub ask-requires-clause-there : goal.ask-requires-clause-there
+ask-requires-clause-there g c = c.pair_of-list.ensures.there
 
 pub ask-requires-clause-before : goal.ask-requires-clause-before
-ask-requires-clause-before g c =
-    let made = to_value g.T.Pattern.seen _ _ c.self.view_is (λ lists _. IsIndexOf lists c.self.inside.table) c.self.invariant.index in
-    next_before _ _ _ _ _ _ c.in-Some.ensures.next _ c.candidates.invariant.before
+ask-requires-clause-before g c = next_before _ _ _ _ _ _ _ _ c.in-Some.ensures.next c.pair_of-list.ensures.place _ c.candidates.invariant.before
 
 pub candidates-init : goal.candidates-init
 candidates-init g c =
@@ -36,8 +43,8 @@ candidates-init g c =
     let whole = to_value g.T.Pattern.seen _ _ c.self.view_is (λ lists _. length lists ≡ length c.self.inside.lists.now) (length-map c.self.inside.lists.now (entry_list_of g.T.Pattern.seen)) in
     record {
       down = subst (λ (last : ℕ). IsWalkDown c.self.inside.table.rows.items last c.walk-walk.result) c.last.ensures c.walk-walk.ensures.down;
-      none = λ l row low got. (let inside = slice_get_within c.self.inside.table.rows.items l row got in absurd (omega (arith, c.walk-walk.ensures.all)));
-      before = AreBefore-all lists _ _ _ whole made.made.rows c.none-reached.ensures;
+      none = NoneAnswers-past lists c.args.path.now.bytes c.args.path.now.is_dir c.args.self.now.case _ (omega (arith, c.walk-walk.ensures.all, many));
+      before = AreBefore-all lists _ _ whole (omega (arith, c.walk-walk.ensures.all, many)) c.none-reached.ensures;
       rest = HasRest-none lists _ _ _ _ whole c.none-reached.ensures;
       counted = omega (arith, c.walk-walk.ensures.all);
       grows = record {
@@ -51,9 +58,8 @@ candidates-init g c =
 pub returns-then-ask-clause-decides : goal.returns-then-ask-clause-decides
 returns-then-ask-clause-decides g c =
     let made = to_value g.T.Pattern.seen _ _ c.self.view_is (λ lists _. IsIndexOf lists c.self.inside.table) c.self.invariant.index in
-    last_answer _ _ c.args.path.now.bytes c.args.path.now.is_dir c.args.self.now.case _ _ _ _ _ made.made.rows
-    (law_holds _ c.self.inside.table.rows.items c.args.path.now.bytes c.args.path.now.is_dir c.args.self.now.case c.answering_patterns_pass.ensures c.probe-probe.result c.probe-probe.ensures.shows)
-    c.in-Some.ensures.next (c.ask.ensures.exact.0 c.if-ask.true) c.candidates.invariant.none
+    last_answer _ _ _ _ _ _ _ _ c.in-Some.ensures.next c.pair_of-list.ensures.place c.args.path.now.bytes c.args.path.now.is_dir c.args.self.now.case made.made.rows c.answering_patterns_pass.ensures
+    c.probe-probe.ensures.shows (c.ask.ensures.exact.0 c.if-ask.true) c.candidates.invariant.none
 
 pub returns-then-ask-clause-each_once : goal.returns-then-ask-clause-each_once
 returns-then-ask-clause-each_once g c =
@@ -65,7 +71,7 @@ pub returns-then-ask-clause-steps : goal.returns-then-ask-clause-steps
 returns-then-ask-clause-steps g c =
     let made = to_value g.T.Pattern.seen _ _ c.self.view_is (λ lists _. IsIndexOf lists c.self.inside.table) c.self.invariant.index in
     let lists = map (entry_list_of g.T.Pattern.seen) c.args.self.now.lists in
-    omega (arith, c.ask.ensures.steps, c.candidates.invariant.steps, c.next_pair.ensures.looks.steps, steps_from-all lists (length c.args.path.now.bytes) (c.in-Some.list, c.in-Some.mapping))
+    omega (arith, c.ask.ensures.steps, c.candidates.invariant.steps, c.next.ensures.looks.steps, steps_from-all lists (length c.args.path.now.bytes) (c.pair_of-list.result.0, c.pair_of-list.result.1))
 
 pub returns-then-ask-clause-looks : goal.returns-then-ask-clause-looks
 returns-then-ask-clause-looks g c =
@@ -75,9 +81,9 @@ returns-then-ask-clause-looks g c =
       arith,
       c.ask.ensures.looks,
       c.candidates.invariant.looks,
-      c.next_pair.ensures.falls,
-      c.next_pair.ensures.looks.to,
-      looks_from-all lists (length c.args.path.now.bytes) (c.in-Some.list, c.in-Some.mapping),
+      c.next.ensures.falls,
+      c.next.ensures.looks.to,
+      looks_from-all lists (length c.args.path.now.bytes) (c.pair_of-list.result.0, c.pair_of-list.result.1),
       rows_count lists c.self.inside.table.rows.items made.made.rows,
     )
 
@@ -87,29 +93,26 @@ candidates-preserved g c =
     let lists = map (entry_list_of g.T.Pattern.seen) c.args.self.now.lists in
     record {
       down = c.in-Some.ensures.down;
-      none = none_answers _ _ c.args.path.now.bytes c.args.path.now.is_dir c.args.self.now.case _ _ _ _ _ made.made.rows
-          (law_holds _ c.self.inside.table.rows.items c.args.path.now.bytes c.args.path.now.is_dir c.args.self.now.case c.answering_patterns_pass.ensures c.probe-probe.result c.probe-probe.ensures.shows)
-          c.in-Some.ensures.next (iff_false c.ask.ensures.exact c.if-ask.false) c.candidates.invariant.none;
-      before = AreBefore-next _ _ _ _ _ _ c.in-Some.ensures.next lists _ made.made.rows c.ask.ensures.pair;
+      none = none_answers _ _ _ _ _ _ _ _ c.in-Some.ensures.next c.pair_of-list.ensures.place c.args.path.now.bytes c.args.path.now.is_dir c.args.self.now.case made.made.rows c.answering_patterns_pass.ensures
+          c.probe-probe.ensures.shows c.pair_of-list.ensures.there (iff_false c.ask.ensures.exact c.if-ask.false) c.candidates.invariant.none;
+      before = AreBefore-next lists _ _ _ _ _ _ _ c.in-Some.ensures.next c.pair_of-list.ensures.place _ c.pair_of-list.ensures.there c.ask.ensures.pair;
       rest = c.ask.ensures.rest;
       counted = omega (arith, c.in-Some.ensures.next.below);
       grows = record {
-        steps = omega (arith, c.candidates.invariant.grows.steps, c.next_pair.ensures.looks.steps, c.ask.ensures.grows.steps);
-        looks = omega (arith, c.candidates.invariant.grows.looks, c.next_pair.ensures.looks.from, c.ask.ensures.grows.looks);
+        steps = omega (arith, c.candidates.invariant.grows.steps, c.next.ensures.looks.steps, c.ask.ensures.grows.steps);
+        looks = omega (arith, c.candidates.invariant.grows.looks, c.next.ensures.looks.from, c.ask.ensures.grows.looks);
       };
-      steps = rw c.ask.ensures.pair (omega (arith, c.ask.ensures.steps, c.candidates.invariant.steps, c.next_pair.ensures.looks.steps));
-      looks = rw c.ask.ensures.pair (omega (arith, c.ask.ensures.looks, c.candidates.invariant.looks, c.next_pair.ensures.falls, c.next_pair.ensures.looks.to));
+      steps = rw c.ask.ensures.pair (omega (arith, c.ask.ensures.steps, c.candidates.invariant.steps, c.next.ensures.looks.steps));
+      looks = rw c.ask.ensures.pair (omega (arith, c.ask.ensures.looks, c.candidates.invariant.looks, c.next.ensures.falls, c.next.ensures.looks.to));
     }
 
 pub returns-clause-decides : goal.returns-clause-decides
 returns-clause-decides g c =
     let made = to_value g.T.Pattern.seen _ _ c.self.view_is (λ lists _. IsIndexOf lists c.self.inside.table) c.self.invariant.index in
     let lists = map (entry_list_of g.T.Pattern.seen) c.args.self.now.lists in
-    let none : NonePasses c.self.inside.table.rows.items c.probe-probe.result 0 c.candidates.walk.passed_from = rw c.in_default.is at c.next_pair.ensures.next in
-    decides_none lists c.self.inside.table.rows.items c.args.path.now.bytes c.args.path.now.is_dir c.args.self.now.case made.made.rows
-    (NoneAnswers-passed lists c.self.inside.table.rows.items c.args.path.now.bytes c.args.path.now.is_dir c.args.self.now.case c.probe-probe.result 0 c.candidates.walk.passed_from made.made.rows
-    (law_holds lists c.self.inside.table.rows.items c.args.path.now.bytes c.args.path.now.is_dir c.args.self.now.case c.answering_patterns_pass.ensures c.probe-probe.result c.probe-probe.ensures.shows)
-    none c.candidates.invariant.none)
+    let none : NonePasses c.self.inside.table.rows.items c.probe-probe.result 0 c.candidates.walk.passed_from = rw c.in_default.is at c.next.ensures.next in
+    λ i m. NoneAnswers-passed lists c.args.path.now.bytes c.args.path.now.is_dir c.args.self.now.case c.self.inside.table.rows.items made.made.rows c.answering_patterns_pass.ensures c.probe-probe.result
+    c.probe-probe.ensures.shows 0 c.candidates.walk.passed_from none c.candidates.invariant.none i m (omega arith)
 
 pub returns-clause-each_once : goal.returns-clause-each_once
 returns-clause-each_once g c =
@@ -121,10 +124,10 @@ pub returns-clause-steps : goal.returns-clause-steps
 returns-clause-steps g c =
     let made = to_value g.T.Pattern.seen _ _ c.self.view_is (λ lists _. IsIndexOf lists c.self.inside.table) c.self.invariant.index in
     let lists = map (entry_list_of g.T.Pattern.seen) c.args.self.now.lists in
-    omega (arith, c.candidates.invariant.steps, c.next_pair.ensures.looks.steps, steps_from-all lists (length c.args.path.now.bytes) c.candidates.reached.pair)
+    omega (arith, c.candidates.invariant.steps, c.next.ensures.looks.steps, steps_from-all lists (length c.args.path.now.bytes) c.candidates.reached.pair)
 
 pub returns-clause-looks : goal.returns-clause-looks
 returns-clause-looks g c =
     let made = to_value g.T.Pattern.seen _ _ c.self.view_is (λ lists _. IsIndexOf lists c.self.inside.table) c.self.invariant.index in
     let lists = map (entry_list_of g.T.Pattern.seen) c.args.self.now.lists in
-    omega (arith, c.candidates.invariant.looks, c.next_pair.ensures.looks.to, looks_from-all lists (length c.args.path.now.bytes) c.candidates.reached.pair, rows_count lists c.self.inside.table.rows.items made.made.rows)
+    omega (arith, c.candidates.invariant.looks, c.next.ensures.looks.to, looks_from-all lists (length c.args.path.now.bytes) c.candidates.reached.pair, rows_count lists c.self.inside.table.rows.items made.made.rows)

@@ -13,8 +13,8 @@ use Rattle.glob_lists.proofs.index.ListIndex.decide_by_table.Given as goal
 abbrev pub invariant-candidates : goal.invariant-candidates
 invariant-candidates g l = record {
   down : IsWalkDown l.self-inside.table.rows.items l.probe.last l.walk;
-  none : NoneAnswers (map (entry_list_of g.T.Pattern.seen) l.self.lists) l.self-inside.table.rows.items l.path.bytes l.path.is_dir l.self.case l.walk.passed_from;
-  before : AreBefore l.self-inside.table.rows.items l.walk.passed_from l.reached.pair;
+  none : NoneAnswers (map (entry_list_of g.T.Pattern.seen) l.self.lists) l.path.bytes l.path.is_dir l.self.case l.walk.passed_from;
+  before : AreBefore (map (entry_list_of g.T.Pattern.seen) l.self.lists) l.walk.passed_from l.reached.pair;
   rest : HasRest (map (entry_list_of g.T.Pattern.seen) l.self.lists) l.self.case l.path l.reached;
   counted : l.asked + l.walk.passed_from ≤ length l.self-inside.table.rows.items;
   grows : NeverFall l.fn.counts l.counts;

@@ -21,6 +21,7 @@ invariant_of-result g c =
           chained = c.lists.invariant.chained;
         };
       };
+      begins = c.in_ok-firsts.ensures;
       foldered = tt;
       seen = tt;
     }
@@ -46,6 +47,7 @@ invariant_of-result-2 g c =
           chained = c.lists.invariant.chained;
         };
       };
+      begins = c.in_ok-firsts.ensures;
       foldered = rw c.in-Some.is at c.in_ok-folders.ensures;
       seen = rw c.rows.ensures at (rw c.deref.ensures.value at c.in_ok-sights.ensures);
     }

@@ -35,12 +35,12 @@ returns-then-has_end-clause-next g c =
     let is : c.in_ok-place.place + 1 ≡ walk.own.0 = c.in_ok-place.ensures in
     let first : walk.other.0 < walk.own.0 = c.is_after.ensures.0 c.if-is_after.true in
     let low = c.places.invariant.down.own.below in
-    let below = c.places.invariant.low in (
-      omega arith,
-      refl,
-      NonePasses-between c.args.self.now.rows.items c.args.self.now.heads c.args.probe.now walk c.in_ok-place.place c.index-row.result.now
-          c.requires.chained c.places.invariant.down c.index-row.ensures c.args.walk.now.passed_from (omega arith) (omega arith) c.places.invariant.none,
-    )
+    let below = c.places.invariant.low in record {
+      here = omega (arith, c.number-number.ensures);
+      below = omega arith;
+      between = NonePasses-between c.args.self.now.rows.items c.args.self.now.heads c.args.probe.now walk c.in_ok-place.place c.index-row.result.now
+          c.requires.chained c.places.invariant.down c.index-row.ensures c.args.walk.now.passed_from (omega arith) (omega arith) c.places.invariant.none;
+    }
 
 pub places-preserved-else-has_end : goal.places-preserved-else-has_end
 places-preserved-else-has_end g c =
@@ -82,12 +82,12 @@ returns-then-has_bytes-clause-next g c =
     let not_first = iff_false c.is_after.ensures c.if-is_after.false in
     let last : walk.own.0 ≤ walk.other.0 = omega (arith, not_first) in
     let low = c.places.invariant.down.other.below in
-    let below = c.places.invariant.low in (
-      omega arith,
-      refl,
-      NonePasses-between c.args.self.now.rows.items c.args.self.now.heads c.args.probe.now walk c.in_ok-place-2.place c.index-row-else-is_after.result.now
-          c.requires.chained c.places.invariant.down c.index-row-else-is_after.ensures c.args.walk.now.passed_from (omega arith) (omega arith) c.places.invariant.none,
-    )
+    let below = c.places.invariant.low in record {
+      here = omega (arith, c.number-number-else-is_after.ensures);
+      below = omega arith;
+      between = NonePasses-between c.args.self.now.rows.items c.args.self.now.heads c.args.probe.now walk c.in_ok-place-2.place c.index-row-else-is_after.result.now
+          c.requires.chained c.places.invariant.down c.index-row-else-is_after.ensures c.args.walk.now.passed_from (omega arith) (omega arith) c.places.invariant.none;
+    }
 
 pub places-preserved : goal.places-preserved
 places-preserved g c =
