@@ -21,10 +21,20 @@ const FEWEST_ROWS: usize = 8;
 #[derive(Debug, Drop)]
 pub(crate) struct Table {
     rows: Vec<Row>,
+    asked: Vec<u64>,
+    rest: Vec<Rest>,
     /// The last row of each class.
     heads: [Link; CLASSES],
     /// How many rows each class has.
     counts: [u32; CLASSES],
+}
+
+#[derive(Debug, Copy, Clone)]
+pub(crate) struct Rest {
+    before: Link,
+    class: Class,
+    spare: u8,
+    is_name: bool,
 }
 
 /// How far a walk down two chains has come.
@@ -45,6 +55,8 @@ impl Table {
     {
         Ok(Table {
             rows: Vec::with_capacity(alloc, capacity)?,
+            asked: Vec::with_capacity(alloc, capacity)?,
+            rest: Vec::with_capacity(alloc, capacity)?,
             heads: [Link::NONE; CLASSES],
             counts: [0; CLASSES],
         })
@@ -83,6 +95,8 @@ impl Table {
         let class = row.class().place();
         let chained_row = row.after(self.heads[class]);
         self.rows.push(chained_row)?;
+        self.asked.push(chained_row.asked)?;
+        self.rest.push(Rest { before: chained_row.before, class: chained_row.class, spare: chained_row.spare, is_name: chained_row.is_name })?;
         self.heads[class] = head;
         self.counts[class] = self.counts[class].saturating_add(1);
         Ok(())
@@ -123,9 +137,8 @@ impl Table {
         Probe::new(path.bytes(), path.basename_start(), has_sets, counts)
     }
 
-    /// The next row of a walk that passes, from the last one to the first: its number, which is one more than its place. A look is
-    /// counted at each row that is met.
-    // a place in its stead would take the loop one instruction more
+    /// The link to the next row of a walk that passes, from the last one to the first. A look is counted at each row that is met.
+    // where the place isn't told, the loop needs no register for it
     #[inline(always)]
     pub(crate) fn next<S: Ledger, L: Ledger>(
         &self,
@@ -145,24 +158,28 @@ impl Table {
         'places: loop {
             if walk.own.is_after(walk.other) {
                 let number = walk.own.number();
-                let place = walk.own.place()?;
+                let place = number.checked_sub(1)?;
                 counts.looks(1);
-                let row = &self.rows[place];
-                walk.own = row.before();
+                let rest = self.rest[place];
+                let row = Row { asked: self.asked[place], before: rest.before, class: rest.class, spare: rest.spare, is_name: rest.is_name };
                 walk.passed_from = place;
                 if row.has_end(probe) {
+                    walk.own = row.before();
                     return Some(number);
                 }
+                walk.own = row.before();
             } else {
                 let number = walk.other.number();
-                let place = walk.other.place()?;
+                let place = number.checked_sub(1)?;
                 counts.looks(1);
-                let row = &self.rows[place];
-                walk.other = row.before();
+                let rest = self.rest[place];
+                let row = Row { asked: self.asked[place], before: rest.before, class: rest.class, spare: rest.spare, is_name: rest.is_name };
                 walk.passed_from = place;
                 if row.has_bytes(probe) {
+                    walk.other = row.before();
                     return Some(number);
                 }
+                walk.other = row.before();
             }
         }
     }
