@@ -4,7 +4,7 @@ ghost use Rattle.std.specs.Char.{to_ascii_lowercase};
 ghost use Rattle.gix_glob.specs.RepositoryPaths.{IsBasenameStart};
 ghost use Rattle.glob_lists.specs.Private.Literals.{from_end, without_bytes};
 ghost use Rattle.glob_lists.specs.Private.Looking.{LooksUpTo};
-ghost use Rattle.glob_lists.specs.Private.Showing.{Shows, front_part, last_part};
+ghost use Rattle.glob_lists.specs.Private.Showing.{IsWithout, Lacks, Shows, front_part, last_part};
 
 use crate::literals::{
     ALL_BITS, ALL_PAIRS, LONGEST_END, bits_of, bytes_of, end_number, without_bytes,
@@ -142,12 +142,39 @@ impl Probe {
         self.end >> (spare % 64)
     }
 
+    /// What the path lacks.
+    #[inline(always)]
+    pub(crate) fn lacking(&self) -> Lacking
+        ensures { Lacks self.now result }
+    {
+        Lacking {
+            sets: [!self.bytes, !self.name_bytes],
+        }
+    }
+
     /// The set of the last part or of the whole path.
     #[inline(always)]
     pub(crate) fn bytes_for(&self, is_name: bool) -> u64
         ensures { result ≡ (if is_name then self.now.name_bytes else self.now.bytes) }
     {
         if is_name { self.name_bytes } else { self.bytes }
+    }
+}
+
+/// The bytes and pairs that a path lacks.
+#[derive(Debug, Copy, Clone)]
+pub(crate) struct Lacking {
+    /// The set of those that the whole path lacks, and of those that its last part lacks.
+    sets: [u64; 2],
+}
+
+impl Lacking {
+    /// The set of those that the last part or the whole path lacks. To take it by its place costs less than a choice.
+    #[inline(always)]
+    pub(crate) fn of(&self, is_name: bool) -> u64
+        ensures { (probe : Probe) → Lacks probe self.now → IsWithout (if is_name then probe.name_bytes else probe.bytes) result }
+    {
+        self.sets[usize::from(is_name)]
     }
 }
 

@@ -3,12 +3,12 @@ ghost use Rattle.std.specs.Prelude.{◌≡◌, ◌↔◌, ◌+◌, ◌%◌, ◌<
 ghost use Rattle.gix_glob.specs.PatternParts.{mode_of, text_of};
 ghost use Rattle.glob_lists.specs.Private.Ends.{IsFront, end_of, whole_number};
 ghost use Rattle.glob_lists.specs.Private.Rows.{Asks, length_of};
-ghost use Rattle.glob_lists.specs.Private.Showing.{HasBytes, HasEnd, Passes};
+ghost use Rattle.glob_lists.specs.Private.Showing.{HasBytes, HasEnd, Lacks, Passes};
 ghost use Rattle.glob_lists.specs.Private.Walking.{NonePasses};
 
 use crate::chains::{Class, Link};
 use crate::literals::{LONGEST_END, end_key, has_all, literal_end, needed_bits, spare_bits};
-use crate::probe::Probe;
+use crate::probe::{Lacking, Probe};
 use gix_glob::Pattern;
 use gix_glob::pattern::PatternView;
 use gix_glob::wildmatch::Counts;
@@ -185,6 +185,14 @@ impl Row {
         ensures { IsTrue result ↔ HasEnd self.now probe.now }
     {
         self.asked == probe.key_without(self.spare)
+    }
+
+    /// Whether nothing is needed that a path lacks.
+    #[inline(always)]
+    pub(crate) fn needs_none_of(&self, lacking: &Lacking) -> bool
+        ensures { (probe : Probe) → Lacks probe lacking.now → IsTrue result ↔ HasBytes self.now probe }
+    {
+        self.asked & lacking.of(self.is_name) == 0
     }
 
     /// Whether the path has the bytes and pairs that are needed.

@@ -94,12 +94,13 @@ impl Walk {
     {
         let own = self.nexts[self.latest];
         let mut other = self.other;
+        let lacking = probe.lacking();
         'others: while other.is_after(own) {
             let place = other.place()?;
             counts.looks(1);
             let row = &rows[place];
             other = row.before();
-            if row.has_bytes(probe) {
+            if row.needs_none_of(&lacking) {
                 self.other = other;
                 self.passed_from = place;
                 return Some(place);

@@ -1,5 +1,5 @@
 -- Sets of bytes and pairs that are numbers of 64 bits.
-use Rattle.std.proofs.Common.{◌≡◌, inl, inr, ⊎_elim, ℕ, ◌+◌, ◌-◌, ◌*◌, ◌%◌, ◌^◌, ◌<◌, ◌≤◌, ◌==◌, ◌||◌, min, false, List, length, get_or, drop, bit_and, bit_or, cond, nat_lt, w32, w64, refl, sym, ◌∙◌, ap, subst, arith, length-drop}
+use Rattle.std.proofs.Common.{◌≡◌, ◌↔◌, inl, inr, ⊎_elim, ℕ, ◌+◌, ◌-◌, ◌*◌, ◌%◌, ◌^◌, ◌<◌, ◌≤◌, ◌==◌, ◌||◌, min, false, List, length, get_or, drop, bit_and, bit_or, cond, nat_lt, w32, w64, refl, sym, ◌∙◌, ap, subst, arith, length-drop}
 use Rattle.std.specs.Int.{bit_at, bit_not}
 use Rattle.std.proofs.lemmas.Bool.{cond_both, cases_eq, cases_lt, eqb-false, or_from, or_parts}
 use Rattle.std.proofs.lemmas.List.{get_or-drop}
@@ -8,7 +8,7 @@ use Rattle.std.specs.Str.{byte}
 use Rattle.gix_glob.specs.Bytes.{backslash, is_special, is_wildcard, open_bracket, slash, star}
 use Rattle.gix_glob.specs.LiteralBytes.{IsUnescapedUpTo, is_joining}
 use Rattle.glob_lists.specs.Private.Literals.{AsksForBits, NeedsBits, bit_of, pair_of}
-use Rattle.glob_lists.specs.Private.Showing.{HasAll, HoldsBits}
+use Rattle.glob_lists.specs.Private.Showing.{HasAll, HoldsBits, IsWithout}
 
 -- the two cases of a letter have one bit
 pub same_bit : (b : ℕ) → b % 32 ≡ bit_of b
@@ -275,3 +275,10 @@ missing_bits-HasAll held needed fits fits' all = same_from_bits (missing_bits he
     let both = bit_at_and needed (bit_not w64 held) i in
     let zero_bit = bit_at-zero i in omega arith)
     (cases_lt i 64))
+
+-- nothing that is needed is lacked exactly if all of it is held
+pub none_lacked : (held needed lacked : ℕ) → needed < 2 ^ 64 → IsWithout held lacked → (bit_and needed lacked ≡ 0) ↔ HasAll held needed
+none_lacked held needed lacked fits without = (
+  λ none. HasAll-none_missing held needed without.0 fits (ap (λ (n : ℕ). bit_and needed n) (sym without.1) ∙ none),
+  λ all. ap (λ (n : ℕ). bit_and needed n) without.1 ∙ missing_bits-HasAll held needed without.0 fits all,
+)

@@ -1,11 +1,12 @@
 -- What a path shows, and whether a row passes it.
-use Rattle.std.specs.Prelude.{◌≡◌, ℕ, ◌+◌, ◌-◌, ◌/◌, ◌%◌, ◌^◌, ◌<◌, ◌≤◌, List, [], length, slice_index, drop, take, Option, None, Some, if◌then◌else◌}
+use Rattle.std.specs.Prelude.{◌≡◌, ℕ, ◌+◌, ◌-◌, ◌/◌, ◌%◌, ◌^◌, ◌<◌, ◌≤◌, List, [], ◌∷◌, length, slice_index, drop, take, Option, None, Some, if◌then◌else◌}
 use Rattle.std.specs.Char.{to_ascii_lowercase}
 use Rattle.std.specs.Int.{bit_at}
 use Rattle.gix_glob.specs.Bytes.{HasByte, slash}
 use Rattle.glob_lists.specs.declared.chains.Class.{Class}
 use Rattle.glob_lists.specs.declared.chains.Class.TheVariants.{Always, EndsIn}
 use Rattle.glob_lists.specs.declared.literals.TheConstants.{LONGEST_END}
+use Rattle.glob_lists.specs.declared.probe.Lacking.{Lacking}
 use Rattle.glob_lists.specs.declared.probe.Probe.{Probe}
 use Rattle.glob_lists.specs.declared.row.Row.{Row}
 use Rattle.glob_lists.specs.Private.Literals.{bit_of, pair_of, end_key, from_end, without_bytes}
@@ -47,6 +48,16 @@ pub record Shows (path : List ℕ) (probe : Probe) : Type 0 where
 -- the set has all that is needed
 abbrev pub HasAll : ℕ → ℕ → Type 0
 HasAll held needed = (i : ℕ) → bit_at needed i ≡ 1 → bit_at held i ≡ 1
+
+-- a set has what another one of 64 bits lacks
+abbrev pub IsWithout : ℕ → ℕ → Type 0
+IsWithout held lacked = (held < 2 ^ 64) × (lacked ≡ 2 ^ 64 - 1 - held)
+
+-- The sets have what the whole path lacks, and what its last part lacks.
+pub record Lacks (probe : Probe) (lacking : Lacking) : Type 0 where
+  pub fits : probe.bytes < 2 ^ 64
+  pub name_fits : probe.name_bytes < 2 ^ 64
+  pub sets : lacking.sets ≡ (2 ^ 64 - 1 - probe.bytes) ∷ (2 ^ 64 - 1 - probe.name_bytes) ∷ []
 
 -- the path ends as the row's text does, as far as the numbers tell
 abbrev pub HasEnd : Row → Probe → Type 0

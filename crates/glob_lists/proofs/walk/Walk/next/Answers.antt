@@ -18,8 +18,8 @@ blank = record { asked = 0; before = record { 0 = 0 }; list = 0; mapping = 0; cl
 pub others-init : goal.others-init
 others-init g c = record { same = refl; passed = HasPassedTo-start c.args.rows.now c.args.probe.now c.args.self.now c.args.counts.now c.requires.walk }
 
-pub returns-then-has_bytes-clause-walk : goal.returns-then-has_bytes-clause-walk
-returns-then-has_bytes-clause-walk g c =
+pub returns-then-needs_none_of-clause-walk : goal.returns-then-needs_none_of-clause-walk
+returns-then-needs_none_of-clause-walk g c =
     let walk : Walk = c.args.self.now in
     let rows = c.args.rows.now in
     let place = c.in_ok-place.place in
@@ -29,8 +29,8 @@ returns-then-has_bytes-clause-walk g c =
     (other_passed rows c.args.probe.now walk c.args.counts.now c.others.counts c.others.other passed c.requires.linked place _ (slice_get-get_or rows place blank within)
     (c.is_after.ensures.0 c.others-test.true) c.in_ok-place.ensures))
 
-pub returns-then-has_bytes-clause-next : goal.returns-then-has_bytes-clause-next
-returns-then-has_bytes-clause-next g c =
+pub returns-then-needs_none_of-clause-next : goal.returns-then-needs_none_of-clause-next
+returns-then-needs_none_of-clause-next g c =
     let walk : Walk = c.args.self.now in
     let rows = c.args.rows.now in
     let place = c.in_ok-place.place in
@@ -53,7 +53,7 @@ others-preserved g c =
       same = c.others.invariant.same;
       passed = rw c.before-other.ensures
           (HasPassedTo-more rows c.args.probe.now walk c.args.counts.now c.others.counts c.others.other passed c.requires.linked place _ (slice_get-get_or rows place blank within)
-          (c.is_after.ensures.0 c.others-test.true) c.in_ok-place.ensures c.looks.new.self (iff_false c.has_bytes.ensures c.if-has_bytes.false) c.looks.ensures.steps c.looks.ensures.looks);
+          (c.is_after.ensures.0 c.others-test.true) c.in_ok-place.ensures c.looks.new.self (iff_false (c.needs_none_of.ensures c.args.probe.now c.lacking-lacking.ensures) c.if-needs_none_of.false) c.looks.ensures.steps c.looks.ensures.looks);
     }
 
 pub others-smaller : goal.others-smaller
