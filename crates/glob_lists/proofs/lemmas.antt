@@ -38,3 +38,4 @@ pub mod SightLemmas
 pub mod Spending
 pub mod StoredLemmas
 pub mod StrippingLemmas
+pub mod ToldLemmas

@@ -8,6 +8,7 @@ pub mod Keeping
 pub mod Literals
 pub mod Looking
 pub mod Matching
+pub mod Parts
 pub mod PreparedLists
 pub mod Reaching
 pub mod Rows

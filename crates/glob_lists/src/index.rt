@@ -439,7 +439,8 @@ impl<'a, T: search::Pattern> ListIndex<'a, T> {
             &probe, &mut walk, counts,
         ) {
             asked += 1;
-            if reached.ask(self, path, (list, mapping), counts) {
+            let row = chained.last_row(&walk);
+            if reached.ask(self, path, (list, mapping), row, &probe, counts) {
                 let pair = Some((list, mapping));
                 return CountedDecision { pair, asked };
             }
@@ -469,7 +470,8 @@ impl<'a, T: search::Pattern> ListIndex<'a, T> {
         'candidates: while let Some((list, mapping)) = chained.next_pair(
             &probe, &mut walk, counts,
         ) {
-            if reached.ask(self, path, (list, mapping), counts) {
+            let row = chained.last_row(&walk);
+            if reached.ask(self, path, (list, mapping), row, &probe, counts) {
                 pairs.push((list, mapping))?;
             }
         }

@@ -12,6 +12,7 @@ mod index;
 pub mod laws;
 mod literals;
 mod matching;
+mod part;
 mod path;
 pub mod prepared;
 mod prepared_list;

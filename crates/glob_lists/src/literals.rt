@@ -5,6 +5,7 @@ ghost use Rattle.std.specs.Char.{to_ascii_lowercase};
 ghost use Rattle.gix_glob.specs.Bytes.{backslash, open_bracket};
 ghost use Rattle.gix_glob.specs.LiteralBytes.{is_joining};
 ghost use Rattle.glob_lists.specs.Private.Literals.{AsksForBits, EndsLiterally, NeedsBits, bit_of, end_key, from_end, pair_of, raw_end, spare_bits, without_bytes};
+ghost use Rattle.glob_lists.specs.Private.Parts.{IsPlainEnd};
 ghost use Rattle.glob_lists.specs.Private.Showing.{HasAll, HasEndKeys, HoldsBits, HoldsBytes};
 
 use crate::fronts::NO_CAPITAL;
@@ -75,6 +76,32 @@ pub(crate) fn end_number(text: &[u8]) -> u64
         }
     }
     padded_end(text)
+}
+
+/// Whether a text has a longest end, and no byte of it is taken for a capital letter: [`end_number`] is then that of its bytes as they
+/// are.
+#[inline(always)]
+pub(crate) fn has_plain_end(text: &[u8]) -> bool
+    ensures { IsTrue result → IsPlainEnd text.now LONGEST_END }
+{
+    if text.len() < LONGEST_END {
+        return false;
+    }
+    raw_end(text) & NO_CAPITAL == NO_CAPITAL
+}
+
+/// Whether none of so many last bytes of a text is a capital letter.
+pub(crate) fn has_no_capital(text: &[u8], count: usize) -> bool
+    requires { count ≤ length text.now }
+    ensures { IsTrue result → IsPlainEnd text.now count }
+{
+    'bytes: for n in 0..count {
+        let byte = text[text.len() - (n + 1)];
+        if byte.to_ascii_lowercase() != byte {
+            return false;
+        }
+    }
+    true
 }
 
 /// The number that the last bytes of a text make as they are.

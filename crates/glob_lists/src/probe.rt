@@ -4,11 +4,13 @@ ghost use Rattle.std.specs.Char.{to_ascii_lowercase};
 ghost use Rattle.gix_glob.specs.RepositoryPaths.{IsBasenameStart};
 ghost use Rattle.glob_lists.specs.Private.Literals.{from_end, without_bytes};
 ghost use Rattle.glob_lists.specs.Private.Looking.{LooksUpTo};
+ghost use Rattle.glob_lists.specs.Private.Parts.{is_name};
 ghost use Rattle.glob_lists.specs.Private.Showing.{IsWithout, Lacks, Shows, front_part, last_part};
 
 use crate::literals::{
-    ALL_BITS, ALL_PAIRS, LONGEST_END, bits_of, bytes_of, end_number, without_bytes,
+    ALL_BITS, ALL_PAIRS, LONGEST_END, bits_of, bytes_of, end_number, has_plain_end, without_bytes,
 };
+use crate::part::{PARTS, Part};
 use gix_glob::wildmatch::Counts;
 use std::sync::ledger::Ledger;
 
@@ -17,6 +19,8 @@ use std::sync::ledger::Ledger;
 pub(crate) struct Probe {
     /// The number of the longest end that is looked at; past the front of the path it has zeros.
     end: u64,
+    /// Whether that is the number of the path's last bytes as they are, of which none is a capital letter.
+    has_plain_end: bool,
     /// The last byte, letters as small ones.
     last: u8,
     /// The bytes of the path, as a set, with all pairs: a whole path has too many for them to tell much.
@@ -60,6 +64,7 @@ impl Probe {
         counts.looks(path.len().min(LONGEST_END) + 1);
         Probe {
             end: end_number(path),
+            has_plain_end: has_plain_end(path),
             last: last_byte(path),
             bytes: ALL_BITS,
             name_bytes: ALL_BITS,
@@ -119,6 +124,14 @@ impl Probe {
         self.end
     }
 
+    /// Whether that is the number of the path's last bytes as they are, of which none is a capital letter.
+    #[inline(always)]
+    pub(crate) fn has_plain_end(&self) -> bool
+        ensures { result ≡ self.now.has_plain_end }
+    {
+        self.has_plain_end
+    }
+
     /// The last byte, letters as small ones.
     pub(crate) fn last(&self) -> u8
         ensures { result ≡ self.now.last }
@@ -148,7 +161,7 @@ impl Probe {
         ensures { Lacks self.now result }
     {
         Lacking {
-            sets: [!self.bytes, !self.name_bytes],
+            sets: [!self.bytes, !self.name_bytes, !self.bytes],
         }
     }
 
@@ -164,17 +177,17 @@ impl Probe {
 /// The bytes and pairs that a path lacks.
 #[derive(Debug, Copy, Clone)]
 pub(crate) struct Lacking {
-    /// The set of those that the whole path lacks, and of those that its last part lacks.
-    sets: [u64; 2],
+    /// The set of those that each part lacks at which a pattern may look.
+    sets: [u64; PARTS],
 }
 
 impl Lacking {
-    /// The set of those that the last part or the whole path lacks. To take it by its place costs less than a choice.
+    /// The set of those that a part lacks. To take it by its place costs less than a choice.
     #[inline(always)]
-    pub(crate) fn of(&self, is_name: bool) -> u64
-        ensures { (probe : Probe) → Lacks probe self.now → IsWithout (if is_name then probe.name_bytes else probe.bytes) result }
+    pub(crate) fn of(&self, part: Part) -> u64
+        ensures { (probe : Probe) → Lacks probe self.now → IsWithout (if is_name part then probe.name_bytes else probe.bytes) result }
     {
-        self.sets[usize::from(is_name)]
+        self.sets[part.place()]
     }
 }
 

@@ -6,12 +6,15 @@ ghost use Rattle.gix_glob.specs.Stripping.{strip_looks};
 ghost use Rattle.glob_lists.specs.Deciding.{BasesAreFolders, PairAnswers};
 ghost use Rattle.glob_lists.specs.Index.{ComesBefore};
 ghost use Rattle.glob_lists.specs.Private.Looking.{LooksUpTo};
-ghost use Rattle.glob_lists.specs.Private.Reaching.{HasRest};
+ghost use Rattle.glob_lists.specs.Private.Reaching.{AnswersWhatIsLeft, HasRest};
+ghost use Rattle.glob_lists.specs.Private.Showing.{IsTold};
 ghost use Rattle.glob_lists.specs.Private.Spending.{looks_from, steps_from};
 ghost use Rattle.glob_lists.specs.Private.Tables.{HasEntryAt};
 
 use crate::index::ListIndex;
 use crate::path::RepositoryPath;
+use crate::probe::Probe;
+use crate::row::Row;
 use gix_glob::search;
 use gix_glob::wildmatch::Counts;
 use std::sync::ledger::Ledger;
@@ -39,18 +42,22 @@ impl<'p> Reached<'p> {
 
     /// Asks whether the pattern of a pair matches what the base of its list leaves of a path.
     ///
-    /// Its steps and looks are counted, and those of taking off the base where the pair before was of another list.
+    /// The pattern isn't tested where its row tells of the path that it matches. The steps and looks are counted, and those of taking
+    /// off the base where the pair before was of another list.
     #[inline(always)]
     pub(crate) fn ask<T: search::Pattern, S: Ledger, L: Ledger>(
         &mut self,
         index: &ListIndex<'_, T>,
         path: &RepositoryPath<'p>,
         pair: (usize, usize),
+        row: &Row,
+        probe: &Probe,
         counts: &mut Counts<S, L>,
     ) -> bool
         requires folders { BasesAreFolders (map (entry_list_of T.seen) index.now.lists) }
         requires there { HasEntryAt (map (entry_list_of T.seen) index.now.lists) pair.0 pair.1 }
         requires rest { HasRest (map (entry_list_of T.seen) index.now.lists) index.now.case path.now self.old }
+        requires told { IsTold row.now probe.now → AnswersWhatIsLeft (map (entry_list_of T.seen) index.now.lists) index.now.case path.now pair }
         requires before { ComesBefore pair.0 pair.1 self.old.pair.0 self.old.pair.1 }
         ensures pair { self.new.pair ≡ pair }
         ensures rest { HasRest (map (entry_list_of T.seen) index.now.lists) index.now.case path.now self.new }
@@ -66,6 +73,9 @@ impl<'p> Reached<'p> {
         let Some(rest) = &self.rest else {
             return false;
         };
+        if row.is_told_by(probe) {
+            return true;
+        }
         let list = &index.lists()[pair.0];
         let pattern = list.patterns[pair.1].pattern.view();
         rest.is_matched_with_counts(pattern, index.case(), counts)

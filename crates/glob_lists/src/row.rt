@@ -2,12 +2,14 @@
 ghost use Rattle.std.specs.Prelude.{◌≡◌, ◌↔◌, ◌+◌, ◌%◌, ◌<◌, ◌≤◌, IsTrue, None, length};
 ghost use Rattle.gix_glob.specs.PatternParts.{mode_of, text_of};
 ghost use Rattle.glob_lists.specs.Private.Ends.{IsFront, end_of, whole_number};
+ghost use Rattle.glob_lists.specs.Private.Parts.{is_name};
 ghost use Rattle.glob_lists.specs.Private.Rows.{Asks, length_of};
-ghost use Rattle.glob_lists.specs.Private.Showing.{HasBytes, HasEnd, Lacks, Passes};
+ghost use Rattle.glob_lists.specs.Private.Showing.{HasBytes, HasEnd, IsTold, Lacks, Passes};
 ghost use Rattle.glob_lists.specs.Private.Walking.{NonePasses};
 
 use crate::chains::{Class, Link};
 use crate::literals::{LONGEST_END, end_key, has_all, literal_end, needed_bits, spare_bits};
+use crate::part::Part;
 use crate::probe::{Lacking, Probe};
 use gix_glob::Pattern;
 use gix_glob::pattern::PatternView;
@@ -30,8 +32,8 @@ pub(crate) struct Row {
     pub(crate) class: Class,
     /// How many bits the number of a path's longest end has more than that of the literal end: a shift by so many takes them off.
     pub(crate) spare: u8,
-    /// Whether the pattern looks at the last part of a path alone.
-    pub(crate) is_name: bool,
+    /// What of a path the pattern looks at.
+    pub(crate) part: Part,
 }
 
 impl Row {
@@ -52,7 +54,6 @@ impl Row {
     {
         let text = pattern.text;
         let length = literal_end(text);
-        let is_name = pattern.mode.looks_at_name();
         if length == 0 {
             return Row {
                 asked: needed_bits(text),
@@ -61,7 +62,7 @@ impl Row {
                 mapping,
                 class: Class::Always,
                 spare: 0,
-                is_name,
+                part: Part::of_mode(pattern.mode),
             };
         }
         Row {
@@ -71,7 +72,7 @@ impl Row {
             mapping,
             class: Class::EndsIn(text[text.len() - 1].to_ascii_lowercase()),
             spare: spare_bits(length as u8),
-            is_name,
+            part: Part::of(pattern, length),
         }
     }
 
@@ -138,12 +139,12 @@ impl Row {
         (LONGEST_END as u8).saturating_sub(self.spare / 8)
     }
 
-    /// Whether the pattern looks at the last part of a path alone.
+    /// Whether the pattern looks at the last part of a path alone, and at more of it than its end.
     #[inline(always)]
     pub(crate) fn is_name(&self) -> bool
-        ensures { result ≡ self.now.is_name }
+        ensures { result ≡ is_name self.now.part }
     {
-        self.is_name
+        self.part.is_name()
     }
 
     /// The places of the list and of the mapping.
@@ -187,12 +188,23 @@ impl Row {
         self.asked == probe.key_without(self.spare)
     }
 
+    /// Whether it is known without a test that the pattern matches what is left of the path under a folder.
+    #[inline(always)]
+    pub(crate) fn is_told_by(&self, probe: &Probe) -> bool
+        ensures { IsTrue result ↔ IsTold self.now probe.now }
+    {
+        match self.part {
+            Part::Path | Part::Name => false,
+            Part::NameEnd => probe.has_plain_end() && self.has_end(probe),
+        }
+    }
+
     /// Whether nothing is needed that a path lacks.
     #[inline(always)]
     pub(crate) fn needs_none_of(&self, lacking: &Lacking) -> bool
         ensures { (probe : Probe) → Lacks probe lacking.now → IsTrue result ↔ HasBytes self.now probe }
     {
-        self.asked & lacking.of(self.is_name) == 0
+        self.asked & lacking.of(self.part) == 0
     }
 
     /// Whether the path has the bytes and pairs that are needed.
@@ -200,7 +212,7 @@ impl Row {
     pub(crate) fn has_bytes(&self, probe: &Probe) -> bool
         ensures { IsTrue result ↔ HasBytes self.now probe.now }
     {
-        has_all(probe.bytes_for(self.is_name), self.asked)
+        has_all(probe.bytes_for(self.is_name()), self.asked)
     }
 }
 

@@ -5,6 +5,7 @@ ghost use Rattle.glob_lists.specs.Private.Stored.{row_of};
 
 use crate::chains::{Class, Link};
 use crate::literals::spare_bits;
+use crate::part::Part;
 use crate::row::Row;
 use gix_glob::pattern::PatternView;
 
@@ -48,7 +49,7 @@ impl StoredRow {
             before: Link::NONE,
             last,
             length,
-            is_name: u8::from(row.is_name),
+            is_name: u8::from(row.is_name()),
         }
     }
 
@@ -62,6 +63,11 @@ impl StoredRow {
         } else {
             Class::EndsIn(self.last)
         };
+        let part = if self.is_name == 0 {
+            Part::Path
+        } else {
+            Part::Name
+        };
         Row {
             asked: self.asked,
             before: self.before,
@@ -69,7 +75,7 @@ impl StoredRow {
             mapping: 0,
             class,
             spare: spare_bits(self.length),
-            is_name: self.is_name != 0,
+            part,
         }
     }
 

@@ -1,5 +1,5 @@
 //! Rows in order, and their ends: a path meets only rows that can pass.
-ghost use Rattle.std.specs.Prelude.{◌≡◌, ◌+◌, ◌-◌, ◌*◌, ◌^◌, ◌<◌, ◌≤◌, IfOk, IfSome, MatchOption, length};
+ghost use Rattle.std.specs.Prelude.{◌≡◌, ◌+◌, ◌-◌, ◌*◌, ◌^◌, ◌<◌, ◌≤◌, IfOk, IfSome, MatchOption, Some, length, slice_get};
 ghost use Rattle.glob_lists.specs.Private.Ends.{AreChainedRows, AreSameRows, ends_of};
 ghost use Rattle.glob_lists.specs.Private.Looking.{LooksUpTo};
 ghost use Rattle.glob_lists.specs.Private.Showing.{Shows};
@@ -122,6 +122,15 @@ impl<'a> Chained<'a> {
         ensures all { result.passed_from ≡ length self.now.rows.now }
     {
         Walk::down(self.ends, self.rows, probe)
+    }
+
+    /// The row that a walk met last.
+    #[inline(always)]
+    pub(crate) fn last_row(&self, walk: &Walk) -> &Row
+        requires { walk.now.passed_from < length self.now.rows.now }
+        ensures { slice_get self.now.rows.now walk.now.passed_from ≡ Some result.now }
+    {
+        &self.rows[walk.passed_from]
     }
 
     /// The places of the list and of the mapping of the next row of a walk that passes, from the last one to the first. A look is

@@ -1,18 +1,19 @@
 -- Rows are chained one after the other: one place more is met, which is the last one of its end.
-use Rattle.std.proofs.Common.{◌≡◌, ◌≢◌, inl, inr, ⊎_elim, ℕ, ◌+◌, ◌%◌, ◌^◌, ◌<◌, ◌≤◌, List, [], ◌∷◌, ◌++◌, length, get_or, slice_set, option_map, Option, None, Some, Bool, true, false, refl, sym, ◌∙◌, ap, subst, arith, length-append}
+use Rattle.std.proofs.Common.{◌≡◌, ◌≢◌, inl, inr, ⊎_elim, ℕ, ◌+◌, ◌%◌, ◌^◌, ◌<◌, ◌≤◌, List, [], ◌∷◌, ◌++◌, length, get_or, slice_set, Option, None, Some, Bool, true, refl, sym, ◌∙◌, ap, subst, arith, length-append}
 use Rattle.std.specs.Prelude.{slice_get}
 use Rattle.std.proofs.Math.Seq.{map-set_same}
 use Rattle.std.proofs.lemmas.Bool.{cases_lt, cases_eq}
 use Rattle.std.proofs.lemmas.List.{get_or-set_same, get_or-set_other, length-set, map-set}
-use Rattle.std.proofs.lemmas.Option.{get_or_from_slice_get, none-some, same_Some, slice_get-get_or, slice_get-map, slice_get_past, slice_get_within, some_pair_parts}
+use Rattle.std.proofs.lemmas.Option.{get_or_from_slice_get, none-some, same_Some, slice_get-get_or, slice_get_past, slice_get_within, some_pair_parts}
 use Rattle.glob_lists.specs.declared.chains.Class.TheVariants.{Always}
 use Rattle.glob_lists.specs.declared.chains.Link.{Link}
 use Rattle.glob_lists.specs.declared.ends.End.{End}
+use Rattle.glob_lists.specs.declared.part.Part.TheVariants.{Path}
 use Rattle.glob_lists.specs.declared.row.Row.{Row}
 use Rattle.glob_lists.specs.Private.Chains.{links_of}
 use Rattle.glob_lists.specs.Private.Ends.{AreChainedBy, AreChainedSoFar, AreEnds, AreSameRows, HasAt, IsEndAt, IsFront, IsFrontAt, IsLastWhere, IsMetAt, IsSomeEnd, end_of, ends_of, whole_number}
 use Rattle.glob_lists.proofs.lemmas.Elements.{slice_get-push_cases, slice_get-push_new, slice_get-push_old}
-use Rattle.glob_lists.proofs.lemmas.EndLemmas.{HasAt-row, IsEndAt-same, IsEndAt-within, IsFront-between, last_inside, row_parts}
+use Rattle.glob_lists.proofs.lemmas.EndLemmas.{IsEndAt-same, IsEndAt-within, IsFront-between, last_inside, row_parts}
 
 -- ---- an element that is replaced
 
@@ -418,7 +419,7 @@ abbrev pub no_end : End
 no_end = record { last = 0; above = record { 0 = 0 } }
 
 abbrev pub no_row : Row
-no_row = record { asked = 0; before = record { 0 = 0 }; list = 0; mapping = 0; class = Always; spare = 0; is_name = false }
+no_row = record { asked = 0; before = record { 0 = 0 }; list = 0; mapping = 0; class = Always; spare = 0; part = Path }
 
 -- the end that is read at a place
 pub IsEndAt-read : (rows : List Row) (ends : List End) (k : ℕ) → AreEnds (ends_of rows) ends → k < length ends

@@ -34,6 +34,25 @@ one_less text bytes n few =
     let here = folded_at-short text (length text - (n + 1)) bytes in
     omega arith
 
+last_lower : (text : List ℕ) → AreBytes text → (n : ℕ) → n < 8 → end_key text (suc n) % 256 ≡ to_ascii_lowercase (from_end text n)
+last_lower text bytes n few =
+    let short = end_key-short text bytes n in
+    let most : room n ≤ room 7 = room-le n 7 (omega arith) in
+    let here = folded_at-short text (length text - (n + 1)) bytes in
+    omega arith
+
+-- ends of one number have the same bytes, up to case
+pub same_lower : (xs ys : List ℕ) → AreBytes xs → AreBytes ys → (n : ℕ) → n ≤ 8 → end_key xs n ≡ end_key ys n
+    → (m : ℕ) → m < n → to_ascii_lowercase (from_end xs m) ≡ to_ascii_lowercase (from_end ys m)
+same_lower xs ys bytes others zero few same m below = absurd (omega arith)
+same_lower xs ys bytes others (suc n) few same m below = ⊎_elim
+    (λ (here : m ≡ n).
+    subst (λ (k : ℕ). to_ascii_lowercase (from_end xs k) ≡ to_ascii_lowercase (from_end ys k)) (sym here)
+    (sym (last_lower xs bytes n (omega arith)) ∙ (ap (λ (key : ℕ). key % 256) same ∙ last_lower ys others n (omega arith))))
+    (λ (apart : m ≡ n → ⊥).
+    same_lower xs ys bytes others n (omega arith) (sym (one_less xs bytes n (omega arith)) ∙ (ap (λ (key : ℕ). key / 256) same ∙ one_less ys others n (omega arith))) m (omega arith))
+    (cases_eq m n)
+
 -- the number of an end begins with that of each shorter one
 front_of_end : (text : List ℕ) → AreBytes text → (n k m : ℕ) → m ≡ n + k → m ≤ 8 → without_bytes (end_key text m) k ≡ end_key text n
 front_of_end text bytes n zero m is few = ap (end_key text) (let same : m ≡ n = omega arith in same)
@@ -59,6 +78,20 @@ raw_end-small text bytes (suc n) few has =
     let short = end_key-short text bytes n in
     let room_left : room n ≤ room 7 = room-le n 7 (omega arith) in
     omega (arith, before, here)
+
+-- none of the bytes is a capital letter then
+pub raw_end-plain : (text : List ℕ) → AreBytes text → (n : ℕ) → n ≤ 8 → bit_and (raw_end text n) (no_capital n) ≡ no_capital n
+    → (m : ℕ) → m < n → to_ascii_lowercase (from_end text m) ≡ from_end text m
+raw_end-plain text bytes zero few has m below = absurd (omega arith)
+raw_end-plain text bytes (suc n) few has m below =
+    let byte : ℕ = from_end text n in
+    let fits : byte < 256 = bytes (length text - (n + 1)) in
+    let block = and_block 8 (raw_end text n) (no_capital n) byte 32 fits (omega arith) in
+    let most = and_le_r byte 32 in
+    ⊎_elim
+    (λ (here : m ≡ n). subst (λ (k : ℕ). to_ascii_lowercase (from_end text k) ≡ from_end text k) (sym here) (small_byte byte fits (omega (arith, block, most, has))))
+    (λ (apart : m ≡ n → ⊥). raw_end-plain text bytes n (omega arith) (omega (arith, block, most, has)) m (omega arith))
+    (cases_eq m n)
 
 -- ---- the number of a text that may be shorter
 

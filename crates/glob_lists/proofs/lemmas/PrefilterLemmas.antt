@@ -23,6 +23,7 @@ use Rattle.glob_lists.specs.declared.literals.TheConstants.{LONGEST_END}
 use Rattle.glob_lists.specs.declared.probe.Probe.{Probe}
 use Rattle.glob_lists.specs.declared.row.Row.{Row}
 use Rattle.glob_lists.specs.Private.Literals.{AsksForBits, EndsLiterally, IsNeededAt, IsNeededPairAt, bit_of, end_key, from_end, pair_of}
+use Rattle.glob_lists.specs.Private.Parts.{is_name}
 use Rattle.glob_lists.specs.Private.Rows.{Asks, AsksFor, HasLiteralEnd, length_of}
 use Rattle.glob_lists.specs.Private.Showing.{HasBytes, HasEnd, HoldsBits, Passes, PassesBy, Shows}
 use Rattle.glob_lists.proofs.lemmas.BitLemmas.{HoldsBits-drop}
@@ -103,7 +104,7 @@ ends_alike law text value mode n e s =
     )
 
 -- an end of a path, from a place on, has the path's last bytes
-end_of : (path value : List ℕ) (at : ℕ) → value ≡ drop at path → (m : ℕ) → m < length value → from_end value m ≡ from_end path m
+pub end_of : (path value : List ℕ) (at : ℕ) → value ≡ drop at path → (m : ℕ) → m < length value → from_end value m ≡ from_end path m
 end_of path value at is m inside =
     let long : length value ≡ length path - at = ap (λ (xs : List ℕ). length xs) is ∙ length-drop at path in
     let place : at + (length value - (m + 1)) ≡ length path - (m + 1) = omega arith in
@@ -124,7 +125,7 @@ subject_is_end pattern_mode rest None = (0, refl)
 subject_is_end pattern_mode rest (Some k) = if_end (looks_at_name pattern_mode) k rest
 
 -- the last part of what is left has no slash
-name_has_no_slash : (pattern_mode : pattern.Mode) (rest : List ℕ) (basename_start : Option ℕ) → looks_at_name pattern_mode ≡ true → IsBasenameStart rest basename_start
+pub name_has_no_slash : (pattern_mode : pattern.Mode) (rest : List ℕ) (basename_start : Option ℕ) → looks_at_name pattern_mode ≡ true → IsBasenameStart rest basename_start
     → (m : ℕ) → ¬ HasByte (subject pattern_mode rest basename_start) m slash
 name_has_no_slash pattern_mode rest None name start m there = start m there
 name_has_no_slash pattern_mode rest (Some k) name start m there =
@@ -157,11 +158,11 @@ module _ (ends : EndsAsTheText) (bytes : HasTheBytes) (pairs : HasThePairs) (tex
 
   -- the set that the row looks at has what the value has
   abbrev held : ℕ
-  held = if row.is_name then probe.name_bytes else probe.bytes
+  held = if is_name row.part then probe.name_bytes else probe.bytes
 
-  value_is_held : (row.is_name ≡ true → (m : ℕ) → ¬ HasByte value m slash) → HoldsBits value held
+  value_is_held : (is_name row.part ≡ true → (m : ℕ) → ¬ HasByte value m slash) → HoldsBits value held
   value_is_held bare = subst (λ (xs : List ℕ). HoldsBits xs held) (sym is)
-      (cond_both row.is_name probe.name_bytes probe.bytes (λ (set : ℕ). HoldsBits (drop at path) set)
+      (cond_both (is_name row.part) probe.name_bytes probe.bytes (λ (set : ℕ). HoldsBits (drop at path) set)
       (λ name. shows.name_bytes at (λ m. subst (λ (xs : List ℕ). ¬ HasByte xs m slash) is (bare name m)))
       (λ other. HoldsBits-drop path at probe.bytes shows.bytes))
 
@@ -179,13 +180,13 @@ module _ (ends : EndsAsTheText) (bytes : HasTheBytes) (pairs : HasThePairs) (tex
       ∙ (ap (λ (b : ℕ). 32 + (to_ascii_lowercase n.first * 5 + b) % 32) second ∙ sym n.bit) in
       subst (λ (k : ℕ). bit_at held k ≡ 1) same (all.pairs has.place has.inside)
 
-  HasBytes-needed : AsksForBits text row.asked → (row.is_name ≡ true → (m : ℕ) → ¬ HasByte value m slash) → HasBytes row probe
+  HasBytes-needed : AsksForBits text row.asked → (is_name row.part ≡ true → (m : ℕ) → ¬ HasByte value m slash) → HasBytes row probe
   HasBytes-needed asks bare i bit = ⊎_elim
       (λ (first : i ≡ 0). absurd (let zero_bit = ap (bit_at row.asked) first ∙ asks.free in omega (arith, bit, zero_bit)))
       (λ (past : i ≡ 0 → ⊥). let needed = asks.needs i bit in bit_is_held i needed.0 (omega arith) (value_is_held bare) needed.1)
       (cases_eq i 0)
 
-  passes_by : (class : Class) → row.spare ≡ 8 * (LONGEST_END - length_of row) → AsksFor text (length_of row) row.asked class → (row.is_name ≡ true → (m : ℕ) → ¬ HasByte value m slash) → PassesBy row probe class
+  passes_by : (class : Class) → row.spare ≡ 8 * (LONGEST_END - length_of row) → AsksFor text (length_of row) row.asked class → (is_name row.part ≡ true → (m : ℕ) → ¬ HasByte value m slash) → PassesBy row probe class
   passes_by Always spare needs bare = HasBytes-needed needs bare
   passes_by (EndsIn byte) spare needs bare = class_and_end byte needs spare
 
@@ -205,5 +206,5 @@ answering_passes ends bytes pairs text pattern_mode base path rest is_dir case r
     let is : value ≡ drop at path = within.1 ∙ (ap (drop within.0) below.1 ∙ drop-drop within.0 below.0 path) in
     let s = answers.answers.splits in record {
       shown = passes_by ends bytes pairs text path value (with_case path_mode case) at row probe shows is s row.class asks.spare asks.needs
-          (λ name. name_has_no_slash pattern_mode rest start (sym asks.name ∙ name) answers.basename);
+          (λ name. name_has_no_slash pattern_mode rest start (asks.name name) answers.basename);
     }

@@ -15,6 +15,7 @@ use Rattle.glob_lists.specs.declared.sight.Sight.{Sight}
 use Rattle.glob_lists.specs.declared.sight.TheConstants.{ENDS, NO_END}
 use Rattle.glob_lists.specs.Index.{entry_count}
 use Rattle.glob_lists.specs.Private.Literals.{without_bytes}
+use Rattle.glob_lists.specs.Private.Parts.{is_name}
 use Rattle.glob_lists.specs.Private.Rows.{length_of}
 use Rattle.glob_lists.specs.Private.Showing.{HasAll, HasEnd, Passes, PassesBy}
 use Rattle.glob_lists.specs.Private.Sights.{AreSights, HasEnding, IsSeen, Lacks, Sees, SeesBy, SeesEnd, SeesFrom, SeesList, end_bit, end_place, needs_of}
@@ -58,7 +59,7 @@ module _ (probe : Probe) (sight : Sight) (row : Row) (spare : row.spare ≡ 8 * 
   ]
 
   class_seen : (class : Class) → PassesBy row probe class → SeesBy sight row class → IsSeen sight probe
-  class_seen Always passes sees = bytes_seen sight probe row row.is_name passes sees.needs sees.others
+  class_seen Always passes sees = bytes_seen sight probe row (is_name row.part) passes sees.needs sees.others
   class_seen (EndsIn byte) passes sees = end_seen passes.1 sees
 
   pub Passes-seen : Sees sight row → Passes row probe → IsSeen sight probe

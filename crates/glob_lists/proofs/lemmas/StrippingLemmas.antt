@@ -48,13 +48,13 @@ last_of_folded (b ∷ c ∷ text) front h =
     (b ∷ rest.0, ap (λ l. b ∷ l) rest.1)
 
 -- what equals a folder up to case ends in a slash too
-front_ends_in_slash : (case : Case) (base front : List ℕ) → EndsInSlash base → folding_by case front ≡ folding_by case base → (before : List ℕ) × (front ≡ before ++ slash ∷ [])
+pub front_ends_in_slash : (case : Case) (base front : List ℕ) → EndsInSlash base → folding_by case front ≡ folding_by case base → (before : List ℕ) × (front ≡ before ++ slash ∷ [])
 front_ends_in_slash Sensitive base front folder same = (folder.front, same ∙ folder.joined)
 front_ends_in_slash Fold base front folder same =
     last_of_folded front (map to_ascii_lowercase folder.front) (same ∙ ap (map to_ascii_lowercase) folder.joined ∙ map-append to_ascii_lowercase folder.front (slash ∷ []))
 
 -- what equals an empty base up to case is empty
-empty_front : (case : Case) (base front : List ℕ) → base ≡ [] → folding_by case front ≡ folding_by case base → front ≡ []
+pub empty_front : (case : Case) (base front : List ℕ) → base ≡ [] → folding_by case front ≡ folding_by case base → front ≡ []
 empty_front Sensitive base front none same = same ∙ none
 empty_front Fold base [] none same = refl
 empty_front Fold base (b ∷ front) none same = absurd (let empty : map to_ascii_lowercase base ≡ [] = ap (map to_ascii_lowercase) none in cc)

@@ -1,15 +1,18 @@
 -- What a path shows, and whether a row passes it.
-use Rattle.std.specs.Prelude.{◌≡◌, ℕ, ◌+◌, ◌-◌, ◌/◌, ◌%◌, ◌^◌, ◌<◌, ◌≤◌, List, [], ◌∷◌, length, slice_index, drop, take, Option, None, Some, if◌then◌else◌}
+use Rattle.std.specs.Prelude.{◌≡◌, ℕ, ◌+◌, ◌-◌, ◌/◌, ◌%◌, ◌^◌, ◌<◌, ◌≤◌, List, [], ◌∷◌, length, slice_index, drop, take, Option, None, Some, if◌then◌else◌, IsTrue}
 use Rattle.std.specs.Char.{to_ascii_lowercase}
 use Rattle.std.specs.Int.{bit_at}
 use Rattle.gix_glob.specs.Bytes.{HasByte, slash}
 use Rattle.glob_lists.specs.declared.chains.Class.{Class}
 use Rattle.glob_lists.specs.declared.chains.Class.TheVariants.{Always, EndsIn}
 use Rattle.glob_lists.specs.declared.literals.TheConstants.{LONGEST_END}
+use Rattle.glob_lists.specs.declared.part.Part.{Part}
+use Rattle.glob_lists.specs.declared.part.Part.TheVariants.{Path, Name, NameEnd}
 use Rattle.glob_lists.specs.declared.probe.Lacking.{Lacking}
 use Rattle.glob_lists.specs.declared.probe.Probe.{Probe}
 use Rattle.glob_lists.specs.declared.row.Row.{Row}
 use Rattle.glob_lists.specs.Private.Literals.{bit_of, pair_of, end_key, from_end, without_bytes}
+use Rattle.glob_lists.specs.Private.Parts.{IsPlainEnd, is_name}
 
 -- the set has each byte of the text but those of place 0, for which no row asks
 abbrev pub HoldsBytes : List ℕ → ℕ → Type 0
@@ -42,6 +45,7 @@ front_part (Some start) path = take start path
 pub record Shows (path : List ℕ) (probe : Probe) : Type 0 where
   pub last : probe.last ≡ to_ascii_lowercase (from_end path 0)
   pub ends : HasEndKeys path probe.end
+  pub plain : IsTrue probe.has_plain_end → IsPlainEnd path LONGEST_END
   pub bytes : HoldsBits path probe.bytes
   pub name_bytes : HoldsNameBits path probe.name_bytes
 
@@ -53,11 +57,11 @@ HasAll held needed = (i : ℕ) → bit_at needed i ≡ 1 → bit_at held i ≡ 1
 abbrev pub IsWithout : ℕ → ℕ → Type 0
 IsWithout held lacked = (held < 2 ^ 64) × (lacked ≡ 2 ^ 64 - 1 - held)
 
--- The sets have what the whole path lacks, and what its last part lacks.
+-- The sets have what the parts of a path lack at which patterns look: the whole, its last part, and where only the end counts the whole again.
 pub record Lacks (probe : Probe) (lacking : Lacking) : Type 0 where
   pub fits : probe.bytes < 2 ^ 64
   pub name_fits : probe.name_bytes < 2 ^ 64
-  pub sets : lacking.sets ≡ (2 ^ 64 - 1 - probe.bytes) ∷ (2 ^ 64 - 1 - probe.name_bytes) ∷ []
+  pub sets : lacking.sets ≡ (2 ^ 64 - 1 - probe.bytes) ∷ (2 ^ 64 - 1 - probe.name_bytes) ∷ (2 ^ 64 - 1 - probe.bytes) ∷ []
 
 -- the path ends as the row's text does, as far as the numbers tell
 abbrev pub HasEnd : Row → Probe → Type 0
@@ -65,12 +69,22 @@ HasEnd row probe = row.asked ≡ probe.end / 2 ^ (row.spare % 64)
 
 -- the path, or its last part where the row looks at no more, has the bytes and pairs that the row needs
 abbrev pub HasBytes : Row → Probe → Type 0
-HasBytes row probe = HasAll (if row.is_name then probe.name_bytes else probe.bytes) row.asked
+HasBytes row probe = HasAll (if is_name row.part then probe.name_bytes else probe.bytes) row.asked
 
 -- the path has what the row asks for, if it is of this class
 abbrev pub PassesBy : Row → Probe → Class → Type 0
 PassesBy row probe Always = HasBytes row probe
 PassesBy row probe (EndsIn byte) = (byte ≡ probe.last) × HasEnd row probe
+
+-- the path has the end of a row that is told by it
+abbrev pub IsToldBy : Row → Probe → Part → Type 0
+IsToldBy row probe Path = ⊥
+IsToldBy row probe Name = ⊥
+IsToldBy row probe NameEnd = IsTrue probe.has_plain_end × HasEnd row probe
+
+-- The path is known to be matched by the row's pattern, without a test: the pattern is told by its end, and the path has that.
+pub record IsTold (row : Row) (probe : Probe) : Type 0 where
+  pub told : IsToldBy row probe row.part
 
 -- What the path shows has what the row asks for.
 pub record Passes (row : Row) (probe : Probe) : Type 0 where

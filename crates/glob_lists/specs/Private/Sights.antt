@@ -11,6 +11,7 @@ use Rattle.glob_lists.specs.declared.row.Row.{Row}
 use Rattle.glob_lists.specs.declared.sight.Sight.{Sight}
 use Rattle.glob_lists.specs.declared.sight.TheConstants.{ENDS, LONG_END, NO_END, OTHER_ENDS, SHORT_END}
 use Rattle.glob_lists.specs.Private.Literals.{without_bytes}
+use Rattle.glob_lists.specs.Private.Parts.{is_name}
 use Rattle.glob_lists.specs.Private.Rows.{Asks, length_of}
 use Rattle.glob_lists.specs.Private.Showing.{HasAll, Passes}
 use Rattle.glob_lists.specs.Private.Tables.{IsEntryAt}
@@ -41,7 +42,7 @@ pub record Lacks (sight : Sight) (short long : ℕ) : Type 0 where
 -- The sight tells that a row asks for something else than an end, and has what it asks for.
 pub record SeesBytes (sight : Sight) (row : Row) : Type 0 where
   pub others : HasAll sight.ends NO_END
-  pub needs : HasAll row.asked (needs_of sight row.is_name)
+  pub needs : HasAll row.asked (needs_of sight (is_name row.part))
 
 -- The sight has the last bytes of the row's end; of a row with one byte it has that nothing else is needed.
 pub record SeesEnd (sight : Sight) (row : Row) : Type 0 where

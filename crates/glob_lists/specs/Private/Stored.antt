@@ -1,8 +1,9 @@
 -- Rows in memory that a caller keeps, as the rows that they stand for.
-use Rattle.std.specs.Prelude.{ℕ, true, false, ◌==◌, ◌≤◌, if◌then◌else◌, List, Option, MatchOption, ◌+◌, length, map}
+use Rattle.std.specs.Prelude.{ℕ, ◌==◌, ◌≤◌, if◌then◌else◌, List, Option, MatchOption, ◌+◌, length, map}
 use Rattle.glob_lists.specs.declared.chains.Class.{Class}
 use Rattle.glob_lists.specs.declared.chains.Class.TheVariants.{Always, EndsIn}
 use Rattle.glob_lists.specs.declared.chains.Link.{Link}
+use Rattle.glob_lists.specs.declared.part.Part.TheVariants.{Path, Name}
 use Rattle.glob_lists.specs.declared.probe.Probe.{Probe}
 use Rattle.glob_lists.specs.declared.row.Row.{Row}
 use Rattle.glob_lists.specs.declared.stored.StoredRow.{StoredRow}
@@ -24,7 +25,7 @@ row_of row = record {
   mapping = 0;
   class = class_of row;
   spare = spare_bits row.length;
-  is_name = if row.is_name == 0 then false else true;
+  part = if row.is_name == 0 then Path else Name;
 }
 
 abbrev pub rows_of : List StoredRow → List Row

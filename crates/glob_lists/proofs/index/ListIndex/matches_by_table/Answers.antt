@@ -10,6 +10,7 @@ use Rattle.glob_lists.proofs.lemmas.AnsweringRows.{law_holds}
 use Rattle.glob_lists.proofs.lemmas.CandidateLemmas.{AreBefore-all, AreBefore-next, AreFoundFrom-more, AreFoundFrom-same, HasRest-none, entry_of_next, next_before}
 use Rattle.glob_lists.proofs.lemmas.FoundPairs.{AreFoundFrom, AreFoundFrom-all, AreFoundFrom-none, AreFoundFrom-skip}
 use Rattle.glob_lists.proofs.lemmas.IndexLemmas.{to_value}
+use Rattle.glob_lists.proofs.lemmas.ToldLemmas.{told_of_next}
 use Rattle.glob_lists.proofs.index.ListIndex.matches_by_table.Goals as goal
 
 pub ask-requires-clause-folders : goal.ask-requires-clause-folders
@@ -20,6 +21,12 @@ ask-requires-clause-folders g c =
 pub ask-requires-clause-there : goal.ask-requires-clause-there
 ask-requires-clause-there g c =
     entry_of_next _ _ _ _ _ _ _ c.requires.rows c.in-Some.ensures.next
+
+pub ask-requires-clause-told : goal.ask-requires-clause-told
+ask-requires-clause-told g c =
+    let made = to_value g.T.Pattern.seen _ _ c.self.view_is (λ lists _. IsIndexOf lists c.self.inside.table) c.self.invariant.index in
+    told_of_next (map (entry_list_of g.T.Pattern.seen) c.args.self.now.lists) c.args.chained.rows.now c.args.self.now.case c.args.path.now _ _ _ _ _ _ made.folders c.requires.rows c.probe-probe.ensures.shows
+    c.in-Some.ensures.next c.last_row-row.ensures
 
 pub ask-requires-clause-before : goal.ask-requires-clause-before
 ask-requires-clause-before g c =

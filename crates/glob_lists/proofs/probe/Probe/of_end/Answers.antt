@@ -7,6 +7,7 @@ pub returns-clause-shows : goal.returns-clause-shows
 returns-clause-shows g c = record {
   last = c.last_byte.ensures;
   ends = c.end_number.ensures;
+  plain = c.has_plain_end.ensures;
   bytes = all_bits_hold c.args.path.now;
   name_bytes = λ at alone. all_bits_hold (drop at c.args.path.now);
 }

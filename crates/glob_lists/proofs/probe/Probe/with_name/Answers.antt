@@ -8,6 +8,7 @@ pub returns-clause-shows : goal.returns-clause-shows
 returns-clause-shows g c = record {
   last = c.requires.shows.last;
   ends = c.requires.shows.ends;
+  plain = c.requires.shows.plain;
   bytes = c.requires.shows.bytes;
   name_bytes = name_bits c.args.path.now c.args.basename_start c.bits_of.result c.requires.basename
       (subst (λ (name : List ℕ). HoldsBits name c.bits_of.result) c.last_part-name.ensures c.bits_of.ensures);

@@ -1,5 +1,5 @@
 -- What the base of the pair's list leaves of the path is what its pattern is asked about.
-use Rattle.std.proofs.Common.{◌≡◌, ◌<◌, false, Some, length, map, refl, rules, arith}
+use Rattle.std.proofs.Common.{◌≡◌, ◌<◌, Bool, true, false, Some, length, map, refl, sym, subst, rules, arith}
 use Rattle.std.specs.Prelude.{slice_get}
 use Rattle.std.proofs.lemmas.Bool.{false≢true}
 use Rattle.gix_glob.specs.Entries.{entry_of}
@@ -7,6 +7,7 @@ use Rattle.gix_glob.specs.EntryLists.{entry_list_of}
 use Rattle.gix_glob.specs.PatternParts.{text_of}
 use Rattle.gix_glob.specs.Stripping.{NothingLeft, RestOf}
 use Rattle.gix_glob.proofs.lemmas.Elements.{slice_get-map_at}
+use Rattle.glob_lists.specs.Deciding.{AnswersFor}
 use Rattle.glob_lists.proofs.lemmas.Asking.{asked_looks, asked_nothing, asked_rest, asked_steps}
 use Rattle.glob_lists.proofs.lemmas.DecisionSums.{looks-under, steps-under}
 use Rattle.glob_lists.proofs.lemmas.IndexLemmas.{list_at, list_within, mapping_within}
@@ -32,6 +33,32 @@ returns-in_default-clause-steps g c =
 
 pub returns-in_default-clause-looks : goal.returns-in_default-clause-looks
 returns-in_default-clause-looks g c =
+    let lists = map (entry_list_of g.T.Pattern.seen) c.args.index.now.lists in
+    let there = c.requires.there in
+    let entered = c.enter.ensures.looks there.1.list there.1.there in
+    asked_looks lists c.args.index.now.case c.args.path.now c.args.pair.0 c.args.pair.1 there.1.list there.0 there.1.there there.1.here c.args.self.now.pair c.requires.before (length c.args.path.now.bytes)
+    c.args.counts.now.looks c.enter.new.counts.looks c.enter.new.counts.looks entered.from entered.to (λ same. (let free = c.enter.ensures.same_list same in omega (arith, free.to))) (omega arith)
+
+pub returns-then-is_told_by-clause-exact : goal.returns-then-is_told_by-clause-exact
+returns-then-is_told_by-clause-exact g c =
+    let lists = map (entry_list_of g.T.Pattern.seen) c.args.index.now.lists in
+    let there = c.requires.there in
+    let left = c.enter.ensures.rest.left there.1.list (rw c.enter.ensures.pair (there.1.there)) in
+    let rest : RestOf c.args.index.now.case there.1.list.base c.args.path.now.bytes c.in-Some.rest.bytes × (c.in-Some.rest.is_dir ≡ c.args.path.now.is_dir) = rw c.in-Some.is at left in
+    let answers = (c.requires.told (c.is_told_by.ensures.0 c.if-is_told_by.true)).each there.1.list there.0 c.in-Some.rest.bytes there.1.there there.1.here rest.0 in
+    asked_rest lists c.args.index.now.case c.args.path.now c.args.pair.0 c.args.pair.1 there.1.list there.0 there.1.there there.1.here c.in-Some.rest there.0.text there.0.mode true rest refl refl
+    (λ yes. subst (λ (b : Bool). AnswersFor there.0.text there.0.mode c.in-Some.rest.bytes b c.args.index.now.case) (sym rest.1) answers, λ h. refl)
+
+pub returns-then-is_told_by-clause-steps : goal.returns-then-is_told_by-clause-steps
+returns-then-is_told_by-clause-steps g c =
+    let lists = map (entry_list_of g.T.Pattern.seen) c.args.index.now.lists in
+    let there = c.requires.there in
+    let entered = c.enter.ensures.looks there.1.list there.1.there in
+    asked_steps lists c.args.index.now.case c.args.path.now c.args.pair.0 c.args.pair.1 there.1.list there.0 there.1.there there.1.here c.args.self.now.pair c.requires.before (length c.args.path.now.bytes)
+    c.args.counts.now.steps c.enter.new.counts.steps c.enter.new.counts.steps (omega (arith, entered.steps)) (omega arith)
+
+pub returns-then-is_told_by-clause-looks : goal.returns-then-is_told_by-clause-looks
+returns-then-is_told_by-clause-looks g c =
     let lists = map (entry_list_of g.T.Pattern.seen) c.args.index.now.lists in
     let there = c.requires.there in
     let entered = c.enter.ensures.looks there.1.list there.1.there in

@@ -1,9 +1,10 @@
 -- Rows without an end are passed over as long as they come after all others, and then the latest row of an end is met.
-use Rattle.std.proofs.Common.{false, ap, refl, arith}
+use Rattle.std.proofs.Common.{ap, refl, arith}
 use Rattle.std.proofs.lemmas.Bool.{iff_false}
 use Rattle.std.proofs.lemmas.Option.{slice_get-get_or}
 use Rattle.glob_lists.specs.declared.chains.Class.TheVariants.{Always}
 use Rattle.glob_lists.specs.declared.chains.Link.{Link}
+use Rattle.glob_lists.specs.declared.part.Part.TheVariants.{Path}
 use Rattle.glob_lists.specs.declared.row.Row.{Row}
 use Rattle.glob_lists.specs.declared.walk.Walk.{Walk}
 use Rattle.glob_lists.specs.Private.Ends.{ends_of}
@@ -13,7 +14,7 @@ use Rattle.glob_lists.proofs.walk.Walk.next.Goals as goal
 
 -- what stands for a row that isn't there
 abbrev blank : Row
-blank = record { asked = 0; before = record { 0 = 0 }; list = 0; mapping = 0; class = Always; spare = 0; is_name = false }
+blank = record { asked = 0; before = record { 0 = 0 }; list = 0; mapping = 0; class = Always; spare = 0; part = Path }
 
 pub others-init : goal.others-init
 others-init g c = record { same = refl; passed = HasPassedTo-start c.args.rows.now c.args.probe.now c.args.self.now c.args.counts.now c.requires.walk }

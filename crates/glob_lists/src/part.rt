@@ -1,0 +1,84 @@
+//! What of a path a pattern looks at.
+ghost use Rattle.std.specs.Prelude.{◌≡◌, ◌≢◌, ◌<◌, IsTrue};
+ghost use Rattle.gix_glob.specs.Patterns.{looks_at_name};
+ghost use Rattle.glob_lists.specs.Private.Literals.{EndsLiterally};
+ghost use Rattle.glob_lists.specs.Private.Parts.{IsStarAndEnd, IsToldByEnd, is_name, place_of};
+
+use crate::literals::has_no_capital;
+use bitflags::Flags;
+use gix_glob::pattern::{Mode, PatternView};
+
+/// How many parts there are.
+pub(crate) const PARTS: usize = 3;
+
+/// What of a path a pattern looks at.
+#[derive(Debug, Copy, Clone)]
+pub(crate) enum Part {
+    /// All of it.
+    Path,
+    /// Its last part.
+    Name,
+    /// The end of its last part alone: the pattern is a star and a literal end, and matches where the path has that.
+    NameEnd,
+}
+
+impl Part {
+    /// What a pattern of this mode looks at.
+    pub(crate) fn of_mode(mode: Mode) -> Part
+        ensures name { IsTrue (is_name result) → IsTrue (looks_at_name mode) }
+        ensures whole { result ≢ Part.NameEnd }
+    {
+        if mode.looks_at_name() {
+            Part::Name
+        } else {
+            Part::Path
+        }
+    }
+
+    /// What a pattern looks at whose text has a literal end of this length.
+    pub(crate) fn of(pattern: PatternView<'_>, length: usize) -> Part
+        requires { EndsLiterally pattern.text.now length }
+        ensures name { IsTrue (is_name result) → IsTrue (looks_at_name pattern.entry.mode) }
+        ensures told { result ≡ Part.NameEnd → IsToldByEnd pattern.entry.text.now pattern.entry.mode length }
+    {
+        if is_told_by_end(pattern, length) {
+            return Part::NameEnd;
+        }
+        Part::of_mode(pattern.mode)
+    }
+
+    /// The place of the part among all.
+    #[inline(always)]
+    pub(crate) fn place(self) -> usize
+        ensures within { result < PARTS }
+        ensures place { result ≡ place_of self }
+    {
+        self as usize
+    }
+
+    /// Whether it is the last part of a path, and what stands before its end is looked at too.
+    #[inline(always)]
+    pub(crate) fn is_name(self) -> bool
+        ensures { result ≡ is_name self }
+    {
+        matches!(self, Part::Name)
+    }
+}
+
+/// Whether a pattern matches wherever a path has its literal end, which has this length.
+fn is_told_by_end(pattern: PatternView<'_>, length: usize) -> bool
+    requires { EndsLiterally pattern.text.now length }
+    ensures { IsTrue result → IsToldByEnd pattern.entry.text.now pattern.entry.mode length }
+{
+    pattern.mode.looks_at_name()
+        && !pattern.mode.contains(Mode::MUST_BE_DIR)
+        && is_star_and_end(pattern.text, length)
+}
+
+/// Whether a text is a star and so many last bytes, of which none is a capital letter.
+fn is_star_and_end(text: &[u8], length: usize) -> bool
+    requires { EndsLiterally text.now length }
+    ensures { IsTrue result → IsStarAndEnd text.now length }
+{
+    text.len() - length == 1 && text[0] == b'*' && has_no_capital(text, length)
+}
