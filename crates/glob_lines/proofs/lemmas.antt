@@ -1,3 +1,4 @@
+pub mod DecimalLemmas
 pub mod DecisionsLemmas
 pub mod EntriesLemmas
 pub mod FoundLemmas

@@ -12,7 +12,7 @@ ghost use Rattle.glob_lines.specs.Private.Answering.{MatchesText};
 
 use crate::fault::EngineFault;
 use crate::laws;
-use crate::numbers::append_decimal;
+use crate::numbers::{append_decimal, append_separated};
 use crate::path_lines::{PathReport, report_on};
 use crate::plain::PlainLines;
 use crate::stack::ListStack;
@@ -118,11 +118,12 @@ impl<'a> PathReport for Matches<'a> {
 
     fn append(&mut self, text: &mut Vec<u8>, path: &RepositoryPath<'_>) -> Result<(), AllocError> {
         self.stack.matches_into(path, &mut self.pairs)?;
-        let mut separator: &[u8] = b"";
-        for pair in self.pairs.as_slice() {
-            text.extend_from_slice(separator)?;
-            append_decimal(text, self.list.patterns[pair.1].sequence_number)?;
-            separator = b" ";
+        let Some((first, others)) = self.pairs.as_slice().split_first() else {
+            return Ok(());
+        };
+        append_decimal(text, self.list.patterns[first.1].sequence_number)?;
+        for pair in others {
+            append_separated(text, b' ', self.list.patterns[pair.1].sequence_number)?;
         }
         Ok(())
     }

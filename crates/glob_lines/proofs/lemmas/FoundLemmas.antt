@@ -1,5 +1,5 @@
 -- What an index finds in one list: the places of the entries that answer, in order.
-use Rattle.std.proofs.Common.{◌≡◌, ⊎_elim, ℕ, zero, suc, ◌+◌, ◌-◌, ◌<◌, ◌≤◌, Bool, List, [], ◌∷◌, ◌++◌, length, take, Some, refl, sym, ap, subst, ◌∙◌, arith, take_all}
+use Rattle.std.proofs.Common.{◌≡◌, ⊎_elim, ℕ, zero, suc, ◌+◌, ◌-◌, ◌<◌, ◌≤◌, Bool, List, [], ◌∷◌, ◌++◌, length, take, Some, refl, sym, ap, subst, ◌∙◌, arith, take_all, append-nil, append_assoc}
 use Rattle.std.specs.Prelude.{decimal, slice_get}
 use Rattle.std.proofs.lemmas.Bool.{cases_eq, cases_lt}
 use Rattle.std.proofs.lemmas.List.{take_more}
@@ -105,6 +105,53 @@ module _ (P : PlainEntry → Type 0) (entries : List PlainEntry) (found : List (
       let within = slice_get_within found place.0 place.1 place.2 in
       let ends = h.before place.0 place.1 (omega arith) place.2 in absurd (omega (arith, place.3)))
       h.listed)
+
+-- ---- a first place, and the others behind it
+
+-- The text has the numbers of the entries up to the place x among the others.
+pub record IsListedBehind (P : PlainEntry → Type 0) (entries : List PlainEntry) (others : List (ℕ × ℕ)) (x : ℕ) (old text : List ℕ) : Type 0 where
+  pub first : ℕ × ℕ
+  pub places : ArePlacesOf P entries (first ∷ others)
+  pub listed : IsListedThrough P entries (first ∷ others) (x + 1) old text (32 ∷ [])
+
+behind_first : (first : ℕ × ℕ) (others : List (ℕ × ℕ)) (x : ℕ) (pair : ℕ × ℕ) → slice_get others x ≡ Some pair → slice_get (first ∷ others) (x + 1) ≡ Some pair
+behind_first first others x pair got = let next : x + 1 ≡ suc x = omega arith in rw next got
+
+module _ (P : PlainEntry → Type 0) (entries : List PlainEntry) (old : List ℕ) where
+  -- no place at all: nothing is written
+  pub IsListedUpTo-nowhere : (found : List (ℕ × ℕ)) → ArePlacesOf P entries found → length found ≡ 0 → IsListedUpTo P entries old old []
+  IsListedUpTo-nowhere found places none =
+      IsListedThrough-all P entries found places old old [] 0 (omega (arith, none)) (IsListedThrough-none P entries found places old old [] refl refl)
+
+  pub first_answers : (found : List (ℕ × ℕ)) (first : ℕ × ℕ) (others : List (ℕ × ℕ)) → ArePlacesOf P entries found → found ≡ first ∷ others → (entry : PlainEntry) × (slice_get entries first.1 ≡ Some entry) × P entry
+  first_answers found first others places is = places.each 0 first (rw is refl)
+
+  pub IsListedBehind-first : (found : List (ℕ × ℕ)) (first : ℕ × ℕ) (others : List (ℕ × ℕ)) (entry : PlainEntry) (text : List ℕ) → ArePlacesOf P entries found → found ≡ first ∷ others
+      → slice_get entries first.1 ≡ Some entry → text ≡ old ++ decimal entry.number → IsListedBehind P entries others 0 old text
+  IsListedBehind-first found first others entry text places is there grown =
+      let all : ArePlacesOf P entries (first ∷ others) = subst (ArePlacesOf P entries) is places in
+      record {
+        first = first;
+        places = all;
+        listed = IsListedThrough-more P entries (first ∷ others) all old old [] 0 first entry text (32 ∷ []) refl there
+            (IsListedThrough-none P entries (first ∷ others) all old old [] refl refl) (grown ∙ ap (λ l. l ++ decimal entry.number) (sym (append-nil old))) refl;
+      }
+
+  module _ (others : List (ℕ × ℕ)) (x : ℕ) (text : List ℕ) (h : IsListedBehind P entries others x old text) where
+    pub answers_behind : (pair : ℕ × ℕ) → slice_get others x ≡ Some pair → (entry : PlainEntry) × (slice_get entries pair.1 ≡ Some entry) × P entry
+    answers_behind pair got = h.places.each (x + 1) pair (behind_first h.first others x pair got)
+
+    pub IsListedBehind-more : (pair : ℕ × ℕ) (entry : PlainEntry) (new : List ℕ) → slice_get others x ≡ Some pair → slice_get entries pair.1 ≡ Some entry
+        → new ≡ text ++ 32 ∷ decimal entry.number → IsListedBehind P entries others (x + 1) old new
+    IsListedBehind-more pair entry new got there grown = record {
+      first = h.first;
+      places = h.places;
+      listed = IsListedThrough-more P entries (h.first ∷ others) h.places old text (32 ∷ []) (x + 1) pair entry new (32 ∷ []) (behind_first h.first others x pair got) there h.listed
+          (grown ∙ sym (append_assoc text (32 ∷ []) (decimal entry.number))) refl;
+    }
+
+    pub IsListedBehind-all : length others ≤ x → IsListedUpTo P entries old text (32 ∷ [])
+    IsListedBehind-all past = IsListedThrough-all P entries (h.first ∷ others) h.places old text (32 ∷ []) (x + 1) (omega (arith, past)) h.listed
 
 -- ---- one list
 
