@@ -10,9 +10,6 @@ use crate::ends::{End, Ends, STARTS};
 use crate::row::Row;
 use std::alloc::{AllocError, Global};
 
-/// The lower half of a number in an order: a place.
-const PLACE: u64 = 0xFFFF_FFFF;
-
 /// Chains rows, and finds their ends. `None` where they weren't sorted.
 pub(crate) fn chain(alloc: Global, rows: &mut [Row]) -> Result<Option<Ends>, AllocError>
     requires fits { length rows.old < 2 ^ 32 }
@@ -26,7 +23,7 @@ pub(crate) fn chain(alloc: Global, rows: &mut [Row]) -> Result<Option<Ends>, All
         met: Vec::from_elem(alloc, false, rows.len())?,
     };
     'entries: for entry in order.as_slice() {
-        if !chains.add(rows, place_of(*entry))? {
+        if !chains.add(rows, entry.place)? {
             return Ok(None);
         }
     }
@@ -41,21 +38,38 @@ pub(crate) fn chain(alloc: Global, rows: &mut [Row]) -> Result<Option<Ends>, All
     }))
 }
 
-/// The places of rows in the order of their ends, each in the lower half of a number: first those without an end. The upper half of a row's
-/// number orders most of them, and the lower half those that have the same one.
-fn sorted(alloc: Global, rows: &[Row]) -> Result<Vec<u64>, AllocError> {
-    let mut order = Vec::with_capacity(alloc, rows.len())?;
-    'rows: for place in 0..rows.len() {
-        order.push((ordered_number(&rows[place]) & !PLACE) | place as u64)?;
-    }
-    order.sort_unstable();
+/// A row among those that are put in order.
+#[derive(Debug, Copy, Clone)]
+struct Entry {
+    /// The number by which it is ordered.
+    number: u64,
+    /// Where it stands.
+    place: usize,
+}
+
+/// The rows in the order of their ends, first those without one; rows with the same end stay as they stand.
+fn sorted(alloc: Global, rows: &[Row]) -> Result<Vec<Entry>, AllocError> {
+    let mut order = entries_of(alloc, rows)?;
+    order.sort_unstable_by_key(|entry: &Entry| entry.number);
     let mut from: usize = 0;
     'runs: while from < order.len() {
         let to = run_end(&order, from);
-        sort_run(&mut order[from..to], rows);
+        order[from..to].sort_unstable_by_key(|entry: &Entry| entry.place);
         from = to;
     }
     Ok(order)
+}
+
+/// The rows as they stand.
+fn entries_of(alloc: Global, rows: &[Row]) -> Result<Vec<Entry>, AllocError> {
+    let mut entries = Vec::with_capacity(alloc, rows.len())?;
+    'rows: for place in 0..rows.len() {
+        entries.push(Entry {
+            number: ordered_number(&rows[place]),
+            place,
+        })?;
+    }
+    Ok(entries)
 }
 
 /// The number by which a row is ordered.
@@ -67,36 +81,17 @@ fn ordered_number(row: &Row) -> u64 {
     row.whole_number()
 }
 
-/// The place in an entry of an order.
-#[inline(always)]
-fn place_of(entry: u64) -> usize {
-    (entry & PLACE) as usize
-}
-
-/// Where the entries end that have the same upper half as the one at a place.
-fn run_end(order: &[u64], from: usize) -> usize
+/// Where the entries end that have the same number as the one at a place.
+fn run_end(order: &[Entry], from: usize) -> usize
     requires { from < length order.now }
     ensures { (from < result) × (result ≤ length order.now) }
 {
+    let number = order[from].number;
     let mut to = from + 1;
-    'same: while to < order.len() && order[to] & !PLACE == order[from] & !PLACE {
+    'same: while to < order.len() && order[to].number == number {
         to += 1;
     }
     to
-}
-
-/// Sorts entries by the lower halves of their rows' numbers.
-fn sort_run(entries: &mut [u64], rows: &[Row]) {
-    if entries.len() < 2 {
-        return;
-    }
-    'entries: for entry in entries.iter_mut() {
-        let place = place_of(*entry);
-        if place < rows.len() {
-            *entry = (ordered_number(&rows[place]) << 32) | place as u64;
-        }
-    }
-    entries.sort_unstable();
 }
 
 /// Where the ends of each last byte begin.
@@ -175,7 +170,7 @@ impl Chains {
         if !Link::to(place).is_after(self.always) {
             return false;
         }
-        rows[place] = rows[place].after(self.always);
+        rows[place].before = self.always;
         self.always = Link::to(place);
         self.met[place] = true;
         true
@@ -210,7 +205,7 @@ impl Chains {
         if end.last as usize >= place {
             return false;
         }
-        rows[place] = rows[place].after(Link::to(end.last as usize));
+        rows[place].before = Link::to(end.last as usize);
         self.ends[k] = End {
             last: place as u32,
             ..end
@@ -242,7 +237,7 @@ impl Chains {
             last: place as u32,
             above,
         })?;
-        rows[place] = row.after(Link::NONE);
+        rows[place].before = Link::NONE;
         self.met[place] = true;
         Ok(true)
     }

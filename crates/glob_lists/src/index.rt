@@ -85,7 +85,7 @@ pub struct CountedDecision {
 
 impl<'a, T: search::Pattern> ListIndex<'a, T> {
     /// The index of the lists, whose bases have to be those of folders: [`bases_are_folders`](crate::bases_are_folders). It
-    /// takes 32 bytes for each pattern, 64 for each of 16 lists or more, and some 2 KB once; while it is made, 9 more for each pattern.
+    /// takes 32 bytes for each pattern, 64 for each of 16 lists or more, and some 2 KB once; while it is made, 17 more for each pattern.
     ///
     /// # Errors
     /// [`IndexError::TooMany`] where there are 2^32 patterns or more, or more than 2^32 lists, and there alone;

@@ -24,7 +24,8 @@ pub(crate) const ALL_PAIRS: u64 = 0xFFFF_FFFF_0000_0000;
 fn is_joining(byte: u8) -> bool
     ensures { result ≡ is_joining byte }
 {
-    matches!(byte, b'*' | b'?' | b'[' | b'\\' | b']' | b'/')
+    // one test tells that a small letter isn't
+    byte <= b']' && matches!(byte, b'*' | b'?' | b'[' | b'\\' | b']' | b'/')
 }
 
 /// Whether a set may begin at a byte, or an escape.
@@ -35,17 +36,21 @@ fn is_opening(byte: u8) -> bool
 }
 
 /// How many bytes at the end of a text stand for themselves, up to [`LONGEST_END`].
+#[inline(always)]
 pub(crate) fn literal_end(text: &[u8]) -> usize
     ensures short { result ≤ LONGEST_END }
     ensures literal { EndsLiterally text.now result }
 {
-    let most = text.len().min(LONGEST_END);
-    'bytes: for n in 0..most {
+    // a fixed number of turns, so that none is counted
+    'bytes: for n in 0..LONGEST_END {
+        if n >= text.len() {
+            return n;
+        }
         if is_joining(text[text.len() - (n + 1)]) {
             return n;
         }
     }
-    most
+    LONGEST_END
 }
 
 /// The number that the last bytes of a text make, as many as `count` says: letters of both cases are one.

@@ -38,6 +38,7 @@ pub(crate) struct Row {
 
 impl Row {
     /// The row of a pattern, not chained to another.
+    #[inline(always)]
     pub(crate) fn new(pattern: &Pattern, list: u32, mapping: u32) -> Row
         ensures asks { Asks (text_of pattern.now) (mode_of pattern.now) result }
         ensures list { result.list ≡ list }
@@ -47,6 +48,7 @@ impl Row {
     }
 
     /// The row of a borrowed pattern, not chained to another.
+    #[inline(always)]
     pub(crate) fn of_view(pattern: PatternView<'_>, list: u32, mapping: u32) -> Row
         ensures asks { Asks pattern.entry.text.now pattern.entry.mode result }
         ensures list { result.list ≡ list }

@@ -19,7 +19,7 @@ returns-clause-chained c told =
     let read = slice_get-get_or rows c.args.place no_row c.requires.inside in
     let row_end = c.requires.last _ read in
     let whole : k + 1 ≡ length ends = omega (arith, c.len-k.ensures, c.requires.some) in
-    AreChainedSoFar-linked rows (slice_set chains.met.items c.args.place true) (slice_set ends k (record { last = c.args.place; above = end.above })) chains.always c.to.result c.args.place _ c.after.result
-    read c.after.ensures
+    AreChainedSoFar-linked rows (slice_set chains.met.items c.args.place true) (slice_set ends k (record { last = c.args.place; above = end.above })) chains.always c.to.result c.args.place _ _
+    read refl
     (AreChainedSoFar-last (ends_of rows) (links_of rows) chains.met.items ends chains.always c.to.result k c.args.place _ _ end (record { last = c.args.place; above = end.above })
     whole got (last_there (ends_of rows) ends k _ _ end got (row_end.1 k whole)) (HasAt-row rows c.args.place _ read ∙ ap Some row_end.0) (omega (arith, c.if-end-place.false)) refl refl c.to.ensures c.requires.chained)
