@@ -20,6 +20,7 @@ pub mod FolderLemmas
 pub mod WalkLemmas
 pub mod WayLemmas
 pub mod GoingLemmas
+pub mod HeadLemmas
 pub mod IndexLemmas
 pub mod KeyLemmas
 pub mod LastNumbers

@@ -3,6 +3,7 @@ pub mod Chains
 pub mod Ends
 pub mod Folders
 pub mod Fronts
+pub mod Heads
 pub mod Indexes
 pub mod Keeping
 pub mod Literals

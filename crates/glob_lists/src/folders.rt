@@ -9,6 +9,7 @@ ghost use Rattle.gix_glob.specs.EntryLists.{entry_list_of};
 ghost use Rattle.glob_lists.specs.Index.{AreTooMany, entry_count};
 ghost use Rattle.glob_lists.specs.Private.Folders.{AllUpTo, AreAllAfter, AreFolders, AreFoldersUpTo, AreSameFolders, IsBegunBy, IsChained, IsFolderOf, IsForest, IsLastBeginning, IsLastUpTo, IsNarrow, IsSameFolder, SharesAround, base_at, base_of};
 ghost use Rattle.glob_lists.specs.Private.Fronts.{AgreeUpTo, AreSameUpTo, IsFrontOf, IsUpTo};
+ghost use Rattle.glob_lists.specs.Private.Heads.{AreHeads};
 ghost use Rattle.glob_lists.specs.Private.Indexes.{AreFolderedBy};
 ghost use Rattle.glob_lists.specs.Private.Looking.{LooksUpTo};
 
@@ -17,6 +18,7 @@ use crate::fronts::{
     FRONT, Front, alike, begins, front_key, have_other_fronts, is_up_to, is_up_to_from,
     is_up_to_past, is_up_to_within,
 };
+use crate::heads::{Head, are_heads, head_of, heads_of, start_for};
 use gix_glob::search;
 use gix_glob::search::pattern::List;
 use gix_glob::wildmatch::Counts;
@@ -40,7 +42,7 @@ pub(crate) struct Folder {
     /// How many those are; any other number where this isn't known.
     size: u32,
     /// The place of the list.
-    list: u32,
+    pub(crate) list: u32,
     /// The place of its first row.
     first_row: u32,
     /// The last folder before this one whose base begins the base of this one.
@@ -50,6 +52,12 @@ pub(crate) struct Folder {
 }
 
 impl Folder {
+    /// The number of the bytes of the base behind those that it shares.
+    #[inline(always)]
+    pub(crate) fn key(&self) -> u64 {
+        self.key
+    }
+
     /// The place of the list.
     #[inline(always)]
     pub(crate) fn list(&self) -> usize
@@ -81,22 +89,29 @@ impl Folder {
     }
 }
 
-/// The folders of the lists that have patterns, or none where going up from a folder doesn't pay, or wouldn't meet the later
-/// lists first: a list lies above an earlier one.
+/// The folders of the lists that have patterns, and their heads, or none where going up from a folder doesn't pay, or wouldn't meet
+/// the later lists first: a list lies above an earlier one.
 pub(crate) fn folders_of<T: search::Pattern>(
     alloc: Global,
     lists: &[List<T>],
-) -> Result<Option<Vec<Folder>>, AllocError>
+) -> Result<Option<(Vec<Folder>, Vec<Head>)>, AllocError>
     requires fits { ¬ AreTooMany (map (entry_list_of T.seen) lists.now) }
-    ensures { IfOk result (λ found. IfSome found (λ folders. AreFolderedBy (map (entry_list_of T.seen) lists.now) folders.items)) }
+    ensures { IfOk result (λ found. IfSome found (λ it. AreFolderedBy (map (entry_list_of T.seen) lists.now) it.0.items
+        × AreHeads (map (entry_list_of T.seen) lists.now) it.0.items it.1.items)) }
 {
     if lists.len() < FEWEST_LISTS {
         return Ok(None);
     }
     let mut folders = unchained(alloc, lists)?;
     folders.sort_by(|left, right| order(lists, left, right))?;
-    let found = chained(alloc, lists, &folders)?;
-    Ok(found)
+    let heads = heads_of(alloc, &folders)?;
+    let Some(chained) = chained(alloc, lists, &folders, &heads)? else {
+        return Ok(None);
+    };
+    if !are_heads(&chained, lists, &heads) {
+        return Ok(None);
+    }
+    Ok(Some((chained, heads)))
 }
 
 /// Whether a path can meet fewer than half of all rows on its way: the last folder tells, below which all lists lie where they have
@@ -176,6 +191,7 @@ fn chained<T: search::Pattern>(
     alloc: Global,
     lists: &[List<T>],
     folders: &[Folder],
+    heads: &[Head],
 ) -> Result<Option<Vec<Folder>>, AllocError>
     requires fits { length folders.now < 2 ^ 32 }
     requires each { AreFolders (map (entry_list_of T.seen) lists.now) folders.now }
@@ -184,7 +200,8 @@ fn chained<T: search::Pattern>(
 {
     let mut chained = Vec::with_capacity(alloc, folders.len())?;
     'folders: for k in 0..folders.len() {
-        let Some(folder) = chained_after(&chained, lists, narrowed(folders, lists, k)) else {
+        let narrow = narrowed(folders, lists, heads, k);
+        let Some(folder) = chained_after(&chained, lists, narrow) else {
             return Ok(None);
         };
         chained.push(folder)?;
@@ -192,8 +209,13 @@ fn chained<T: search::Pattern>(
     Ok(Some(chained))
 }
 
-/// The folder at a place, which knows what it shares with those on either side.
-fn narrowed<T: search::Pattern>(folders: &[Folder], lists: &[List<T>], place: usize) -> Folder
+/// The folder at a place, which knows what it shares with those on either side; where that is less than its head, it knows this.
+fn narrowed<T: search::Pattern>(
+    folders: &[Folder],
+    lists: &[List<T>],
+    heads: &[Head],
+    place: usize,
+) -> Folder
     requires inside { place < length folders.now }
     requires fits { length folders.now < 2 ^ 32 }
     requires each { AreFolders (map (entry_list_of T.seen) lists.now) folders.now }
@@ -203,8 +225,18 @@ fn narrowed<T: search::Pattern>(folders: &[Folder], lists: &[List<T>], place: us
 {
     let folder = folders[place];
     let base = base_at(lists, folder.list);
-    let size = size_around(place, folders.len());
+    let head = head_of(heads, folder.key);
+    let size = size_among(place, folders.len(), head);
     let shared = shared_around(folders, lists, place, size, base);
+    if shared < FRONT as u32 && head.is_some() {
+        // those on either side have other heads, but all among which this one is asked for have its own
+        return Folder {
+            key: front_key(base, FRONT as u32),
+            shared: FRONT as u32,
+            size: 0,
+            ..folder
+        };
+    }
     Folder {
         key: front_key(base, shared),
         shared,
@@ -213,7 +245,21 @@ fn narrowed<T: search::Pattern>(folders: &[Folder], lists: &[List<T>], place: us
     }
 }
 
-/// Among how many folders the search asks for the one at a place; 0 where it doesn't.
+/// Among how many folders the search asks for the one at a place, where it begins among those of a head, or all; 0 where it doesn't
+/// ask for it.
+fn size_among(place: usize, count: usize, head: Option<Head>) -> usize
+    ensures { result ≤ count }
+{
+    let Some(head) = head else {
+        return size_around(place, count);
+    };
+    if place < head.low() || head.size() > count {
+        return 0;
+    }
+    size_around(place - head.low(), head.size())
+}
+
+/// Among how many of so many folders a search by halves asks for the one at a place; 0 where it doesn't.
 fn size_around(place: usize, count: usize) -> usize
     ensures { result ≤ count }
 {
@@ -327,17 +373,20 @@ fn last_beginning<T: search::Pattern>(folders: &[Folder], lists: &[List<T>], tex
 pub(crate) fn last_up_to<T: search::Pattern, S: Ledger, L: Ledger>(
     folders: &[Folder],
     lists: &[List<T>],
+    heads: &[Head],
     path: &[u8],
     counts: &mut Counts<S, L>,
 ) -> Link
     requires fits { length folders.now < 2 ^ 32 }
     requires forest { IsForest (map (entry_list_of T.seen) lists.now) folders.now }
+    requires heads { AreHeads (map (entry_list_of T.seen) lists.now) folders.now heads.now }
     ensures last { IsLastUpTo (map (entry_list_of T.seen) lists.now) folders.now path.now result }
     ensures looks { LooksUpTo counts.old counts.new (65 * length path.now) }
 {
-    let mut front = Front::of(path, 0, counts);
-    let mut low: usize = 0;
-    let mut size = folders.len();
+    let start = start_for(heads, folders.len(), path, counts);
+    let mut front = start.front;
+    let mut low = start.low;
+    let mut size = start.size;
     'halves: while size > 0 {
         let middle = low + size / 2;
         let found = compare_folder(&folders[middle], lists, path, size, front, counts);
@@ -518,7 +567,7 @@ fn is_base_up_to<T: search::Pattern, S: Ledger, L: Ledger>(
 }
 
 /// The base of the list at a place; empty where it has none, or there is no such list.
-fn base_at<T: search::Pattern>(lists: &[List<T>], place: u32) -> &[u8]
+pub(crate) fn base_at<T: search::Pattern>(lists: &[List<T>], place: u32) -> &[u8]
     ensures { result.now ≡ base_at (map (entry_list_of T.seen) lists.now) place }
 {
     match lists.get(place as usize) {

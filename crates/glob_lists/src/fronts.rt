@@ -1,5 +1,5 @@
 //! The order of texts by their bytes, in which the case of letters doesn't count, and which text begins another.
-ghost use Rattle.std.specs.Prelude.{◌≡◌, ◌↔◌, ◌+◌, ◌^◌, ◌<◌, ◌≤◌, IsTrue, length, min};
+ghost use Rattle.std.specs.Prelude.{◌≡◌, ◌↔◌, ◌+◌, ◌-◌, ◌^◌, ◌<◌, ◌≤◌, IsTrue, length, min};
 ghost use Rattle.glob_lists.specs.Private.Fronts.{AreBytes, AreSameUpTo, Begins, IsFrontOf, IsUpTo, bytes_key, folded_at, front_key};
 ghost use Rattle.glob_lists.specs.Private.Looking.{LooksUpTo};
 
@@ -30,9 +30,9 @@ impl Front {
     ) -> Front
         ensures front { IsFrontOf path.now result }
         ensures from { result.from ≡ from }
-        ensures looks { LooksUpTo counts.old counts.new (min (length path.now) FRONT) }
+        ensures looks { LooksUpTo counts.old counts.new (min (length path.now - from) FRONT) }
     {
-        counts.looks(path.len().min(FRONT));
+        counts.looks(path.len().saturating_sub(from as usize).min(FRONT));
         Front {
             from,
             key: front_key(path, from),

@@ -14,6 +14,7 @@ use crate::chains::Link;
 use crate::deciding::{decide, decide_with_counts};
 use crate::fault::IndexError;
 use crate::folders::{Folder, can_pay, folders_of};
+use crate::heads::Head;
 use crate::laws;
 use crate::matching::matches_into;
 use crate::path::RepositoryPath;
@@ -43,6 +44,8 @@ pub struct ListIndex<'a, T: search::Pattern> {
     table: Table,
     /// The folders of the lists, where going through those on the way of a path can pay.
     folders: Option<Vec<Folder>>,
+    /// The heads of the folders.
+    heads: Vec<Head>,
     /// What the rows of the list of each folder ask for together.
     sights: Vec<Sight>,
 }
@@ -58,7 +61,7 @@ impl<'a, T: search::Pattern> Model for ListIndex<'a, T> {
 
     ghost view = { λ index. record { lists = index.lists.now; case = index.case } };
 
-    ghost invariant = { λ index. IsIndexBy (map (entry_list_of T.seen) index.lists.now) index.table (option_map vec_items index.folders) index.sights.items };
+    ghost invariant = { λ index. IsIndexBy (map (entry_list_of T.seen) index.lists.now) index.table (option_map vec_items index.folders) index.heads.items index.sights.items };
 }
 
 /// What an index found for the path before, for the next one: where paths come in order they share their folders.
@@ -85,7 +88,8 @@ pub struct CountedDecision {
 
 impl<'a, T: search::Pattern> ListIndex<'a, T> {
     /// The index of the lists, whose bases have to be those of folders: [`bases_are_folders`](crate::bases_are_folders). It
-    /// takes 32 bytes for each pattern, 64 for each of 16 lists or more, and some 2 KB once; while it is made, 17 more for each pattern.
+    /// takes 32 bytes for each pattern, 64 for each of 16 lists or more, and some 2 KB once, or 3 KB for 64 lists or more; while it
+    /// is made, 17 more for each pattern.
     ///
     /// # Errors
     /// [`IndexError::TooMany`] where there are 2^32 patterns or more, or more than 2^32 lists, and there alone;
@@ -108,12 +112,13 @@ impl<'a, T: search::Pattern> ListIndex<'a, T> {
             add_list(&mut rows, lists, i)?;
         }
         let table = Table::of(alloc, rows)?;
-        let Some(folders) = folders_of(alloc, lists)? else {
+        let Some((folders, heads)) = folders_of(alloc, lists)? else {
             return Ok(ListIndex {
                 lists,
                 case,
                 table,
                 folders: None,
+                heads: Vec::new(alloc),
                 sights: Vec::new(alloc),
             });
         };
@@ -123,6 +128,7 @@ impl<'a, T: search::Pattern> ListIndex<'a, T> {
             case,
             table,
             folders: Some(folders),
+            heads,
             sights,
         })
     }
@@ -236,7 +242,7 @@ impl<'a, T: search::Pattern> ListIndex<'a, T> {
     #[inline(always)]
     fn ways(&self) -> Option<Ways<'_, T>>
         ensures lists { IfSome result (λ ways. (ways.lists.now ≡ self.now.lists) × (ways.case ≡ self.now.case)) }
-        ensures made { IfSome result (λ ways. AreWays (map (entry_list_of T.seen) ways.lists.now) ways.rows.now ways.folders.now ways.sights.now) }
+        ensures made { IfSome result (λ ways. AreWays (map (entry_list_of T.seen) ways.lists.now) ways.rows.now ways.folders.now ways.heads.now ways.sights.now) }
     {
         match &self.folders {
             Some(folders) => {
@@ -248,6 +254,7 @@ impl<'a, T: search::Pattern> ListIndex<'a, T> {
                     case: self.case,
                     rows: self.table.rows(),
                     folders: folders.as_slice(),
+                    heads: self.heads.as_slice(),
                     sights: &self.sights,
                 })
             }

@@ -8,6 +8,7 @@ mod ends;
 mod fault;
 mod folders;
 mod fronts;
+mod heads;
 mod index;
 pub mod laws;
 mod literals;

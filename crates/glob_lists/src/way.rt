@@ -7,6 +7,7 @@ ghost use Rattle.glob_lists.specs.Deciding.{BasesAreFolders, Decides};
 ghost use Rattle.glob_lists.specs.DecisionLimits.{decision_look_limit, decision_step_limit};
 ghost use Rattle.glob_lists.specs.Index.{entry_count};
 ghost use Rattle.glob_lists.specs.Private.Folders.{HasFolders, IsFolderOf, IsForest, IsLastUpTo};
+ghost use Rattle.glob_lists.specs.Private.Heads.{AreHeads};
 ghost use Rattle.glob_lists.specs.Private.Looking.{LooksUpTo};
 ghost use Rattle.glob_lists.specs.Private.Showing.{Shows};
 ghost use Rattle.glob_lists.specs.Private.Sights.{AreSights, NoRowPasses};
@@ -16,6 +17,7 @@ ghost use Rattle.glob_lists.specs.Private.Ways.{IsLastOfList, IsPastAnswers, Lea
 
 use crate::chains::Link;
 use crate::folders::{Folder, is_last_up_to, last_up_to};
+use crate::heads::Head;
 use crate::laws;
 use crate::path::RepositoryPath;
 use crate::probe::Probe;
@@ -27,13 +29,14 @@ use gix_glob::search::pattern::List;
 use gix_glob::wildmatch::Counts;
 use std::sync::ledger::Ledger;
 
-/// The lists, their rows and their folders, as a path goes through those on its way.
+/// The lists, their rows and their folders with the heads of these, as a path goes through those on its way.
 #[derive(Debug, Drop)]
 pub(crate) struct Ways<'i, T: search::Pattern> {
     pub(crate) lists: &'i [List<T>],
     pub(crate) case: Case,
     pub(crate) rows: &'i [Row],
     pub(crate) folders: &'i [Folder],
+    pub(crate) heads: &'i [Head],
     pub(crate) sights: &'i [Sight],
 }
 
@@ -47,10 +50,11 @@ impl<'i, T: search::Pattern> Ways<'i, T> {
     ) -> Link
         requires fits { length self.now.folders.now < 2 ^ 32 }
         requires forest { IsForest (map (entry_list_of T.seen) self.now.lists.now) self.now.folders.now }
+        requires heads { AreHeads (map (entry_list_of T.seen) self.now.lists.now) self.now.folders.now self.now.heads.now }
         ensures last { IsLastUpTo (map (entry_list_of T.seen) self.now.lists.now) self.now.folders.now path.now.bytes result }
         ensures looks { LooksUpTo counts.old counts.new (65 * length path.now.bytes) }
     {
-        last_up_to(self.folders, self.lists, path.bytes(), counts)
+        last_up_to(self.folders, self.lists, self.heads, path.bytes(), counts)
     }
 
     /// The last folder whose base doesn't come after a path: one that was found for another path, where it is the same.
@@ -63,6 +67,7 @@ impl<'i, T: search::Pattern> Ways<'i, T> {
     ) -> Link
         requires fits { length self.now.folders.now < 2 ^ 32 }
         requires forest { IsForest (map (entry_list_of T.seen) self.now.lists.now) self.now.folders.now }
+        requires heads { AreHeads (map (entry_list_of T.seen) self.now.lists.now) self.now.folders.now self.now.heads.now }
         ensures { IsLastUpTo (map (entry_list_of T.seen) self.now.lists.now) self.now.folders.now path.now.bytes result }
     {
         if is_last_up_to(self.folders, self.lists, path.bytes(), near) {

@@ -152,9 +152,9 @@ shared_at lists folders text place m count less folder none same got low shares 
 -- what a folder shares with others is the same, whatever it is linked to
 pub IsNarrow-same : {V : Type 0} (lists : List (EntryList V)) (folders : List Folder) (k : ℕ) (folder other : Folder) → IsSameFolder other folder → IsNarrow lists folders k folder → IsNarrow lists folders k other
 IsNarrow-same lists folders k folder other same narrow = record {
-  around = λ low at.
+  around = λ left low at.
       let size = same.size in
-      let was = narrow.around low (ap (λ (n : ℕ). low + n / 2) (sym size) ∙ at) in
+      let was = narrow.around (omega (arith, left, size)) low (ap (λ (n : ℕ). low + n / 2) (sym size) ∙ at) in
       rw (← same.list) at (rw (← same.size) at (rw (← same.shared) at was));
 }
 
@@ -255,7 +255,7 @@ module _ {V : Type 0} (lists : List (EntryList V)) where
     chained = chained.chained;
     nested = chained.nested;
     narrow = λ k folder got. record {
-      around = λ low at. SharesAround-same folders others (base_at lists folder.list) low (low + folder.size) folder.shared same ((narrow k folder got).around low at);
+      around = λ left low at. SharesAround-same folders others (base_at lists folder.list) low (low + folder.size) folder.shared same ((narrow k folder got).around left low at);
     };
   }
 

@@ -1,5 +1,5 @@
 -- The order of texts by their bytes: of two texts that don't come after a third one, one begins the other if it begins the third.
-use Rattle.std.proofs.Common.{◌≡◌, ◌≢◌, ◌⊎◌, ◌↔◌, inl, inr, ⊎_elim, ℕ, zero, suc, ◌+◌, ◌-◌, ◌*◌, ◌<◌, ◌≤◌, List, ◌++◌, length, get_or, length-append, refl, sym, ap, subst, ◌∙◌, arith}
+use Rattle.std.proofs.Common.{◌≡◌, ◌≢◌, ◌⊎◌, ◌↔◌, inl, inr, ⊎_elim, ℕ, zero, suc, ◌+◌, ◌-◌, ◌*◌, ◌%◌, ◌<◌, ◌≤◌, List, ◌++◌, length, get_or, length-append, refl, sym, ap, subst, ◌∙◌, arith}
 use Rattle.std.specs.Char.{to_ascii_lowercase}
 use Rattle.std.proofs.lemmas.Bool.{cases_eq, cases_lt, cases_order}
 use Rattle.std.proofs.lemmas.List.{get_or_append_left, get_or_past}
@@ -255,6 +255,13 @@ past_end text j past = ap to_ascii_lowercase (get_or_past text j 0 past)
 same_key : (a b : List ℕ) (k : ℕ) → AreSameUpTo a b k → (from n : ℕ) → from + n ≤ k → front_key a from n ≡ front_key b from n
 same_key a b k same from zero low = refl
 same_key a b k same from (suc n) low = let before = same_key a b k same from n (omega arith) in let here = same.same (from + n) (omega arith) in omega arith
+
+-- a text whose number ends with a byte that isn't 0 has as many bytes
+pub long_text : (text : List ℕ) (key : ℕ) → front_key text 0 8 ≡ key → key % 256 ≢ 0 → 8 ≤ length text
+long_text text key is whole = ⊎_elim
+    (λ (short : length text < 8). let none = past_end text 7 (omega arith) in let before = front_key text 0 7 in let number : key ≡ before * 256 + folded_at text 7 = sym is in absurd (whole (omega (arith, number, none))))
+    (λ (long : 8 ≤ length text). long)
+    (cases_lt (length text) 8)
 
 less_key : (a b : List ℕ) (k : ℕ) → AreBytes a → AreSameUpTo a b k → IsLessAt a b k → (from n : ℕ) → from ≤ k → k < from + n → front_key a from n < front_key b from n
 less_key a b k bytes same less from zero low past = absurd (omega arith)

@@ -82,9 +82,10 @@ pub record SharesAround {V : Type 0} (lists : List (EntryList V)) (folders : Lis
   pub last : length folders ≤ end → count ≡ 0
   pub above : (m : ℕ) (folder : Folder) → m ≡ end → slice_get folders m ≡ Some folder → AreSameUpTo (base_at lists folder.list) text count
 
--- The folder, which is at place k, shares as many bytes as it says with those on either side of so many of which it is the middle.
+-- The folder, which is at place k, shares as many bytes as it says with those on either side of so many of which it is the middle; of none
+-- it isn't.
 pub record IsNarrow {V : Type 0} (lists : List (EntryList V)) (folders : List Folder) (k : ℕ) (folder : Folder) : Type 0 where
-  pub around : (low : ℕ) → low + folder.size / 2 ≡ k → SharesAround lists folders (base_at lists folder.list) low (low + folder.size) folder.shared
+  pub around : 0 < folder.size → (low : ℕ) → low + folder.size / 2 ≡ k → SharesAround lists folders (base_at lists folder.list) low (low + folder.size) folder.shared
 
 -- The folders are in the order of their bases, and chained; and a list that lies above another one comes before it.
 pub record IsChained {V : Type 0} (lists : List (EntryList V)) (folders : List Folder) : Type 0 where

@@ -2,11 +2,13 @@
 use Rattle.std.specs.Prelude.{◌^◌, ◌<◌, List, Option, IfSome, length}
 use Rattle.gix_glob.specs.EntryLists.{EntryList}
 use Rattle.glob_lists.specs.declared.folders.Folder.{Folder}
+use Rattle.glob_lists.specs.declared.heads.Head.{Head}
 use Rattle.glob_lists.specs.declared.row.Row.{Row}
 use Rattle.glob_lists.specs.declared.sight.Sight.{Sight}
 use Rattle.glob_lists.specs.declared.table.Table.{Table}
 use Rattle.glob_lists.specs.Deciding.{BasesAreFolders}
 use Rattle.glob_lists.specs.Private.Folders.{HasFolders, IsForest}
+use Rattle.glob_lists.specs.Private.Heads.{AreHeads}
 use Rattle.glob_lists.specs.Private.Sights.{AreSights}
 use Rattle.glob_lists.specs.Private.Tables.{AreRows, IsIndexOf}
 
@@ -16,15 +18,17 @@ pub record AreFolderedBy {V : Type 0} (lists : List (EntryList V)) (folders : Li
   pub forest : IsForest lists folders
   pub all : HasFolders lists folders
 
--- The bases of the lists are those of folders, and these are their rows and their folders.
-pub record AreWays {V : Type 0} (lists : List (EntryList V)) (rows : List Row) (folders : List Folder) (sights : List Sight) : Type 0 where
+-- The bases of the lists are those of folders, and these are their rows and their folders, with the heads of these.
+pub record AreWays {V : Type 0} (lists : List (EntryList V)) (rows : List Row) (folders : List Folder) (heads : List Head) (sights : List Sight) : Type 0 where
   pub bases : BasesAreFolders lists
   pub made : AreRows lists rows
   pub foldered : AreFolderedBy lists folders
+  pub headed : AreHeads lists folders heads
   pub seen : AreSights lists rows folders sights
 
 -- The table is that of the lists, and so are the folders, where there are any.
-pub record IsIndexBy {V : Type 0} (lists : List (EntryList V)) (table : Table) (folders : Option (List Folder)) (sights : List Sight) : Type 0 where
+pub record IsIndexBy {V : Type 0} (lists : List (EntryList V)) (table : Table) (folders : Option (List Folder)) (heads : List Head) (sights : List Sight) : Type 0 where
   pub index : IsIndexOf lists table
   pub foldered : IfSome folders (AreFolderedBy lists)
+  pub headed : IfSome folders (λ folders. AreHeads lists folders heads)
   pub seen : IfSome folders (λ folders. AreSights lists table.rows.items folders sights)

@@ -21,13 +21,13 @@ folders-preserved g c =
     record {
       forest = subst (IsChained lists) (sym c.in_ok-push.ensures.items) made.1;
       same = subst (AreSameFolders c.args.folders.now (c.folders.k + 1)) (sym c.in_ok-push.ensures.items)
-          (AreSameFolders-more c.args.folders.now c.folders.chained.items c.folders.k (c.folders.k + 1) c.in-Some.folder _ refl there (made.0.list ∙ c.narrowed.ensures.list _ there) c.folders.invariant.same);
+          (AreSameFolders-more c.args.folders.now c.folders.chained.items c.folders.k (c.folders.k + 1) c.in-Some.folder _ refl there (made.0.list ∙ c.narrowed-narrow.ensures.list _ there) c.folders.invariant.same);
       narrow = λ m folder got. elim (slice_get-push_cases c.folders.chained.items c.in-Some.folder m folder (subst (λ (l : List Folder). slice_get l m ≡ Some folder) c.in_ok-push.ensures.items got)) [
         | inl old ↦ c.folders.invariant.narrow m folder old
         | inr new ↦
             (let place : c.folders.k ≡ m = sym (new.0 ∙ c.folders.invariant.same.many) in
             subst (IsNarrow lists c.args.folders.now m) (sym new.1)
-            (subst (λ (n : ℕ). IsNarrow lists c.args.folders.now n c.in-Some.folder) place (IsNarrow-same lists c.args.folders.now c.folders.k c.narrowed.result c.in-Some.folder made.0 c.narrowed.ensures.narrow)))
+            (subst (λ (n : ℕ). IsNarrow lists c.args.folders.now n c.in-Some.folder) place (IsNarrow-same lists c.args.folders.now c.folders.k c.narrowed-narrow.result c.in-Some.folder made.0 c.narrowed-narrow.ensures.narrow)))
       ];
     }
 

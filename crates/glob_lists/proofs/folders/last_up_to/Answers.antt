@@ -6,16 +6,17 @@ use Rattle.gix_glob.specs.EntryLists.{entry_list_of}
 use Rattle.glob_lists.specs.declared.folders.Folder.{Folder}
 use Rattle.glob_lists.specs.Private.Folders.{base_at}
 use Rattle.glob_lists.specs.Private.Fronts.{AreSameUpTo}
-use Rattle.glob_lists.proofs.lemmas.SearchLemmas.{IsNarrow-path, IsSearched-all, IsSearched-down, IsSearched-up, SharesFront, SharesFront-all, SharesFront-next}
+use Rattle.glob_lists.proofs.lemmas.HeadLemmas.{IsSearched-start, SharesFront-start}
+use Rattle.glob_lists.proofs.lemmas.SearchLemmas.{IsNarrow-path, IsSearched-down, IsSearched-up, SharesFront-next}
 use Rattle.glob_lists.proofs.folders.last_up_to.Goals as goal
 
 pub halves-init : goal.halves-init
 halves-init g c = record {
-  searched = IsSearched-all (map (entry_list_of g.T.Pattern.seen) c.args.lists.now) c.args.folders.now c.args.path.now _ _ _ refl c.requires.fits
-      (let looks = c.of-front.ensures.looks in let steps = looks.steps in let from = looks.from in let to = looks.to in record { steps = steps; from = from; to = omega arith });
-  front = c.of-front.ensures.front;
-  shares = subst (λ (n : ℕ). SharesFront (map (entry_list_of g.T.Pattern.seen) c.args.lists.now) c.args.folders.now c.args.path.now 0 (length c.args.folders.now) n) (sym c.of-front.ensures.from)
-      (SharesFront-all (map (entry_list_of g.T.Pattern.seen) c.args.lists.now) c.args.folders.now c.args.path.now (length c.args.folders.now));
+  searched = IsSearched-start (map (entry_list_of g.T.Pattern.seen) c.args.lists.now) c.args.folders.now c.requires.forest c.args.path.now (λ j. (let fits = c.type_inv.path j in omega arith)) c.args.heads.now c.requires.heads
+      c.start_for-start.result c.start_for-start.ensures.start _ _ c.requires.fits c.start_for-start.ensures.looks;
+  front = c.start_for-start.ensures.front;
+  shares = SharesFront-start (map (entry_list_of g.T.Pattern.seen) c.args.lists.now) c.args.folders.now c.requires.forest c.args.path.now (λ j. (let fits = c.type_inv.path j in omega arith)) c.args.heads.now c.requires.heads
+      c.start_for-start.result c.start_for-start.ensures.start;
 }
 
 -- what stands for a folder that isn't there
@@ -38,7 +39,7 @@ compare_folder-found-requires-clause-shared g c known =
     ⊎_elim
     (λ (same : folder.shared ≡ c.halves.front.from). subst (AreSameUpTo (base_at lists folder.list) c.args.path.now) (sym same) (c.halves.invariant.shares place folder (omega arith) (omega arith) got))
     (λ (many : folder.size ≡ c.halves.size).
-    IsNarrow-path lists c.args.folders.now c.args.path.now c.requires.forest c.halves.low c.halves.size _ _ c.halves.invariant.searched place folder got refl many)
+    IsNarrow-path lists c.args.folders.now c.args.path.now c.requires.forest c.halves.low c.halves.size _ _ c.halves.invariant.searched place folder got refl (omega (arith, c.halves-test.true)) many)
     known
 
 pub halves-preserved-then-is_up_to : goal.halves-preserved-then-is_up_to
@@ -50,7 +51,7 @@ halves-preserved-then-is_up_to g c =
           (omega arith) (omega arith) (omega arith) c.compare_folder-found.ensures.looks _ _ (omega arith) (omega arith)
           (c.compare_folder-found.ensures.order.0 c.if-is_up_to.true);
       front = c.compare_folder-found.ensures.front;
-      shares = SharesFront-next _ _ _ c.requires.forest c.halves.low c.halves.size _ _ c.halves.invariant.searched place _ (slice_get-get_or c.args.folders.now place none (omega arith)) refl _ _
+      shares = SharesFront-next _ _ _ c.requires.forest c.halves.low c.halves.size _ _ c.halves.invariant.searched place _ (slice_get-get_or c.args.folders.now place none (omega arith)) refl (omega (arith, c.halves-test.true)) _ _
           c.halves.invariant.shares c.compare_folder-found.ensures.moved _ _ (omega arith) (omega arith);
     }
 
@@ -63,7 +64,7 @@ halves-preserved g c =
           (omega arith) (omega arith) (omega arith) c.compare_folder-found.ensures.looks
           (iff_false c.compare_folder-found.ensures.order c.if-is_up_to.false);
       front = c.compare_folder-found.ensures.front;
-      shares = SharesFront-next _ _ _ c.requires.forest c.halves.low c.halves.size _ _ c.halves.invariant.searched place _ (slice_get-get_or c.args.folders.now place none (omega arith)) refl _ _
+      shares = SharesFront-next _ _ _ c.requires.forest c.halves.low c.halves.size _ _ c.halves.invariant.searched place _ (slice_get-get_or c.args.folders.now place none (omega arith)) refl (omega (arith, c.halves-test.true)) _ _
           c.halves.invariant.shares c.compare_folder-found.ensures.moved _ _ (omega arith) (omega arith);
     }
 

@@ -23,6 +23,7 @@ invariant_of-result g c =
         };
       };
       foldered = tt;
+      headed = tt;
       seen = tt;
     }
 
@@ -36,7 +37,7 @@ sights_of-requires-clause-rows g c =
 
 pub sights_of-requires-clause-each : goal.sights_of-requires-clause-each
 sights_of-requires-clause-each g c =
-    subst (AreFolders (map (entry_list_of g.T.Pattern.seen) c.args.lists.now)) (sym c.deref.ensures.value) (rw c.in-Some.is at c.in_ok-folders.ensures).forest.each
+    subst (AreFolders (map (entry_list_of g.T.Pattern.seen) c.args.lists.now)) (sym c.deref.ensures.value) (rw c.in-Some.is at c.in_ok-folders.ensures).0.forest.each
 
 pub invariant_of-result-2 : goal.invariant_of-result-2
 invariant_of-result-2 g c =
@@ -50,6 +51,7 @@ invariant_of-result-2 g c =
           chained = c.in_ok-table.ensures.chained;
         };
       };
-      foldered = rw c.in-Some.is at c.in_ok-folders.ensures;
+      foldered = (rw c.in-Some.is at c.in_ok-folders.ensures).0;
+      headed = (rw c.in-Some.is at c.in_ok-folders.ensures).1;
       seen = rw c.rows.ensures at (rw c.deref.ensures.value at c.in_ok-sights.ensures);
     }
