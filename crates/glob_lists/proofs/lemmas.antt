@@ -22,6 +22,7 @@ pub mod WayLemmas
 pub mod GoingLemmas
 pub mod HeadLemmas
 pub mod IndexLemmas
+pub mod InsideLemmas
 pub mod KeyLemmas
 pub mod LastNumbers
 pub mod ListLemmas

@@ -10,6 +10,7 @@ mod folders;
 mod fronts;
 mod heads;
 mod index;
+mod inside;
 pub mod laws;
 mod literals;
 mod matching;

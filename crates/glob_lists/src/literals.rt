@@ -21,7 +21,7 @@ pub(crate) const ALL_BITS: u64 = u64::MAX - 1;
 pub(crate) const ALL_PAIRS: u64 = 0xFFFF_FFFF_0000_0000;
 
 /// Whether a byte may be the last of a token of more than one byte.
-fn is_joining(byte: u8) -> bool
+pub(crate) fn is_joining(byte: u8) -> bool
     ensures { result ≡ is_joining byte }
 {
     // one test tells that a small letter isn't

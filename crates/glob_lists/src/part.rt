@@ -1,15 +1,16 @@
 //! What of a path a pattern looks at.
-ghost use Rattle.std.specs.Prelude.{◌≡◌, ◌≢◌, ◌<◌, IsTrue};
-ghost use Rattle.gix_glob.specs.Patterns.{looks_at_name};
+ghost use Rattle.std.specs.Prelude.{◌≡◌, ◌≢◌, ◌<◌, IsTrue, false, true};
+ghost use Rattle.gix_glob.specs.Patterns.{is_for_directories, looks_at_name};
 ghost use Rattle.glob_lists.specs.Private.Literals.{EndsLiterally};
-ghost use Rattle.glob_lists.specs.Private.Parts.{IsStarAndEnd, IsToldByEnd, is_name, place_of};
+ghost use Rattle.glob_lists.specs.Private.Parts.{IsFoundInside, IsStarAndEnd, IsToldByEnd, is_name, place_of};
 
+use crate::inside::is_between_stars;
 use crate::literals::has_no_capital;
 use bitflags::Flags;
 use gix_glob::pattern::{Mode, PatternView};
 
 /// How many parts there are.
-pub(crate) const PARTS: usize = 3;
+pub(crate) const PARTS: usize = 4;
 
 /// What of a path a pattern looks at.
 #[derive(Debug, Copy, Clone)]
@@ -18,6 +19,8 @@ pub(crate) enum Part {
     Path,
     /// Its last part.
     Name,
+    /// Its last part: the pattern is a literal between two stars, and matches where that part has the literal.
+    NameInside,
     /// The end of its last part alone: the pattern is a star and a literal end, and matches where the path has that.
     NameEnd,
 }
@@ -26,7 +29,8 @@ impl Part {
     /// What a pattern of this mode looks at.
     pub(crate) fn of_mode(mode: Mode) -> Part
         ensures name { IsTrue (is_name result) → IsTrue (looks_at_name mode) }
-        ensures whole { result ≢ Part.NameEnd }
+        ensures inside { result ≢ Part.NameInside }
+        ensures end { result ≢ Part.NameEnd }
     {
         if mode.looks_at_name() {
             Part::Name
@@ -35,11 +39,24 @@ impl Part {
         }
     }
 
+    /// What a pattern looks at whose text has no literal end.
+    pub(crate) fn of_open(pattern: PatternView<'_>) -> Part
+        ensures name { IsTrue (is_name result) → IsTrue (looks_at_name pattern.entry.mode) }
+        ensures inside { result ≡ Part.NameInside → IsFoundInside pattern.entry.text.now pattern.entry.mode }
+        ensures end { result ≢ Part.NameEnd }
+    {
+        if is_found_inside(pattern) {
+            return Part::NameInside;
+        }
+        Part::of_mode(pattern.mode)
+    }
+
     /// What a pattern looks at whose text has a literal end of this length.
     pub(crate) fn of(pattern: PatternView<'_>, length: usize) -> Part
         requires { EndsLiterally pattern.text.now length }
         ensures name { IsTrue (is_name result) → IsTrue (looks_at_name pattern.entry.mode) }
         ensures told { result ≡ Part.NameEnd → IsToldByEnd pattern.entry.text.now pattern.entry.mode length }
+        ensures inside { result ≢ Part.NameInside }
     {
         if is_told_by_end(pattern, length) {
             return Part::NameEnd;
@@ -61,8 +78,23 @@ impl Part {
     pub(crate) fn is_name(self) -> bool
         ensures { result ≡ is_name self }
     {
-        matches!(self, Part::Name)
+        matches!(self, Part::Name | Part::NameInside)
     }
+}
+
+/// Whether a pattern of this mode looks at the last part of a path alone, also where the path isn't that of a directory.
+fn looks_at_any_name(mode: Mode) -> bool
+    ensures name { IsTrue result → looks_at_name mode ≡ true }
+    ensures all { IsTrue result → is_for_directories mode ≡ false }
+{
+    mode.looks_at_name() && !mode.contains(Mode::MUST_BE_DIR)
+}
+
+/// Whether a pattern matches wherever the last part of a path has what stands between two stars.
+fn is_found_inside(pattern: PatternView<'_>) -> bool
+    ensures { IsTrue result → IsFoundInside pattern.entry.text.now pattern.entry.mode }
+{
+    looks_at_any_name(pattern.mode) && is_between_stars(pattern.text)
 }
 
 /// Whether a pattern matches wherever a path has its literal end, which has this length.
@@ -70,9 +102,7 @@ fn is_told_by_end(pattern: PatternView<'_>, length: usize) -> bool
     requires { EndsLiterally pattern.text.now length }
     ensures { IsTrue result → IsToldByEnd pattern.entry.text.now pattern.entry.mode length }
 {
-    pattern.mode.looks_at_name()
-        && !pattern.mode.contains(Mode::MUST_BE_DIR)
-        && is_star_and_end(pattern.text, length)
+    looks_at_any_name(pattern.mode) && is_star_and_end(pattern.text, length)
 }
 
 /// Whether a text is a star and so many last bytes, of which none is a capital letter.

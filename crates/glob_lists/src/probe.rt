@@ -161,7 +161,12 @@ impl Probe {
         ensures { Lacks self.now result }
     {
         Lacking {
-            sets: [!self.bytes, !self.name_bytes, !self.bytes],
+            sets: [
+                !self.bytes,
+                !self.name_bytes,
+                !self.name_bytes,
+                !self.bytes,
+            ],
         }
     }
 
@@ -204,7 +209,7 @@ fn last_byte(path: &[u8]) -> u8
 
 /// The last part of a path, which begins at `basename_start`, or the whole path.
 #[inline(always)]
-fn last_part(path: &[u8], basename_start: Option<usize>) -> &[u8]
+pub(crate) fn last_part(path: &[u8], basename_start: Option<usize>) -> &[u8]
     requires { IsBasenameStart path.now basename_start }
     ensures { result.now ≡ last_part basename_start path.now }
 {

@@ -6,12 +6,13 @@ ghost use Rattle.gix_glob.specs.Stripping.{strip_looks};
 ghost use Rattle.glob_lists.specs.Deciding.{BasesAreFolders, PairAnswers};
 ghost use Rattle.glob_lists.specs.Index.{ComesBefore};
 ghost use Rattle.glob_lists.specs.Private.Looking.{LooksUpTo};
-ghost use Rattle.glob_lists.specs.Private.Reaching.{AnswersWhatIsLeft, HasRest};
+ghost use Rattle.glob_lists.specs.Private.Reaching.{AnswersWhatIsLeft, HasRest, IsRowAt};
 ghost use Rattle.glob_lists.specs.Private.Showing.{IsTold};
 ghost use Rattle.glob_lists.specs.Private.Spending.{looks_from, steps_from};
 ghost use Rattle.glob_lists.specs.Private.Tables.{HasEntryAt};
 
 use crate::index::ListIndex;
+use crate::inside::is_matched;
 use crate::path::RepositoryPath;
 use crate::probe::Probe;
 use crate::row::Row;
@@ -58,6 +59,7 @@ impl<'p> Reached<'p> {
         requires there { HasEntryAt (map (entry_list_of T.seen) index.now.lists) pair.0 pair.1 }
         requires rest { HasRest (map (entry_list_of T.seen) index.now.lists) index.now.case path.now self.old }
         requires told { IsTold row.now probe.now → AnswersWhatIsLeft (map (entry_list_of T.seen) index.now.lists) index.now.case path.now pair }
+        requires asks { IsRowAt (map (entry_list_of T.seen) index.now.lists) pair row.now }
         requires before { ComesBefore pair.0 pair.1 self.old.pair.0 self.old.pair.1 }
         ensures pair { self.new.pair ≡ pair }
         ensures rest { HasRest (map (entry_list_of T.seen) index.now.lists) index.now.case path.now self.new }
@@ -70,15 +72,15 @@ impl<'p> Reached<'p> {
         ensures grows { NeverFall counts.old counts.new }
     {
         self.enter(index, path, pair, counts);
+        if row.is_told_by(probe) {
+            return self.rest.is_some();
+        }
         let Some(rest) = &self.rest else {
             return false;
         };
-        if row.is_told_by(probe) {
-            return true;
-        }
         let list = &index.lists()[pair.0];
         let pattern = list.patterns[pair.1].pattern.view();
-        rest.is_matched_with_counts(pattern, index.case(), counts)
+        is_matched(rest, row, pattern, index.case(), counts)
     }
 
     /// Comes to a pair. The base of its list is taken off the path, if the pair before was of another list.

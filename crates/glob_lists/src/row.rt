@@ -64,7 +64,7 @@ impl Row {
                 mapping,
                 class: Class::Always,
                 spare: 0,
-                part: Part::of_mode(pattern.mode),
+                part: Part::of_open(pattern),
             };
         }
         Row {
@@ -141,6 +141,14 @@ impl Row {
         (LONGEST_END as u8).saturating_sub(self.spare / 8)
     }
 
+    /// What of a path the pattern looks at.
+    #[inline(always)]
+    pub(crate) fn part(&self) -> Part
+        ensures { result ≡ self.now.part }
+    {
+        self.part
+    }
+
     /// Whether the pattern looks at the last part of a path alone, and at more of it than its end.
     #[inline(always)]
     pub(crate) fn is_name(&self) -> bool
@@ -196,7 +204,7 @@ impl Row {
         ensures { IsTrue result ↔ IsTold self.now probe.now }
     {
         match self.part {
-            Part::Path | Part::Name => false,
+            Part::Path | Part::Name | Part::NameInside => false,
             Part::NameEnd => probe.has_plain_end() && self.has_end(probe),
         }
     }

@@ -1,6 +1,7 @@
 -- One pair is asked: what the answer says, and what it takes.
-use Rattle.std.proofs.Common.{◌≡◌, ◌↔◌, ℕ, ◌+◌, ◌-◌, ◌≤◌, Bool, IsTrue, List, length, Some, arith}
-use Rattle.std.specs.Prelude.{slice_get}
+use Rattle.std.proofs.Common.{◌≡◌, ◌↔◌, ℕ, ◌+◌, ◌-◌, ◌≤◌, Bool, IsTrue, true, false, List, length, Option, None, Some, refl, sym, subst, arith}
+use Rattle.std.specs.Prelude.{is_some, slice_get}
+use Rattle.std.proofs.lemmas.Bool.{false≢true}
 use Rattle.gix_glob.specs.declared.pattern.Case.{Case}
 use Rattle.gix_glob.specs.declared.pattern.Mode as pattern
 use Rattle.gix_glob.specs.Entries.{Entry}
@@ -12,6 +13,7 @@ use Rattle.glob_lists.specs.Deciding.{AnswersFor, AnswersUnder, PairAnswers}
 use Rattle.glob_lists.specs.DecisionLimits.{decision_look_limit, decision_step_limit, list_look_limit, list_step_limit}
 use Rattle.glob_lists.specs.Index.{ComesBefore}
 use Rattle.glob_lists.specs.Paths.{Path}
+use Rattle.glob_lists.specs.Private.Reaching.{AnswersWhatIsLeft, IsLeft}
 use Rattle.glob_lists.specs.Private.Spending.{looks_from, steps_from}
 use Rattle.glob_lists.proofs.lemmas.Answering.{AnswersAt-only, AnswersAt-yes, AnswersUnder-tested, PairAnswers-nothing_left, PairAnswers-only, PairAnswers-yes}
 use Rattle.glob_lists.proofs.lemmas.Spending.{pairs_part-all, pairs_part-more}
@@ -34,6 +36,13 @@ module _ {V : Type 0} (lists : List (EntryList V)) (case : Case) (path : Path) (
         λ yes. PairAnswers-yes lists path.bytes path.is_dir case i m list there (AnswersAt-yes list path.bytes path.is_dir case m entry here (under.0 yes)),
         λ h. under.1 (AnswersAt-only list path.bytes path.is_dir case m entry here (PairAnswers-only lists path.bytes path.is_dir case i m list there h)),
       )
+
+  -- the pattern is known to match what is left of the path
+  pub asked_told : (rest : Option Path) → IsLeft case list.base path rest → AnswersWhatIsLeft lists case path (i, m) → (IsTrue (is_some rest) ↔ PairAnswers lists path.bytes path.is_dir case i m)
+  asked_told None nothing told = asked_nothing false (λ yes. false≢true yes) nothing
+  asked_told (Some rest) left told =
+      asked_rest rest entry.text entry.mode true left refl refl
+      (λ yes. subst (λ (b : Bool). AnswersFor entry.text entry.mode rest.bytes b case) (sym left.1) (told.each list entry rest.bytes there here left.0), λ h. refl)
 
   module _ (last : ℕ × ℕ) (before : ComesBefore i m last.0 last.1) (v start middle now : ℕ) where
     pub asked_steps : middle ≤ start → now ≤ middle + step_limit (length entry.text) v → now + steps_from lists v last ≤ start + steps_from lists v (i, m)

@@ -87,7 +87,7 @@ module _ {V : Type 0} (lists : List (EntryList V)) where
 
 -- a row asks for the same, whatever it is chained to
 pub Asks-linked : (text : List ℕ) (mode : pattern.Mode) (row : Row) (before : Link) → Asks text mode row → Asks text mode (record row { before = before })
-Asks-linked text mode row before a = record { spare = a.spare; needs = a.needs; name = a.name; told = a.told }
+Asks-linked text mode row before a = record { spare = a.spare; needs = a.needs; name = a.name; told = a.told; inside = a.inside }
 
 -- there are as many rows as entries
 pub rows_count : {V : Type 0} (lists : List (EntryList V)) (rows : List Row) → AreRows lists rows → length rows ≡ entry_count lists

@@ -31,7 +31,7 @@ use Rattle.glob_lists.specs.declared.row.Row.{Row}
 use Rattle.glob_lists.specs.Private.Literals.{EndsLiterally, end_key, from_end}
 use Rattle.glob_lists.specs.Private.Parts.{IsPlainEnd, IsToldByEnd}
 use Rattle.glob_lists.specs.Paths.{Path}
-use Rattle.glob_lists.specs.Private.Reaching.{AnswersWhatIsLeft}
+use Rattle.glob_lists.specs.Private.Reaching.{AnswersWhatIsLeft, IsRowAt}
 use Rattle.glob_lists.specs.Private.Rows.{Asks, length_of}
 use Rattle.glob_lists.specs.Private.Showing.{HasEnd, IsTold, IsToldBy, Shows}
 use Rattle.glob_lists.specs.Private.Tables.{AreRows}
@@ -146,7 +146,7 @@ literal_behind text n long literal = list_any_none is_special (drop 1 text) (λ 
     ap is_special same ∙ (or_parts _ _ plain).0)
 
 -- a value without slash has none at all
-has_no_slash : (value : List ℕ) → ((m : ℕ) → ¬ HasByte value m slash) → has_slash value ≡ false
+pub has_no_slash : (value : List ℕ) → ((m : ℕ) → ¬ HasByte value m slash) → has_slash value ≡ false
 has_no_slash value none = list_any_none (λ b. b == slash) value (λ m d below.
     false_from_ne_true (get_or value m d == slash) (λ is. none m (record { inside = below; is = get_or_default value m 0 d below ∙ eqb-true _ slash is })))
 
@@ -171,6 +171,7 @@ star_matches mode text value n first long literal bare fits same =
 told_parts : (row : Row) (probe : Probe) (looked_at : Part) → IsToldBy row probe looked_at → (looked_at ≡ variants.NameEnd) × IsTrue probe.has_plain_end × HasEnd row probe
 told_parts row probe variants.Path told = absurd told
 told_parts row probe variants.Name told = absurd told
+told_parts row probe variants.NameInside told = absurd told
 told_parts row probe variants.NameEnd told = (refl, told.0, told.1)
 
 module _ (text path : List ℕ) (mode : pattern.Mode) (row : Row) (probe : Probe) (shows : Shows path probe) (asks : Asks text mode row) (told : IsTold row probe) where
@@ -237,4 +238,19 @@ told_of_next {V} lists rows case path probe place to i m row folders are shows n
           let folder : HasFolder list = subst HasFolder (get_or_from_slice_get lists i list list there) (folders i list (slice_get_within lists i list there)) in
           told_answers entry.text entry.mode list.base path.bytes rest path.is_dir case next.row probe folder shows
           (subst (λ (e : Entry V). Asks e.text e.mode next.row) same_entry of.asks) (subst (λ (r : Row). IsTold r probe) same_row told) left;
+    }
+
+-- The row of the next pair asks what its entry does.
+pub row_of_next : {V : Type 0} (lists : List (EntryList V)) (rows : List Row) (probe : Probe) (place to i m : ℕ) (row : Row) → AreRows lists rows
+    → IsNextPair rows probe place to (i, m) → slice_get rows place ≡ Some row → IsRowAt lists (i, m) row
+row_of_next {V} lists rows probe place to i m row are next got =
+    let of = are.each place next.row next.there in
+    let same_row : row ≡ next.row = same_Some row next.row (sym got ∙ next.there) in
+    record {
+      each = λ list entry there here.
+          let same_list : of.there.list ≡ list = same_Some of.there.list list (sym of.there.there ∙ (ap (slice_get lists) (sym next.list) ∙ there)) in
+          let here' : slice_get of.there.list.entries m ≡ Some of.entry = subst (λ (k : ℕ). slice_get of.there.list.entries k ≡ Some of.entry) (sym next.mapping) of.there.here in
+          let same_entry : of.entry ≡ entry =
+          same_Some of.entry entry (sym here' ∙ (ap (λ (l : EntryList V). slice_get l.entries m) same_list ∙ here)) in
+          subst (λ (r : Row). Asks entry.text entry.mode r) (sym same_row) (subst (λ (e : Entry V). Asks e.text e.mode next.row) same_entry of.asks);
     }

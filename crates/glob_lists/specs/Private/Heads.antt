@@ -1,5 +1,5 @@
 -- The folders whose bases begin with the same bytes, by the number that these make.
-use Rattle.std.specs.Prelude.{◌≡◌, ◌≢◌, ◌⊎◌, ℕ, ◌+◌, ◌-◌, ◌%◌, ◌<◌, ◌≤◌, List, Some, length, slice_get}
+use Rattle.std.specs.Prelude.{◌≡◌, ◌≢◌, ◌⊎◌, ℕ, ◌-◌, ◌%◌, ◌<◌, ◌≤◌, List, Some, length, slice_get}
 use Rattle.gix_glob.specs.EntryLists.{EntryList}
 use Rattle.glob_lists.specs.declared.folders.Folder.{Folder}
 use Rattle.glob_lists.specs.declared.fronts.TheConstants.{FRONT}

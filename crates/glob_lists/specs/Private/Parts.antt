@@ -4,8 +4,9 @@ use Rattle.std.specs.Char.{to_ascii_lowercase}
 use Rattle.gix_glob.specs.declared.pattern.Mode.{Mode}
 use Rattle.gix_glob.specs.Bytes.{HasByte, star}
 use Rattle.gix_glob.specs.Patterns.{is_for_directories, looks_at_name}
+use Rattle.glob_patterns.specs.Private.Insides.{IsBetweenStars}
 use Rattle.glob_lists.specs.declared.part.Part.{Part}
-use Rattle.glob_lists.specs.declared.part.Part.TheVariants.{Path, Name, NameEnd}
+use Rattle.glob_lists.specs.declared.part.Part.TheVariants.{Path, Name, NameInside, NameEnd}
 use Rattle.glob_lists.specs.Private.Fronts.{AreBytes}
 use Rattle.glob_lists.specs.Private.Literals.{EndsLiterally, from_end}
 
@@ -13,13 +14,15 @@ use Rattle.glob_lists.specs.Private.Literals.{EndsLiterally, from_end}
 abbrev pub is_name : Part → Bool
 is_name Path = false
 is_name Name = true
+is_name NameInside = true
 is_name NameEnd = false
 
 -- the place of a part among all
 abbrev pub place_of : Part → ℕ
 place_of Path = 0
 place_of Name = 1
-place_of NameEnd = 2
+place_of NameInside = 2
+place_of NameEnd = 3
 
 -- none of the last n bytes of a text is a capital letter
 pub record IsPlainEnd (text : List ℕ) (n : ℕ) : Type 0 where
@@ -40,3 +43,10 @@ pub record IsToldByEnd (text : List ℕ) (mode : Mode) (n : ℕ) : Type 0 where
   pub all : is_for_directories mode ≡ false
   pub literal : EndsLiterally text n
   pub shape : IsStarAndEnd text n
+
+-- A pattern of this text and mode matches exactly where the last part of a path has what stands between the stars of the text; it doesn't look
+-- only at directories.
+pub record IsFoundInside (text : List ℕ) (mode : Mode) : Type 0 where
+  pub name : looks_at_name mode ≡ true
+  pub all : is_for_directories mode ≡ false
+  pub shape : IsBetweenStars text

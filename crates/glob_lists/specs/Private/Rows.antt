@@ -6,10 +6,10 @@ use Rattle.gix_glob.specs.Patterns.{looks_at_name}
 use Rattle.glob_lists.specs.declared.chains.Class.{Class}
 use Rattle.glob_lists.specs.declared.chains.Class.TheVariants.{Always, EndsIn}
 use Rattle.glob_lists.specs.declared.literals.TheConstants.{LONGEST_END}
-use Rattle.glob_lists.specs.declared.part.Part.TheVariants.{NameEnd}
+use Rattle.glob_lists.specs.declared.part.Part.TheVariants.{NameEnd, NameInside}
 use Rattle.glob_lists.specs.declared.row.Row.{Row}
 use Rattle.glob_lists.specs.Private.Literals.{AsksForBits, EndsLiterally, end_key, from_end}
-use Rattle.glob_lists.specs.Private.Parts.{IsToldByEnd, is_name}
+use Rattle.glob_lists.specs.Private.Parts.{IsFoundInside, IsToldByEnd, is_name}
 
 -- a literal end of the text: its length, its last byte and its number
 pub record HasLiteralEnd (text : List ℕ) (n byte key : ℕ) : Type 0 where
@@ -33,3 +33,4 @@ pub record Asks (text : List ℕ) (mode : Mode) (row : Row) : Type 0 where
   pub needs : AsksFor text (length_of row) row.asked row.class
   pub name : is_name row.part ≡ true → looks_at_name mode ≡ true
   pub told : row.part ≡ NameEnd → IsToldByEnd text mode (length_of row) × (row.asked ≡ end_key text (length_of row))
+  pub inside : row.part ≡ NameInside → IsFoundInside text mode

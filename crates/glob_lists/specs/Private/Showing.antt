@@ -7,7 +7,7 @@ use Rattle.glob_lists.specs.declared.chains.Class.{Class}
 use Rattle.glob_lists.specs.declared.chains.Class.TheVariants.{Always, EndsIn}
 use Rattle.glob_lists.specs.declared.literals.TheConstants.{LONGEST_END}
 use Rattle.glob_lists.specs.declared.part.Part.{Part}
-use Rattle.glob_lists.specs.declared.part.Part.TheVariants.{Path, Name, NameEnd}
+use Rattle.glob_lists.specs.declared.part.Part.TheVariants.{Path, Name, NameInside, NameEnd}
 use Rattle.glob_lists.specs.declared.probe.Lacking.{Lacking}
 use Rattle.glob_lists.specs.declared.probe.Probe.{Probe}
 use Rattle.glob_lists.specs.declared.row.Row.{Row}
@@ -57,11 +57,11 @@ HasAll held needed = (i : ℕ) → bit_at needed i ≡ 1 → bit_at held i ≡ 1
 abbrev pub IsWithout : ℕ → ℕ → Type 0
 IsWithout held lacked = (held < 2 ^ 64) × (lacked ≡ 2 ^ 64 - 1 - held)
 
--- The sets have what the parts of a path lack at which patterns look: the whole, its last part, and where only the end counts the whole again.
+-- The sets have what a path lacks, by the place of the part at which a pattern looks: the last part, or the whole.
 pub record Lacks (probe : Probe) (lacking : Lacking) : Type 0 where
   pub fits : probe.bytes < 2 ^ 64
   pub name_fits : probe.name_bytes < 2 ^ 64
-  pub sets : lacking.sets ≡ (2 ^ 64 - 1 - probe.bytes) ∷ (2 ^ 64 - 1 - probe.name_bytes) ∷ (2 ^ 64 - 1 - probe.bytes) ∷ []
+  pub sets : lacking.sets ≡ (2 ^ 64 - 1 - probe.bytes) ∷ (2 ^ 64 - 1 - probe.name_bytes) ∷ (2 ^ 64 - 1 - probe.name_bytes) ∷ (2 ^ 64 - 1 - probe.bytes) ∷ []
 
 -- the path ends as the row's text does, as far as the numbers tell
 abbrev pub HasEnd : Row → Probe → Type 0
@@ -80,6 +80,7 @@ PassesBy row probe (EndsIn byte) = (byte ≡ probe.last) × HasEnd row probe
 abbrev pub IsToldBy : Row → Probe → Part → Type 0
 IsToldBy row probe Path = ⊥
 IsToldBy row probe Name = ⊥
+IsToldBy row probe NameInside = ⊥
 IsToldBy row probe NameEnd = IsTrue probe.has_plain_end × HasEnd row probe
 
 -- The path is known to be matched by the row's pattern, without a test: the pattern is told by its end, and the path has that.

@@ -1,5 +1,5 @@
 -- The folder at the place has the least number.
-use Rattle.std.proofs.Common.{ℕ, get_or, map, arith}
+use Rattle.std.proofs.Common.{get_or, map, arith}
 use Rattle.std.proofs.lemmas.Option.{slice_get-get_or}
 use Rattle.gix_glob.specs.EntryLists.{entry_list_of}
 use Rattle.glob_lists.specs.declared.folders.Folder.{Folder}

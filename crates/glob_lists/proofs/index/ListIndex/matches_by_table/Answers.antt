@@ -10,7 +10,7 @@ use Rattle.glob_lists.proofs.lemmas.AnsweringRows.{law_holds}
 use Rattle.glob_lists.proofs.lemmas.CandidateLemmas.{AreBefore-all, AreBefore-next, AreFoundFrom-more, AreFoundFrom-same, HasRest-none, entry_of_next, next_before}
 use Rattle.glob_lists.proofs.lemmas.FoundPairs.{AreFoundFrom, AreFoundFrom-all, AreFoundFrom-none, AreFoundFrom-skip}
 use Rattle.glob_lists.proofs.lemmas.IndexLemmas.{to_value}
-use Rattle.glob_lists.proofs.lemmas.ToldLemmas.{told_of_next}
+use Rattle.glob_lists.proofs.lemmas.ToldLemmas.{row_of_next, told_of_next}
 use Rattle.glob_lists.proofs.index.ListIndex.matches_by_table.Goals as goal
 
 pub ask-requires-clause-folders : goal.ask-requires-clause-folders
@@ -27,6 +27,10 @@ ask-requires-clause-told g c =
     let made = to_value g.T.Pattern.seen _ _ c.self.view_is (λ lists _. IsIndexOf lists c.self.inside.table) c.self.invariant.index in
     told_of_next (map (entry_list_of g.T.Pattern.seen) c.args.self.now.lists) c.args.chained.rows.now c.args.self.now.case c.args.path.now _ _ _ _ _ _ made.folders c.requires.rows c.probe-probe.ensures.shows
     c.in-Some.ensures.next c.last_row-row.ensures
+
+pub ask-requires-clause-asks : goal.ask-requires-clause-asks
+ask-requires-clause-asks g c =
+    row_of_next (map (entry_list_of g.T.Pattern.seen) c.args.self.now.lists) c.args.chained.rows.now _ _ _ _ _ _ c.requires.rows c.in-Some.ensures.next c.last_row-row.ensures
 
 pub ask-requires-clause-before : goal.ask-requires-clause-before
 ask-requires-clause-before g c =
