@@ -14,6 +14,7 @@ pub mod DemandLemmas
 pub mod Elements
 pub mod EndLemmas
 pub mod EndNumbers
+pub mod FirstsLemmas
 pub mod FoundPairs
 pub mod FrontLemmas
 pub mod FolderLemmas
@@ -35,6 +36,7 @@ pub mod PlaceOrder
 pub mod PrefilterLemmas
 pub mod RawBytes
 pub mod RowLemmas
+pub mod RowPlaces
 pub mod SearchLemmas
 pub mod SightLemmas
 pub mod Spending

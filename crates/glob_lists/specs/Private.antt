@@ -1,6 +1,7 @@
 -- Words that only private clauses cite: what the functions of the crate say to one another.
 pub mod Chains
 pub mod Ends
+pub mod Firsts
 pub mod Folders
 pub mod Fronts
 pub mod Heads

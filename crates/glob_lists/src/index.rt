@@ -8,11 +8,12 @@ ghost use Rattle.glob_lists.specs.Index.{AreMatches, AreTooMany, entry_count};
 ghost use Rattle.glob_lists.specs.Private.Ends.{AreChainedRows};
 ghost use Rattle.glob_lists.specs.Private.Indexes.{AreWays};
 ghost use Rattle.glob_lists.specs.Private.Looking.{LooksUpTo};
-ghost use Rattle.glob_lists.specs.Private.Tables.{AreRows, AreRowsUpTo, HasEntryAt};
+ghost use Rattle.glob_lists.specs.Private.Tables.{AreRows, AreRowsUpTo, HasEntryAt, place_at};
 
 use crate::chains::Link;
 use crate::deciding::{decide, decide_with_counts};
 use crate::fault::IndexError;
+use crate::firsts::Firsts;
 use crate::folders::{Folder, can_pay, folders_of};
 use crate::heads::Head;
 use crate::laws;
@@ -42,6 +43,8 @@ pub struct ListIndex<'a, T: search::Pattern> {
     lists: &'a [List<T>],
     case: Case,
     table: Table,
+    /// Where the rows of each list begin.
+    firsts: Firsts,
     /// The folders of the lists, where going through those on the way of a path can pay.
     folders: Option<Vec<Folder>>,
     /// The heads of the folders.
@@ -61,7 +64,7 @@ impl<'a, T: search::Pattern> Model for ListIndex<'a, T> {
 
     ghost view = { λ index. record { lists = index.lists.now; case = index.case } };
 
-    ghost invariant = { λ index. IsIndexBy (map (entry_list_of T.seen) index.lists.now) index.table (option_map vec_items index.folders) index.heads.items index.sights.items };
+    ghost invariant = { λ index. IsIndexBy (map (entry_list_of T.seen) index.lists.now) index.table index.firsts.begins.items (option_map vec_items index.folders) index.heads.items index.sights.items };
 }
 
 /// What an index found for the path before, for the next one: where paths come in order they share their folders.
@@ -88,8 +91,8 @@ pub struct CountedDecision {
 
 impl<'a, T: search::Pattern> ListIndex<'a, T> {
     /// The index of the lists, whose bases have to be those of folders: [`bases_are_folders`](crate::bases_are_folders). It
-    /// takes 32 bytes for each pattern, 64 for each of 16 lists or more, and some 2 KB once, or 3 KB for 64 lists or more; while it
-    /// is made, 17 more for each pattern.
+    /// takes 24 bytes for each pattern, 4 for each list, 64 more for each of 16 lists or more, and some 2 KB once, or 3 KB for 64 lists
+    /// or more; while it is made, 17 more for each pattern.
     ///
     /// # Errors
     /// [`IndexError::TooMany`] where there are 2^32 patterns or more, or more than 2^32 lists, and there alone;
@@ -112,11 +115,13 @@ impl<'a, T: search::Pattern> ListIndex<'a, T> {
             add_list(&mut rows, lists, i)?;
         }
         let table = Table::of(alloc, rows)?;
+        let firsts = Firsts::of(alloc, lists)?;
         let Some((folders, heads)) = folders_of(alloc, lists)? else {
             return Ok(ListIndex {
                 lists,
                 case,
                 table,
+                firsts,
                 folders: None,
                 heads: Vec::new(alloc),
                 sights: Vec::new(alloc),
@@ -127,6 +132,7 @@ impl<'a, T: search::Pattern> ListIndex<'a, T> {
             lists,
             case,
             table,
+            firsts,
             folders: Some(folders),
             heads,
             sights,
@@ -441,18 +447,32 @@ impl<'a, T: search::Pattern> ListIndex<'a, T> {
         let probe = self.table.probe(path, counts);
         let mut walk = chained.walk(&probe);
         let mut reached = Reached::none(self.lists.len());
+        let mut near = self.lists.len().saturating_sub(1);
         let mut asked = 0;
-        'candidates: while let Some((list, mapping)) = chained.next_pair(
-            &probe, &mut walk, counts,
-        ) {
+        'candidates: while let Some(place) = chained.next(&probe, &mut walk, counts) {
             asked += 1;
-            let row = chained.last_row(&walk);
+            let (list, mapping) = self.pair_of(place, near);
+            near = list;
+            let row = &chained.rows[place];
             if reached.ask(self, path, (list, mapping), row, &probe, counts) {
                 let pair = Some((list, mapping));
                 return CountedDecision { pair, asked };
             }
         }
         CountedDecision { pair: None, asked }
+    }
+
+    /// The places of the list and of the mapping of the row at a place, which comes before the rows of all lists after that at the place
+    /// `near`.
+    #[inline(always)]
+    fn pair_of(&self, place: usize, near: usize) -> (usize, usize)
+        requires inside { place < entry_count (map (entry_list_of T.seen) self.now.lists) }
+        requires list { near < length (map (entry_list_of T.seen) self.now.lists) }
+        requires near { place < place_at (map (entry_list_of T.seen) self.now.lists) (near + 1) 0 }
+        ensures there { HasEntryAt (map (entry_list_of T.seen) self.now.lists) result.0 result.1 }
+        ensures place { place ≡ place_at (map (entry_list_of T.seen) self.now.lists) result.0 result.1 }
+    {
+        self.firsts.pair_near(place, near)
     }
 
     /// Puts into `pairs` the candidates that match a path, from the first one to the last.
@@ -473,11 +493,12 @@ impl<'a, T: search::Pattern> ListIndex<'a, T> {
         let probe = self.table.probe(path, counts);
         let mut walk = chained.walk(&probe);
         let mut reached = Reached::none(self.lists.len());
+        let mut near = self.lists.len().saturating_sub(1);
         pairs.clear();
-        'candidates: while let Some((list, mapping)) = chained.next_pair(
-            &probe, &mut walk, counts,
-        ) {
-            let row = chained.last_row(&walk);
+        'candidates: while let Some(place) = chained.next(&probe, &mut walk, counts) {
+            let (list, mapping) = self.pair_of(place, near);
+            near = list;
+            let row = &chained.rows[place];
             if reached.ask(self, path, (list, mapping), row, &probe, counts) {
                 pairs.push((list, mapping))?;
             }
@@ -519,7 +540,7 @@ fn add_list<T: search::Pattern>(
 {
     let mappings = lists[i].patterns.as_slice();
     'mappings: for m in 0..mappings.len() {
-        rows.push(Row::new(&mappings[m].pattern, i as u32, m as u32))?;
+        rows.push(Row::new(&mappings[m].pattern))?;
     }
     Ok(())
 }

@@ -6,6 +6,7 @@ mod chains;
 mod deciding;
 mod ends;
 mod fault;
+mod firsts;
 mod folders;
 mod fronts;
 mod heads;

@@ -53,7 +53,7 @@ pub(crate) struct Demands {
 }
 
 impl<T: search::Pattern> PreparedList<T> {
-    /// Prepares a list. It takes 24 bytes for each pattern. Where memory is refused, the list stays unprepared: its answers are the
+    /// Prepares a list. It takes 16 bytes for each pattern. Where memory is refused, the list stays unprepared: its answers are the
     /// same, and cost more.
     pub fn new(alloc: Global, list: List<T>) -> PreparedList<T>
         ensures { result ≡ list }
@@ -129,7 +129,7 @@ fn demands_of<T: search::Pattern>(
     let mappings = list.patterns.as_slice();
     let mut rows = Vec::with_capacity(alloc, mappings.len())?;
     'mappings: for m in 0..mappings.len() {
-        rows.push(Row::new(&mappings[m].pattern, 0, 0))?;
+        rows.push(Row::new(&mappings[m].pattern))?;
     }
     let sight = Sight::of(&rows, 0, rows.len());
     if !sight.sees_all(&rows, 0, rows.len()) {

@@ -1,4 +1,4 @@
-//! One pattern as the index sees it: what its text asks of a path, and where its mapping stands.
+//! One pattern as the index sees it: what its text asks of a path.
 ghost use Rattle.std.specs.Prelude.{◌≡◌, ◌↔◌, ◌+◌, ◌%◌, ◌<◌, ◌≤◌, IsTrue, None, length};
 ghost use Rattle.gix_glob.specs.PatternParts.{mode_of, text_of};
 ghost use Rattle.glob_lists.specs.Private.Ends.{IsFront, end_of, whole_number};
@@ -16,18 +16,14 @@ use gix_glob::pattern::PatternView;
 use gix_glob::wildmatch::Counts;
 use std::sync::ledger::Ledger;
 
-/// What a pattern asks of a path, and where its mapping stands.
+/// What a pattern asks of a path. Which pattern that is, the place of the row tells.
 #[derive(Debug, Copy, Clone)]
 pub(crate) struct Row {
     /// What is asked for: the number of the text's literal end; in the class [`Class::Always`] the set of the bytes and pairs
     /// that are needed.
     pub(crate) asked: u64,
-    /// The row before this one that has its class.
+    /// The row before this one that has its end.
     pub(crate) before: Link,
-    /// The place of the list.
-    pub(crate) list: u32,
-    /// The place of the mapping in its list.
-    pub(crate) mapping: u32,
     /// How the text ends.
     pub(crate) class: Class,
     /// How many bits the number of a path's longest end has more than that of the literal end: a shift by so many takes them off.
@@ -39,20 +35,16 @@ pub(crate) struct Row {
 impl Row {
     /// The row of a pattern, not chained to another.
     #[inline(always)]
-    pub(crate) fn new(pattern: &Pattern, list: u32, mapping: u32) -> Row
-        ensures asks { Asks (text_of pattern.now) (mode_of pattern.now) result }
-        ensures list { result.list ≡ list }
-        ensures mapping { result.mapping ≡ mapping }
+    pub(crate) fn new(pattern: &Pattern) -> Row
+        ensures { Asks (text_of pattern.now) (mode_of pattern.now) result }
     {
-        Row::of_view(pattern.view(), list, mapping)
+        Row::of_view(pattern.view())
     }
 
     /// The row of a borrowed pattern, not chained to another.
     #[inline(always)]
-    pub(crate) fn of_view(pattern: PatternView<'_>, list: u32, mapping: u32) -> Row
-        ensures asks { Asks pattern.entry.text.now pattern.entry.mode result }
-        ensures list { result.list ≡ list }
-        ensures mapping { result.mapping ≡ mapping }
+    pub(crate) fn of_view(pattern: PatternView<'_>) -> Row
+        ensures { Asks pattern.entry.text.now pattern.entry.mode result }
     {
         let text = pattern.text;
         let length = literal_end(text);
@@ -60,8 +52,6 @@ impl Row {
             return Row {
                 asked: needed_bits(text),
                 before: Link::NONE,
-                list,
-                mapping,
                 class: Class::Always,
                 spare: 0,
                 part: Part::of_open(pattern),
@@ -70,8 +60,6 @@ impl Row {
         Row {
             asked: end_key(text, length),
             before: Link::NONE,
-            list,
-            mapping,
             class: Class::EndsIn(text[text.len() - 1].to_ascii_lowercase()),
             spare: spare_bits(length as u8),
             part: Part::of(pattern, length),
@@ -157,14 +145,7 @@ impl Row {
         self.part.is_name()
     }
 
-    /// The places of the list and of the mapping.
-    pub(crate) fn pair(&self) -> (usize, usize)
-        ensures { result ≡ (self.now.list, self.now.mapping) }
-    {
-        (self.list as usize, self.mapping as usize)
-    }
-
-    /// The row before this one that has its class.
+    /// The row before this one that has its end.
     #[inline(always)]
     pub(crate) fn before(&self) -> Link
         ensures { result ≡ self.now.before }

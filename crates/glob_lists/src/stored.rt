@@ -39,7 +39,7 @@ impl StoredRow {
     pub(crate) fn new(pattern: PatternView<'_>) -> StoredRow
         ensures { Asks pattern.entry.text.now pattern.entry.mode (row_of result) }
     {
-        let row = Row::of_view(pattern, 0, 0);
+        let row = Row::of_view(pattern);
         let (last, length) = match row.class {
             Class::Always => (0, 0),
             Class::EndsIn(last) => (last, row.length()),
@@ -71,8 +71,6 @@ impl StoredRow {
         Row {
             asked: self.asked,
             before: self.before,
-            list: 0,
-            mapping: 0,
             class,
             spare: spare_bits(self.length),
             part,

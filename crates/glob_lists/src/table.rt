@@ -3,7 +3,7 @@ ghost use Rattle.std.specs.Prelude.{◌≡◌, ◌+◌, ◌-◌, ◌*◌, ◌^�
 ghost use Rattle.glob_lists.specs.Private.Ends.{AreChainedRows, AreSameRows, ends_of};
 ghost use Rattle.glob_lists.specs.Private.Looking.{LooksUpTo};
 ghost use Rattle.glob_lists.specs.Private.Showing.{Shows};
-ghost use Rattle.glob_lists.specs.Private.Walking.{IsNextPair, IsWalk, NonePasses};
+ghost use Rattle.glob_lists.specs.Private.Walking.{IsNextRow, IsWalk, NonePasses};
 
 use crate::chaining::chain;
 use crate::chains::{CLASSES, Class};
@@ -124,35 +124,24 @@ impl<'a> Chained<'a> {
         Walk::down(self.ends, self.rows, probe)
     }
 
-    /// The row that a walk met last.
+    /// The place of the next row of a walk that passes, from the last one to the first. A look is counted at each row that is met.
     #[inline(always)]
-    pub(crate) fn last_row(&self, walk: &Walk) -> &Row
-        requires { walk.now.passed_from < length self.now.rows.now }
-        ensures { slice_get self.now.rows.now walk.now.passed_from ≡ Some result.now }
-    {
-        &self.rows[walk.passed_from]
-    }
-
-    /// The places of the list and of the mapping of the next row of a walk that passes, from the last one to the first. A look is
-    /// counted at each row that is met.
-    #[inline(always)]
-    pub(crate) fn next_pair<S: Ledger, L: Ledger>(
+    pub(crate) fn next<S: Ledger, L: Ledger>(
         &self,
         probe: &Probe,
         walk: &mut Walk,
         counts: &mut Counts<S, L>,
-    ) -> Option<(usize, usize)>
+    ) -> Option<usize>
         requires chained { AreChainedRows self.now.rows.now self.now.ends.now }
         requires walk { IsWalk (ends_of self.now.rows.now) probe.now.end walk.old }
         ensures walk { IsWalk (ends_of self.now.rows.now) probe.now.end walk.new }
         ensures next { MatchOption result
             (NonePasses self.now.rows.now probe.now 0 walk.old.passed_from)
-            (IsNextPair self.now.rows.now probe.now walk.new.passed_from walk.old.passed_from) }
+            (IsNextRow self.now.rows.now probe.now walk.new.passed_from walk.old.passed_from) }
         ensures falls { walk.new.passed_from ≤ walk.old.passed_from }
         ensures looks { LooksUpTo counts.old counts.new (walk.old.passed_from - walk.new.passed_from) }
     {
-        let place = walk.next(self.rows, probe, counts)?;
-        Some(self.rows[place].pair())
+        walk.next(self.rows, probe, counts)
     }
 }
 

@@ -96,15 +96,17 @@ impl Walk {
         let mut other = self.other;
         let lacking = probe.lacking();
         'others: while other.is_after(own) {
-            let place = other.place()?;
+            let place = other.narrow_place()?;
             counts.looks(1);
             let row = &rows[place];
-            other = row.before();
             if row.needs_none_of(&lacking) {
-                self.other = other;
-                self.passed_from = place;
-                return Some(place);
+                // the place anew: to keep it beside its row would take each turn one instruction more
+                let met = other.number() - 1;
+                self.passed_from = met;
+                self.other = row.before();
+                return Some(met);
             }
+            other = row.before();
         }
         self.other = other;
         let Some(place) = own.place() else {

@@ -1,78 +1,78 @@
 -- What the rows say of the pairs that answer: which of them is the last.
-use Rattle.std.proofs.Common.{◌≡◌, ◌⊎◌, inl, inr, ⊎_elim, ℕ, ◌+◌, ◌<◌, ◌≤◌, Bool, List, Some, sym, ◌∙◌, ap, subst, arith}
+use Rattle.std.proofs.Common.{◌≡◌, ◌⊎◌, inl, inr, ⊎_elim, ℕ, ◌+◌, ◌<◌, ◌≤◌, Bool, List, Some, ap, subst, arith, take}
 use Rattle.std.specs.Prelude.{slice_get}
 use Rattle.std.proofs.lemmas.Bool.{cases_eq, cases_lt, cases_order}
-use Rattle.std.proofs.lemmas.Option.{same_Some, slice_get_within}
 use Rattle.gix_glob.specs.declared.pattern.Case.{Case}
 use Rattle.glob_lists.specs.Deciding.{IsLastAnswer, PairAnswers}
 use Rattle.gix_glob.specs.EntryLists.{EntryList}
 use Rattle.glob_lists.specs.declared.probe.Probe.{Probe}
 use Rattle.glob_lists.specs.declared.row.Row.{Row}
-use Rattle.glob_lists.specs.Index.{ComesBefore}
-use Rattle.glob_lists.specs.Private.Tables.{AreRows, IsAtPlace, IsRowOf}
-use Rattle.glob_lists.specs.Private.Showing.{Passes, Shows}
+use Rattle.glob_lists.specs.Index.{entry_count}
+use Rattle.glob_lists.specs.Private.Tables.{AreRows, HasEntryAt, IsEntryAt, place_at}
+use Rattle.glob_lists.specs.Private.Showing.{Shows}
 use Rattle.glob_lists.specs.Private.Walking.{NonePasses}
-use Rattle.glob_lists.proofs.lemmas.Answering.{AnswersAt-only, PairAnswers-only}
+use Rattle.glob_lists.proofs.lemmas.CountLemmas.{place_within}
+use Rattle.glob_lists.proofs.lemmas.Elements.{slice_get-inside}
 use Rattle.glob_lists.proofs.lemmas.PrefilterLemmas.{AnsweringPasses}
+use Rattle.glob_lists.proofs.lemmas.RowLemmas.{rows_count}
+use Rattle.glob_lists.proofs.lemmas.RowPlaces.{entry_count-rises, place_at-below, same_place}
 
-module _ {V : Type 0} (lists : List (EntryList V)) (rows : List Row) (path : List ℕ) (is_dir : Bool) (case : Case) where
-  -- no row from place k on answers
+module _ {V : Type 0} (lists : List (EntryList V)) (path : List ℕ) (is_dir : Bool) (case : Case) where
+  -- where an answer is, an entry stands
+  pub HasEntryAt-answers : (i m : ℕ) → PairAnswers lists path is_dir case i m → HasEntryAt lists i m
+  HasEntryAt-answers i m h = (h.answers.entry, record { list = h.list; there = h.there; here = h.answers.there })
+
+  -- no entry answers whose row stands at place k or after it
   abbrev pub NoneAnswers : ℕ → Type 0
-  NoneAnswers k = (l : ℕ) (row : Row) → k ≤ l → slice_get rows l ≡ Some row → ¬ PairAnswers lists path is_dir case row.list row.mapping
+  NoneAnswers k = (i m : ℕ) → k ≤ place_at lists i m → ¬ PairAnswers lists path is_dir case i m
 
-  -- what the law `answering_patterns_pass` says of one row
-  abbrev pub Law : Probe → Type 0
-  Law probe = (row : Row) → IsRowOf lists row → PairAnswers lists path is_dir case row.list row.mapping → Passes row probe
+  -- past all entries none answers
+  pub NoneAnswers-past : (k : ℕ) → entry_count lists ≤ k → NoneAnswers k
+  NoneAnswers-past k past i m low answers = (let within = place_within lists i m (HasEntryAt-answers i m answers) in absurd (omega arith))
 
-  pub NoneAnswers-passed : (probe : Probe) (from to : ℕ) → AreRows lists rows → Law probe → NonePasses rows probe from to → NoneAnswers to → NoneAnswers from
-  NoneAnswers-passed probe from to are law none later l row low got answers = elim (cases_lt l to) [
-    | inl between ↦ none l row low between got (law row (are.each l row got) answers)
-    | inr past ↦ later l row past got answers
-  ]
+  pub NoneAnswers-here : (i m : ℕ) → HasEntryAt lists i m → ¬ PairAnswers lists path is_dir case i m → NoneAnswers (place_at lists i m + 1) → NoneAnswers (place_at lists i m)
+  NoneAnswers-here i m at not later j n low answers = ⊎_elim
+      (λ (here : place_at lists j n ≡ place_at lists i m).
+      let same = same_place lists j n i m (HasEntryAt-answers j n answers) at here in
+      not (subst (λ (a : ℕ). PairAnswers lists path is_dir case a m) same.0 (subst (λ (b : ℕ). PairAnswers lists path is_dir case j b) same.1 answers)))
+      (λ (past : place_at lists j n ≡ place_at lists i m → ⊥). later j n (omega arith) answers)
+      (cases_eq (place_at lists j n) (place_at lists i m))
 
-  pub NoneAnswers-here : (k : ℕ) (row : Row) → slice_get rows k ≡ Some row → ¬ PairAnswers lists path is_dir case row.list row.mapping → NoneAnswers (k + 1) → NoneAnswers k
-  NoneAnswers-here k row there not later l other low got answers = ⊎_elim
-      (λ (here : l ≡ k).
-      let same : other ≡ row = same_Some other row (sym got ∙ (ap (slice_get rows) here ∙ there)) in
-      not (subst (λ (r : Row). PairAnswers lists path is_dir case r.list r.mapping) same answers))
-      (λ (past : l ≡ k → ⊥). later l other (omega arith) got answers)
-      (cases_eq l k)
+  pub decides_here : (i m : ℕ) → PairAnswers lists path is_dir case i m → NoneAnswers (place_at lists i m + 1) → IsLastAnswer lists path is_dir case (i, m)
+  decides_here i m answers later = record { answers = answers; last = in_order } where
+    in_order : (j n : ℕ) → PairAnswers lists path is_dir case j n → (j < i) ⊎ ((j ≡ i) × (n ≤ m))
+    in_order j n other = elim (cases_lt (place_at lists i m) (place_at lists j n)) [
+      | inl past ↦ absurd (later j n (omega arith) other)
+      | inr up_to ↦ elim (cases_order j i) [
+        | inl same ↦ (let is : entry_count (take j lists) ≡ entry_count (take i lists) = ap (λ (k : ℕ). entry_count (take k lists)) same in inr (same, omega arith))
+        | inr (inl before) ↦ inl before
+        | inr (inr after) ↦
+            (let below = place_at-below lists i m (HasEntryAt-answers i m answers) in
+            let rises = entry_count-rises lists (i + 1) j (omega arith) in absurd (omega arith))
+      ]
+    ]
 
-  pub law_holds : AnsweringPasses → (probe : Probe) → Shows path probe → Law probe
-  law_holds law probe shows row of answers =
-      let e = of.there in
-      let under = AnswersAt-only e.list path is_dir case row.mapping of.entry e.here (PairAnswers-only lists path is_dir case row.list row.mapping e.list e.there answers) in
-      law of.entry.text of.entry.mode e.list.base path under.rest is_dir case row probe shows of.asks under.left under.answers
+  module _ (rows : List Row) (are : AreRows lists rows) where
+    -- the row of an entry that answers
+    pub row_of_pair : (i m : ℕ) → PairAnswers lists path is_dir case i m → (row : Row) × (slice_get rows (place_at lists i m) ≡ Some row)
+    row_of_pair i m answers =
+        let within = place_within lists i m (HasEntryAt-answers i m answers) in
+        let many = rows_count lists rows are in
+        slice_get-inside rows (place_at lists i m) (omega arith)
 
-  pub row_of_pair : (i m : ℕ) → AreRows lists rows → PairAnswers lists path is_dir case i m → (k : ℕ) × IsAtPlace rows i m k
-  row_of_pair i m are h =
-      are.all i m (h.answers.entry, record { list = h.list; there = h.there; here = h.answers.there }) (inl (slice_get_within lists i h.list h.there))
+    -- no entry answers between places between which no row passes
+    pub NonePasses-answers : AnsweringPasses → (probe : Probe) → Shows path probe → (from to : ℕ) → NonePasses rows probe from to → (i m : ℕ) → from ≤ place_at lists i m → place_at lists i m < to
+        → ¬ PairAnswers lists path is_dir case i m
+    NonePasses-answers law probe shows from to none i m low below answers =
+        let entry = answers.answers.entry in
+        let at : IsEntryAt lists i m entry = record { list = answers.list; there = answers.there; here = answers.answers.there } in
+        let row = row_of_pair i m answers in
+        let under = answers.answers.answers in
+        none (place_at lists i m) row.0 low below row.1
+        (law entry.text entry.mode answers.list.base path under.rest is_dir case row.0 probe shows (are.each i m entry row.0 at row.1) under.left under.answers)
 
-  pub row_answers : (i m k : ℕ) (at : IsAtPlace rows i m k) → PairAnswers lists path is_dir case i m → PairAnswers lists path is_dir case at.row.list at.row.mapping
-  row_answers i m k at answers =
-      subst (λ (a : ℕ). PairAnswers lists path is_dir case a at.row.mapping) (sym at.list)
-      (subst (λ (b : ℕ). PairAnswers lists path is_dir case i b) (sym at.mapping) answers)
-
-  pub decides_none : AreRows lists rows → NoneAnswers 0 → (i m : ℕ) → ¬ PairAnswers lists path is_dir case i m
-  decides_none are none i m answers =
-      let k = row_of_pair i m are answers in
-      none k.0 k.1.row (omega arith) k.1.there (row_answers i m k.0 k.1 answers)
-
-  pub decides_here : (k : ℕ) (row : Row) → AreRows lists rows → slice_get rows k ≡ Some row → PairAnswers lists path is_dir case row.list row.mapping → NoneAnswers (k + 1)
-      → IsLastAnswer lists path is_dir case (row.list, row.mapping)
-  decides_here k row are there answers later = record {
-    answers = answers;
-    last = λ i m other.
-        let l = row_of_pair i m are other in
-        let at = l.1 in elim (cases_order l.0 k) [
-          | inl same ↦
-              (let is : at.row ≡ row = same_Some at.row row (sym at.there ∙ (ap (slice_get rows) same ∙ there)) in
-              inr (sym at.list ∙ ap (λ (r : Row). r.list) is, (let m_is : m ≡ row.mapping = sym at.mapping ∙ ap (λ (r : Row). r.mapping) is in omega arith)))
-          | inr (inl less) ↦ in_order i m (subst (λ (a : ℕ). ComesBefore a m row.list row.mapping) at.list
-              (subst (λ (b : ℕ). ComesBefore at.row.list b row.list row.mapping) at.mapping (are.rising l.0 k at.row row less at.there there)))
-          | inr (inr more) ↦ absurd (later l.0 at.row (omega arith) at.there (row_answers i m l.0 at other))
-        ];
-  } where
-    in_order : (i m : ℕ) → ComesBefore i m row.list row.mapping → (i < row.list) ⊎ ((i ≡ row.list) × (m ≤ row.mapping))
-    in_order i m (inl less) = inl less
-    in_order i m (inr same) = inr (same.0, omega (arith, same.1))
+    pub NoneAnswers-passed : AnsweringPasses → (probe : Probe) → Shows path probe → (from to : ℕ) → NonePasses rows probe from to → NoneAnswers to → NoneAnswers from
+    NoneAnswers-passed law probe shows from to none later i m low answers = elim (cases_lt (place_at lists i m) to) [
+      | inl between ↦ NonePasses-answers law probe shows from to none i m low between answers
+      | inr past ↦ later i m past answers
+    ]

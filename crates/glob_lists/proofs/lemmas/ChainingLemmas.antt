@@ -419,7 +419,7 @@ abbrev pub no_end : End
 no_end = record { last = 0; above = record { 0 = 0 } }
 
 abbrev pub no_row : Row
-no_row = record { asked = 0; before = record { 0 = 0 }; list = 0; mapping = 0; class = Always; spare = 0; part = Path }
+no_row = record { asked = 0; before = record { 0 = 0 }; class = Always; spare = 0; part = Path }
 
 -- the end that is read at a place
 pub IsEndAt-read : (rows : List Row) (ends : List End) (k : ℕ) → AreEnds (ends_of rows) ends → k < length ends

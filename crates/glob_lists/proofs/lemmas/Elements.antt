@@ -5,9 +5,13 @@ use Rattle.std.proofs.Math.Seq.{get_or-append_seam}
 use Rattle.std.proofs.Math.ListN.{get_or-append}
 use Rattle.std.proofs.lemmas.Bool.{cases_eq}
 use Rattle.std.proofs.lemmas.List.{get_or-reverse, length-reverse}
-use Rattle.std.proofs.lemmas.Option.{get_or_from_slice_get, slice_get-get_or, slice_get_within}
+use Rattle.std.proofs.lemmas.Option.{get_or_from_slice_get, slice_get-get_or, slice_get_cases, slice_get_within}
 
 module _ {X : Type 0} where
+  -- each place inside has its element
+  pub slice_get-inside : (xs : List X) (i : ℕ) → i < length xs → (x : X) × (slice_get xs i ≡ Some x)
+  slice_get-inside xs i inside = ⊎_elim (λ found. (found.0, found.2)) (λ past. absurd (omega (arith, past.0))) (slice_get_cases xs i).1
+
   pub slice_get-push_old : (xs : List X) (added : X) (k : ℕ) (x : X) → slice_get xs k ≡ Some x → slice_get (xs ++ added ∷ []) k ≡ Some x
   slice_get-push_old xs added k x got =
       let inside = slice_get_within xs k x got in

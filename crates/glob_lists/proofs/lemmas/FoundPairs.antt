@@ -1,73 +1,67 @@
 -- All pairs that answer, as they are found from the last row to the first.
-use Rattle.std.proofs.Common.{◌≡◌, inl, inr, ⊎_elim, ℕ, ◌+◌, ◌-◌, ◌<◌, ◌≤◌, Bool, List, [], ◌∷◌, ◌++◌, length, reverse, Some, sym, ◌∙◌, ap, subst, arith}
+use Rattle.std.proofs.Common.{◌≡◌, inl, inr, ⊎_elim, ℕ, ◌+◌, ◌-◌, ◌<◌, ◌≤◌, Bool, List, [], ◌∷◌, ◌++◌, length, reverse, Some, sym, ap, subst, arith}
 use Rattle.std.specs.Prelude.{slice_get}
 use Rattle.std.proofs.lemmas.Bool.{cases_eq, cases_lt}
 use Rattle.std.proofs.lemmas.List.{length-reverse}
-use Rattle.std.proofs.lemmas.Option.{same_Some, slice_get_within}
+use Rattle.std.proofs.lemmas.Option.{slice_get_within}
 use Rattle.gix_glob.specs.declared.pattern.Case.{Case}
 use Rattle.glob_lists.specs.Deciding.{PairAnswers}
 use Rattle.gix_glob.specs.EntryLists.{EntryList}
-use Rattle.glob_lists.specs.declared.probe.Probe.{Probe}
-use Rattle.glob_lists.specs.declared.row.Row.{Row}
-use Rattle.glob_lists.specs.Index.{AreMatches, ComesBefore}
-use Rattle.glob_lists.specs.Private.Tables.{AreRows, IsAtPlace}
-use Rattle.glob_lists.specs.Private.Walking.{NonePasses}
-use Rattle.glob_lists.proofs.lemmas.AnsweringRows.{Law, row_answers, row_of_pair}
+use Rattle.glob_lists.specs.Index.{AreMatches, ComesBefore, entry_count}
+use Rattle.glob_lists.specs.Private.Tables.{HasEntryAt, place_at}
+use Rattle.glob_lists.proofs.lemmas.AnsweringRows.{HasEntryAt-answers}
+use Rattle.glob_lists.proofs.lemmas.CountLemmas.{place_within}
 use Rattle.glob_lists.proofs.lemmas.Elements.{slice_get-push_cases, slice_get-push_new, slice_get-push_old, slice_get-reverse, slice_get-reverse_back}
+use Rattle.glob_lists.proofs.lemmas.RowPlaces.{ComesBefore-place, place_at-below, same_place}
 
-module _ {V : Type 0} (lists : List (EntryList V)) (rows : List Row) (path : List ℕ) (is_dir : Bool) (case : Case) where
-  -- the pairs of the rows from place k on that answer, from the last one to the first
+module _ {V : Type 0} (lists : List (EntryList V)) (path : List ℕ) (is_dir : Bool) (case : Case) where
+  -- the pairs that answer of the rows from place k on, from the last one to the first
   pub record AreFoundFrom (k : ℕ) (found : List (ℕ × ℕ)) : Type 0 where
     pub each : (x : ℕ) (pair : ℕ × ℕ) → slice_get found x ≡ Some pair → PairAnswers lists path is_dir case pair.0 pair.1
-    pub later : (x : ℕ) (pair : ℕ × ℕ) → slice_get found x ≡ Some pair → (l : ℕ) × (k ≤ l) × IsAtPlace rows pair.0 pair.1 l
+    pub later : (x : ℕ) (pair : ℕ × ℕ) → slice_get found x ≡ Some pair → k ≤ place_at lists pair.0 pair.1
     pub falling : (x y : ℕ) (a b : ℕ × ℕ) → x < y → slice_get found x ≡ Some a → slice_get found y ≡ Some b → ComesBefore b.0 b.1 a.0 a.1
-    pub all : (l : ℕ) (row : Row) → k ≤ l → slice_get rows l ≡ Some row → PairAnswers lists path is_dir case row.list row.mapping → (x : ℕ) × (slice_get found x ≡ Some (row.list, row.mapping))
+    pub all : (i m : ℕ) → k ≤ place_at lists i m → PairAnswers lists path is_dir case i m → (x : ℕ) × (slice_get found x ≡ Some (i, m))
 
   -- from the last row on nothing is found
-  pub AreFoundFrom-none : (k : ℕ) (found : List (ℕ × ℕ)) → length rows ≤ k → found ≡ [] → AreFoundFrom k found
+  pub AreFoundFrom-none : (k : ℕ) (found : List (ℕ × ℕ)) → entry_count lists ≤ k → found ≡ [] → AreFoundFrom k found
   AreFoundFrom-none k found past none =
       let short : length found ≡ 0 = ap (λ (xs : List (ℕ × ℕ)). length xs) none in record {
         each = λ x pair got. (let inside = slice_get_within found x pair got in absurd (omega arith));
         later = λ x pair got. (let inside = slice_get_within found x pair got in absurd (omega arith));
         falling = λ x y a b less got. (let inside = slice_get_within found x a got in absurd (omega arith));
-        all = λ l row low got. (let inside = slice_get_within rows l row got in absurd (omega arith));
+        all = λ i m low answers. (let within = place_within lists i m (HasEntryAt-answers lists path is_dir case i m answers) in absurd (omega arith));
       }
 
-  pub AreFoundFrom-skip : (probe : Probe) (from to : ℕ) (found : List (ℕ × ℕ)) → from ≤ to → AreRows lists rows → Law lists rows path is_dir case probe → NonePasses rows probe from to → AreFoundFrom to found → AreFoundFrom from found
-  AreFoundFrom-skip probe from to found low are law none h = record {
+  -- from a place on before which none answers up to another one the same is found
+  pub AreFoundFrom-skip : (from to : ℕ) (found : List (ℕ × ℕ)) → from ≤ to → ((i m : ℕ) → from ≤ place_at lists i m → place_at lists i m < to → ¬ PairAnswers lists path is_dir case i m)
+      → AreFoundFrom to found → AreFoundFrom from found
+  AreFoundFrom-skip from to found low none h = record {
     each = h.each;
-    later = λ x pair got. (let l = h.later x pair got in let past = l.1 in (l.0, omega arith, l.2));
+    later = λ x pair got. (let past = h.later x pair got in omega arith);
     falling = h.falling;
-    all = λ l row above got answers. elim (cases_lt l to) [
-      | inl between ↦ absurd (none l row above between got (law row (are.each l row got) answers))
-      | inr past ↦ h.all l row past got answers
+    all = λ i m above answers. elim (cases_lt (place_at lists i m) to) [
+      | inl between ↦ absurd (none i m above between answers)
+      | inr past ↦ h.all i m past answers
     ];
   }
 
-  pub AreFoundFrom-not : (k : ℕ) (row : Row) (found : List (ℕ × ℕ)) → slice_get rows k ≡ Some row → ¬ PairAnswers lists path is_dir case row.list row.mapping → AreFoundFrom (k + 1) found → AreFoundFrom k found
-  AreFoundFrom-not k row found there not h = record {
-    each = h.each;
-    later = λ x pair got. (let l = h.later x pair got in let past = l.1 in (l.0, omega arith, l.2));
-    falling = h.falling;
-    all = λ l other low got answers. ⊎_elim
-        (λ (here : l ≡ k).
-        let same : other ≡ row = same_Some other row (sym got ∙ (ap (slice_get rows) here ∙ there)) in
-        absurd (not (subst (λ (r : Row). PairAnswers lists path is_dir case r.list r.mapping) same answers)))
-        (λ (past : l ≡ k → ⊥). h.all l other (omega arith) got answers)
-        (cases_eq l k);
-  }
+  pub AreFoundFrom-not : (i m : ℕ) (found : List (ℕ × ℕ)) → HasEntryAt lists i m → ¬ PairAnswers lists path is_dir case i m → AreFoundFrom (place_at lists i m + 1) found → AreFoundFrom (place_at lists i m) found
+  AreFoundFrom-not i m found at not h =
+      AreFoundFrom-skip (place_at lists i m) (place_at lists i m + 1) found (omega arith)
+      (λ j n low below answers.
+      let same = same_place lists j n i m (HasEntryAt-answers lists path is_dir case j n answers) at (omega arith) in
+      not (subst (λ (a : ℕ). PairAnswers lists path is_dir case a m) same.0 (subst (λ (b : ℕ). PairAnswers lists path is_dir case j b) same.1 answers))) h
 
-  pub AreFoundFrom-here : (k : ℕ) (row : Row) (found : List (ℕ × ℕ)) → AreRows lists rows → slice_get rows k ≡ Some row → PairAnswers lists path is_dir case row.list row.mapping
-      → AreFoundFrom (k + 1) found → AreFoundFrom k (found ++ (row.list, row.mapping) ∷ [])
-  AreFoundFrom-here k row found are there answers h =
-      let pair : ℕ × ℕ = (row.list, row.mapping) in record {
+  pub AreFoundFrom-here : (i m : ℕ) (found : List (ℕ × ℕ)) → PairAnswers lists path is_dir case i m → AreFoundFrom (place_at lists i m + 1) found → AreFoundFrom (place_at lists i m) (found ++ (i, m) ∷ [])
+  AreFoundFrom-here i m found answers h =
+      let pair : ℕ × ℕ = (i, m) in record {
         each = λ x p got. elim (slice_get-push_cases found pair x p got) [
           | inl old ↦ h.each x p old
           | inr new ↦ subst (λ (q : ℕ × ℕ). PairAnswers lists path is_dir case q.0 q.1) (sym new.1) answers
         ];
         later = λ x p got. elim (slice_get-push_cases found pair x p got) [
-          | inl old ↦ (let l = h.later x p old in let past = l.1 in (l.0, omega arith, l.2))
-          | inr new ↦ (k, omega arith, record { row = row; there = there; list = ap (λ (q : ℕ × ℕ). q.0) (sym new.1); mapping = ap (λ (q : ℕ × ℕ). q.1) (sym new.1) })
+          | inl old ↦ (let past = h.later x p old in omega arith)
+          | inr new ↦ subst (λ (q : ℕ × ℕ). place_at lists i m ≤ place_at lists q.0 q.1) (sym new.1) (omega arith)
         ];
         falling = λ x y a b less got_a got_b. elim (slice_get-push_cases found pair y b got_b) [
           | inl old_b ↦ elim (slice_get-push_cases found pair x a got_a) [
@@ -75,34 +69,32 @@ module _ {V : Type 0} (lists : List (EntryList V)) (rows : List Row) (path : Lis
             | inr new_a ↦ (let inside = slice_get_within found y b old_b in absurd (omega (arith, new_a.0)))
           ]
           | inr new_b ↦ elim (slice_get-push_cases found pair x a got_a) [
-            | inl old_a ↦ (let l = h.later x a old_a in
-                let at = l.2 in
-                let past = l.1 in
-                let first : ComesBefore row.list row.mapping at.row.list at.row.mapping = are.rising k l.0 row at.row (omega arith) there at.there in
-                subst (λ (q : ℕ × ℕ). ComesBefore q.0 q.1 a.0 a.1) (sym new_b.1)
-                (subst (λ (n : ℕ). ComesBefore row.list row.mapping n a.1) at.list (subst (λ (n : ℕ). ComesBefore row.list row.mapping at.row.list n) at.mapping first)))
+            | inl old_a ↦
+                (let past = h.later x a old_a in
+                let below = place_at-below lists a.0 a.1 (HasEntryAt-answers lists path is_dir case a.0 a.1 (h.each x a old_a)) in
+                subst (λ (q : ℕ × ℕ). ComesBefore q.0 q.1 a.0 a.1) (sym new_b.1) (ComesBefore-place lists i m a.0 a.1 (omega arith) (omega arith)))
             | inr new_a ↦ absurd (omega (arith, new_a.0, new_b.0))
           ]
         ];
-        all = λ l other low got others_answers. ⊎_elim
-            (λ (here : l ≡ k).
-            let same : other ≡ row = same_Some other row (sym got ∙ (ap (slice_get rows) here ∙ there)) in
-            (length found, subst (λ (r : Row). slice_get (found ++ pair ∷ []) (length found) ≡ Some (r.list, r.mapping)) (sym same) (slice_get-push_new found pair)))
-            (λ (past : l ≡ k → ⊥). (let x = h.all l other (omega arith) got others_answers in (x.0, slice_get-push_old found pair x.0 (other.list, other.mapping) x.1)))
-            (cases_eq l k);
+        all = λ j n low others_answers. ⊎_elim
+            (λ (here : place_at lists j n ≡ place_at lists i m).
+            let same = same_place lists j n i m (HasEntryAt-answers lists path is_dir case j n others_answers) (HasEntryAt-answers lists path is_dir case i m answers) here in (
+              length found,
+              subst (λ (a : ℕ). slice_get (found ++ pair ∷ []) (length found) ≡ Some (a, n)) (sym same.0)
+                  (subst (λ (b : ℕ). slice_get (found ++ pair ∷ []) (length found) ≡ Some (i, b)) (sym same.1) (slice_get-push_new found pair)),
+            ))
+            (λ (past : place_at lists j n ≡ place_at lists i m → ⊥). (let x = h.all j n (omega arith) others_answers in (x.0, slice_get-push_old found pair x.0 (j, n) x.1)))
+            (cases_eq (place_at lists j n) (place_at lists i m));
       }
 
-  pub AreFoundFrom-all : (found : List (ℕ × ℕ)) → AreRows lists rows → AreFoundFrom 0 found → AreMatches lists path is_dir case (reverse found)
-  AreFoundFrom-all found are h = record {
+  pub AreFoundFrom-all : (found : List (ℕ × ℕ)) → AreFoundFrom 0 found → AreMatches lists path is_dir case (reverse found)
+  AreFoundFrom-all found h = record {
     each = λ x pair got. h.each (length found - 1 - x) pair (slice_get-reverse found x pair got);
     rising = λ x y a b less got_a got_b.
         let inside = slice_get_within (reverse found) y b got_b in
         let long = length-reverse found in
         h.falling (length found - 1 - y) (length found - 1 - x) b a (omega arith) (slice_get-reverse found y b got_b) (slice_get-reverse found x a got_a);
     all = λ i m answers.
-        let k = row_of_pair lists rows path is_dir case i m are answers in
-        let at = k.1 in
-        let x = h.all k.0 at.row (omega arith) at.there (row_answers lists rows path is_dir case i m k.0 at answers) in
-        let pair : (at.row.list, at.row.mapping) ≡ (i, m) = ap (λ (a : ℕ). (a, at.row.mapping)) at.list ∙ ap (λ (b : ℕ). (i, b)) at.mapping in
-        (length found - 1 - x.0, slice_get-reverse_back found x.0 (at.row.list, at.row.mapping) x.1 ∙ ap Some pair);
+        let x = h.all i m (omega arith) answers in
+        (length found - 1 - x.0, slice_get-reverse_back found x.0 (i, m) x.1);
   }

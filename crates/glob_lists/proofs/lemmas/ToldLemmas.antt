@@ -34,8 +34,7 @@ use Rattle.glob_lists.specs.Paths.{Path}
 use Rattle.glob_lists.specs.Private.Reaching.{AnswersWhatIsLeft, IsRowAt}
 use Rattle.glob_lists.specs.Private.Rows.{Asks, length_of}
 use Rattle.glob_lists.specs.Private.Showing.{HasEnd, IsTold, IsToldBy, Shows}
-use Rattle.glob_lists.specs.Private.Tables.{AreRows}
-use Rattle.glob_lists.specs.Private.Walking.{IsNextPair}
+use Rattle.glob_lists.specs.Private.Tables.{AreRows, place_at}
 use Rattle.glob_lists.proofs.lemmas.EndNumbers.{same_lower, without_bytes-shift}
 use Rattle.glob_lists.proofs.lemmas.PrefilterLemmas.{end_of, name_has_no_slash}
 use Rattle.glob_lists.proofs.lemmas.StrippingLemmas.{empty_front, front_ends_in_slash}
@@ -223,34 +222,18 @@ told_answers text pattern_mode base path rest is_dir case row probe folder shows
       };
     }
 
--- The row of the next pair tells of what is left of the path for that pair.
-pub told_of_next : {V : Type 0} (lists : List (EntryList V)) (rows : List Row) (case : Case) (path : Path) (probe : Probe) (place to i m : ℕ) (row : Row) → BasesAreFolders lists → AreRows lists rows
-    → Shows path.bytes probe → IsNextPair rows probe place to (i, m) → slice_get rows place ≡ Some row → IsTold row probe → AnswersWhatIsLeft lists case path (i, m)
-told_of_next {V} lists rows case path probe place to i m row folders are shows next got told =
-    let of = are.each place next.row next.there in
-    let same_row : row ≡ next.row = same_Some row next.row (sym got ∙ next.there) in
+-- The row at the place of a pair asks what its entry does.
+pub row_of_pair : {V : Type 0} (lists : List (EntryList V)) (rows : List Row) (place i m : ℕ) (row : Row) → AreRows lists rows → place ≡ place_at lists i m → slice_get rows place ≡ Some row
+    → IsRowAt lists (i, m) row
+row_of_pair {V} lists rows place i m row are same got =
+    record { each = λ list entry there here. are.each i m entry row (record { list = list; there = there; here = here }) (subst (λ (k : ℕ). slice_get rows k ≡ Some row) same got) }
+
+-- A row that is told tells of what is left of the path for its pair.
+pub told_of_pair : {V : Type 0} (lists : List (EntryList V)) (case : Case) (path : Path) (probe : Probe) (i m : ℕ) (row : Row) → BasesAreFolders lists → Shows path.bytes probe
+    → IsRowAt lists (i, m) row → IsTold row probe → AnswersWhatIsLeft lists case path (i, m)
+told_of_pair {V} lists case path probe i m row folders shows of told =
     record {
       each = λ list entry rest there here left.
-          let same_list : of.there.list ≡ list = same_Some of.there.list list (sym of.there.there ∙ (ap (slice_get lists) (sym next.list) ∙ there)) in
-          let here' : slice_get of.there.list.entries m ≡ Some of.entry = subst (λ (k : ℕ). slice_get of.there.list.entries k ≡ Some of.entry) (sym next.mapping) of.there.here in
-          let same_entry : of.entry ≡ entry =
-          same_Some of.entry entry (sym here' ∙ (ap (λ (l : EntryList V). slice_get l.entries m) same_list ∙ here)) in
           let folder : HasFolder list = subst HasFolder (get_or_from_slice_get lists i list list there) (folders i list (slice_get_within lists i list there)) in
-          told_answers entry.text entry.mode list.base path.bytes rest path.is_dir case next.row probe folder shows
-          (subst (λ (e : Entry V). Asks e.text e.mode next.row) same_entry of.asks) (subst (λ (r : Row). IsTold r probe) same_row told) left;
-    }
-
--- The row of the next pair asks what its entry does.
-pub row_of_next : {V : Type 0} (lists : List (EntryList V)) (rows : List Row) (probe : Probe) (place to i m : ℕ) (row : Row) → AreRows lists rows
-    → IsNextPair rows probe place to (i, m) → slice_get rows place ≡ Some row → IsRowAt lists (i, m) row
-row_of_next {V} lists rows probe place to i m row are next got =
-    let of = are.each place next.row next.there in
-    let same_row : row ≡ next.row = same_Some row next.row (sym got ∙ next.there) in
-    record {
-      each = λ list entry there here.
-          let same_list : of.there.list ≡ list = same_Some of.there.list list (sym of.there.there ∙ (ap (slice_get lists) (sym next.list) ∙ there)) in
-          let here' : slice_get of.there.list.entries m ≡ Some of.entry = subst (λ (k : ℕ). slice_get of.there.list.entries k ≡ Some of.entry) (sym next.mapping) of.there.here in
-          let same_entry : of.entry ≡ entry =
-          same_Some of.entry entry (sym here' ∙ (ap (λ (l : EntryList V). slice_get l.entries m) same_list ∙ here)) in
-          subst (λ (r : Row). Asks entry.text entry.mode r) (sym same_row) (subst (λ (e : Entry V). Asks e.text e.mode next.row) same_entry of.asks);
+          told_answers entry.text entry.mode list.base path.bytes rest path.is_dir case row probe folder shows (of.each list entry there here) told left;
     }

@@ -11,7 +11,8 @@ use Rattle.gix_glob.specs.declared.pattern.Case.TheVariants.{Sensitive, Fold}
 use Rattle.gix_glob.specs.Entries.{Entry}
 use Rattle.gix_glob.specs.EntryLists.{EntryList}
 use Rattle.gix_glob.specs.Stripping.{Rest, RestOf, folding_by}
-use Rattle.glob_lists.proofs.lemmas.CountLemmas.{entry_count-more_le}
+use Rattle.glob_lists.proofs.lemmas.CountLemmas.{entry_count-more_le, place_within}
+use Rattle.glob_lists.proofs.lemmas.Elements.{slice_get-inside}
 use Rattle.glob_lists.proofs.lemmas.RowLemmas.{rows_count}
 use Rattle.glob_lists.specs.declared.row.Row.{Row}
 use Rattle.glob_lists.specs.Deciding.{PairAnswers}
@@ -20,7 +21,7 @@ use Rattle.glob_lists.specs.Private.Folders.{base_at, base_of, base_text}
 use Rattle.glob_lists.specs.Private.Fronts.{Begins, folded_at}
 use Rattle.glob_lists.specs.Private.Rows.{Asks}
 use Rattle.glob_lists.specs.Private.Showing.{Shows}
-use Rattle.glob_lists.specs.Private.Tables.{AreRows, IsAtPlace, IsEntryAt}
+use Rattle.glob_lists.specs.Private.Tables.{AreRows, IsEntryAt}
 use Rattle.glob_lists.specs.Private.Walking.{NonePasses}
 use Rattle.glob_lists.specs.Private.Ways.{IsPastAnswers}
 use Rattle.glob_lists.proofs.lemmas.PrefilterLemmas.{AnsweringPasses}
@@ -65,31 +66,19 @@ Begins-answers {V} lists path is_dir case i m h =
 
 module _ {V : Type 0} (lists : List (EntryList V)) (rows : List Row) (are : AreRows lists rows) (i m first : ℕ) (entry : Entry V) (there : IsEntryAt lists i m entry)
     (begins : first ≡ entry_count (take i lists)) where
-  pub row_at : IsAtPlace rows i m (first + m)
-  row_at =
-      let found = are.all i m (entry, there) (inl (slice_get_within lists i there.list there.there)) in
-      let at = found.1 in
-      let counted = are.places found.0 at.row at.there in
-      let before : entry_count (take at.row.list lists) ≡ entry_count (take i lists) = ap (λ (j : ℕ). entry_count (take j lists)) at.list in
-      let mapping = at.mapping in
-      let place : found.0 ≡ first + m = omega arith in
-      subst (λ (k : ℕ). IsAtPlace rows i m k) place at
-
   pub row_within : first + m < length rows
-  row_within = (let at = row_at in slice_get_within rows (first + m) at.row at.there)
+  row_within =
+      let within = place_within lists i m (entry, there) in
+      let many = rows_count lists rows are in
+      omega arith
+
+  -- some row stands at that place
+  pub row_at : (row : Row) × (slice_get rows (first + m) ≡ Some row)
+  row_at = slice_get-inside rows (first + m) row_within
 
   -- the row at that place asks for what the entry does
   pub row_asks : (row : Row) → slice_get rows (first + m) ≡ Some row → Asks entry.text entry.mode row
-  row_asks row got =
-      let at = row_at in
-      let is : at.row ≡ row = same_Some at.row row (sym at.there ∙ got) in
-      let of = are.each (first + m) row got in
-      let list_is : row.list ≡ i = ap (λ (r : Row). r.list) (sym is) ∙ at.list in
-      let mapping_is : row.mapping ≡ m = ap (λ (r : Row). r.mapping) (sym is) ∙ at.mapping in
-      let here : IsEntryAt lists i m of.entry = subst (λ (j : ℕ). IsEntryAt lists j m of.entry) list_is (subst (λ (n : ℕ). IsEntryAt lists row.list n of.entry) mapping_is of.there) in
-      let list_same : here.list ≡ there.list = same_Some here.list there.list (sym here.there ∙ there.there) in
-      let entry_same : of.entry ≡ entry = same_Some of.entry entry (sym here.here ∙ (ap (λ (l : EntryList V). slice_get l.entries m) list_same ∙ there.here)) in
-      subst (λ (e : Entry V). Asks e.text e.mode row) entry_same of.asks
+  row_asks row got = are.each i m entry row there (subst (λ (k : ℕ). slice_get rows (k + m) ≡ Some row) begins got)
 
 -- the row of each entry of a list is within the rows
 pub row_inside : {V : Type 0} (lists : List (EntryList V)) (rows : List Row) → AreRows lists rows → (i m first : ℕ) (list : EntryList V) → slice_get lists i ≡ Some list → m < length list.entries
@@ -118,10 +107,10 @@ IsPastAnswers-passed {V} lists rows are path is_dir case probe law shows i first
       let under = answers.answers.answers in
       let here : IsEntryAt lists i m entry = record { list = answers.list; there = answers.there; here = answers.answers.there } in
       let at = row_at lists rows are i m first entry here begins in
-      let asks = row_asks lists rows are i m first entry here begins at.row at.there in
+      let asks = row_asks lists rows are i m first entry here begins at.0 at.1 in
       let same : answers.list ≡ list = same_Some answers.list list (sym answers.there ∙ there) in
       let inside = slice_get_within answers.list.entries m entry answers.answers.there in
       let long : length answers.list.entries ≡ length list.entries = ap (λ (l : EntryList V). length l.entries) same in
-      none (first + m) at.row (omega arith) (omega arith) at.there
-      (law entry.text entry.mode answers.list.base path under.rest is_dir case at.row probe shows asks under.left under.answers);
+      none (first + m) at.0 (omega arith) (omega arith) at.1
+      (law entry.text entry.mode answers.list.base path under.rest is_dir case at.0 probe shows asks under.left under.answers);
 }

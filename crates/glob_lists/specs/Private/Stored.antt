@@ -21,8 +21,6 @@ abbrev pub row_of : StoredRow → Row
 row_of row = record {
   asked = row.asked;
   before = row.before;
-  list = 0;
-  mapping = 0;
   class = class_of row;
   spare = spare_bits row.length;
   part = if row.is_name == 0 then Path else Name;

@@ -39,11 +39,8 @@ pub record IsWalk (has : List (Option (ℕ × ℕ))) (number : ℕ) (walk : Walk
 abbrev pub NonePasses : List Row → Probe → ℕ → ℕ → Type 0
 NonePasses rows probe from to = (m : ℕ) (row : Row) → from ≤ m → m < to → slice_get rows m ≡ Some row → ¬ Passes row probe
 
--- The pair is that of the row at this place, and from there up to `end` no row passes.
-pub record IsNextPair (rows : List Row) (probe : Probe) (place end : ℕ) (pair : ℕ × ℕ) : Type 0 where
-  pub row : Row
-  pub there : slice_get rows place ≡ Some row
-  pub list : pair.0 ≡ row.list
-  pub mapping : pair.1 ≡ row.mapping
-  pub below : place < end
-  pub between : NonePasses rows probe (place + 1) end
+-- The place is the one that was come to, and from there up to `end` no other row passes.
+pub record IsNextRow (rows : List Row) (probe : Probe) (passed_from end place : ℕ) : Type 0 where
+  pub here : place ≡ passed_from
+  pub below : passed_from < end
+  pub between : NonePasses rows probe (passed_from + 1) end

@@ -5,16 +5,8 @@ use Rattle.gix_glob.specs.Entries.{entry_of}
 use Rattle.gix_glob.specs.EntryLists.{entry_list_of}
 use Rattle.glob_lists.specs.Private.Tables.{AreRowsUpTo}
 use Rattle.gix_glob.proofs.lemmas.Elements.{slice_get-map_at}
-use Rattle.glob_lists.proofs.lemmas.CountLemmas.{place_fits}
 use Rattle.glob_lists.proofs.lemmas.RowLemmas.{rows_more, rows_of_list}
 use Rattle.glob_lists.proofs.index.add_list.Goals as goal
-
-pub overflow_cast-m : goal.overflow_cast-m
-overflow_cast-m g c =
-    let held = get_or c.args.lists.now c.args.i c.index-lists-i.result in
-    let held_is = get_or_default c.args.lists.now c.args.i c.index-lists-i.result held c.requires.inside in
-    let within : c.mappings.m < length held.patterns.items = omega (arith, ap length c.as_slice-mappings.ensures.value) in
-    omega (arith, place_fits g.T.Pattern.seen c.args.lists.now c.args.i held c.requires.inside held_is c.mappings.m c.requires.fits within)
 
 pub mappings-preserved : goal.mappings-preserved
 mappings-preserved g c =
@@ -22,7 +14,7 @@ mappings-preserved g c =
     let held_is = get_or_default c.args.lists.now c.args.i c.index-lists-i.result held c.requires.inside in
     let within : c.mappings.m < length held.patterns.items = omega (arith, ap length c.as_slice-mappings.ensures.value) in
     let is = rw c.as_slice-mappings.ensures.value at c.index-mappings-m.is in
-    let asks = rw (← c.index-mappings-m.is) at c.new.ensures.asks in
+    let asks = rw (← c.index-mappings-m.is) at c.new.ensures in
     subst (AreRowsUpTo (map (entry_list_of g.T.Pattern.seen) c.args.lists.now) c.args.i (c.mappings.m + 1)) (sym c.in_ok-push.ensures.items)
     (rows_more (map (entry_list_of g.T.Pattern.seen) c.args.lists.now) c.mappings.rows.items c.new.result c.args.i c.mappings.m (entry_of g.T.Pattern.seen c.index-mappings-m.result)
     c.mappings.invariant
@@ -31,8 +23,7 @@ mappings-preserved g c =
       there = slice_get-map_at (entry_list_of g.T.Pattern.seen) c.args.lists.now c.args.i held c.requires.inside held_is;
       here = slice_get-map_at (entry_of g.T.Pattern.seen) held.patterns.items c.mappings.m c.index-mappings-m.result within is;
     })
-    asks
-    (omega (arith, c.new.ensures.list)) (omega (arith, c.new.ensures.mapping)))
+    asks)
 
 pub returns : goal.returns
 returns g c =

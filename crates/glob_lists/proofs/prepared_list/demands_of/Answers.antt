@@ -16,7 +16,7 @@ mappings-preserved g c =
     let within : c.mappings.m < length c.args.list.now.patterns.items = omega (arith, c.mappings-test.true, ap length c.as_slice-mappings.ensures.value) in
     let is = rw c.as_slice-mappings.ensures.value at c.index-mappings-m.is in
     let here : slice_get entries c.mappings.m ≡ Some (entry_of g.T.Pattern.seen c.index-mappings-m.result) = slice_get-map_at (entry_of g.T.Pattern.seen) c.args.list.now.patterns.items c.mappings.m c.index-mappings-m.result within is in
-    let asks = subst (λ mapping. Asks (text_of mapping.pattern) (mode_of mapping.pattern) c.new.result) (sym c.index-mappings-m.is) c.new.ensures.asks in record {
+    let asks = subst (λ mapping. Asks (text_of mapping.pattern) (mode_of mapping.pattern) c.new.result) (sym c.index-mappings-m.is) c.new.ensures in record {
       many = omega (arith, ap length c.in_ok-push.ensures.items, length-append c.mappings.rows.items (c.new.result ∷ []), c.mappings.invariant.many);
       each = subst (AskInOrder entries) (sym c.in_ok-push.ensures.items)
           (AskInOrder-more entries c.mappings.rows.items c.mappings.m (entry_of g.T.Pattern.seen c.index-mappings-m.result) c.new.result c.mappings.invariant.many here asks c.mappings.invariant.each);

@@ -6,7 +6,7 @@ use Rattle.glob_lists.specs.Private.Reaching.{HasRest}
 use Rattle.glob_lists.specs.Private.Spending.{looks_from, steps_from}
 use Rattle.glob_lists.specs.Private.Walking.{IsWalk}
 use Rattle.glob_lists.proofs.lemmas.AnsweringRows.{NoneAnswers}
-use Rattle.glob_lists.proofs.lemmas.CandidateLemmas.{AreBefore}
+use Rattle.glob_lists.proofs.lemmas.CandidateLemmas.{AreBefore, IsNear}
 use Rattle.glob_lists.proofs.index.ListIndex.decide_by_table.Given as goal
 
 -- No row that was passed answers, and each was asked at most once. What was counted is what the pairs that were asked may take, what
@@ -14,8 +14,9 @@ use Rattle.glob_lists.proofs.index.ListIndex.decide_by_table.Given as goal
 abbrev pub invariant-candidates : goal.invariant-candidates
 invariant-candidates g l = record {
   walk : IsWalk (ends_of l.chained.rows.now) l.probe.end l.walk;
-  none : NoneAnswers (map (entry_list_of g.T.Pattern.seen) l.self.lists) l.chained.rows.now l.path.bytes l.path.is_dir l.self.case l.walk.passed_from;
-  before : AreBefore l.chained.rows.now l.walk.passed_from l.reached.pair;
+  none : NoneAnswers (map (entry_list_of g.T.Pattern.seen) l.self.lists) l.path.bytes l.path.is_dir l.self.case l.walk.passed_from;
+  before : AreBefore (map (entry_list_of g.T.Pattern.seen) l.self.lists) l.walk.passed_from l.reached.pair;
+  near : IsNear (map (entry_list_of g.T.Pattern.seen) l.self.lists) l.walk.passed_from l.near;
   rest : HasRest (map (entry_list_of g.T.Pattern.seen) l.self.lists) l.self.case l.path l.reached;
   counted : l.asked + l.walk.passed_from ≤ length l.chained.rows.now;
   grows : NeverFall l.fn.counts l.counts;

@@ -22,6 +22,7 @@ invariant_of-result g c =
           chained = c.in_ok-table.ensures.chained;
         };
       };
+      begins = c.in_ok-firsts.ensures;
       foldered = tt;
       headed = tt;
       seen = tt;
@@ -51,6 +52,7 @@ invariant_of-result-2 g c =
           chained = c.in_ok-table.ensures.chained;
         };
       };
+      begins = c.in_ok-firsts.ensures;
       foldered = (rw c.in-Some.is at c.in_ok-folders.ensures).0;
       headed = (rw c.in-Some.is at c.in_ok-folders.ensures).1;
       seen = rw c.rows.ensures at (rw c.deref.ensures.value at c.in_ok-sights.ensures);

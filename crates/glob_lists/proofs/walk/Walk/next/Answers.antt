@@ -1,5 +1,5 @@
 -- Rows without an end are passed over as long as they come after all others, and then the latest row of an end is met.
-use Rattle.std.proofs.Common.{ap, refl, arith}
+use Rattle.std.proofs.Common.{◌≡◌, ◌-◌, ap, refl, arith}
 use Rattle.std.proofs.lemmas.Bool.{iff_false}
 use Rattle.std.proofs.lemmas.Option.{slice_get-get_or}
 use Rattle.glob_lists.specs.declared.chains.Class.TheVariants.{Always}
@@ -14,7 +14,7 @@ use Rattle.glob_lists.proofs.walk.Walk.next.Goals as goal
 
 -- what stands for a row that isn't there
 abbrev blank : Row
-blank = record { asked = 0; before = record { 0 = 0 }; list = 0; mapping = 0; class = Always; spare = 0; part = Path }
+blank = record { asked = 0; before = record { 0 = 0 }; class = Always; spare = 0; part = Path }
 
 pub others-init : goal.others-init
 others-init g c = record { same = refl; passed = HasPassedTo-start c.args.rows.now c.args.probe.now c.args.self.now c.args.counts.now c.requires.walk }
@@ -26,9 +26,10 @@ returns-then-needs_none_of-clause-walk g c =
     let place = c.in_ok-place.place in
     let passed = c.others.invariant.passed in
     let within = other_within rows c.args.probe.now walk c.args.counts.now c.others.counts c.others.other passed c.requires.linked place c.in_ok-place.ensures in
-    rw c.others.invariant.same (rw c.before-other.ensures
+    let anew : place ≡ c.number-met.result - 1 = omega (arith, c.in_ok-place.ensures, c.number-met.ensures) in
+    rw c.others.invariant.same (rw (← anew) (rw c.before-self.ensures
     (other_passed rows c.args.probe.now walk c.args.counts.now c.others.counts c.others.other passed c.requires.linked place _ (slice_get-get_or rows place blank within)
-    (c.is_after.ensures.0 c.others-test.true) c.in_ok-place.ensures))
+    (c.is_after.ensures.0 c.others-test.true) c.in_ok-place.ensures)))
 
 pub returns-then-needs_none_of-clause-next : goal.returns-then-needs_none_of-clause-next
 returns-then-needs_none_of-clause-next g c =
@@ -38,7 +39,9 @@ returns-then-needs_none_of-clause-next g c =
     let passed = c.others.invariant.passed in
     let within = other_within rows c.args.probe.now walk c.args.counts.now c.others.counts c.others.other passed c.requires.linked place c.in_ok-place.ensures in
     let there = slice_get-get_or rows place blank within in
-    let first = c.is_after.ensures.0 c.others-test.true in (
+    let first = c.is_after.ensures.0 c.others-test.true in
+    let anew : place ≡ c.number-met.result - 1 = omega (arith, c.in_ok-place.ensures, c.number-met.ensures) in
+    rw (← anew) (
       other_below rows c.args.probe.now walk c.args.counts.now c.others.counts c.others.other passed c.requires.linked place _ there first c.in_ok-place.ensures,
       refl,
       none_above_other rows c.args.probe.now walk c.args.counts.now c.others.counts c.others.other passed c.requires.linked place _ there first c.in_ok-place.ensures,

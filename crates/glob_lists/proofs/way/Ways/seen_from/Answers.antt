@@ -37,7 +37,7 @@ folders-preserved g c =
           let under = answers.answers.answers in
           let there : IsEntryAt lists folder.list m entry = record { list = answers.list; there = answers.there; here = answers.answers.there } in
           let at = row_at lists rows c.requires.rows folder.list m folder.first_row entry there of.first in
-          let asks = row_asks lists rows c.requires.rows folder.list m folder.first_row entry there of.first at.row at.there in
-          c.is_passed_over.ensures c.if-not-is_passed_over.false folder got m entry there at.row at.there asks
-          (c.answering_patterns_pass.ensures entry.text entry.mode answers.list.base path under.rest is_dir case at.row c.args.probe.now shows asks under.left under.answers)));
+          let asks = row_asks lists rows c.requires.rows folder.list m folder.first_row entry there of.first at.0 at.1 in
+          c.is_passed_over.ensures c.if-not-is_passed_over.false folder got m entry there at.0 at.1 asks
+          (c.answering_patterns_pass.ensures entry.text entry.mode answers.list.base path under.rest is_dir case at.0 c.args.probe.now shows asks under.left under.answers)));
     }
