@@ -161,12 +161,7 @@ impl Probe {
         ensures { Lacks self.now result }
     {
         Lacking {
-            sets: [
-                !self.bytes,
-                !self.name_bytes,
-                !self.name_bytes,
-                !self.bytes,
-            ],
+            sets: [!self.bytes, !self.name_bytes, !self.name_bytes, !self.bytes],
         }
     }
 

@@ -26,7 +26,7 @@ inside_answers answer text path mode is_dir start found basename exact =
     let value : List ℕ = subject mode path start in
     let bare : has_slash value ≡ false = has_no_slash value (name_has_no_slash mode path start found.name basename) in
     let splits = inside_exact answer text value path_mode found.shape (ap not bare)
-        (subst (λ (v : List ℕ). IsTrue answer ↔ HasInside path_mode v text) (subject_is_name mode path start found.name) exact) in
+    (subst (λ (v : List ℕ). IsTrue answer ↔ HasInside path_mode v text) (subject_is_name mode path start found.name) exact) in
     AnswersFor-tested text mode path is_dir Sensitive start basename answer (
       λ yes. record { directory = λ only. absurd (false≢true (sym found.all ∙ only)); splits = splits.0 yes },
       λ answers. splits.1 answers.splits,

@@ -7,12 +7,11 @@ use Rattle.std.proofs.Math.Seq.{drop-append_seam}
 use Rattle.std.proofs.lemmas.Bool.{cases_eq, cases_lt, false≢true, false_from_ne_true, or_parts}
 use Rattle.std.proofs.lemmas.List.{drop-drop, get_or-drop, get_or_default}
 use Rattle.std.proofs.lemmas.List.Folds.{list_any_none}
-use Rattle.std.proofs.lemmas.Option.{get_or_from_slice_get, same_Some, slice_get_within}
+use Rattle.std.proofs.lemmas.Option.{get_or_from_slice_get, slice_get_within}
 use Rattle.gix_glob.specs.declared.pattern.Case.{Case}
 use Rattle.gix_glob.specs.declared.pattern.Mode as pattern
 use Rattle.gix_glob.specs.declared.wildmatch.Mode as wildmatch
 use Rattle.gix_glob.specs.Bytes.{EndsInSlash, HasByte, fold, has_slash, is_special, slash, star}
-use Rattle.gix_glob.specs.Entries.{Entry}
 use Rattle.gix_glob.specs.EntryLists.{EntryList}
 use Rattle.gix_glob.specs.LiteralBytes.{is_joining}
 use Rattle.gix_glob.specs.Matching.{Splits}

@@ -1,5 +1,5 @@
 -- A literal between two stars is looked for, and takes no more looks than a test.
-use Rattle.std.proofs.Common.{◌≡◌, ◌↔◌, ◌∙◌, ◌≤◌, ◌+◌, ◌*◌, ℕ, IsTrue, List, ap, length, subst, sym, arith}
+use Rattle.std.proofs.Common.{◌≡◌, ◌↔◌, ◌∙◌, ℕ, IsTrue, List, ap, length, subst, sym, arith}
 use Rattle.gix_glob.specs.declared.pattern.Case.{Case}
 use Rattle.glob_patterns.specs.Private.Insides.{HasInside}
 use Rattle.glob_lists.specs.Deciding.{AnswersFor, path_mode}
