@@ -54,7 +54,9 @@ fn sorted(alloc: Global, rows: &[Row]) -> Result<Vec<Entry>, AllocError> {
     let mut from: usize = 0;
     'runs: while from < order.len() {
         let to = run_end(&order, from);
-        order[from..to].sort_unstable_by_key(|entry: &Entry| entry.place);
+        if to > from + 1 {
+            order[from..to].sort_unstable_by_key(|entry: &Entry| entry.place);
+        }
         from = to;
     }
     Ok(order)
@@ -115,12 +117,7 @@ fn starts_of(rows: &[Row], ends: &[End]) -> [u32; STARTS]
 fn are_all(met: &[bool]) -> bool
     ensures { IsTrue result → (place : ℕ) → place < length met.now → slice_get met.now place ≡ Some true }
 {
-    'all: for it in met {
-        if !*it {
-            return false;
-        }
-    }
-    true
+    !met.contains(&false)
 }
 
 /// What was chained so far.

@@ -41,16 +41,26 @@ pub(crate) fn literal_end(text: &[u8]) -> usize
     ensures short { result ≤ LONGEST_END }
     ensures literal { EndsLiterally text.now result }
 {
-    // a fixed number of turns, so that none is counted
-    'bytes: for n in 0..LONGEST_END {
-        if n >= text.len() {
-            return n;
-        }
+    // one test of the length, and a fixed number of turns, where there are as many bytes
+    if text.len() >= LONGEST_END {
+        return literal_among(text, LONGEST_END);
+    }
+    literal_among(text, text.len())
+}
+
+/// How many bytes at the end of a text stand for themselves, among so many.
+#[inline(always)]
+fn literal_among(text: &[u8], most: usize) -> usize
+    requires inside { most ≤ length text.now }
+    ensures short { result ≤ most }
+    ensures literal { EndsLiterally text.now result }
+{
+    'bytes: for n in 0..most {
         if is_joining(text[text.len() - (n + 1)]) {
             return n;
         }
     }
-    LONGEST_END
+    most
 }
 
 /// The number that the last bytes of a text make, as many as `count` says: letters of both cases are one.

@@ -102,7 +102,7 @@ fn is_told_by_end(pattern: PatternView<'_>, length: usize) -> bool
     requires { EndsLiterally pattern.text.now length }
     ensures { IsTrue result → IsToldByEnd pattern.entry.text.now pattern.entry.mode length }
 {
-    looks_at_any_name(pattern.mode) && is_star_and_end(pattern.text, length)
+    is_star_and_end(pattern.text, length) && looks_at_any_name(pattern.mode)
 }
 
 /// Whether a text is a star and so many last bytes, of which none is a capital letter.
