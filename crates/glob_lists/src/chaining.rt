@@ -22,7 +22,7 @@ pub(crate) fn chain(alloc: Global, rows: &mut [Row]) -> Result<Option<Ends>, All
         always: Link::NONE,
         met: Vec::from_elem(alloc, false, rows.len())?,
     };
-    'entries: for entry in order.as_slice() {
+    'entries: for entry in order.entries.as_slice() {
         if !chains.add(rows, entry.place)? {
             return Ok(None);
         }
@@ -34,6 +34,7 @@ pub(crate) fn chain(alloc: Global, rows: &mut [Row]) -> Result<Option<Ends>, All
     Ok(Some(Ends {
         all: chains.ends,
         starts,
+        most: order.most,
         always: chains.always,
     }))
 }
@@ -47,19 +48,31 @@ struct Entry {
     place: usize,
 }
 
+/// Rows that were put in order.
+#[derive(Debug, Drop)]
+struct Order {
+    entries: Vec<Entry>,
+    /// The most rows that have one end.
+    most: usize,
+}
+
 /// The rows in the order of their ends, first those without one; rows with the same end stay as they stand.
-fn sorted(alloc: Global, rows: &[Row]) -> Result<Vec<Entry>, AllocError> {
-    let mut order = entries_of(alloc, rows)?;
-    order.sort_unstable_by_key(|entry: &Entry| entry.number);
+fn sorted(alloc: Global, rows: &[Row]) -> Result<Order, AllocError> {
+    let mut entries = entries_of(alloc, rows)?;
+    entries.sort_unstable_by_key(|entry: &Entry| entry.number);
+    let mut most: usize = 1;
     let mut from: usize = 0;
-    'runs: while from < order.len() {
-        let to = run_end(&order, from);
+    'runs: while from < entries.len() {
+        let to = run_end(&entries, from);
         if to > from + 1 {
-            order[from..to].sort_unstable_by_key(|entry: &Entry| entry.place);
+            entries[from..to].sort_unstable_by_key(|entry: &Entry| entry.place);
+            if entries[from].number > 0 {
+                most = most.max(to - from);
+            }
         }
         from = to;
     }
-    Ok(order)
+    Ok(Order { entries, most })
 }
 
 /// The rows as they stand.

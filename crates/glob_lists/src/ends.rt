@@ -25,6 +25,8 @@ pub(crate) struct Ends {
     pub(crate) all: Vec<End>,
     /// Where those begin whose last byte is at least this one. It isn't believed.
     pub(crate) starts: [u32; STARTS],
+    /// The most rows that have one end. It isn't believed.
+    pub(crate) most: usize,
     /// The last row without an end.
     pub(crate) always: Link,
 }

@@ -1,8 +1,9 @@
 //! What of a path a pattern looks at.
-ghost use Rattle.std.specs.Prelude.{◌≡◌, ◌≢◌, ◌<◌, IsTrue, false, true};
+ghost use Rattle.std.specs.Prelude.{◌≡◌, ◌≢◌, ◌+◌, ◌<◌, ◌≤◌, IsTrue, false, length, true};
+ghost use Rattle.gix_glob.specs.Bytes.{HasByte, star};
 ghost use Rattle.gix_glob.specs.Patterns.{is_for_directories, looks_at_name};
 ghost use Rattle.glob_lists.specs.Private.Literals.{EndsLiterally};
-ghost use Rattle.glob_lists.specs.Private.Parts.{IsFoundInside, IsStarAndEnd, IsToldByEnd, is_name, place_of};
+ghost use Rattle.glob_lists.specs.Private.Parts.{IsFoundInside, IsToldByEnd, is_name, place_of};
 
 use crate::inside::is_between_stars;
 use crate::literals::has_no_capital;
@@ -102,13 +103,16 @@ fn is_told_by_end(pattern: PatternView<'_>, length: usize) -> bool
     requires { EndsLiterally pattern.text.now length }
     ensures { IsTrue result → IsToldByEnd pattern.entry.text.now pattern.entry.mode length }
 {
-    is_star_and_end(pattern.text, length) && looks_at_any_name(pattern.mode)
+    is_star_before(pattern.text, length)
+        && looks_at_any_name(pattern.mode)
+        && has_no_capital(pattern.text, length)
 }
 
-/// Whether a text is a star and so many last bytes, of which none is a capital letter.
-fn is_star_and_end(text: &[u8], length: usize) -> bool
-    requires { EndsLiterally text.now length }
-    ensures { IsTrue result → IsStarAndEnd text.now length }
+/// Whether a text is a star and so many last bytes.
+fn is_star_before(text: &[u8], count: usize) -> bool
+    requires { count ≤ length text.now }
+    ensures star { IsTrue result → HasByte text.now 0 star }
+    ensures long { IsTrue result → length text.now ≡ count + 1 }
 {
-    text.len() - length == 1 && text[0] == b'*' && has_no_capital(text, length)
+    text.len() - count == 1 && text[0] == b'*'
 }

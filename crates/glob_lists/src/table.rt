@@ -8,6 +8,7 @@ ghost use Rattle.glob_lists.specs.Private.Walking.{IsNextRow, IsWalk, NonePasses
 use crate::chaining::chain;
 use crate::chains::{CLASSES, Class};
 use crate::ends::Ends;
+use crate::literals::LONGEST_END;
 use crate::path::RepositoryPath;
 use crate::probe::Probe;
 use crate::row::Row;
@@ -27,6 +28,8 @@ pub(crate) struct Table {
     ends: Option<Ends>,
     /// How many rows each class has.
     counts: [u32; CLASSES],
+    /// How many rows have an end of one path at most.
+    most_own: usize,
 }
 
 impl Table {
@@ -38,7 +41,13 @@ impl Table {
     {
         let ends = chain(alloc, &mut rows)?;
         let counts = counts_of(&rows);
-        Ok(Table { rows, ends, counts })
+        let most_own = most_of(&ends);
+        Ok(Table {
+            rows,
+            ends,
+            counts,
+            most_own,
+        })
     }
 
     /// How many rows there are.
@@ -56,11 +65,11 @@ impl Table {
         &self.rows
     }
 
-    /// How many rows a path meets that ends in this byte.
+    /// How many rows a path meets at most that ends in this byte.
     pub(crate) fn met(&self, last: u8) -> usize {
         let own = self.counts[Class::EndsIn(last.to_ascii_lowercase()).place()] as usize;
         let other = self.counts[Class::Always.place()] as usize;
-        own.saturating_add(other)
+        own.min(self.most_own).saturating_add(other)
     }
 
     /// Whether a path that ends in this byte meets at most half of the rows, and there are enough rows for that to pay.
@@ -142,6 +151,14 @@ impl<'a> Chained<'a> {
         ensures looks { LooksUpTo counts.old counts.new (walk.old.passed_from - walk.new.passed_from) }
     {
         walk.next(self.rows, probe, counts)
+    }
+}
+
+/// How many rows have an end of one path at most: a path has as many ends as the longest one has bytes.
+fn most_of(ends: &Option<Ends>) -> usize {
+    match ends {
+        Some(ends) => ends.most.saturating_mul(LONGEST_END),
+        None => usize::MAX,
     }
 }
 
