@@ -11,13 +11,6 @@ use Rattle.glob_lists.proofs.lemmas.CountLemmas.{entry_count-more}
 use Rattle.glob_lists.proofs.lemmas.Elements.{slice_get-inside, slice_get-push_cases}
 
 module _ {V : Type 0} (lists : List (EntryList V)) where
-  pub AreFirstsUpTo-none : (firsts : List ℕ) → firsts ≡ [] → AreFirstsUpTo lists 0 firsts
-  AreFirstsUpTo-none firsts none =
-      let short : length firsts ≡ 0 = ap (λ (xs : List ℕ). length xs) none in record {
-        many = short;
-        each = λ i first got. (let inside = slice_get_within firsts i first got in absurd (omega arith));
-      }
-
   pub AreFirstsUpTo-more : (firsts : List ℕ) (j added : ℕ) → added ≡ entry_count (take j lists) → AreFirstsUpTo lists j firsts → AreFirstsUpTo lists (j + 1) (firsts ++ added ∷ [])
   AreFirstsUpTo-more firsts j added is h = record {
     many = omega (arith, h.many, length-append firsts (added ∷ []));

@@ -1,13 +1,13 @@
 -- Patterns that are told by their end: a star and a literal match where the path has the literal's bytes at its end.
 use Rattle.std.proofs.Common.{◌≡◌, ◌⊎◌, inl, inr, ⊎_elim, ℕ, zero, suc, ◌+◌, ◌-◌, ◌*◌, ◌%◌, ◌<◌, ◌≤◌, Bool, IsTrue, true, false, ◌==◌, List, [], ◌∷◌, ◌++◌, length, get_or, drop, Option, None, Some, refl, sym, ◌∙◌, ap, subst, arith, length-drop, length-append, append_assoc, if◌then◌else◌, eqb-true}
-use Rattle.std.specs.Prelude.{slice_get}
+use Rattle.std.specs.Prelude.{slice_get, slice_index_or}
 use Rattle.std.specs.List.{list_any}
 use Rattle.std.specs.Option.{ForSome}
 use Rattle.std.proofs.Math.Seq.{drop-append_seam}
 use Rattle.std.proofs.lemmas.Bool.{cases_eq, cases_lt, false≢true, false_from_ne_true, or_parts}
 use Rattle.std.proofs.lemmas.List.{drop-drop, get_or-drop, get_or_default}
 use Rattle.std.proofs.lemmas.List.Folds.{list_any_none}
-use Rattle.std.proofs.lemmas.Option.{get_or_from_slice_get, slice_get_within}
+use Rattle.std.proofs.lemmas.Option.{get_or_from_slice_get, slice_get-get_or, slice_get_within}
 use Rattle.gix_glob.specs.declared.pattern.Case.{Case}
 use Rattle.gix_glob.specs.declared.pattern.Mode as pattern
 use Rattle.gix_glob.specs.declared.wildmatch.Mode as wildmatch
@@ -27,6 +27,7 @@ use Rattle.glob_lists.specs.declared.part.Part.{Part}
 use Rattle.glob_lists.specs.declared.part.Part.TheVariants as variants
 use Rattle.glob_lists.specs.declared.probe.Probe.{Probe}
 use Rattle.glob_lists.specs.declared.row.Row.{Row}
+use Rattle.glob_lists.specs.Private.Ends.{ends_of}
 use Rattle.glob_lists.specs.Private.Literals.{EndsLiterally, end_key, from_end}
 use Rattle.glob_lists.specs.Private.Parts.{IsPlainEnd, IsToldByEnd}
 use Rattle.glob_lists.specs.Paths.{Path}
@@ -34,9 +35,11 @@ use Rattle.glob_lists.specs.Private.Reaching.{AnswersWhatIsLeft, IsRowAt}
 use Rattle.glob_lists.specs.Private.Rows.{Asks, length_of}
 use Rattle.glob_lists.specs.Private.Showing.{HasEnd, IsTold, IsToldBy, Shows}
 use Rattle.glob_lists.specs.Private.Tables.{AreRows, place_at}
+use Rattle.glob_lists.specs.Private.Walking.{IsNextRow}
 use Rattle.glob_lists.proofs.lemmas.EndNumbers.{same_lower, without_bytes-shift}
 use Rattle.glob_lists.proofs.lemmas.PrefilterLemmas.{end_of, name_has_no_slash}
 use Rattle.glob_lists.proofs.lemmas.StrippingLemmas.{empty_front, front_ends_in_slash}
+use Rattle.glob_lists.proofs.lemmas.WalkLemmas.{length-ends_of}
 
 -- ---- where the last part of a path begins
 
@@ -226,6 +229,13 @@ pub row_of_pair : {V : Type 0} (lists : List (EntryList V)) (rows : List Row) (p
     → IsRowAt lists (i, m) row
 row_of_pair {V} lists rows place i m row are same got =
     record { each = λ list entry there here. are.each i m entry row (record { list = list; there = there; here = here }) (subst (λ (k : ℕ). slice_get rows k ≡ Some row) same got) }
+
+-- The next row of a walk asks what the entry of its pair does.
+pub row_of_next : {V : Type 0} (lists : List (EntryList V)) (rows : List Row) (probe : Probe) (passed_from end place i m : ℕ) (blank : Row) → AreRows lists rows
+    → IsNextRow rows probe passed_from end place → end ≤ length (ends_of rows) → place ≡ place_at lists i m → IsRowAt lists (i, m) (slice_index_or rows place blank)
+row_of_next {V} lists rows probe passed_from end place i m blank are next inside same =
+    let within : place < length rows = omega (arith, next.here, next.below, length-ends_of rows) in
+    row_of_pair lists rows place i m (slice_index_or rows place blank) are same (slice_get-get_or rows place blank within)
 
 -- A row that is told tells of what is left of the path for its pair.
 pub told_of_pair : {V : Type 0} (lists : List (EntryList V)) (case : Case) (path : Path) (probe : Probe) (i m : ℕ) (row : Row) → BasesAreFolders lists → Shows path.bytes probe

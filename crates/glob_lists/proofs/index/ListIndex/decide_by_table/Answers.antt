@@ -1,8 +1,7 @@
 -- A candidate that doesn't match is passed over, and what was passed over before it doesn't match either.
-use Rattle.std.proofs.Common.{◌≡◌, length, map, ◌≤◌, refl, arith, ◌<◌, slice_index_or}
+use Rattle.std.proofs.Common.{◌≡◌, length, map, ◌≤◌, refl, arith, slice_index_or}
 use Rattle.std.proofs.lemmas.Bool.{iff_false}
 use Rattle.std.proofs.lemmas.List.{length-map}
-use Rattle.std.proofs.lemmas.Option.{slice_get-get_or}
 use Rattle.gix_glob.specs.EntryLists.{entry_list_of}
 use Rattle.glob_lists.specs.declared.chains.Class.TheVariants.{Always}
 use Rattle.glob_lists.specs.declared.part.Part.TheVariants.{Path}
@@ -16,7 +15,7 @@ use Rattle.glob_lists.proofs.lemmas.Asking.{looks_from-all, steps_from-all}
 use Rattle.glob_lists.proofs.lemmas.CandidateLemmas.{AreBefore-all, AreBefore-next, HasRest-none, IsNear-all, IsNear-inside, IsNear-next, last_answer, next_before, none_answers}
 use Rattle.glob_lists.proofs.lemmas.IndexLemmas.{to_value}
 use Rattle.glob_lists.proofs.lemmas.RowLemmas.{rows_count}
-use Rattle.glob_lists.proofs.lemmas.ToldLemmas.{row_of_pair, told_of_pair}
+use Rattle.glob_lists.proofs.lemmas.ToldLemmas.{row_of_next, told_of_pair}
 use Rattle.glob_lists.proofs.lemmas.WalkLemmas.{length-ends_of}
 use Rattle.glob_lists.proofs.index.ListIndex.decide_by_table.Given.{Over}
 use Rattle.glob_lists.proofs.index.ListIndex.decide_by_table.Goals as goal
@@ -51,10 +50,8 @@ ask-requires-clause-there g c = c.pair_of-list.ensures.there
 -- the row asks what the entry of its pair does
 row_here : (g : Over) (c : After-pair_of-list g) → IsRowAt (map (entry_list_of g.T.Pattern.seen) c.args.self.now.lists) c.pair_of-list.result (slice_index_or c.args.chained.rows.now c.in-Some.place blank)
 row_here g c =
-    let lists = map (entry_list_of g.T.Pattern.seen) c.args.self.now.lists in
-    let within : c.in-Some.place < length c.args.chained.rows.now =
-    omega (arith, c.in-Some.ensures.next.here, c.in-Some.ensures.next.below, c.candidates.invariant.walk.inside, length-ends_of c.args.chained.rows.now) in
-    row_of_pair lists c.args.chained.rows.now c.in-Some.place _ _ _ c.requires.rows c.pair_of-list.ensures.place (slice_get-get_or c.args.chained.rows.now c.in-Some.place blank within)
+    row_of_next (map (entry_list_of g.T.Pattern.seen) c.args.self.now.lists) c.args.chained.rows.now _ _ _ _ _ _ blank c.requires.rows c.in-Some.ensures.next c.candidates.invariant.walk.inside
+    c.pair_of-list.ensures.place
 
 pub ask-requires-clause-told : goal.ask-requires-clause-told
 ask-requires-clause-told g c =

@@ -1,8 +1,7 @@
 -- A candidate that matches comes after those that were found, and what was passed over doesn't match.
-use Rattle.std.proofs.Common.{◌≡◌, ℕ, List, length, map, sym, subst, ◌≤◌, refl, arith, ◌<◌, slice_index_or}
+use Rattle.std.proofs.Common.{◌≡◌, ℕ, List, length, map, sym, subst, ◌≤◌, refl, arith, slice_index_or}
 use Rattle.std.proofs.lemmas.Bool.{iff_false}
 use Rattle.std.proofs.lemmas.List.{length-map}
-use Rattle.std.proofs.lemmas.Option.{slice_get-get_or}
 use Rattle.gix_glob.specs.EntryLists.{entry_list_of}
 use Rattle.glob_lists.specs.declared.chains.Class.TheVariants.{Always}
 use Rattle.glob_lists.specs.declared.part.Part.TheVariants.{Path}
@@ -15,7 +14,7 @@ use Rattle.glob_lists.proofs.lemmas.AnsweringRows.{NonePasses-answers}
 use Rattle.glob_lists.proofs.lemmas.CandidateLemmas.{AreBefore-all, AreBefore-next, AreFoundFrom-more, AreFoundFrom-same, HasRest-none, IsNear-all, IsNear-inside, IsNear-next, next_before}
 use Rattle.glob_lists.proofs.lemmas.FoundPairs.{AreFoundFrom, AreFoundFrom-all, AreFoundFrom-none, AreFoundFrom-skip}
 use Rattle.glob_lists.proofs.lemmas.IndexLemmas.{to_value}
-use Rattle.glob_lists.proofs.lemmas.ToldLemmas.{row_of_pair, told_of_pair}
+use Rattle.glob_lists.proofs.lemmas.ToldLemmas.{row_of_next, told_of_pair}
 use Rattle.glob_lists.proofs.lemmas.RowLemmas.{rows_count}
 use Rattle.glob_lists.proofs.lemmas.WalkLemmas.{length-ends_of}
 use Rattle.glob_lists.proofs.index.ListIndex.matches_by_table.Given.{Over}
@@ -51,10 +50,8 @@ ask-requires-clause-there g c = c.pair_of-list.ensures.there
 -- the row asks what the entry of its pair does
 row_here : (g : Over) (c : After-pair_of-list g) → IsRowAt (map (entry_list_of g.T.Pattern.seen) c.args.self.now.lists) c.pair_of-list.result (slice_index_or c.args.chained.rows.now c.in-Some.place blank)
 row_here g c =
-    let lists = map (entry_list_of g.T.Pattern.seen) c.args.self.now.lists in
-    let within : c.in-Some.place < length c.args.chained.rows.now =
-    omega (arith, c.in-Some.ensures.next.here, c.in-Some.ensures.next.below, c.candidates.invariant.walk.inside, length-ends_of c.args.chained.rows.now) in
-    row_of_pair lists c.args.chained.rows.now c.in-Some.place _ _ _ c.requires.rows c.pair_of-list.ensures.place (slice_get-get_or c.args.chained.rows.now c.in-Some.place blank within)
+    row_of_next (map (entry_list_of g.T.Pattern.seen) c.args.self.now.lists) c.args.chained.rows.now _ _ _ _ _ _ blank c.requires.rows c.in-Some.ensures.next c.candidates.invariant.walk.inside
+    c.pair_of-list.ensures.place
 
 pub ask-requires-clause-told : goal.ask-requires-clause-told
 ask-requires-clause-told g c =
