@@ -85,7 +85,8 @@ impl Cursor {
 pub struct CountedDecision {
     /// The place of the list and of the mapping that decides, both from 0; `None` where no pattern matches.
     pub pair: Option<(usize, usize)>,
-    /// How many patterns were left to be asked whether they match, where the path lies below the base of their list.
+    /// How many patterns were left to be asked whether they match, where the path lies below the base of their list. Contracts say
+    /// only that it is no more than all of them, and not 0 where one decides.
     pub asked: usize,
 }
 

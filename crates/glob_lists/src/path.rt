@@ -21,7 +21,8 @@ use std::sync::ledger::Ledger;
 
 /// A path of a repository, or what a base leaves of one: its bytes, and whether it is a directory's.
 ///
-/// The bytes begin with no slash and have no two slashes in a row. They are empty only where a base was all of a path.
+/// The bytes begin with no slash and have no two slashes in a row. They are empty only where a base was all of a path. A part `.` or
+/// `..` is a name like any other here, where Git goes to the folder that it means: lead such paths to where they mean before.
 /// Contracts see the bytes, and whether it is a directory's.
 #[derive(Debug, Drop)]
 pub struct RepositoryPath<'a> {
@@ -57,8 +58,8 @@ impl<'a> RepositoryPath<'a> {
         Some(RepositoryPath::from_plain(path, is_dir))
     }
 
-    /// The path of these bytes, whose trailing slash, where there is one, is part of it; `None` where they are no
-    /// [`plain_path`].
+    /// The path of these bytes, whose trailing slash, where there is one, is part of it: the last part has no bytes then, and the
+    /// empty pattern matches it. [`RepositoryPath::of_line`] takes the slash off. `None` where the bytes are no [`plain_path`].
     pub fn new(bytes: &'a [u8], is_dir: bool) -> Option<RepositoryPath<'a>>
         ensures { MatchOption result
             (¬ IsPlainPath bytes.entry.now)
