@@ -79,15 +79,34 @@ fn lines_that_match(rt: HostRuntime) -> Result<(), Fail> {
     Ok(())
 }
 
+#[test]
+fn a_path_with_its_slash_has_an_empty_last_part(rt: HostRuntime) -> Result<(), Fail> {
+    // the path is made with its slash, which `of_line` takes off
+    let rows: [Row<'_>; 2] = [
+        (b"\"\" a\n* b\nd c\nd/ d\n/d e", b"d/", b" a b"),
+        (b"\"\" a\nd/ b\ne/d/ c\ne/* d", b"e/d/", b" a"),
+    ];
+    for row in rows {
+        let path = RepositoryPath::new(row.1, true).ok_or("a path")?;
+        check_path(&rt, row, &path)?;
+    }
+    Ok(())
+}
+
 /// Compares what the lines that match a path assign with what is wanted.
 fn check_row(rt: &(impl Abort + AllocGlobal), row: Row<'_>) -> Result<(), Fail> {
-    let (file, path, wanted) = row;
+    let path = RepositoryPath::of_line(row.1).ok_or("a path")?;
+    check_path(rt, row, &path)
+}
+
+/// The same for the path of a row as it was made.
+fn check_path(
+    rt: &(impl Abort + AllocGlobal),
+    row: Row<'_>,
+    asked: &RepositoryPath<'_>,
+) -> Result<(), Fail> {
+    let (file, _, wanted) = row;
     let mappings = AttributeLines.bytes_to_patterns(rt.alloc(), file, "f")?;
-    let (bytes, is_dir) = match path.strip_suffix(b"/") {
-        Some(bytes) => (bytes, true),
-        None => (path, false),
-    };
-    let asked = RepositoryPath::new(bytes, is_dir).ok_or("a path")?;
     let mut text = Vec::new(rt.alloc());
     for mapping in &mappings {
         if asked.is_matched_by(mapping.pattern.view(), Case::Sensitive) {

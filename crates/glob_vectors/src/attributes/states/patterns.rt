@@ -2,7 +2,17 @@
 use super::Row;
 
 /// The rows, each file by its name.
-pub(crate) const PATTERNS: [Row<'static>; 15] = [
+pub(crate) const PATTERNS: [Row<'static>; 16] = [
+    // a part `.` or `..` is a name like any other
+    (
+        &[(b".gitattributes", b"/z a\nz b\nd/z c\n./z d\n*/../z e")],
+        &[
+            (b"z", b" a b !c !d !e"),
+            (b"./z", b" !a b !c d !e"),
+            (b"d/../z", b" !a b !c !d e"),
+            (b"./d/z", b" !a b !c !d !e"),
+        ],
+    ),
     (
         &[(b".gitattributes", b"d/ a\ne/** b")],
         &[

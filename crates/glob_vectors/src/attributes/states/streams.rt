@@ -11,7 +11,15 @@ use std::test::Fail;
 type StreamRow<'a> = (&'a [File<'a>], &'a [&'a [u8]], &'a [u8], &'a [u8]);
 
 /// The rows.
-const ROWS: [StreamRow<'static>; 12] = [
+const ROWS: [StreamRow<'static>; 13] = [
+    // a part `.` or `..` is a name like any other
+    (
+        &[(b".gitattributes", b"/z a\nz b")],
+        &[b"a", b"b"],
+        b"./z\0d/../z\0z",
+        b"./z\0a\0unspecified\0./z\0b\0set\0d/../z\0a\0unspecified\0d/../z\0b\0set\0\
+z\0a\0set\0z\0b\0set\0",
+    ),
     (
         &[
             (b"system", b"* s=s a=s"),
