@@ -9,12 +9,14 @@ import tempfile
 
 from attribute_rows import rows
 from attribute_trees import ATTRIBUTE_FILE, ATTRIBUTES_INFO, BYTE_ORDER_MARK, NAMES, AttributeTree
+from documents import kinds_in
 from of_globtree import DOTTED, GLOBTREE, NO_TEXT, TOP, Told, lines_with_zeros, quoted, shown, told_kinds
 from trees import is_text, make_repository, write
 
 FROM_INPUT = ["--stdin a b c m n", "-z --stdin a text eol", "--stdin -a", "-a -z --stdin", "--all --stdin -z --", "--stdin binary diff --", "-az --stdin"]
 # words that paths follow
 FROM_WORDS = ["a", "-a", "a --", "-z m n p --", "-a --", "--all", "a b m --", "-az --"]
+NAMED = kinds_in("ATTRIBUTES.md")
 # words for where Git's own folder is the current one
 WITHIN_GIT = ["a x", "-a -- ../x .", "--stdin a", "-az --stdin"]
 # words as they stand
@@ -208,7 +210,7 @@ class Comparison:
         fields = expected.output.split(b"\0")
         found = self.pair.globtree(folder, words, asked).output.split(b"\0")
         for at in range(2, min(len(fields), len(found)), 3):
-            if fields[at] != found[at] == b"unspecified" and led[at // 3 // len(names)][1] == b".":
+            if TOP in NAMED and fields[at] != found[at] == b"unspecified" and led[at // 3 // len(names)][1] == b".":
                 fields[at] = found[at]
                 self.named[TOP] += 1
         self.judge(folder, words, asked, expected._replace(output=b"\0".join(fields)))

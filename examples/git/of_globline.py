@@ -5,9 +5,11 @@ import subprocess
 import sys
 import tempfile
 
+from documents import kinds_in
 from trees import BYTE_ORDER_MARK, IGNORE_FILE, has_stars_after_a_literal_front, is_white
 
 HERE = os.path.dirname(os.path.realpath(__file__))
+NAMED, UNNAMED = kinds_in("DIFFERENCES.md"), "not named in From Git"
 # of each kind of differences that is named, so many are shown
 SHOWN = 3
 GLOBLINE = os.environ.get("GLOBLINE") or os.path.join(HERE, "..", "..", "globline")
@@ -111,7 +113,7 @@ def ways_to_tell(path, is_folder):
 # ---- differences
 
 def reason(folder, path, answers, of_folder):
-    """Why "From Git" in docs/DIFFERENCES.md lets the two answers differ, by its bold words, or None. `of_folder` has the two answers
+    """Why the two answers may differ, by the bold words of "From Git", or None. `of_folder` has the two answers
     about the folder that the path names, Git's without its slash and globline's with it, or is None."""
     if set(path.rstrip(b"/").split(b"/")) & {b".", b".."}:
         return "paths"
@@ -163,13 +165,14 @@ def compare(folder):
         if same_line(expected, found):
             continue
         why = reason(folder, told, [expected, found], of_folders.get(path))
-        kinds[why or "not named in From Git"] += 1
-        if why is None or kinds[why] <= SHOWN:
-            print("%s: git %s, globline %s: %s" % (ascii(os.fsdecode(told)), shown(expected), shown(found), why or "not named in From Git"))
+        kind = why if why in NAMED else UNNAMED
+        kinds[kind] += 1
+        if kind == UNNAMED or kinds[kind] <= SHOWN:
+            print("%s: git %s, globline %s: %s" % (ascii(os.fsdecode(told)), shown(expected), shown(found), kind))
     for kind, count in sorted(kinds.items()):
         print("%s: %d" % (kind, count))
     print("%d paths, asked in %d ways, %d differences" % (len(entries), len(asked), sum(kinds.values())))
-    return 1 if kinds["not named in From Git"] else 0
+    return 1 if kinds[UNNAMED] else 0
 
 
 def same_line(expected, found):

@@ -8,6 +8,7 @@ import subprocess
 import sys
 import tempfile
 
+from documents import kinds_in
 from trees import INFO, Tree, is_text, make_repository, write
 
 HERE = os.path.dirname(os.path.realpath(__file__))
@@ -21,9 +22,10 @@ WRONG = ["-n a", "-q -v a", "-q a b", "--stdin a", "-z a", "", "-q", "--stdin -q
 BEHIND = [[], [], ["-v"], ["--", "a"]]
 # words for where Git's own folder is the current one
 WITHIN_GIT = ["a", "-v -n -- HEAD ../a", "-q .", "--stdin", "-z --stdin"]
-NO_TEXT = b"no UTF-8 text"
-# what "From Git" in docs/GLOBTREE.md calls the differences that it names
-SLASH, TOP = "a slash at the end", "the top itself"
+NO_TEXT, NO_FOLDER = b"no UTF-8 text", b": no folder"
+# kinds of differences, which count as such where "From Git" in docs/GLOBTREE.md names them
+SLASH, TOP, UNLISTED = "a slash at the end", "the top itself", "what can't be listed"
+NAMED = kinds_in("GLOBTREE.md")
 NONE = (b"", b"", b"")
 DOTTED = [b".", b"./", b".//", b"./.", b"..", b"../", b"../..", b"../.", b".././", b"x/..", b"x/../", b"x/../.", b"./x/y/../.."]
 ESCAPES = {7: "a", 8: "b", 9: "t", 10: "n", 11: "v", 12: "f", 13: "r", 34: '"', 92: "\\"}
@@ -200,7 +202,7 @@ class Comparison:
         words = self.random.choice(WRONG).split()
         self.both(self.pair.top, words, [])
         at = self.random.randrange(len(paths))
-        bad = self.random.choice([b"../x", b"/", b"", b"a/../../x"] + [link + behind for link in self.pair.tree.links if not link.startswith(b":") for behind in (b"/", b"/.", b"/x")])
+        bad = self.random.choice([b"../x", b"..", b"../", b"/", b"", b"a/../../x"] + [link + behind for link in self.pair.tree.links if not link.startswith(b":") for behind in (b"/", b"/.", b"/x")])
         self.both(self.pair.top, ["-v", "-n", "-z", "--stdin"], paths[:at] + [bad] + paths[at:])
 
     def files(self):
@@ -214,7 +216,8 @@ class Comparison:
         for words in ([], ["-z"], [], ["-z"]):
             folder, told = self.seen_from(self.random.sample(there, 1))
             told = [os.path.join(b".", path) if path.startswith(b"-") else path for path in told]
-            self.list_files(folder, words + self.random.choice([[], told, told, ["--"] + told, [b".."], [b"."], [b""]]))
+            behind = [path + self.random.choice((b"/", b"/.", b"/./", b"/x/..")) for path in told]
+            self.list_files(folder, words + self.random.choice([[], told, behind, ["--"] + told, [self.random.choice(DOTTED)], [b""]]))
         for repository in repositories:
             folder = os.path.dirname(repository)
             self.list_files(folder, self.random.choice([[], ["-z"], [b"."], [b".."]]), os.path.relpath(top, folder))
@@ -235,6 +238,9 @@ class Comparison:
             left = [name for name in names if is_text(name if "-z" in words else unquoted(name))]
             expected = Told(1, b"".join(name + end for name in left), found.errors)
             self.unreadable += len(names) - len(left)
+        elif UNLISTED in NAMED and found.status == 1 and expected.status == 0 and NO_FOLDER in found.errors:
+            self.named[UNLISTED] += 1
+            expected = expected._replace(status=1, errors=found.errors)
         self.judge(folder, words, expected, found, "files")
 
     def within_git(self):
@@ -304,7 +310,7 @@ class Comparison:
             return []
         lawful, differ = [], []
         for answer, (name, fields), other in zip(answers, named, decisions(found)):
-            differ.append(other != answer and other[:3] == fields)
+            differ.append(name in NAMED and other != answer and other[:3] == fields)
             self.named[name] += differ[-1]
             lawful.append(fields + answer[3:] if differ[-1] else answer)
         lawful += answers[len(lawful):]
