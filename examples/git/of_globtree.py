@@ -24,7 +24,7 @@ BEHIND = [[], [], ["-v"], ["--", "a"]]
 WITHIN_GIT = ["a", "-v -n -- HEAD ../a", "-q .", "--stdin", "-z --stdin"]
 NO_TEXT, NO_FOLDER = b"no UTF-8 text", b": no folder"
 # kinds of differences, which count as such where "From Git" in docs/GLOBTREE.md names them
-SLASH, TOP, UNLISTED = "a slash at the end", "the top itself", "what can't be listed"
+SLASH, STARS, TOP, UNLISTED = "a slash at the end", "a slash at the end, and stars", "the top itself", "what can't be listed"
 NAMED = kinds_in("GLOBTREE.md")
 NONE = (b"", b"", b"")
 DOTTED = [b".", b"./", b".//", b"./.", b"..", b"../", b"../..", b"../.", b".././", b"x/..", b"x/../", b"x/../.", b"./x/y/../.."]
@@ -310,6 +310,7 @@ class Comparison:
             return []
         lawful, differ = [], []
         for answer, (name, fields), other in zip(answers, named, decisions(found)):
+            name = STARS if name == SLASH and b"*" in answer[2] else name
             differ.append(name in NAMED and other != answer and other[:3] == fields)
             self.named[name] += differ[-1]
             lawful.append(fields + answer[3:] if differ[-1] else answer)
