@@ -201,16 +201,16 @@ class Comparison:
         """A folder and those above it, told with dots."""
         below = self.random.choice(self.tree_of.folders)
         folder, names = os.path.join(self.pair.top, below), [b"a", b"m", b"text"]
-        led = [(told, os.path.relpath(os.path.join(folder, told), self.pair.top)) for told in [*DOTTED, self.pair.top, self.pair.top + b"/"]]
-        led = [(told, path) for told, path in led if not path.startswith(b"..")]
-        words, asked = ["-z", "--stdin", *names], b"".join(told + b"\0" for told, _ in led)
+        paths = {told: os.path.relpath(os.path.join(folder, told), self.pair.top) for told in [*DOTTED, self.pair.top, self.pair.top + b"/"]}
+        paths = {told: path for told, path in paths.items() if not path.startswith(b"..")}
+        words, asked = ["-z", "--stdin", *names], b"".join(told + b"\0" for told in paths)
         expected = self.pair.git(folder, words, asked)
         if not self.with_globtree:
             return
         fields = expected.output.split(b"\0")
         found = self.pair.globtree(folder, words, asked).output.split(b"\0")
         for at in range(2, min(len(fields), len(found)), 3):
-            if TOP in NAMED and fields[at] != found[at] == b"unspecified" and led[at // 3 // len(names)][1] == b".":
+            if TOP in NAMED and fields[at] != found[at] == b"unspecified" and paths[fields[at - 2]] == b".":
                 fields[at] = found[at]
                 self.named[TOP] += 1
         self.judge(folder, words, asked, expected._replace(output=b"\0".join(fields)))

@@ -121,7 +121,8 @@ def lines_with_zeros(random, paths):
 
 def parts_below(tree, folder):
     """The names of the folders directly below one."""
-    return [path[len(folder):-1] for path in tree.folders if path.startswith(folder) and path != folder and b"/" not in path[len(folder):-1]]
+    below = [path[len(folder):-1] for path in tree.folders if path.startswith(folder) and path != folder]
+    return [name for name in below if b"/" not in name]
 
 
 def given(paths, words):
@@ -202,7 +203,9 @@ class Comparison:
         words = self.random.choice(WRONG).split()
         self.both(self.pair.top, words, [])
         at = self.random.randrange(len(paths))
-        bad = self.random.choice([b"../x", b"..", b"../", b"/", b"", b"a/../../x"] + [link + behind for link in self.pair.tree.links if not link.startswith(b":") for behind in (b"/", b"/.", b"/x")])
+        links = [link for link in self.pair.tree.links if not link.startswith(b":")]
+        behind_links = [link + behind for link in links for behind in (b"/", b"/.", b"/x")]
+        bad = self.random.choice([b"../x", b"..", b"../", b"/", b"", b"a/../../x"] + behind_links)
         self.both(self.pair.top, ["-v", "-n", "-z", "--stdin"], paths[:at] + [bad] + paths[at:])
 
     def files(self):
@@ -254,7 +257,8 @@ class Comparison:
         """The folders above and below one, told with dots: `.`, `./`, `..`, `x/..`."""
         folder = self.random.choice(self.pair.tree.folders)
         asked, named = [], []
-        for told in DOTTED + [self.pair.top, self.pair.top + b"/"] + [part + b"/" + dots for part in parts_below(self.pair.tree, folder) for dots in (b"", b".", b"./", b"x/..")]:
+        below = [part + b"/" + dots for part in parts_below(self.pair.tree, folder) for dots in (b"", b".", b"./", b"x/..")]
+        for told in [*DOTTED, *below, self.pair.top, self.pair.top + b"/"]:
             path = os.path.relpath(os.path.join(self.pair.top, folder, told), self.pair.top)
             path = b"" if path == b"." else path
             if path in known or not path:
@@ -267,7 +271,7 @@ class Comparison:
             self.as_words(folder, ["-q", self.random.choice(same)])
 
     def with_slash(self, paths, known):
-        """Each path with a slash at its end. The folder that it names is made where it isn't there, to ask Git about it without the slash."""
+        """Each path with a slash at its end. Then the folder that it names is made, to ask Git about it without the slash."""
         asked = [path + b"/" for path in paths]
         words = ["-v", "-n", "-z", "--stdin"]
         of_git = self.pair.git(self.pair.top, words, given(asked, words))
@@ -287,8 +291,8 @@ class Comparison:
     # ---- paths whose answers may differ by name
 
     def each(self, folder, asked, named):
-        """Asks both about each path as it stands, and gives those that both answer alike. `named` has for each a kind of "From Git", and
-        the answer by which it may differ so."""
+        """Asks both about each path as it stands, and gives those that both answer alike. `named` has for each a kind of
+        "From Git", and the answer by which it may differ so."""
         words = ["-v", "-n", "-z", "--stdin"]
         of_git = self.pair.git(folder, words, given(asked, words))
         found = self.pair.globtree(folder, words, given(asked, words)) if self.with_globtree else None
@@ -296,7 +300,7 @@ class Comparison:
         return [path for path, differs in zip(asked, differ) if not differs]
 
     def as_words(self, folder, words):
-        """Runs both with these words. Git alone may tell errors: it also reads the ignore file of a folder that has a slash at its end."""
+        """Runs both with these words. Git alone may tell errors: it also reads the ignore file of a folder with a slash."""
         expected, found = self.pair.git(folder, words), self.pair.globtree(folder, words)
         self.judge(folder, words, expected._replace(errors=found.errors), found)
 
@@ -304,7 +308,7 @@ class Comparison:
         """Judges the answers one by one, and gives which of them differ by name."""
         answers = decisions(expected)
         if len(answers) != len(named):
-            sys.exit("compare: tree %d: git answered %d of %d paths: %s" % (self.seed, len(answers), len(named), shown(expected.errors)))
+            sys.exit("compare: tree %d: git answered %d of %d paths" % (self.seed, len(answers), len(named)))
         self.answered += len(answers)
         if found is None:
             return []
@@ -392,7 +396,7 @@ def shown(text):
 
 
 def told_kinds(named):
-    return ", ".join("%s: %d" % pair for pair in sorted(named.items())) or "none"
+    return ", ".join("%s: %d" % pair for pair in sorted((+named).items())) or "none"
 
 
 def compare_trees(count, seed, with_globtree, kept):

@@ -14,7 +14,8 @@ import sys
 
 COMMANDS = ("check-ignore", "check-attr", "ls-files")
 # settings that have an option, or that change no answer of these commands
-SETTINGS = {"core.excludesfile", "core.attributesfile", "core.ignorecase", "core.bare", "core.repositoryformatversion", "core.filemode", "core.logallrefupdates"}
+SETTINGS = {"core.excludesfile", "core.attributesfile", "core.ignorecase", "core.bare"}
+SETTINGS |= {"core.repositoryformatversion", "core.filemode", "core.logallrefupdates"}
 PLACES = ("GIT_DIR", "GIT_WORK_TREE", "GIT_INDEX_FILE", "GIT_LITERAL_PATHSPECS", "GIT_GLOB_PATHSPECS", "GIT_ICASE_PATHSPECS")
 
 
@@ -34,8 +35,8 @@ class Call:
 
     def ask(self, *words):
         """What git prints about this repository."""
-        run = subprocess.run([os.environ["REAL_GIT"], *self.front, *words], stdin=subprocess.DEVNULL, stdout=subprocess.PIPE, stderr=subprocess.DEVNULL)
-        return os.fsdecode(run.stdout)
+        command = [os.environ["REAL_GIT"], *self.front, *words]
+        return os.fsdecode(subprocess.run(command, stdin=subprocess.DEVNULL, stdout=subprocess.PIPE, stderr=subprocess.DEVNULL).stdout)
 
     # ---- the words of globtree that ask for the same
 
@@ -111,8 +112,9 @@ class Call:
         return [os.fsdecode(codecs.escape_decode(line[1:-1])[0] if line.startswith(b'"') else line) for line in lines]
 
     def has_ignore_files(self):
-        others = os.path.join(self.top, ".git/info/exclude"), os.path.expanduser("~/.config/git/ignore"), self.ask("config", "core.excludesfile").strip()
-        return any(".gitignore" in files for _, _, files in os.walk(self.top)) or any(map(os.path.exists, others))
+        named = self.ask("config", "core.excludesfile").strip()
+        others = [os.path.join(self.top, ".git/info/exclude"), os.path.expanduser("~/.config/git/ignore")]
+        return bool(named) or any(map(os.path.exists, others)) or any(".gitignore" in files for _, _, files in os.walk(self.top))
 
 
 def is_file(name):
