@@ -24,7 +24,8 @@ BEHIND = [[], [], ["-v"], ["--", "a"]]
 WITHIN_GIT = ["a", "-v -n -- HEAD ../a", "-q .", "--stdin", "-z --stdin"]
 NO_TEXT, NO_FOLDER = b"no UTF-8 text", b": no folder"
 # kinds of differences, which count as such where "From Git" in docs/GLOBTREE.md names them
-SLASH, STARS, TOP, UNLISTED = "a slash at the end", "a slash at the end, and stars", "the top itself", "what can't be listed"
+SLASH, STARS, TOP = "a slash at the end", "a slash at the end, and stars", "the top itself"
+UNLISTED, MESSAGES = "what can't be listed", "messages"
 NAMED = kinds_in("GLOBTREE.md")
 NONE = (b"", b"", b"")
 DOTTED = [b".", b"./", b".//", b"./.", b"..", b"../", b"../..", b"../.", b".././", b"x/..", b"x/../", b"x/../.", b"./x/y/../.."]
@@ -140,6 +141,7 @@ class Comparison:
         self.kinds, self.named = collections.Counter(), collections.Counter()
         self.answered, self.runs, self.differences, self.refused = 0, 0, 0, 0
         self.listings, self.listed, self.unreadable = 0, 0, 0
+        self.repositories = []
 
     def tree(self, seed, room):
         self.seed, self.random = seed, random.Random(~seed)
@@ -211,9 +213,9 @@ class Comparison:
     def files(self):
         """What isn't ignored below a folder, where some folders are repositories of their own."""
         tree, top = self.pair.tree, self.pair.top
-        repositories = [os.path.join(top, folder, b".git") for folder in tree.folders if folder and self.random.random() < 0.1]
-        for repository in repositories:
-            make_repository(repository)
+        self.repositories = [folder for folder in tree.folders if folder and self.random.random() < 0.1]
+        for folder in self.repositories:
+            make_repository(os.path.join(top, folder, b".git"))
         there = [path for path in list(tree.files) + list(tree.links) + [folder[:-1] for folder in tree.folders if folder] if is_text(path)]
         self.list_files(top, [])
         for words in ([], ["-z"], [], ["-z"]):
@@ -221,11 +223,18 @@ class Comparison:
             told = [os.path.join(b".", path) if path.startswith(b"-") else path for path in told]
             behind = [path + self.random.choice((b"/", b"/.", b"/./", b"/x/..")) for path in told]
             self.list_files(folder, words + self.random.choice([[], told, behind, ["--"] + told, [self.random.choice(DOTTED)], [b""]]))
-        for repository in repositories:
-            folder = os.path.dirname(repository)
-            self.list_files(folder, self.random.choice([[], ["-z"], [b"."], [b".."]]), os.path.relpath(top, folder))
-        for repository in repositories:
-            shutil.rmtree(repository)
+        for folder in self.repositories:
+            below = os.path.join(top, folder)
+            self.list_files(below, self.random.choice([[], ["-z"], [b"."], [b".."]]), os.path.relpath(top, below))
+        for folder in self.repositories:
+            shutil.rmtree(os.path.join(top, folder, b".git"))
+        self.repositories = []
+
+    def is_in_repository(self, folder, words):
+        """Whether the path among the words lies in a repository below the top."""
+        told = [word for word in words if isinstance(word, bytes)]
+        path = os.path.relpath(os.path.join(folder, *told), self.pair.top) + b"/"
+        return any(path.startswith(repository) for repository in self.repositories)
 
     def list_files(self, folder, words, named_top=None):
         expected = self.pair.git_files(folder, words, named_top)
@@ -244,6 +253,9 @@ class Comparison:
         elif UNLISTED in NAMED and found.status == 1 and expected.status == 0 and NO_FOLDER in found.errors:
             self.named[UNLISTED] += 1
             expected = expected._replace(status=1, errors=found.errors)
+        elif MESSAGES in NAMED and expected.errors and self.is_in_repository(folder, words):
+            self.named[MESSAGES] += not found.errors
+            expected = expected._replace(errors=found.errors)
         self.judge(folder, words, expected, found, "files")
 
     def within_git(self):
