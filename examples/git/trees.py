@@ -215,7 +215,7 @@ def make_repository(folder):
     for name in (b"objects", b"refs", b"info"):
         os.makedirs(os.path.join(folder, name))
     write(os.path.join(folder, b"HEAD"), b"ref: refs/heads/main\n")
-    write(os.path.join(folder, b"config"), b"[core]\n\trepositoryformatversion = 0\n")
+    write(os.path.join(folder, b"config"), b"[core]\n\trepositoryformatversion = 0\n\tbare = false\n")
 
 
 def is_text(path):
