@@ -1,10 +1,11 @@
 -- What leads to a path from a folder of names leads where the path does.
-use Rattle.std.proofs.Common.{◌≡◌, ⊎_elim, ℕ, Bool, true, false, List, [], ◌∷◌, ◌++◌, length, take, drop, ap, sym, ◌∙◌, refl, subst, append_assoc, absurd}
+use Rattle.std.proofs.Common.{◌≡◌, ⊎_elim, ℕ, Bool, true, false, List, [], ◌∷◌, ◌++◌, length, take, drop, ap, sym, ◌∙◌, refl, subst, append_assoc}
 use Rattle.std.specs.Prelude.{◌==◌, ◌||◌, not, if◌then◌else◌, nat_eq, Option, None, Some, IsTrue, codes}
-use Rattle.std.specs.List.{flat_map, join_with_byte, list_any, onto_first, starts_with}
+use Rattle.std.specs.List.{AllByRecursion, join_with_byte, list_any, onto_first, starts_with}
 use Rattle.std.specs.Option.{option_and_then, option_map, unwrap_or}
 use Rattle.std.specs.Str.{byte}
-use Rattle.std.proofs.lemmas.Bool.{cases_Bool, eqb-false, eqb-true, false≢true, Decides-eqb}
+use Rattle.std.proofs.lemmas.Bool.{cases_Bool, eqb-false, eqb-true, false≢true}
+use Rattle.std.proofs.lemmas.Bool.Decides.{Decides-eqb}
 use Rattle.std.proofs.lemmas.List.{append-nil}
 use Rattle.std.proofs.lemmas.List.Splits.{join_with_byte-slice_split}
 use Rattle.std.proofs.lemmas.Slice.Eq.{starts_is}
@@ -14,8 +15,7 @@ use Rattle.globtree.proofs.lemmas.PathLemmas.{eqb_false, split_cut, split_none}
 
 -- no part has a slash
 abbrev HaveNoSlash : List (List ℕ) → Type 0
-HaveNoSlash [] = ⊤
-HaveNoSlash (part ∷ parts) = HasNo (byte "/") part × HaveNoSlash parts
+HaveNoSlash parts = AllByRecursion (λ part. HasNo (byte "/") part) parts
 
 onto_first-none : (b : ℕ) (parts : List (List ℕ)) → is_slash b ≡ false → HaveNoSlash parts → HaveNoSlash (onto_first b parts)
 onto_first-none b [] other none = ((eqb-false b (byte "/") other, tt), tt)
@@ -139,17 +139,19 @@ Leads names from path seen = walk (enter_all from names) (parts_of seen) ≡ wal
 leads_up : (names : List (List ℕ)) (from path : List ℕ) → AreNames names → HaveNoSlash names → Leads names from path (steps_up names ++ path)
 leads_up names from path are none = ap (walk (enter_all from names)) (parts_of_ups names path) ∙ walk_ups names from (parts_of path) are none
 
-seen_leads : (names : List (List ℕ)) (from path : List ℕ) → AreNames names → HaveNoSlash names → Leads names from path (seen_from names path)
-
 seen_by : (name : List ℕ) (names : List (List ℕ)) (from path : List ℕ) (found : Option (List ℕ)) → found ≡ left_below name path → AreNames (name ∷ names) → HaveNoSlash (name ∷ names)
+    → ((place left : List ℕ) → Leads names place left (seen_from names left))
     → Leads (name ∷ names) from path (unwrap_or (option_map (λ left. seen_from names left) found) (steps_up (name ∷ names) ++ path))
+seen_by name names from path None e are none later = leads_up (name ∷ names) from path are none
+seen_by name names from path (Some left) e are none later =
+    let is = left_leads name path left are.0 none.0 (sym e) in
+    later (below from name) left ∙ sym (is.leads from)
+
+seen_leads : (names : List (List ℕ)) (from path : List ℕ) → AreNames names → HaveNoSlash names → Leads names from path (seen_from names path)
 seen_leads [] from [] are none = refl
 seen_leads [] from (b ∷ path) are none = refl
-seen_leads (name ∷ names) from path are none = seen_by name names from path (left_below name path) refl are none
-seen_by name names from path None e are none = leads_up (name ∷ names) from path are none
-seen_by name names from path (Some left) e are none =
-    let is = left_leads name path left are.0 none.0 (sym e) in
-    seen_leads names (below from name) left are.1 none.1 ∙ sym (is.leads from)
+seen_leads (name ∷ names) from path are none =
+    seen_by name names from path (left_below name path) refl are none (λ place left. seen_leads names place left are.1 none.1)
 
 -- a folder of names is where they lead
 abbrev tails : List (List ℕ) → List ℕ
