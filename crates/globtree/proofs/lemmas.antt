@@ -2,4 +2,6 @@ pub mod FrontLemmas
 pub mod LaneLemmas
 pub mod NameLemmas
 pub mod PathLemmas
+pub mod RecordLemmas
+pub mod SeenLemmas
 pub mod UsualLemmas

@@ -5,6 +5,8 @@ pub mod Flags
 pub mod Lines
 pub mod Paths
 pub mod Quoting
+pub mod RecordNames
+pub mod Telling
 pub mod Unquoting
 pub mod Words
 pub mod Private

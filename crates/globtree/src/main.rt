@@ -22,6 +22,7 @@ mod quoting;
 mod record_names;
 mod running;
 mod sources;
+mod telling;
 mod unlinked;
 mod unquoting;
 mod unusual;
