@@ -2,4 +2,5 @@ pub mod FrontLemmas
 pub mod LaneLemmas
 pub mod NameLemmas
 pub mod PathLemmas
+pub mod PieceLemmas
 pub mod UsualLemmas
