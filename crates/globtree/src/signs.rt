@@ -152,14 +152,24 @@ impl<'a, R: Files + Env + AllocGlobal> Signs<'a, R> {
     }
 
     /// Looks at a file in a folder of the user's, which is told as `shown`.
-    fn look_at_users(&mut self, folder: String, file: &str, shown: &str) -> Result<(), AllocError> {
+    fn look_at_users(
+        &mut self,
+        folder: String,
+        file: &str,
+        shown: &'static str,
+    ) -> Result<(), AllocError> {
         let mut name = folder;
         name.push_str(file)?;
         self.look_at_file(name.as_str(), shown, false)
     }
 
     /// Looks at a file of configuration, which is told as `shown`: the repository's own, or one for all.
-    fn look_at_file(&mut self, name: &str, shown: &str, is_own: bool) -> Result<(), AllocError> {
+    fn look_at_file(
+        &mut self,
+        name: &str,
+        shown: &'static str,
+        is_own: bool,
+    ) -> Result<(), AllocError> {
         let mut bytes = Vec::new(self.alloc);
         if !read_front(self.rt, name, &mut bytes)? {
             return Ok(());
