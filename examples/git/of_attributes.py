@@ -11,7 +11,7 @@ from attribute_rows import rows
 from attribute_trees import ATTRIBUTE_FILE, ATTRIBUTES_INFO, BYTE_ORDER_MARK, NAMES, AttributeTree
 from documents import kinds_in
 from of_globtree import DOTTED, GLOBTREE, NO_TEXT, TOP, Told, lines_with_zeros, quoted, shown, told_kinds
-from trees import is_text, make_repository, write
+from trees import OF_GIT, is_text, make_repository, write
 
 FROM_INPUT = ["--stdin a b c m n", "-z --stdin a text eol", "--stdin -a", "-a -z --stdin", "--all --stdin -z --", "--stdin binary diff --", "-az --stdin"]
 # words that paths follow
@@ -34,7 +34,7 @@ class Pair:
         self.is_named = is_named
         home = os.path.join(room, b"home")
         kept = {name: value for name, value in os.environ.items() if not name.startswith("GIT_")}
-        self.environment = {**kept, "HOME": home, "XDG_CONFIG_HOME": home, "GIT_CONFIG_NOSYSTEM": "1", "GIT_ATTR_NOSYSTEM": "1", "GIT_CONFIG_GLOBAL": "/dev/null", "LC_ALL": "C"}
+        self.environment = {**kept, "HOME": home, "XDG_CONFIG_HOME": home, "LC_ALL": "C"}
         os.makedirs(os.path.join(home, b"git"))
         self.has_system = system is not None
         if self.has_system:
@@ -58,7 +58,8 @@ class Pair:
         return self.run([GLOBTREE, "-C", folder, *more, *options, "check-attr", *words], asked)
 
     def run(self, command, asked):
-        run = subprocess.run(command, input=asked, stdout=subprocess.PIPE, stderr=subprocess.PIPE, env=self.environment)
+        environment = {**self.environment, **OF_GIT} if command[0] == "git" else self.environment
+        run = subprocess.run(command, input=asked, stdout=subprocess.PIPE, stderr=subprocess.PIPE, env=environment)
         return Told(run.returncode, run.stdout, run.stderr)
 
 

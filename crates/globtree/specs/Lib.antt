@@ -1,7 +1,9 @@
 pub mod AttributeFlags
 pub mod AttributeText
+pub mod ConfigKeys
 pub mod Files
 pub mod Flags
+pub mod IndexHead
 pub mod Lines
 pub mod Paths
 pub mod Quoting

@@ -13,6 +13,7 @@ use crate::fault::CheckFault;
 use crate::folder_attributes::{FolderAttributes, keep_asked};
 use crate::places::{go_to_folders, go_to_top};
 use crate::record_names::RecordAnswerer;
+use crate::signs::{Concerns, tell_signs};
 use crate::telling::{tell_line, tell_usage};
 use crate::words::Options;
 use anyhow::{Context, Result, bail};
@@ -152,6 +153,12 @@ fn read_files<'a, R: Files + Env + Eprint + AllocGlobal>(
     };
     let mut lists = outer_lists(&mut reader, options, &mut macros)?;
     let standpoint = go_to_top(rt, alloc, options.top)?;
+    let concerns = Concerns {
+        are_attributes: true,
+        is_nul: flags.nul,
+        uses_index: true,
+    };
+    tell_signs(rt, alloc, options, concerns)?;
     let top = reader.top(&mut macros)?;
     lists.push(top)?;
     let own = info_list(&mut reader, &mut macros)?;

@@ -10,6 +10,7 @@ use crate::finding::Finder;
 use crate::flags::Flags;
 use crate::places::{go_to_folders, go_to_top};
 use crate::record_names::RecordAnswerer;
+use crate::signs::{Concerns, tell_signs};
 use crate::sources::FolderFiles;
 use crate::telling::{tell_line, tell_no_memory, tell_usage};
 use crate::unlinked::UnlinkedFolders;
@@ -165,7 +166,12 @@ fn list_files<R: Files + Env + Eprint + AllocGlobal + Clone + Drop, O: Write>(
     folder: &str,
     output: &mut Watched<O>,
 ) -> Result<u8> {
-    let (standpoint, tree) = tree_of(rt, alloc, options)?;
+    let concerns = Concerns {
+        are_attributes: false,
+        is_nul: nul,
+        uses_index: true,
+    };
+    let (standpoint, tree) = tree_of(rt, alloc, options, concerns)?;
     let mut lister = Lister {
         rt,
         alloc,
@@ -192,7 +198,12 @@ fn asker_of<'a, R: Files + Env + Eprint + AllocGlobal>(
     options: Options<'_>,
     flags: Flags,
 ) -> Result<Asker<'a, R>> {
-    let (standpoint, tree) = tree_of(rt, alloc, options)?;
+    let concerns = Concerns {
+        are_attributes: false,
+        is_nul: flags.nul,
+        uses_index: !flags.no_index,
+    };
+    let (standpoint, tree) = tree_of(rt, alloc, options, concerns)?;
     let finder = Finder {
         rt,
         alloc,
@@ -214,11 +225,13 @@ fn tree_of<'a, R: Files + Env + Eprint + AllocGlobal>(
     rt: &'a R,
     alloc: Global,
     options: Options<'_>,
+    concerns: Concerns,
 ) -> Result<(Standpoint, Tree<IgnoreLines, FolderFiles<'a, R>>)> {
     go_to_folders(rt, options.words)?;
     let mut fronts = Vec::new(alloc);
     push_excludes(rt, alloc, options.excludes, &mut fronts)?;
     let standpoint = go_to_top(rt, alloc, options.top)?;
+    tell_signs(rt, alloc, options, concerns)?;
     push_info(rt, alloc, &mut fronts)?;
     let case = if options.ignore_case {
         Case::Fold
