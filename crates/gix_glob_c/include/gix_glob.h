@@ -9,6 +9,11 @@
  *  - A text can be read for its whole length, which is below 2^63, and isn't written during the call.
  *  - What a call writes to lies apart from what it reads, and was initialised, by GIX_GLOB_PATTERN_INIT or a call before.
  *
+ * The work of a call is not in its contract: beside some readings of its texts, a match takes at most what "The bounds" in
+ * docs/ENGINES.md says, a small multiple of the product of both lengths; a decision, and the state of an attribute before its words
+ * are looked at, the sum of that over all patterns; a decision in a work tree that sum once for each folder above the path, and once
+ * for the path.
+ *
  * The rules of matching are in docs/MATCHING.md, those of pattern lines in docs/PATTERNS.md, those of ignore files in
  * docs/LINES.md, and those of attribute files in docs/ATTRIBUTES.md.
  */
@@ -95,7 +100,7 @@ static inline struct gix_glob_lines gix_glob_lines_of(const void *bytes, size_t 
  *   lines        the lines that are left
  *   out          receives the line's pattern; it stays as it was where the line has none
  *   has_pattern  receives whether the line has a pattern
- * Answers whether a line was left; where none was, `lines` and `out` stay as they were. */
+ * Answers whether a line was left; where none was, `lines`, `out` and `has_pattern` stay as they were. */
 bool gix_glob_parse_ignore_line(struct gix_glob_lines *lines, struct gix_glob_pattern *out, bool *has_pattern);
 
 /* Whether a pattern matches a path. Its '!' isn't looked at: GIX_GLOB_NEGATIVE says whether it stood there.
@@ -139,7 +144,7 @@ struct gix_glob_index {
 /* Prepares patterns that many paths are asked about. Nothing is allocated: the caller gives a row for each pattern, which takes
  * 16 bytes, and the heads. Both were initialised, as by `{ 0 }` or calloc.
  *   patterns, count  the patterns in the order of their lines; not NULL, also where count is 0
- *   rows, row_count  receives the rows; not NULL, also where row_count is 0
+ *   rows, row_count  receives the rows; those from `count` on stay as they were; not NULL, also where row_count is 0
  *   heads            receives the heads
  * Answers whether there is room: there are `count` rows or more, and fewer than 2^32 patterns. Else nothing is written. */
 bool gix_glob_prepare(const struct gix_glob_pattern *patterns, size_t count,
@@ -164,7 +169,8 @@ struct gix_glob_path {
  *   index                what was prepared
  *   paths, count         the paths; not NULL, also where count is 0
  *   fold                 as in gix_glob_pattern_matches_path
- *   places, place_count  receives for each path the index of a pattern, or GIX_GLOB_NONE; not NULL, also where place_count is 0
+ *   places, place_count  receives for each path the index of a pattern, or GIX_GLOB_NONE; those from `count` on stay as they were;
+ *                        not NULL, also where place_count is 0
  * Answers whether there are `count` places or more. Else nothing is written. */
 bool gix_glob_index_last_matches(const struct gix_glob_index *index, const struct gix_glob_path *paths, size_t count, bool fold,
                                  size_t *places, size_t place_count);
@@ -237,8 +243,8 @@ struct gix_glob_macro {
  *   line                receives what a line with a pattern gives; any other line leaves it as it was
  *   macro               receives what a line with a macro gives; any other line leaves it as it was
  *   kind                receives which of both, or why there is neither
- * Answers whether a line was taken. Where none is left, or the memory is too short for the head of this one, `lines`, `line` and
- * `macro` stay as they were. */
+ * Answers whether a line was taken. Where none is left, or the memory is too short for the head of this one, `lines`, `line`,
+ * `macro` and `kind` stay as they were. */
 bool gix_glob_parse_attribute_line(struct gix_glob_lines *lines, bool is_top, uint8_t *memory, size_t memory_len,
                                    struct gix_glob_attribute_line *line, struct gix_glob_macro *macro, uint32_t *kind);
 
@@ -299,7 +305,8 @@ struct gix_glob_state {
  *   name, name_len       the attribute's name
  *   texts, text_count    memory, made ready by gix_glob_init_texts or used by a call before; not NULL, also where text_count is 0.
  *                        As many texts suffice as there are lines in all lists and macros, together
- *   marks, mark_count    memory, of which each was initialised: a mark for each macro, or more; not NULL, also where mark_count is 0
+ *   marks, mark_count    memory, of which each was initialised: a mark for each macro; more stay as they were; not NULL, also where
+ *                        mark_count is 0
  *   out                  receives the state; it stays as it was where false is answered
  * Answers whether the state was told: where the memory is too short, or the path is empty, has a slash at its front or end, or two
  * in a row, it isn't. The time grows with the words of the lines that match and of the macros, times the number of macros.

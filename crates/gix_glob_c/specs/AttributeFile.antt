@@ -1,12 +1,11 @@
 -- What a call takes off an attribute file.
-use Rattle.std.specs.Prelude.{◌≡◌, ℕ, Bool, ◌==◌, if◌then◌else◌, List, ◌∷◌}
-use Rattle.glob_lines.specs.Equations.Ignore.{without_returns}
-use Rattle.glob_lines.specs.Equations.Lines.{lines_of}
+use Rattle.std.specs.Prelude.{◌≡◌, ℕ, Bool, ◌==◌, nat_le, if◌then◌else◌, List, [], length}
+use Rattle.glob_lines.specs.Ignore.{EndsIgnoreLine, without_mark}
+use Rattle.glob_lines.specs.Lines.{CutsLine}
 use Rattle.glob_attributes.specs.declared.borrowed.telling.TextMacro.{TextMacro}
 use Rattle.glob_attributes.specs.declared.line.Silence.{Silence}
 use Rattle.glob_attributes.specs.declared.line.Silence.TheVariants.{TooLong, MacroBelowTop, MacroName, AttributeName, Negative}
 use Rattle.glob_attributes.specs.Borrowed.{assigned_by, definition_of}
-use Rattle.glob_attributes.specs.Equations.Files.{file_lines}
 use Rattle.glob_attributes.specs.Patterns.{IsPatternOf}
 use Rattle.glob_attributes.specs.Readings.{Gives, a_macro, a_pattern, line_gives, nothing, silent}
 use Rattle.gix_glob_c.specs.declared.attribute_file.GlobAttributeLine.{GlobAttributeLine}
@@ -14,9 +13,13 @@ use Rattle.gix_glob_c.specs.declared.ignore_file.GlobLines.{GlobLines}
 use Rattle.gix_glob_c.specs.Parsed.{IsLawful, mode_of}
 use Rattle.gix_glob_c.specs.Parts.{unless_none}
 
--- the lines of an attribute file that are left to read
-abbrev pub lines_left : GlobLines → List (List ℕ)
-lines_left lines = if lines.number == 0 then file_lines lines.rest.now else lines_of (without_returns lines.rest.now)
+-- the bytes that are left to read: before the first line, a byte order mark isn't of them, and of a file of 100 MiB or more none is
+-- left, as `FileLines` has it
+abbrev pub unread_of_file : GlobLines → List ℕ
+unread_of_file lines =
+    if lines.number == 0
+    then (if nat_le 104857600 (length lines.rest.now) then [] else without_mark lines.rest.now)
+    else lines.rest.now
 
 -- the number that C is told for a line that says nothing for a reason, and for any line
 abbrev pub number_of : Silence → ℕ
@@ -50,8 +53,8 @@ pub record ReadsAttributes (gives : Gives) (old new : GlobAttributeLine) (old_ma
   pub pattern : ReadsPattern gives old new
   pub definition : ReadsMacro gives old_macro new_macro
 
--- The first of the lines was taken off them, and read.
-pub record TakesAttributes (is_top : Bool) (left rest : List (List ℕ)) (old new : GlobAttributeLine) (old_macro new_macro : TextMacro) (number : ℕ) : Type 0 where
+-- The bytes begin with a line, which was read, and the rest follows it.
+pub record TakesAttributes (is_top : Bool) (bytes rest : List ℕ) (old new : GlobAttributeLine) (old_macro new_macro : TextMacro) (number : ℕ) : Type 0 where
   pub line : List ℕ
-  pub taken : left ≡ line ∷ rest
+  pub cut : CutsLine EndsIgnoreLine bytes line rest
   pub reads : ReadsAttributes (line_gives is_top line) old new old_macro new_macro number

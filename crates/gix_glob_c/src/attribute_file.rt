@@ -1,11 +1,11 @@
 //! The lines of an attribute file, one after the other: `struct gix_glob_attribute_line` and `struct gix_glob_macro` of the header.
-ghost use Rattle.std.specs.Prelude.{◌≡◌, ◌↔◌, ◌<◌, ◌≤◌, ◌+◌, ◌-◌, ◌^◌, ◌∷◌, [], IfSome, MatchOption, length, true, false};
-ghost use Rattle.glob_lines.specs.Equations.Ignore.{without_returns};
-ghost use Rattle.glob_lines.specs.Equations.Lines.{lines_of};
+ghost use Rattle.std.specs.Prelude.{◌≡◌, ◌↔◌, ◌≤◌, ◌+◌, ◌-◌, ◌^◌, [], IfSome, MatchOption, length, min, true, false};
+ghost use Rattle.glob_lines.specs.Ignore.{EndsIgnoreLine};
+ghost use Rattle.glob_lines.specs.Lines.{CutsLine};
 ghost use Rattle.glob_lines.specs.Memory.{end_of};
 ghost use Rattle.glob_attributes.specs.Borrowed.{GivesParts};
 ghost use Rattle.glob_attributes.specs.Readings.{Gives};
-ghost use Rattle.gix_glob_c.specs.AttributeFile.{ReadsAttributes, TakesAttributes, lines_left, number_of};
+ghost use Rattle.gix_glob_c.specs.AttributeFile.{ReadsAttributes, TakesAttributes, number_of, unread_of_file};
 
 use crate::ignore_file::GlobLines;
 use crate::parsed::{GlobPattern, parts_of};
@@ -29,7 +29,7 @@ pub struct GlobAttributeLine<'a> {
 /// which goes to `definition`; a greater number says why the line says nothing. `lines.number` becomes the line's.
 ///
 /// A quoted head is decoded into `memory`, which the pattern or the macro's name then lies in. `false` is answered where no line is
-/// left, or `memory` is too short: `lines`, `out` and `definition` are then as they were. So many bytes as are left suffice.
+/// left, or `memory` is too short: `lines`, `out`, `definition` and `kind` are then as they were. So many bytes as are left suffice.
 #[unsafe(no_mangle)]
 pub extern "C" fn gix_glob_parse_attribute_line<'a>(
     lines: &mut GlobLines<'a>,
@@ -39,11 +39,11 @@ pub extern "C" fn gix_glob_parse_attribute_line<'a>(
     definition: &mut TextMacro<'a>,
     kind: &mut u32,
 ) -> bool
-    ensures ended { length lines.old.rest.now ≤ length memory.old → (result ≡ false) ↔ (lines_left lines.old ≡ []) }
-    ensures kept { result ≡ false → (lines.new ≡ lines.old) × (out.new ≡ out.old) × (definition.new ≡ definition.old) }
+    ensures ended { length lines.old.rest.now ≤ length memory.old → (result ≡ false) ↔ (unread_of_file lines.old ≡ []) }
+    ensures kept { result ≡ false → (lines.new ≡ lines.old) × (out.new ≡ out.old) × (definition.new ≡ definition.old) × (kind.new ≡ kind.old) }
     ensures place { end_of lines.new.rest ≡ end_of lines.old.rest }
-    ensures taken { result ≡ true → TakesAttributes is_top (lines_left lines.old) (lines_left lines.new) out.old out.new definition.old definition.new kind.new }
-    ensures number { result ≡ true → lines.old.number < 2 ^ 64 - 1 → lines.new.number ≡ lines.old.number + 1 }
+    ensures taken { result ≡ true → TakesAttributes is_top (unread_of_file lines.old) lines.new.rest.now out.old out.new definition.old definition.new kind.new }
+    ensures number { result ≡ true → lines.new.number ≡ min (lines.old.number + 1) (2 ^ 64 - 1) }
 {
     let Some((line, rest)) = next_line(lines) else {
         return false;
@@ -59,27 +59,26 @@ pub extern "C" fn gix_glob_parse_attribute_line<'a>(
 
 /// The next line, and what follows it.
 fn next_line<'a>(lines: &GlobLines<'a>) -> Option<(&'a [u8], &'a [u8])>
-    ensures line { MatchOption result (lines_left lines.now ≡ []) (λ cut. lines_left lines.now ≡ cut.0.now ∷ lines_of (without_returns cut.1.now)) }
+    ensures line { MatchOption result (unread_of_file lines.now ≡ []) (λ cut. CutsLine EndsIgnoreLine (unread_of_file lines.now) cut.0.now cut.1.now) }
     ensures place { IfSome result (λ cut. end_of cut.1 ≡ end_of lines.now.rest) }
     ensures short { IfSome result (λ cut. length cut.0.now ≤ length lines.now.rest.now) }
 {
-    let (line, rest) = next_ended_line(unread(lines)?)?;
-    Some((line, rest))
+    next_ended_line(unread(lines))
 }
 
-/// The bytes that hold the lines that are left; `None` where the file is too long.
-fn unread<'a>(lines: &GlobLines<'a>) -> Option<&'a [u8]>
-    ensures bytes { MatchOption result (lines_left lines.now ≡ []) (λ bytes. lines_left lines.now ≡ lines_of (without_returns bytes.now)) }
-    ensures place { IfSome result (λ bytes. end_of bytes ≡ end_of lines.now.rest) }
-    ensures short { IfSome result (λ bytes. length bytes.now ≤ length lines.now.rest.now) }
+/// The bytes that hold the lines that are left.
+fn unread<'a>(lines: &GlobLines<'a>) -> &'a [u8]
+    ensures bytes { result.now ≡ unread_of_file lines.now }
+    ensures place { end_of result ≡ end_of lines.now.rest }
+    ensures short { length result.now ≤ length lines.now.rest.now }
 {
     if lines.number > 0 {
-        return Some(lines.rest);
+        return lines.rest;
     }
     if lines.rest.len() >= FILE_LIMIT {
-        return None;
+        return &lines.rest[lines.rest.len()..];
     }
-    Some(without_byte_order_mark(lines.rest))
+    without_byte_order_mark(lines.rest)
 }
 
 /// Writes what a line gives to its place, and answers its kind.

@@ -1,5 +1,5 @@
 //! The state of an attribute for a path: `struct gix_glob_attributes` of the header.
-ghost use Rattle.std.specs.Prelude.{◌≡◌, ◌<◌, ◌≤◌, ◌+◌, ◌++◌, ℕ, All, IfSome, List, is_some, length, map, true, false};
+ghost use Rattle.std.specs.Prelude.{◌≡◌, ◌<◌, ◌≤◌, ◌+◌, ◌++◌, ℕ, All, IfSome, List, drop, is_some, length, map, true, false};
 ghost use Rattle.std.specs.List.{flat_map};
 ghost use Rattle.gix_glob_c.specs.Attributes.{IsLawfulAttributes, attribute_list, line_count, path_asked, told_of};
 ghost use Rattle.gix_glob_c.specs.Private.Finding.{IsFoundUpTo, lines_at};
@@ -51,8 +51,8 @@ pub struct GlobState<'a> {
 
 /// The state of an attribute for a path, as [`PathAttributes`](glob_attributes::PathAttributes) has it. `texts` and `marks` are
 /// memory that is written to: as many texts as there are lines in all lists, and one for each macro, suffice; and a mark for each
-/// macro. `false` is answered, and `out` left as it was, where there are too few, or the path is empty, has a slash at its front or
-/// end, or two in a row.
+/// macro; further marks stay as they were. `false` is answered, and `out` left as it was, where there are too few, or the path is
+/// empty, has a slash at its front or end, or two in a row.
 #[unsafe(no_mangle)]
 pub extern "C" fn gix_glob_attribute_of<'a>(
     attributes: &GlobAttributes<'a>,
@@ -67,6 +67,7 @@ pub extern "C" fn gix_glob_attribute_of<'a>(
     ensures other { ¬ IsPathOfFile path.now.bytes.now → result ≡ false }
     ensures room { IsPathOfFile path.now.bytes.now → line_count attributes.now.lists.now + length attributes.now.macros.now ≤ length texts.old
         → length attributes.now.macros.now ≤ length marks.old → result ≡ true }
+    ensures marks { drop (length attributes.now.macros.now) marks.new ≡ drop (length attributes.now.macros.now) marks.old }
     ensures exact { All IsLawfulAttributes attributes.now.lists.now → result ≡ true → (filled : List Assigned)
         × IsAssigned (map attribute_list attributes.now.lists.now) (map definition_of attributes.now.macros.now) (path_asked path.now) (case_of fold) filled
         × ((out.new.kind, out.new.value.now) ≡ told_of (state_in filled name.now)) }
@@ -77,7 +78,12 @@ pub extern "C" fn gix_glob_attribute_of<'a>(
     let Some(count) = push_matches(attributes.lists, &asked, fold, texts) else {
         return false;
     };
-    let Some(state) = tell_state(attributes.macros, name, texts, count, marks) else {
+    let macros = attributes.macros;
+    if marks.len() < macros.len() {
+        return false;
+    }
+    let marks = &mut marks[..macros.len()];
+    let Some(state) = tell_state(macros, name, texts, count, marks) else {
         return false;
     };
     *out = told_of(&state);

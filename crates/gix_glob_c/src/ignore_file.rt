@@ -1,5 +1,5 @@
 //! The lines of an ignore file, one after the other: `struct gix_glob_lines` of the header.
-ghost use Rattle.std.specs.Prelude.{◌≡◌, ◌↔◌, ◌<◌, ◌+◌, ◌-◌, ◌^◌, [], true, false};
+ghost use Rattle.std.specs.Prelude.{◌≡◌, ◌↔◌, ◌+◌, ◌-◌, ◌^◌, [], min, true, false};
 ghost use Rattle.std.specs.Option.{option_copied};
 ghost use Rattle.glob_lines.specs.Memory.{end_of};
 ghost use Rattle.gix_glob_c.specs.IgnoreFile.{ReadsText, TakesLine, unread_of};
@@ -19,8 +19,8 @@ pub struct GlobLines<'a> {
 
 /// Takes the next line off an ignore file, by the rules of [`next_ignore_line`], and reads its pattern. A byte order mark is
 /// passed over before the first line, and `lines.number` becomes the line's. What is left ends where it ended before. `false`
-/// is answered where no line is left: `lines` and `out` are then as they were. A line without a pattern leaves `out` as it
-/// was, and `has_pattern` false.
+/// is answered where no line is left: `lines`, `out` and `has_pattern` are then as they were. A line without a pattern leaves
+/// `out` as it was, and `has_pattern` false.
 #[unsafe(no_mangle)]
 pub extern "C" fn gix_glob_parse_ignore_line<'a>(
     lines: &mut GlobLines<'a>,
@@ -28,11 +28,11 @@ pub extern "C" fn gix_glob_parse_ignore_line<'a>(
     has_pattern: &mut bool,
 ) -> bool
     ensures ended { (result ≡ false) ↔ (unread_of lines.old ≡ []) }
-    ensures kept { result ≡ false → out.new ≡ out.old }
+    ensures kept { result ≡ false → (out.new ≡ out.old) × (has_pattern.new ≡ has_pattern.old) }
     ensures unmoved { result ≡ false → lines.new ≡ lines.old }
     ensures place { end_of lines.new.rest ≡ end_of lines.old.rest }
     ensures taken { result ≡ true → TakesLine (unread_of lines.old) lines.new.rest.now out.old out.new has_pattern.new }
-    ensures number { result ≡ true → lines.old.number < 2 ^ 64 - 1 → lines.new.number ≡ lines.old.number + 1 }
+    ensures number { result ≡ true → lines.new.number ≡ min (lines.old.number + 1) (2 ^ 64 - 1) }
 {
     let Some(line) = next_ignore_line(unread(lines)) else {
         return false;

@@ -1,5 +1,5 @@
 //! Prepared patterns: `struct gix_glob_index` of the header, whose rows and heads lie in memory of the caller.
-ghost use Rattle.std.specs.Prelude.{◌≡◌, ◌↔◌, ◌⊎◌, ◌^◌, ◌<◌, ◌≤◌, ℕ, [], ◌∷◌, All, IfSome, length, map, option_map, take, true, false};
+ghost use Rattle.std.specs.Prelude.{◌≡◌, ◌↔◌, ◌⊎◌, ◌^◌, ◌<◌, ◌≤◌, ℕ, [], ◌∷◌, All, IfSome, drop, length, map, option_map, take, true, false};
 ghost use Rattle.glob_lists.specs.Deciding.{Decides};
 ghost use Rattle.glob_lists.specs.Prepared.{ArePrepared};
 ghost use Rattle.gix_glob_c.specs.Parsed.{IsLawful, IsPathOfFile, entry_of_parts, list_of};
@@ -36,7 +36,7 @@ impl<'a> Viewed for GlobPattern<'a> {
 }
 
 /// Prepares patterns, in memory of the caller: a row for each, and the heads. `false` is answered, and nothing written, where there
-/// are fewer rows than patterns, or 2^32 patterns or more.
+/// are fewer rows than patterns, or 2^32 patterns or more. Rows past those of the patterns stay as they were.
 #[unsafe(no_mangle)]
 pub extern "C" fn gix_glob_prepare(
     patterns: &[GlobPattern<'_>],
@@ -45,9 +45,13 @@ pub extern "C" fn gix_glob_prepare(
 ) -> bool
     ensures room { (result ≡ false) ↔ ((length rows.old < length patterns.now) ⊎ (2 ^ 32 ≤ length patterns.now)) }
     ensures kept { result ≡ false → (rows.new ≡ rows.old) × (heads.new ≡ heads.old) }
+    ensures rest { drop (length patterns.now) rows.new ≡ drop (length patterns.now) rows.old }
     ensures prepared { result ≡ true → ArePrepared (map entry_of_parts patterns.now) (take (length patterns.now) rows.new) heads.new }
 {
-    prepared::prepare(patterns, rows, heads)
+    if rows.len() < patterns.len() {
+        return false;
+    }
+    prepared::prepare(patterns, &mut rows[..patterns.len()], heads)
 }
 
 /// The index of the last of the patterns that matches a path, as [`gix_glob_last_match`](crate::parsed::gix_glob_last_match)

@@ -1,5 +1,5 @@
 //! Several paths that one call asks about: `struct gix_glob_path` of the header.
-ghost use Rattle.std.specs.Prelude.{◌≡◌, ◌↔◌, ◌<◌, length, take, true, false};
+ghost use Rattle.std.specs.Prelude.{◌≡◌, ◌↔◌, ◌<◌, drop, length, take, true, false};
 ghost use Rattle.std.specs.List.{AllZip};
 ghost use Rattle.gix_glob_c.specs.Indexed.{IsToldOf};
 
@@ -16,7 +16,8 @@ pub struct GlobPath<'a> {
 }
 
 /// What [`gix_glob_index_last_match`](crate::index::gix_glob_index_last_match) answers for each of several paths, in order.
-/// `false` is answered, and nothing written, where there are fewer places than paths.
+/// `false` is answered, and nothing written, where there are fewer places than paths; where there are more, the others stay as they
+/// were.
 #[unsafe(no_mangle)]
 pub extern "C" fn gix_glob_index_last_matches(
     index: &GlobIndex<'_>,
@@ -26,6 +27,7 @@ pub extern "C" fn gix_glob_index_last_matches(
 ) -> bool
     ensures room { (result ≡ false) ↔ (length places.old < length paths.now) }
     ensures kept { result ≡ false → places.new ≡ places.old }
+    ensures rest { drop (length paths.now) places.new ≡ drop (length paths.now) places.old }
     ensures told { result ≡ true → AllZip (IsToldOf index.now fold) paths.now (take (length paths.now) places.new) }
 {
     if places.len() < paths.len() {

@@ -1,7 +1,7 @@
 -- The path at a place is told behind those before it.
 use Rattle.std.proofs.Common.{◌≡◌, ◌∷◌, ◌++◌, ◌+◌, ◌<◌, ◌∙◌, ℕ, false, List, [], length, take, slice_index_or, slice_set, sym, subst, refl, arith}
 use Rattle.std.specs.List.{AllZip}
-use Rattle.std.proofs.lemmas.List.{length-set, take_all, take_more, take_more_set}
+use Rattle.std.proofs.lemmas.List.{drop-set-lt, length-set, take_all, take_more, take_more_set}
 use Rattle.gix_glob_c.specs.declared.paths.GlobPath.{GlobPath}
 use Rattle.gix_glob_c.specs.Indexed.{IsToldOf}
 use Rattle.gix_glob_c.proofs.lemmas.Zipped.{AllZip-more}
@@ -21,6 +21,7 @@ paths-preserved c =
     let room : i < length places = omega (arith, c.paths.invariant.long) in
     let more = AllZip-more R (take i paths) (take i places) (slice_index_or paths i blank) place c.paths.invariant.told c.last_match_of.ensures in record {
       long = length-set places i place ∙ c.paths.invariant.long;
+      rest = drop-set-lt (length paths) places i place within ∙ c.paths.invariant.rest;
       told = subst (λ (xs : List GlobPath). AllZip R xs (take (i + 1) (slice_set places i place))) (sym (take_more paths i blank within))
           (subst (λ (ys : List ℕ). AllZip R (take i paths ++ slice_index_or paths i blank ∷ []) ys) (sym (take_more_set places i place room)) more);
     }

@@ -1,4 +1,4 @@
-use Rattle.std.proofs.Common.{◌≡◌, length, take}
+use Rattle.std.proofs.Common.{◌≡◌, drop, length, take}
 use Rattle.std.specs.List.{AllZip}
 use Rattle.gix_glob_c.specs.Indexed.{IsToldOf}
 use Rattle.gix_glob_c.proofs.paths.gix_glob_index_last_matches.Given as goal
@@ -7,5 +7,6 @@ use Rattle.gix_glob_c.proofs.paths.gix_glob_index_last_matches.Given as goal
 abbrev pub invariant-paths : goal.invariant-paths
 invariant-paths l = record {
   long : length l.places ≡ length l.fn.places;
+  rest : drop (length l.paths) l.places ≡ drop (length l.paths) l.fn.places;
   told : AllZip (IsToldOf l.index l.fold) (take l.i l.paths) (take l.i l.places);
 }
