@@ -1,6 +1,6 @@
 -- What leads to a path from a folder of names leads where the path does.
-use Rattle.std.proofs.Common.{◌≡◌, ⊎_elim, ℕ, Bool, true, false, List, [], ◌∷◌, ◌++◌, length, take, drop, ap, sym, ◌∙◌, refl, subst, append_assoc}
-use Rattle.std.specs.Prelude.{◌==◌, ◌||◌, not, if◌then◌else◌, nat_eq, Option, None, Some, IsTrue, codes}
+use Rattle.std.proofs.Common.{◌≡◌, ⊎_elim, ℕ, Bool, true, false, List, [], ◌∷◌, ◌++◌, length, drop, ap, sym, ◌∙◌, refl, append_assoc}
+use Rattle.std.specs.Prelude.{◌||◌, not, if◌then◌else◌, nat_eq, Option, None, Some, codes}
 use Rattle.std.specs.List.{AllByRecursion, join_with_byte, list_any, onto_first, starts_with}
 use Rattle.std.specs.Option.{option_and_then, option_map, unwrap_or}
 use Rattle.std.specs.Str.{byte}

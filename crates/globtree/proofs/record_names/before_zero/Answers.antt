@@ -1,4 +1,4 @@
-use Rattle.std.proofs.Common.{sym, ◌∙◌}
+use Rattle.std.proofs.Common.{sym}
 use Rattle.globtree.proofs.lemmas.RecordLemmas.{before_found, before_not_found}
 use Rattle.globtree.proofs.record_names.before_zero.Goals as goal
 
