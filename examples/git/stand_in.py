@@ -18,6 +18,9 @@ SETTINGS = {"core.excludesfile", "core.attributesfile", "core.ignorecase", "core
 SETTINGS |= {"core.repositoryformatversion", "core.filemode", "core.logallrefupdates"}
 PLACES = ("GIT_DIR", "GIT_WORK_TREE", "GIT_INDEX_FILE", "GIT_LITERAL_PATHSPECS", "GIT_GLOB_PATHSPECS", "GIT_ICASE_PATHSPECS")
 
+# How the line begins by which globtree tells that Git may answer otherwise.
+SIGNS = b"warning: Git may answer otherwise: "
+
 
 class IsForGit(Exception):
     """The call is git's, for this reason."""
@@ -136,7 +139,8 @@ def main():
         os.execv(git[0], git)
     note("%s: globtree" % command)
     run = subprocess.run([os.environ["GLOBTREE"], *words], stderr=subprocess.PIPE)
-    errors = run.stderr
+    # (git has no word for what it reads and globtree doesn't)
+    errors = b"".join(line for line in run.stderr.splitlines(keepends=True) if not line.startswith(SIGNS))
     if errors and "STAND_IN_MESSAGES" in os.environ:
         errors = subprocess.run(git, stdin=subprocess.DEVNULL, stdout=subprocess.DEVNULL, stderr=subprocess.PIPE).stderr or errors
     os.write(2, errors)
