@@ -1,5 +1,5 @@
-//! Rows: what the public calls answer to bytes in memory, short and long, where nothing fails. Tests alone; what comes from
-//! outside, readers, writers, memory and files, is in `glob_faults`.
+//! What the public calls answer to bytes in memory that are no row of data: long ones, many, values and their order. Tests alone; rows
+//! are in `glob_rows`, and what comes from outside, readers, writers, memory and files, is in `glob_faults`.
 #![tactic(auto)]
 
 #[cfg(test)]

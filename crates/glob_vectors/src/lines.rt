@@ -4,7 +4,6 @@ mod hostile_lines;
 mod ignore_files;
 mod labels;
 mod numbers;
-mod values;
 
 use gix_glob::pattern::Case;
 use gix_glob::search::pattern::List;

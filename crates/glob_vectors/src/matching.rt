@@ -3,6 +3,3 @@ mod engines;
 mod hostile_patterns;
 mod long_values;
 pub(crate) mod modes;
-mod rules;
-mod sets;
-mod tokens;

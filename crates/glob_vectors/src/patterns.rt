@@ -1,4 +1,2 @@
-//! Rows of patterns: how lines are read, what they are made of, and what they answer.
-mod answers;
+//! Patterns as values.
 mod parts;
-mod reading;

@@ -1,4 +1,4 @@
-//! Rows of records: which records bytes are, and that each is answered once, in order.
+//! Long records, and many: each is answered once, in order.
 use crate::compare::same;
 use gix_glob::search::Watched;
 use glob_trees::{Answerer, RecordStream};
@@ -43,27 +43,6 @@ fn check_answers<R: Copy + std::fmt::Debug>(
     same(rt, run.is_ok(), true, "no fault", row);
     let written = writer.into_inner();
     same(rt, written.as_slice(), wanted, "the answers to", row);
-    Ok(())
-}
-
-#[test]
-fn each_record_is_answered_once(rt: HostRuntime) -> Result<(), Fail> {
-    let rows: [(&[u8], u8, &[u8]); 11] = [
-        (b"", b'\n', b""),
-        (b"\n", b'\n', b"<>"),
-        (b"\n\n", b'\n', b"<><>"),
-        (b"a", b'\n', b"<a>"),
-        (b"a\n", b'\n', b"<a>"),
-        (b"ab\nc", b'\n', b"<ab><c>"),
-        (b"\na\n\n", b'\n', b"<><a><>"),
-        (b"a\0b\r\n", b'\n', b"<a\0b\r>"),
-        (b"a\0b\nc", 0, b"<a><b\nc>"),
-        (b"\0\0a\0", 0, b"<><><a>"),
-        (b"\n", 0, b"<\n>"),
-    ];
-    for (bytes, end, wanted) in rows {
-        check_answers(&rt, bytes, end, wanted, (bytes, end))?;
-    }
     Ok(())
 }
 

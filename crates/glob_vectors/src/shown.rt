@@ -1,4 +1,4 @@
-//! What is shown of lines, of faults, and by `Debug`.
+//! What is shown of faults, and by `Debug`.
 use crate::compare::same;
 use bitflags::Flags;
 use gix_glob::Pattern;
@@ -33,26 +33,6 @@ fn debugged<T: Debug>(
 ) -> Result<(), AllocError> {
     let shown = format!(in rt.alloc(); "{value:?}")?;
     assert_eq!(rt; shown.as_str(), text);
-    Ok(())
-}
-
-#[test]
-fn lines_are_shown_again(rt: HostRuntime) -> Result<(), Fail> {
-    let rows: [(&[u8], &str); 8] = [
-        (b"!/*.o/", "!/*.o/"),
-        (b"//", "//"),
-        (b"foo", "foo"),
-        (b"\\!foo", "!foo"),
-        (b"\\#x", "#x"),
-        (b"!a", "!a"),
-        (b"a/", "a/"),
-        // a byte that is no text is shown by a replacement
-        (b"a\xff", "a\u{FFFD}"),
-    ];
-    for (line, text) in rows {
-        let pattern = Pattern::from_bytes(rt.alloc(), line)?.ok_or("a pattern")?;
-        displayed(&rt, &pattern, text, line)?;
-    }
     Ok(())
 }
 

@@ -50,51 +50,6 @@ fn labels_stand_behind_the_first_tab(rt: HostRuntime) -> Result<(), AllocError> 
 }
 
 #[test]
-fn lines_with_and_without_labels(rt: HostRuntime) -> Result<(), AllocError> {
-    // a line, and its pattern and its label if it has a pattern
-    let rows = [
-        ("a", Some(("a", ""))),
-        ("a\t", Some(("a", ""))),
-        ("a\t\t", Some(("a", "\t"))),
-        ("a \tb ", Some(("a ", "b "))),
-        ("!a\tb", Some(("!a", "b"))),
-        ("a\t!b", Some(("a", "!b"))),
-        ("/a/\tb", Some(("/a/", "b"))),
-        ("#a\t#b", Some(("#a", "#b"))),
-        ("a\tb\r", Some(("a", "b\r"))),
-        ("\ta", None),
-        (" \ta", None),
-        ("!\ta", None),
-        ("", None),
-    ];
-    for (line, want) in rows {
-        let mappings = labels(rt.alloc(), line.as_bytes())?;
-        match (mappings.as_slice(), want) {
-            ([mapping], Some((pattern, label))) => {
-                let read = &mapping.pattern;
-                let shown = format!(in rt.alloc(); "{read}")?;
-                same(&rt, shown.as_str(), pattern, "the pattern of", line);
-                same(
-                    &rt,
-                    mapping.value.as_slice(),
-                    label.as_bytes(),
-                    "the label of",
-                    line,
-                );
-            }
-            (read, want) => same(
-                &rt,
-                !read.is_empty(),
-                want.is_some(),
-                "whether it is read:",
-                line,
-            ),
-        }
-    }
-    Ok(())
-}
-
-#[test]
 fn the_last_label_that_matches_decides(rt: HostRuntime) -> Result<(), AllocError> {
     let rows: [(&[u8], Option<(usize, usize)>); 4] = [
         (b"d/m.rs", Some((0, 0))),

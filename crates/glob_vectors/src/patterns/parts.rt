@@ -1,5 +1,5 @@
 //! Patterns as values: made, taken apart, copied and ordered.
-use crate::compare::same;
+use crate::matching::modes::plain;
 use bitflags::Flags;
 use gix_glob::pattern::{Mode, Pattern};
 use std::alloc::Global;
@@ -26,49 +26,6 @@ fn makers_and_clones(rt: HostRuntime) -> Result<(), Fail> {
 }
 
 #[test]
-fn parts_that_make_a_pattern(rt: HostRuntime) -> Result<(), Fail> {
-    let rows = [
-        ("a*b", 0, Some(1), true),
-        ("a*b", 0, None, false),
-        ("*a*", 2, Some(0), false),
-        ("*a", 2, Some(0), true),
-        ("*a", 0, Some(0), true),
-        ("*a", 2, None, false),
-        ("a/b", 1, None, true),
-        ("", 0, None, true),
-        ("", 0, Some(0), false),
-        ("**", 2, Some(0), false),
-    ];
-    for (text, bits, place, is_pattern) in rows {
-        let row = (text, bits, place);
-        let bytes = Vec::from_slice(rt.alloc(), text.as_bytes())?;
-        match Pattern::from_parts(bytes, Mode::from_bits_retain(bits), place) {
-            Ok(pattern) => {
-                same(&rt, true, is_pattern, "a pattern is made of", row);
-                same(
-                    &rt,
-                    pattern.first_wildcard_pos(),
-                    place,
-                    "the place of",
-                    row,
-                );
-            }
-            Err(back) => {
-                same(&rt, false, is_pattern, "a pattern is made of", row);
-                same(
-                    &rt,
-                    back.as_slice(),
-                    text.as_bytes(),
-                    "the text comes back of",
-                    row,
-                );
-            }
-        }
-    }
-    Ok(())
-}
-
-#[test]
 fn patterns_of_one_text_are_ordered_by_their_bits(rt: HostRuntime) -> Result<(), Fail> {
     let bare = read(rt.alloc(), b"a")?;
     let negated = read(rt.alloc(), b"!a")?;
@@ -81,5 +38,23 @@ fn patterns_of_one_text_are_ordered_by_their_bits(rt: HostRuntime) -> Result<(),
     let root = read(rt.alloc(), b"/")?;
     assert!(rt; root < bare);
     assert!(rt; negated < absolute);
+    Ok(())
+}
+
+#[test]
+fn a_star_and_a_literal_without_their_flag(rt: HostRuntime) -> Result<(), Fail> {
+    let text = Vec::from_slice(rt.alloc(), b"*a")?;
+    let star = Pattern::from_parts(text, Mode::empty(), Some(0))
+        .ok()
+        .ok_or("a pattern")?;
+    assert!(rt; star.matches(b"xa", plain()));
+    Ok(())
+}
+
+#[test]
+fn parts_that_make_no_pattern_are_given_back(rt: HostRuntime) -> Result<(), Fail> {
+    let text = Vec::from_slice(rt.alloc(), b"a*b")?;
+    let back = Pattern::from_parts(text, Mode::empty(), None).err();
+    assert_eq!(rt; back.ok_or("no pattern")?.as_slice(), b"a*b".as_slice());
     Ok(())
 }
