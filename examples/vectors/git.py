@@ -16,6 +16,7 @@ FOLDS = ["-c", "core.ignoreCase=true"] if IS_GIT else ["--ignore-case"]
 EXCLUDES = ["-c", "core.excludesFile=.excludes"] if IS_GIT else ["--excludes", ".excludes"]
 USER = ["-c", "core.attributesFile=user"] if IS_GIT else ["--attributes", "user"]
 NO_INDEX = ["--no-index"] if IS_GIT else []
+VALUES = (b"=set", b"=unset", b"=unspecified")
 
 
 def ask(top, options, words, path):
@@ -36,8 +37,8 @@ def trees(case, path, *fields):
 
 def attribute_states(path, names, *fields):
     files = [(b".git/info/attributes" if name == b"info" else name, text) for name, text in zip(fields[::2], fields[1::2])]
-    if IS_GIT and b"system" in fields[::2]:
-        # (the place of the system's file is built into Git)
+    if IS_GIT and b"system" in fields[::2] or any(value in text for text in fields[1::2] for value in VALUES):
+        # (the place of the system's file is built into Git; and such values can't be told from the states of these names)
         return ()
     with rows.folder_of([(b".git/HEAD", b"ref: refs/heads/main"), (b".git/objects/x", b""), (b".git/refs/x", b""), *files]) as top:
         options = [*(USER if b"user" in fields[::2] else []), *(["--system", "system"] if b"system" in fields[::2] else [])]
@@ -46,7 +47,7 @@ def attribute_states(path, names, *fields):
 
 
 def word(name, state):
-    """A word that assigns the state. A value of these letters can't be told from it."""
+    """A word that assigns the state."""
     return {b"set": name, b"unset": b"-" + name, b"unspecified": b"!" + name}.get(state, name + b"=" + state)
 
 
