@@ -8,6 +8,7 @@ import base64
 import hashlib
 import os
 import re
+import sys
 import zipfile
 
 HERE = os.path.dirname(os.path.abspath(__file__))
@@ -28,9 +29,10 @@ def _project(key):
 def _library():
     file = os.environ.get("GIX_GLOB_LIBRARY") or os.path.join(HERE, PACKAGE, LIBRARY)
     if not os.path.isfile(file):
-        raise FileNotFoundError(
-            f"there is no shared library {file}: `examples/c/install PREFIX` in a checkout of Girvuzhan makes it; "
-            f"then set GIX_GLOB_LIBRARY=PREFIX/lib/{LIBRARY}"
+        # (an exception would come with a traceback)
+        sys.exit(
+            f"gix-glob: there is no library {file}: `examples/c/install PREFIX` makes it in a checkout of Girvuzhan, with the "
+            f"Rattle toolchain; then set GIX_GLOB_LIBRARY=PREFIX/lib/{LIBRARY}"
         )
     with open(file, "rb") as opened:
         return opened.read()

@@ -23,12 +23,17 @@ fn library_folder() -> Result<PathBuf, String> {
         .args(["--variable=prefix", "gix_glob >= 0.1.0"])
         .output()
         .map_err(|error| format!("{} can't be run: {error}", program.to_string_lossy()))?;
-    let text = |bytes: &[u8]| String::from_utf8_lossy(bytes).trim().to_owned();
+    let text = |bytes: &[u8]| String::from_utf8_lossy(bytes).trim().replace('\n', " ");
     if said.status.success() {
-        Ok(PathBuf::from(text(&said.stdout)).join("lib"))
-    } else {
-        Err(text(&said.stderr).replace('\n', " "))
+        return Ok(PathBuf::from(text(&said.stdout)).join("lib"));
     }
+    // (of a package that is missing or too old most say nothing)
+    let why = text(&said.stderr);
+    Err(format!(
+        "{} {}",
+        program.to_string_lossy(),
+        if why.is_empty() { "finds no gix_glob of version 0.1.0 or later" } else { &why }
+    ))
 }
 
 fn main() {

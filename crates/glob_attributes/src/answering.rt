@@ -4,7 +4,7 @@ ghost use Rattle.std.specs.Io.KnownBytes.{Appends, Consumes};
 ghost use Rattle.gix_glob.specs.Watched.{has_failed, inner};
 ghost use Rattle.glob_lines.specs.Transfers.{AppendsFront, ReadsWhole, Run};
 ghost use Rattle.glob_trees.specs.RecordFaults.{is_endless, is_read_fault, is_write_fault};
-ghost use Rattle.glob_trees.specs.Records.{AnswersAll, AnswersFirst, AnswersSome};
+ghost use Rattle.glob_trees.specs.Records.{AnswersAll, AnswersEnded, AnswersFirst, AnswersSome, TextOf};
 ghost use Rattle.glob_attributes.specs.Answers.{IsAnswer};
 
 use crate::query::AttributeQuery;
@@ -25,9 +25,9 @@ use std::marker::{Brand, PhantomData};
 /// writer may have failed before, and none that fails is tried again.
 ///
 /// # Errors
-/// The first fault, and [`RecordFault::Write`] before another one; [`RecordFault::Memory`] wherever memory was refused. All paths
-/// that ended before the fault, and got their text, have it written, and nothing else is; but after `RecordFault::Write` what was
-/// written may end anywhere.
+/// The first fault, and [`RecordFault::Write`] before another one; [`RecordFault::Memory`] wherever memory was refused. The first
+/// paths have their text written, and nothing else is; after [`RecordFault::Read`] these are all paths that ended in what was read.
+/// But after `RecordFault::Write` what was written may end anywhere in their text.
 pub fn run_attributes<R: Read, W: Write>(
     alloc: Global,
     query: &AttributeQuery<'_>,
@@ -39,17 +39,22 @@ pub fn run_attributes<R: Read, W: Write>(
     // On success, all of the input was read, and the text of all its paths was written.
     ensures ok { OnOk result
         (Run (ReadsWhole (R.remaining (inner paths.old)) (R.remaining (inner paths.new)))
-        (AnswersAll (IsAnswer query.now) 0)
+        (AnswersAll (TextOf (IsAnswer query.now)) 0)
         (Appends (W.contents (inner writer.old)) (W.contents (inner writer.new)))) }
     // After a fault that is none of the writer's, the text of the first paths was written.
     ensures err { OnErr result (has_failed writer.new ≡ false →
         Run (Consumes (R.remaining (inner paths.old)) (R.remaining (inner paths.new)))
-        (AnswersFirst (IsAnswer query.now) 0)
+        (AnswersFirst (TextOf (IsAnswer query.now)) 0)
         (Appends (W.contents (inner writer.old)) (W.contents (inner writer.new)))) }
+    // After a failed read, that of all that ended in what was read.
+    ensures unread { IsTrue (is_read_fault result) →
+        Run (Consumes (R.remaining (inner paths.old)) (R.remaining (inner paths.new)))
+        (AnswersEnded (TextOf (IsAnswer query.now)) 0)
+        (Appends (W.contents (inner writer.old)) (W.contents (inner writer.new))) }
     // After one of the writer's, a beginning of such a text was.
     ensures cut { OnErr result
         (Run (Consumes (R.remaining (inner paths.old)) (R.remaining (inner paths.new)))
-        (AnswersSome (IsAnswer query.now) 0)
+        (AnswersSome (TextOf (IsAnswer query.now)) 0)
         (AppendsFront (W.contents (inner writer.old)) (W.contents (inner writer.new)))) }
     ensures endless { IsTrue (is_endless result) → (input : List ℕ) × Consumes (R.remaining (inner paths.old)) (R.remaining (inner paths.new)) input
         × (2 ^ 64 - 1 ≤ length input) }
@@ -92,6 +97,10 @@ impl<'a, Q: Question> Answerer for PathAnswerer<'a, Q> {
 
     ghost answers = { λ _. IsAnswer Q.query };
 
+    ghost answered = { λ _ _. ⊥ };
+
+    ghost refused = { λ _ _. ⊥ };
+
     fn answer(&mut self, text: &mut Vec<u8>, bytes: &[u8]) -> Result<(), AllocError> {
         self.query.append_answer(self.alloc, text, bytes)
     }
@@ -109,15 +118,19 @@ fn run_question<R: Read, W: Write, Q: Question>(
     requires writable { has_failed writer.old ≡ false }
     ensures ok { OnOk result
         (Run (ReadsWhole (R.remaining (inner paths.old)) (R.remaining (inner paths.new)))
-        (AnswersAll (IsAnswer Q.query) 0)
+        (AnswersAll (TextOf (IsAnswer Q.query)) 0)
         (Appends (W.contents (inner writer.old)) (W.contents (inner writer.new)))) }
     ensures err { OnErr result (has_failed writer.new ≡ false →
         Run (Consumes (R.remaining (inner paths.old)) (R.remaining (inner paths.new)))
-        (AnswersFirst (IsAnswer Q.query) 0)
+        (AnswersFirst (TextOf (IsAnswer Q.query)) 0)
         (Appends (W.contents (inner writer.old)) (W.contents (inner writer.new)))) }
+    ensures unread { IsTrue (is_read_fault result) →
+        Run (Consumes (R.remaining (inner paths.old)) (R.remaining (inner paths.new)))
+        (AnswersEnded (TextOf (IsAnswer Q.query)) 0)
+        (Appends (W.contents (inner writer.old)) (W.contents (inner writer.new))) }
     ensures cut { OnErr result
         (Run (Consumes (R.remaining (inner paths.old)) (R.remaining (inner paths.new)))
-        (AnswersSome (IsAnswer Q.query) 0)
+        (AnswersSome (TextOf (IsAnswer Q.query)) 0)
         (AppendsFront (W.contents (inner writer.old)) (W.contents (inner writer.new)))) }
     ensures endless { IsTrue (is_endless result) → (input : List ℕ) × Consumes (R.remaining (inner paths.old)) (R.remaining (inner paths.new)) input
         × (2 ^ 64 - 1 ≤ length input) }

@@ -48,6 +48,10 @@ impl Answerer for Brackets {
 
     ghost answers = { λ _ bytes text. text ≡ 60 ∷ bytes ++ 62 ∷ [] };
 
+    ghost answered = { λ _ _. ⊥ };
+
+    ghost refused = { λ _ _. ⊥ };
+
     fn answer(&mut self, text: &mut Vec<u8>, bytes: &[u8]) -> Result<(), Unanswered> {
         if self.left == 0 {
             // what is appended then doesn't count

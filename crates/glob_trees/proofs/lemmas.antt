@@ -18,6 +18,7 @@ pub mod Rooms
 pub mod RunLemmas
 pub mod Settled
 pub mod Stepping
+pub mod Standing
 pub mod StreamLemmas
 pub mod Topmost
 pub mod WayLemmas

@@ -1,5 +1,5 @@
 -- Of what a run over records tells a fault.
-use Rattle.std.specs.Prelude.{Bool, true, false, Result, Ok, Err}
+use Rattle.std.specs.Prelude.{Bool, true, false, List, [], ◌∷◌, Result, Ok, Err}
 use Rattle.glob_trees.specs.declared.record_fault.RecordFault.{RecordFault}
 use Rattle.glob_trees.specs.declared.record_fault.RecordFault.TheVariants.{Answer, Endless, Memory, Read, Write}
 
@@ -29,3 +29,12 @@ is_endless (Err (Read error)) = false
 is_endless (Err (Write error)) = false
 is_endless (Err (Answer fault)) = false
 is_endless (Err Endless) = true
+
+-- the fault of the answerer, where one is told
+abbrev pub told_refusal : {X F : Type 0} → Result X (RecordFault F) → List F
+told_refusal (Ok x) = []
+told_refusal (Err Memory) = []
+told_refusal (Err (Read error)) = []
+told_refusal (Err (Write error)) = []
+told_refusal (Err (Answer fault)) = fault ∷ []
+told_refusal (Err Endless) = []

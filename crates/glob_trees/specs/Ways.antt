@@ -1,6 +1,6 @@
 -- The folders on the way to a path, and their lists.
 use Rattle.std.specs.Prelude.{◌≡◌, ◌⊎◌, ℕ, ◌==◌, if◌then◌else◌, List, [], ◌∷◌, ◌++◌, drop, Option, None, Some}
-use Rattle.std.specs.List.{AllZip}
+use Rattle.std.specs.List.{AllZip, Contains}
 use Rattle.gix_glob.specs.declared.pattern.Case.{Case}
 use Rattle.gix_glob.specs.Bytes.{slash}
 use Rattle.gix_glob.specs.EntryLists.{EntryList}
@@ -47,10 +47,12 @@ abbrev pub IsAskedFor : {V : Type 0} → List (EntryList V) → Case → List �
 IsAskedFor lists case path folder = (folder ≡ []) ⊎ (IsAbove folder path × HasNoneIgnored lists case (folder ++ slash ∷ []))
 
 -- The lists past the first `front_count` are those of the folders on the way to a path, one for each, from the top down as far as
--- the first folder that is ignored, by these lists: what lies in that one, and in each further folder, is below an ignored folder.
+-- the first folder that is ignored, by these lists: none of those that were entered is, and what lies in that one, and in each
+-- further folder, is below an ignored folder.
 pub record AreOnTheWay {V : Type 0} (shows : List ℕ → EntryList V → Type 0) (front_count : ℕ) (lists : List (EntryList V)) (case : Case) (path : List ℕ) : Type 0 where
   pub entered : List (List ℕ)
   pub further : List (List ℕ)
   pub joined : folders_to path ≡ entered ++ further
   pub shown : AllZip (IsListOf shows) entered (drop front_count lists)
+  pub unignored : (folder : List ℕ) → Contains entered folder → IsAskedFor lists case path folder
   pub ends : (folder : List ℕ) (below : List (List ℕ)) → further ≡ folder ∷ below → (pair : ℕ × ℕ) × IsBelowIgnored lists case (folder ++ slash ∷ []) pair

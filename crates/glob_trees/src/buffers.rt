@@ -1,11 +1,11 @@
 //! What a stream of records holds: the record that has begun, and the texts that aren't written yet.
-ghost use Rattle.std.specs.Prelude.{◌≡◌, ◌++◌, [], false, IfOk, MatchOption, OnErr, OnOk, is_err};
-ghost use Rattle.std.specs.Io.KnownBytes.{Appends, Keeps};
+ghost use Rattle.std.specs.Prelude.{◌≡◌, ◌++◌, [], ◌∷◌, false, IfOk, MatchOption, OnErr, OnOk, is_err};
+ghost use Rattle.std.specs.Io.KnownBytes.{Appends};
 ghost use Rattle.gix_glob.specs.Watched.{has_failed, inner};
 ghost use Rattle.glob_lines.specs.Lines.{HasNo};
 ghost use Rattle.glob_lines.specs.Transfers.{AppendsFront};
-ghost use Rattle.glob_trees.specs.RecordFaults.{is_endless, is_read_fault, is_write_fault};
-ghost use Rattle.glob_trees.specs.Records.{Adds, AnswersFirst, StaysAllowed, TextOf, last_record};
+ghost use Rattle.glob_trees.specs.RecordFaults.{is_endless, is_read_fault, is_write_fault, told_refusal};
+ghost use Rattle.glob_trees.specs.Records.{Adds, AnswersFirst, GrowsBy, StaysAllowed, TextOfAnswered, last_record};
 ghost use Rattle.glob_trees.specs.Private.Streaming.{CutsRecord, MovesOut, Takes, TextOfLast, WritesSome};
 
 use crate::answering::Answerer;
@@ -51,15 +51,16 @@ impl Buffers {
         requires unended { HasNo end self.old.begun.items }
         requires none { self.old.text.items ≡ [] }
         ensures stays { StaysAllowed (A.answers answerer.old) (A.answers answerer.new) }
-        ensures ok { OnOk result (Takes (A.answers answerer.new) end (self.old.begun.items ++ piece.now) self.new.begun.items
+        ensures ok { OnOk result (Takes (TextOfAnswered (A.answers answerer.new) (A.answered answerer.old) (A.answered answerer.new)) end (self.old.begun.items ++ piece.now) self.new.begun.items
             (W.contents (inner writer.old)) (W.contents (inner writer.new))) }
         ensures none { OnOk result (self.new.text.items ≡ []) }
         ensures err { OnErr result (has_failed writer.new ≡ false →
-            WritesSome (AnswersFirst (A.answers answerer.new) end (self.old.begun.items ++ piece.now))
+            WritesSome (AnswersFirst (TextOfAnswered (A.answers answerer.new) (A.answered answerer.old) (A.answered answerer.new)) end (self.old.begun.items ++ piece.now))
             (Appends (W.contents (inner writer.old)) (W.contents (inner writer.new)))) }
         ensures cut { OnErr result
-            (WritesSome (AnswersFirst (A.answers answerer.new) end (self.old.begun.items ++ piece.now))
+            (WritesSome (AnswersFirst (TextOfAnswered (A.answers answerer.new) (A.answered answerer.old) (A.answered answerer.new)) end (self.old.begun.items ++ piece.now))
             (AppendsFront (W.contents (inner writer.old)) (W.contents (inner writer.new)))) }
+        ensures refused { has_failed writer.new ≡ false → GrowsBy (A.refused answerer.old) (A.refused answerer.new) (told_refusal result) }
         ensures read { is_read_fault result ≡ false }
         ensures endless { is_endless result ≡ false }
         ensures write { is_write_fault result ≡ has_failed writer.new }
@@ -88,12 +89,15 @@ impl Buffers {
         requires none { self.old.text.items ≡ [] }
         ensures stays { StaysAllowed (A.answers answerer.old) (A.answers answerer.new) }
         ensures ok { OnOk result
-            (WritesSome (TextOf (A.answers answerer.new) (last_record self.old.begun.items))
+            (WritesSome (TextOfAnswered (A.answers answerer.new) (A.answered answerer.old) (A.answered answerer.new) (last_record self.old.begun.items))
             (Appends (W.contents (inner writer.old)) (W.contents (inner writer.new)))) }
-        ensures err { OnErr result (has_failed writer.new ≡ false → Keeps (W.contents (inner writer.old)) (W.contents (inner writer.new))) }
+        ensures err { OnErr result (has_failed writer.new ≡ false →
+            WritesSome (TextOfAnswered (A.answers answerer.new) (A.answered answerer.old) (A.answered answerer.new) [])
+            (Appends (W.contents (inner writer.old)) (W.contents (inner writer.new)))) }
         ensures cut { OnErr result
-            (WritesSome (TextOfLast (A.answers answerer.new) self.old.begun.items)
+            (WritesSome (TextOfLast (TextOfAnswered (A.answers answerer.new) (A.answered answerer.old) (A.answered answerer.new)) self.old.begun.items)
             (AppendsFront (W.contents (inner writer.old)) (W.contents (inner writer.new)))) }
+        ensures refused { has_failed writer.new ≡ false → GrowsBy (A.refused answerer.old) (A.refused answerer.new) (told_refusal result) }
         ensures read { is_read_fault result ≡ false }
         ensures endless { is_endless result ≡ false }
         ensures write { is_write_fault result ≡ has_failed writer.new }
@@ -113,9 +117,12 @@ impl Buffers {
         answerer: &mut A,
     ) -> Result<(), RecordFault<A::Fault>>
         ensures stays { StaysAllowed (A.answers answerer.old) (A.answers answerer.new) }
-        ensures ok { OnOk result (Adds (A.answers answerer.new (self.old.begun.items ++ last.now)) self.old.text.items self.new.text.items) }
+        ensures ok { OnOk result (Adds (TextOfAnswered (A.answers answerer.new) (A.answered answerer.old) (A.answered answerer.new) ((self.old.begun.items ++ last.now) ∷ []))
+            self.old.text.items self.new.text.items) }
         ensures empty { OnOk result (self.new.begun.items ≡ []) }
         ensures err { OnErr result (self.new.text.items ≡ self.old.text.items) }
+        ensures unanswered { OnErr result (GrowsBy (A.answered answerer.old) (A.answered answerer.new) []) }
+        ensures refused { GrowsBy (A.refused answerer.old) (A.refused answerer.new) (told_refusal result) }
         ensures read { is_read_fault result ≡ false }
         ensures endless { is_endless result ≡ false }
         ensures write { is_write_fault result ≡ false }

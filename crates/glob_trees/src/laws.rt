@@ -10,7 +10,7 @@ ghost use Rattle.glob_trees.specs.Trees.{DecidesInTree, Ignores, IsAbove, HasNon
 use gix_glob::search;
 use glob_lists::laws::decides_one_pair;
 
-/// Each path has one answer in a work tree.
+/// Each path has at most one answer in a work tree. [`decide_in_tree`](crate::decide_in_tree) gives it.
 pub fn decides_one_pair_in_tree<T: search::Pattern>()
     ensures { (lists : List (EntryList T.Seen)) (path : List ℕ) (is_dir : Bool) (case : Case) (pair other : Option (ℕ × ℕ)) →
         DecidesInTree lists path is_dir case pair → DecidesInTree lists path is_dir case other → pair ≡ other }

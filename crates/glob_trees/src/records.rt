@@ -3,8 +3,8 @@ ghost use Rattle.std.specs.Prelude.{◌≡◌, ◌-◌, ◌^◌, ◌≤◌, ℕ,
 ghost use Rattle.std.specs.Io.KnownBytes.{Appends, Consumes};
 ghost use Rattle.gix_glob.specs.Watched.{has_failed, inner};
 ghost use Rattle.glob_lines.specs.Transfers.{AppendsFront, ReadsWhole, Run};
-ghost use Rattle.glob_trees.specs.Records.{AnswersAll, AnswersFirst, AnswersSome, StaysAllowed};
-ghost use Rattle.glob_trees.specs.RecordFaults.{is_endless, is_read_fault, is_write_fault};
+ghost use Rattle.glob_trees.specs.Records.{AnswersAll, AnswersEnded, AnswersFirst, AnswersSome, GrowsBy, StaysAllowed, TextOfAnswered};
+ghost use Rattle.glob_trees.specs.RecordFaults.{is_endless, is_read_fault, is_write_fault, told_refusal};
 
 use crate::answering::Answerer;
 use crate::buffers::Buffers;
@@ -36,8 +36,10 @@ impl RecordStream {
     /// No call on the reader or the writer may have failed before, and none that fails is tried again, interrupted ones neither.
     ///
     /// # Errors
-    /// The first fault, and [`RecordFault::Write`] before another one. All records that ended before the fault, and got
-    /// their text, have it written, and nothing else is; but after `RecordFault::Write` what was written may end anywhere.
+    /// The first fault, and [`RecordFault::Write`] before another one. A fault of the answerer is told as [`RecordFault::Answer`]
+    /// of that very fault. All records that were answered have their text written, and nothing else is; after
+    /// [`RecordFault::Read`] these are all records that ended in what was read. But after `RecordFault::Write` what was written
+    /// may end anywhere in those texts.
     pub fn run<R: Read, W: Write, A: Answerer>(
         self,
         reader: &mut Watched<R>,
@@ -47,21 +49,28 @@ impl RecordStream {
         requires readable { has_failed reader.old ≡ false }
         requires writable { has_failed writer.old ≡ false }
         ensures stays { StaysAllowed (A.answers answerer.old) (A.answers answerer.new) }
-        // On success, all of the input was read, and a text of all its records was written.
+        // On success, all of the input was read, and the text of all its records was written.
         ensures ok { OnOk result
             (Run (ReadsWhole (R.remaining (inner reader.old)) (R.remaining (inner reader.new)))
-            (AnswersAll (A.answers answerer.new) self.end)
+            (AnswersAll (TextOfAnswered (A.answers answerer.new) (A.answered answerer.old) (A.answered answerer.new)) self.end)
             (Appends (W.contents (inner writer.old)) (W.contents (inner writer.new)))) }
-        // After a fault that is none of the writer's, a text of the first records was written.
+        // After a fault that is none of the writer's, that of the first records was, which are those that were answered.
         ensures err { OnErr result (has_failed writer.new ≡ false →
             Run (Consumes (R.remaining (inner reader.old)) (R.remaining (inner reader.new)))
-            (AnswersFirst (A.answers answerer.new) self.end)
+            (AnswersFirst (TextOfAnswered (A.answers answerer.new) (A.answered answerer.old) (A.answered answerer.new)) self.end)
             (Appends (W.contents (inner writer.old)) (W.contents (inner writer.new)))) }
-        // After one of the writer's, a beginning of such a text was.
+        // After a failed read, these are all that ended in what was read.
+        ensures unread { IsTrue (is_read_fault result) →
+            Run (Consumes (R.remaining (inner reader.old)) (R.remaining (inner reader.new)))
+            (AnswersEnded (TextOfAnswered (A.answers answerer.new) (A.answered answerer.old) (A.answered answerer.new)) self.end)
+            (Appends (W.contents (inner writer.old)) (W.contents (inner writer.new))) }
+        // After a fault of the writer's, a beginning of the text of those that were answered was written.
         ensures cut { OnErr result
             (Run (Consumes (R.remaining (inner reader.old)) (R.remaining (inner reader.new)))
-            (AnswersSome (A.answers answerer.new) self.end)
+            (AnswersSome (TextOfAnswered (A.answers answerer.new) (A.answered answerer.old) (A.answered answerer.new)) self.end)
             (AppendsFront (W.contents (inner writer.old)) (W.contents (inner writer.new)))) }
+        // The answerer had no fault but the one that is told.
+        ensures refused { has_failed writer.new ≡ false → GrowsBy (A.refused answerer.old) (A.refused answerer.new) (told_refusal result) }
         ensures endless { IsTrue (is_endless result) → (input : List ℕ) × Consumes (R.remaining (inner reader.old)) (R.remaining (inner reader.new)) input
             × (2 ^ 64 - 1 ≤ length input) }
         ensures read { is_read_fault result ≡ has_failed reader.new }

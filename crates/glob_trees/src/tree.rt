@@ -1,7 +1,8 @@
 //! A work tree whose folders are asked for their lists as paths come by.
-ghost use Rattle.std.specs.Prelude.{◌≡◌, ◌↔◌, IfOk, IfSome, IsTrue, MatchOption, OnOk, Some, length, map, slice_get, take};
+ghost use Rattle.std.specs.Prelude.{◌≡◌, ◌↔◌, IfOk, IsTrue, MatchOption, OnOk, length, map, take};
 ghost use Rattle.gix_glob.specs.EntryLists.{entry_list_of};
 ghost use Rattle.glob_lists.specs.Deciding.{BasesAreFolders};
+ghost use Rattle.glob_trees.specs.TreeParts.{HasMappingAt, StandAt};
 ghost use Rattle.glob_trees.specs.Trees.{DecidesInTree};
 ghost use Rattle.glob_trees.specs.Ways.{AreOnTheWay, Folder, GivesOnly, GoesOn, IsAskedFor};
 
@@ -114,10 +115,12 @@ impl<T: search::Pattern, S: FolderLists<T> + Drop> Tree<T, S> {
         &self.entered.lists
     }
 
-    /// The pattern at a pair of places, as [`Tree::find`] answered it last, and its list; `None` where nothing stands there.
+    /// The pattern at a pair of places, as [`Tree::find`] answered it last, and its list; `None` exactly where none stands there.
+    #[tactic(auto, using(crate::proofs::lemmas::Standing::no_list_at, crate::proofs::lemmas::Standing::no_mapping_at))]
     pub fn decision(&self, pair: (usize, usize)) -> Option<Decision<'_, T>>
-        ensures { IfSome result (λ decision. (slice_get self.now.lists pair.0 ≡ Some decision.list.now)
-            × (slice_get decision.list.now.patterns.items pair.1 ≡ Some decision.mapping.now)) }
+        ensures { MatchOption result
+            (¬ HasMappingAt self.now.lists pair)
+            (λ decision. StandAt self.now.lists pair decision.list.now decision.mapping.now) }
     {
         let list = self.entered.lists.get(pair.0)?.list();
         let mapping = list.patterns.get(pair.1)?;

@@ -30,6 +30,10 @@ impl<A: PathAnswerer> Answerer for RecordAnswerer<A> {
 
     ghost answers = { λ _ _ _. Unit {0} };
 
+    ghost answered = { λ _ _. ⊥ };
+
+    ghost refused = { λ _ _. ⊥ };
+
     #[inline(always)]
     fn answer(&mut self, text: &mut Vec<u8>, bytes: &[u8]) -> Result<(), CheckFault> {
         if let [b'"', quoted @ ..] = bytes {

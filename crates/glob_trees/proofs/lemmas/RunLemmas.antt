@@ -1,18 +1,18 @@
 -- A run over records: what it read, and what it wrote.
-use Rattle.std.proofs.Common.{◌≡◌, ◌≢◌, ⊎_elim, ℕ, zero, suc, ◌+◌, ◌≤◌, length, length-append, arith, List, [], ◌++◌, Option, inl, inr, refl, sym, ap, subst, ◌∙◌, append-nil}
-use Rattle.std.proofs.KnownBytes.{Appends-kept, Appends-trans, Consumes-kept, Consumes-trans}
+use Rattle.std.proofs.Common.{◌≡◌, ◌≢◌, ⊎_elim, ℕ, zero, suc, ◌+◌, ◌≤◌, length, length-append, arith, List, [], ◌++◌, Option, inl, inr, refl, sym, subst, append-nil}
+use Rattle.std.proofs.KnownBytes.{Appends-nil, Appends-trans, Consumes-kept, Consumes-nil, Consumes-trans}
 use Rattle.std.specs.Io.KnownBytes.{Appends, Consumes, IsAtEnd, Keeps}
 use Rattle.glob_lines.specs.Lines.{HasNo}
 use Rattle.glob_lines.specs.Transfers.{AppendsFront, ReadsWhole, Run}
-use Rattle.glob_trees.specs.Records.{AnswersAll, AnswersBefore, AnswersFirst, AnswersSome, StaysAllowed, TextOf, last_record}
+use Rattle.glob_trees.specs.Records.{AnswersAll, AnswersBefore, AnswersEnded, AnswersFirst, AnswersSome, TextOfAnswered, last_record}
 use Rattle.glob_trees.specs.Private.Streaming.{Takes, TextOfLast, WritesSome}
-use Rattle.glob_trees.proofs.lemmas.RecordLemmas.{AnswersAll-last, AnswersBefore-grown, AnswersBefore-stays}
+use Rattle.glob_trees.proofs.lemmas.RecordLemmas.{AnswersAll-last, AnswersBefore-grown, AnswersBefore-no_more, AnswersBefore-none, AnswersBefore-weaker, Joins, Weakens}
 use Rattle.glob_trees.proofs.lemmas.StreamLemmas.{AppendsFront-next, AppendsFront-whole}
 
 -- what was written whole is a beginning, too
-pub Run-cut : (Answers : List ℕ → List ℕ → Type 0) (end : ℕ) (IsRead : List ℕ → Type 0) (a b : Option (List ℕ)) → Run IsRead (AnswersFirst Answers end) (Appends a b)
-    → Run IsRead (AnswersSome Answers end) (AppendsFront a b)
-Run-cut Answers end IsRead a b run = record {
+pub Run-cut : (IsText : List (List ℕ) → List ℕ → Type 0) (end : ℕ) (IsRead : List ℕ → Type 0) (a b : Option (List ℕ)) → Run IsRead (AnswersFirst IsText end) (Appends a b)
+    → Run IsRead (AnswersSome IsText end) (AppendsFront a b)
+Run-cut IsText end IsRead a b run = record {
   input = run.input;
   read = run.read;
   text = run.text;
@@ -27,23 +27,35 @@ longer input piece counter (suc count) low is some = let grew = length-append in
 
 -- The ended records of what was read are answered, their text was written, and the record that has begun is held. Each of so
 -- many reads gave a byte.
-pub record IsRunning (Answers : List ℕ → List ℕ → Type 0) (end : ℕ) (q r a b : Option (List ℕ)) (held : List ℕ) (reads : ℕ) : Type 0 where
+pub record IsRunning (IsText : List (List ℕ) → List ℕ → Type 0) (end : ℕ) (q r a b : Option (List ℕ)) (held : List ℕ) (reads : ℕ) : Type 0 where
   pub input : List ℕ
   pub long : reads ≤ length input
   pub consumed : Consumes q r input
   pub text : List ℕ
-  pub before : AnswersBefore Answers end input held text
+  pub before : AnswersBefore IsText end input held text
   pub written : Appends a b text
   pub unended : HasNo end held
 
-module _ (Answers : List ℕ → List ℕ → Type 0) (end : ℕ) (q a : Option (List ℕ)) (r b : Option (List ℕ)) (held : List ℕ) (reads : ℕ) (running : IsRunning Answers end q r a b held reads) (s : Option (List ℕ)) (piece : List ℕ) (read : Consumes r s piece) (c : Option (List ℕ)) where
+-- nothing was read yet
+pub IsRunning-begun : (Answers : List ℕ → List ℕ → Type 0) (before : List (List ℕ) → Type 0) (end : ℕ) (q a : Option (List ℕ)) (held : List ℕ) → held ≡ [] → IsRunning (TextOfAnswered Answers before before) end q q a a held 0
+IsRunning-begun Answers before end q a held none = record {
+  input = [];
+  long = omega arith;
+  consumed = Consumes-nil q;
+  text = [];
+  before = subst (λ l. AnswersBefore (TextOfAnswered Answers before before) end [] l []) (sym none) (AnswersBefore-none Answers before end []);
+  written = Appends-nil a;
+  unended = subst (HasNo end) (sym none) tt;
+}
+
+module _ (First Next Both : List (List ℕ) → List ℕ → Type 0) (joins : Joins First Next Both) (end : ℕ) (q a : Option (List ℕ)) (r b : Option (List ℕ)) (held : List ℕ) (reads : ℕ) (running : IsRunning First end q r a b held reads) (s : Option (List ℕ)) (piece : List ℕ) (read : Consumes r s piece) (c : Option (List ℕ)) where
   read_on : Consumes q s (running.input ++ piece)
   read_on = Consumes-trans q r s running.input piece running.consumed read
 
-  on : (rest next : List ℕ) → AnswersBefore Answers end (held ++ piece) rest next → AnswersBefore Answers end (running.input ++ piece) rest (running.text ++ next)
-  on rest next = AnswersBefore-grown Answers end running.input held running.text running.before piece rest next
+  on : (rest next : List ℕ) → AnswersBefore Next end (held ++ piece) rest next → AnswersBefore Both end (running.input ++ piece) rest (running.text ++ next)
+  on rest next = AnswersBefore-grown First Next Both joins end running.input held running.text running.before piece rest next
 
-  pub IsRunning-taken : (count : ℕ) → count ≡ length piece → count ≢ 0 → (left : List ℕ) → Takes Answers end (held ++ piece) left b c → IsRunning Answers end q s a c left (reads + 1)
+  pub IsRunning-taken : (count : ℕ) → count ≡ length piece → count ≢ 0 → (left : List ℕ) → Takes Next end (held ++ piece) left b c → IsRunning Both end q s a c left (reads + 1)
   IsRunning-taken count is some left takes = record {
     input = running.input ++ piece;
     long = longer running.input piece reads count running.long is some;
@@ -55,7 +67,7 @@ module _ (Answers : List ℕ → List ℕ → Type 0) (end : ℕ) (q a : Option 
   }
 
   -- a fault that isn't the writer's came
-  pub IsRunning-stopped : (P : Type 0) → (P → WritesSome (AnswersFirst Answers end (held ++ piece)) (Appends b c)) → P → Run (Consumes q s) (AnswersFirst Answers end) (Appends a c)
+  pub IsRunning-stopped : (P : Type 0) → (P → WritesSome (AnswersFirst Next end (held ++ piece)) (Appends b c)) → P → Run (Consumes q s) (AnswersFirst Both end) (Appends a c)
   IsRunning-stopped P wrote p = let some = wrote p in record {
     input = running.input ++ piece;
     read = read_on;
@@ -65,7 +77,7 @@ module _ (Answers : List ℕ → List ℕ → Type 0) (end : ℕ) (q a : Option 
   }
 
   -- a fault of the writer's came
-  pub IsRunning-cut : WritesSome (AnswersFirst Answers end (held ++ piece)) (AppendsFront b c) → Run (Consumes q s) (AnswersSome Answers end) (AppendsFront a c)
+  pub IsRunning-cut : WritesSome (AnswersFirst Next end (held ++ piece)) (AppendsFront b c) → Run (Consumes q s) (AnswersSome Both end) (AppendsFront a c)
   IsRunning-cut some = record {
     input = running.input ++ piece;
     read = read_on;
@@ -76,8 +88,8 @@ module _ (Answers : List ℕ → List ℕ → Type 0) (end : ℕ) (q a : Option 
 
 -- ---- no more was read
 
-module _ (Answers : List ℕ → List ℕ → Type 0) (end : ℕ) (q a : Option (List ℕ)) (r b : Option (List ℕ)) (held : List ℕ) (reads : ℕ) (running : IsRunning Answers end q r a b held reads) where
-  pub IsRunning-unread : (s : Option (List ℕ)) → Keeps r s → Run (Consumes q s) (AnswersFirst Answers end) (Appends a b)
+module _ (IsText : List (List ℕ) → List ℕ → Type 0) (end : ℕ) (q a : Option (List ℕ)) (r b : Option (List ℕ)) (held : List ℕ) (reads : ℕ) (running : IsRunning IsText end q r a b held reads) where
+  pub IsRunning-unread : (s : Option (List ℕ)) → Keeps r s → Run (Consumes q s) (AnswersFirst IsText end) (Appends a b)
   IsRunning-unread s kept = record {
     input = running.input;
     read = Consumes-kept q r s running.input running.consumed kept;
@@ -86,51 +98,77 @@ module _ (Answers : List ℕ → List ℕ → Type 0) (end : ℕ) (q a : Option 
     written = running.written;
   }
 
-module _ (Answers : List ℕ → List ℕ → Type 0) (end : ℕ) (q a : Option (List ℕ)) (r b : Option (List ℕ)) (held : List ℕ) (reads : ℕ) (running : IsRunning Answers end q r a b held reads) (s : Option (List ℕ)) (read : Consumes r s []) (c : Option (List ℕ)) where
-  all_read : Consumes q s running.input
-  all_read = subst (Consumes q s) (append-nil running.input) (Consumes-trans q r s running.input [] running.consumed read)
+  -- all records that have ended are answered
+  pub IsRunning-ended : (s : Option (List ℕ)) → Keeps r s → Run (Consumes q s) (AnswersEnded IsText end) (Appends a b)
+  IsRunning-ended s kept = record {
+    input = running.input;
+    read = Consumes-kept q r s running.input running.consumed kept;
+    text = running.text;
+    allowed = (held, running.unended, running.before);
+    written = running.written;
+  }
 
-  pub IsRunning-finished : IsAtEnd s → WritesSome (TextOf Answers (last_record held)) (Appends b c) → Run (ReadsWhole q s) (AnswersAll Answers end) (Appends a c)
+-- a read that gives nothing changes nothing
+all_read : (q r s : Option (List ℕ)) (input : List ℕ) → Consumes q r input → Consumes r s [] → Consumes q s input
+all_read q r s input consumed none = subst (Consumes q s) (append-nil input) (Consumes-trans q r s input [] consumed none)
+
+module _ (First Next Both : List (List ℕ) → List ℕ → Type 0) (joins : Joins First Next Both) (end : ℕ) (q a : Option (List ℕ)) (r b : Option (List ℕ)) (held : List ℕ) (reads : ℕ) (running : IsRunning First end q r a b held reads) (s : Option (List ℕ)) (read : Consumes r s []) (c : Option (List ℕ)) where
+  pub IsRunning-finished : IsAtEnd s → WritesSome (Next (last_record held)) (Appends b c) → Run (ReadsWhole q s) (AnswersAll Both end) (Appends a c)
   IsRunning-finished ended last = record {
     input = running.input;
-    read = record { consumed = all_read; ended = ended };
+    read = record { consumed = all_read q r s running.input running.consumed read; ended = ended };
     text = running.text ++ last.text;
-    allowed = AnswersAll-last Answers end running.input held running.text running.before last.text running.unended last.allowed;
+    allowed = AnswersAll-last First Next Both joins end running.input held running.text running.before last.text running.unended last.allowed;
     written = Appends-trans a b c running.text last.text running.written last.written;
   }
 
-  -- the last record got no answer
-  pub IsRunning-unfinished : (P : Type 0) → (P → Keeps b c) → P → Run (Consumes q s) (AnswersFirst Answers end) (Appends a c)
-  IsRunning-unfinished P kept p = record {
-    input = running.input;
-    read = all_read;
-    text = running.text;
-    allowed = (held, running.before);
-    written = Appends-kept a b c running.text running.written (kept p);
-  }
-
-  pub IsRunning-cut_last : WritesSome (TextOfLast Answers held) (AppendsFront b c) → Run (Consumes q s) (AnswersSome Answers end) (AppendsFront a c)
+  pub IsRunning-cut_last : WritesSome (TextOfLast Next held) (AppendsFront b c) → Run (Consumes q s) (AnswersSome Both end) (AppendsFront a c)
   IsRunning-cut_last last = record {
     input = running.input;
-    read = all_read;
+    read = all_read q r s running.input running.consumed read;
     text = running.text ++ last.text;
     allowed = ⊎_elim
-        (λ (none : last.text ≡ []). inl (held, subst (AnswersBefore Answers end running.input held) (sym (append-nil running.text) ∙ ap (λ l. running.text ++ l) (sym none)) running.before))
-        (λ (one : TextOf Answers (last_record held) last.text).
-        inr (AnswersAll-last Answers end running.input held running.text running.before last.text running.unended one))
+        (λ (none : Next [] last.text). inl (held, AnswersBefore-no_more First Next Both joins end running.input held running.text running.before last.text none))
+        (λ (one : Next (last_record held) last.text).
+        inr (AnswersAll-last First Next Both joins end running.input held running.text running.before last.text running.unended one))
         last.allowed;
     written = AppendsFront-next a b c running.text last.text running.written last.written;
   }
 
--- what was allowed still is
-pub IsRunning-stays : (Before After : List ℕ → List ℕ → Type 0) → StaysAllowed Before After → (end : ℕ) (q r a b : Option (List ℕ)) (held : List ℕ) (reads : ℕ)
-    → IsRunning Before end q r a b held reads → IsRunning After end q r a b held reads
-IsRunning-stays Before After stays end q r a b held reads running = record {
-  input = running.input;
-  long = running.long;
-  consumed = running.consumed;
-  text = running.text;
-  before = AnswersBefore-stays Before After stays end running.input held running.text running.before;
-  written = running.written;
-  unended = running.unended;
-}
+  -- the last record got no answer
+  pub IsRunning-unfinished : (P : Type 0) → (P → WritesSome (Next []) (Appends b c)) → P → Run (Consumes q s) (AnswersFirst Both end) (Appends a c)
+  IsRunning-unfinished P wrote p = let none = wrote p in record {
+    input = running.input;
+    read = all_read q r s running.input running.consumed read;
+    text = running.text ++ none.text;
+    allowed = (held, AnswersBefore-no_more First Next Both joins end running.input held running.text running.before none.text none.allowed);
+    written = Appends-trans a b c running.text none.text running.written none.written;
+  }
+
+-- ---- the same in another sense of what a text of records is
+
+module _ (First Both : List (List ℕ) → List ℕ → Type 0) (weakens : Weakens First Both) (end : ℕ) (IsRead : List ℕ → Type 0) (Written : List ℕ → Type 0) where
+  all_weaker : (bytes text : List ℕ) → AnswersAll First end bytes text → AnswersAll Both end bytes text
+  all_weaker bytes text all = record { records = all.records; are = all.are; answered = weakens.weaken all.records text all.answered }
+
+  first_weaker : (bytes text : List ℕ) → AnswersFirst First end bytes text → AnswersFirst Both end bytes text
+  first_weaker bytes text first = (first.0, AnswersBefore-weaker First Both weakens end bytes first.0 text first.1)
+
+  ended_weaker : (bytes text : List ℕ) → AnswersEnded First end bytes text → AnswersEnded Both end bytes text
+  ended_weaker bytes text ended = (ended.0, ended.1, AnswersBefore-weaker First Both weakens end bytes ended.0 text ended.2)
+
+  some_weaker : (bytes text : List ℕ) → AnswersSome First end bytes text → AnswersSome Both end bytes text
+  some_weaker bytes text (inl first) = inl (first_weaker bytes text first)
+  some_weaker bytes text (inr all) = inr (all_weaker bytes text all)
+
+  pub Run-all_weaker : Run IsRead (AnswersAll First end) Written → Run IsRead (AnswersAll Both end) Written
+  Run-all_weaker run = record { input = run.input; read = run.read; text = run.text; allowed = all_weaker run.input run.text run.allowed; written = run.written }
+
+  pub Run-first_weaker : Run IsRead (AnswersFirst First end) Written → Run IsRead (AnswersFirst Both end) Written
+  Run-first_weaker run = record { input = run.input; read = run.read; text = run.text; allowed = first_weaker run.input run.text run.allowed; written = run.written }
+
+  pub Run-ended_weaker : Run IsRead (AnswersEnded First end) Written → Run IsRead (AnswersEnded Both end) Written
+  Run-ended_weaker run = record { input = run.input; read = run.read; text = run.text; allowed = ended_weaker run.input run.text run.allowed; written = run.written }
+
+  pub Run-some_weaker : Run IsRead (AnswersSome First end) Written → Run IsRead (AnswersSome Both end) Written
+  Run-some_weaker run = record { input = run.input; read = run.read; text = run.text; allowed = some_weaker run.input run.text run.allowed; written = run.written }

@@ -17,6 +17,7 @@ use Rattle.glob_trees.specs.Private.Entered.{AreAtHand, AreEntered, AreOfFolders
 use Rattle.glob_trees.specs.Private.Left.{FillsRoom, HasKept, HasMoreRooms, HasRoom, IsKept}
 use Rattle.glob_trees.specs.Trees.{Ignores, IsAbove}
 use Rattle.glob_trees.specs.Ways.{AreOnTheWay, IsListOf, folder_before, folders_from, folders_to}
+use Rattle.glob_trees.proofs.lemmas.Asking.{asked_above, asked_to_path}
 use Rattle.glob_trees.proofs.lemmas.AtHand.{at_hand_left, rooms_left}
 use Rattle.glob_trees.proofs.lemmas.Entering.{deepest, entered_byte, entered_folder, entered_slash, entered_top, some_entered, topmost, topmost_way, up_to}
 use Rattle.glob_trees.proofs.lemmas.OnWay.{on_way_more}
@@ -220,6 +221,7 @@ module _ {V : Type 0} (shows : List ℕ → EntryList V → Type 0) (n : ℕ) (l
     further = further front (slash ∷ above.0);
     joined = ap folders_to above.1 ∙ folders_more front (slash ∷ above.0);
     shown = e.shown;
+    unignored = λ folder h. asked_above shows n lists case path front folder e above h;
     ends = λ folder below is. (pair, record { folder = front; above = above_first front above.0 folder below is; ignored = ignored; topmost = e.none });
   }
 
@@ -229,6 +231,7 @@ module _ {V : Type 0} (shows : List ℕ → EntryList V → Type 0) (n : ℕ) (l
     further = [];
     joined = sym (append-nil (folders_to path));
     shown = e.shown;
+    unignored = λ folder h. asked_to_path shows n lists case path folder e h;
     ends = λ folder below is. absurd (cc);
   }
 

@@ -2,7 +2,7 @@
 use Rattle.std.specs.Prelude.{◌≡◌, ◌⊎◌, ℕ, List, [], ◌∷◌, ◌++◌, Option}
 use Rattle.std.specs.Io.KnownBytes.{Appends}
 use Rattle.glob_lines.specs.Lines.{HasNo}
-use Rattle.glob_trees.specs.Records.{AnswersBefore, TextOf, last_record}
+use Rattle.glob_trees.specs.Records.{AnswersBefore, last_record}
 
 -- the bytes are what stands before the first byte that ends a record, that byte, and the rest
 pub record CutsRecord (end : ℕ) (bytes front rest : List ℕ) : Type 0 where
@@ -22,12 +22,12 @@ pub record WritesSome (IsText : List ℕ → Type 0) (Written : List ℕ → Typ
   pub written : Written text
 
 -- all records that end in the bytes were answered, their text was written, and the rest is the record that has begun
-pub record Takes (Answers : List ℕ → List ℕ → Type 0) (end : ℕ) (bytes rest : List ℕ) (old new : Option (List ℕ)) : Type 0 where
+pub record Takes (IsText : List (List ℕ) → List ℕ → Type 0) (end : ℕ) (bytes rest : List ℕ) (old new : Option (List ℕ)) : Type 0 where
   pub unended : HasNo end rest
   pub text : List ℕ
-  pub allowed : AnswersBefore Answers end bytes rest text
+  pub allowed : AnswersBefore IsText end bytes rest text
   pub written : Appends old new text
 
--- the text of the last record, or nothing
-abbrev pub TextOfLast : (List ℕ → List ℕ → Type 0) → List ℕ → List ℕ → Type 0
-TextOfLast Answers last text = (text ≡ []) ⊎ TextOf Answers (last_record last) text
+-- the text of the last record, or of none
+abbrev pub TextOfLast : (List (List ℕ) → List ℕ → Type 0) → List ℕ → List ℕ → Type 0
+TextOfLast IsText last text = IsText [] text ⊎ IsText (last_record last) text

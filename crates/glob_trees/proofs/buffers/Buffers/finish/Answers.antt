@@ -1,15 +1,23 @@
 -- The last record is the one that has begun.
-use Rattle.std.proofs.Common.{◌≢◌, [], inr, rules}
+use Rattle.std.proofs.Common.{◌≡◌, ◌≢◌, [], false, inr, rules}
 use Rattle.std.proofs.lemmas.Result.{on_err_weaker, on_ok_weaker}
-use Rattle.glob_trees.specs.Records.{TextOf, last_record}
-use Rattle.glob_trees.proofs.lemmas.RecordLemmas.{TextOf-added}
-use Rattle.glob_trees.proofs.lemmas.StreamLemmas.{nothing_of_last, on_any_err}
+use Rattle.gix_glob.specs.Watched.{has_failed, inner}
+use Rattle.glob_trees.specs.Records.{TextOfAnswered, last_record}
+use Rattle.glob_trees.proofs.lemmas.RecordLemmas.{last_added}
+use Rattle.glob_trees.proofs.lemmas.StreamLemmas.{nothing_of_last, nothing_written, on_any_err}
 use Rattle.glob_trees.proofs.buffers.Buffers.finish.Given.{Over}
 use Rattle.glob_trees.proofs.buffers.Buffers.finish.Goals as goal
 use Rattle.glob_trees.proofs.buffers.Buffers.finish.Goals.{In_ok-append_answer}
 
+pub returns-in_err-append_answer-clause-err : goal.returns-in_err-append_answer-clause-err
+returns-in_err-append_answer-clause-err g c =
+    on_any_err _ (nothing_written (g.A.Answerer.answers c.append_answer.new.answerer) (g.A.Answerer.answered c.args.answerer.now) (g.A.Answerer.answered c.append_answer.new.answerer)
+    (g.W.Write.contents (inner c.args.writer.now)) c.in_err-append_answer.ensures.unanswered (has_failed c.args.writer.now ≡ false))
+
 pub returns-in_err-append_answer-clause-cut : goal.returns-in_err-append_answer-clause-cut
-returns-in_err-append_answer-clause-cut g c = on_any_err _ (nothing_of_last _ _ _)
+returns-in_err-append_answer-clause-cut g c =
+    on_any_err _ (nothing_of_last (g.A.Answerer.answers c.append_answer.new.answerer) (g.A.Answerer.answered c.args.answerer.now) (g.A.Answerer.answered c.append_answer.new.answerer)
+    (g.W.Write.contents (inner c.args.writer.now)) c.in_err-append_answer.ensures.unanswered c.args.self.now.begun.items)
 
 -- a record has begun
 has_begun : (g : Over) (c : In_ok-append_answer g) → c.args.self.now.begun.items ≢ []
@@ -17,8 +25,9 @@ has_begun g c = λ none. let empty = c.is_empty.ensures in let isnt = c.if-is_em
 
 -- the text that is held is that of the last record
 last_text : (g : Over) (c : In_ok-append_answer g) →
-    TextOf (g.A.Answerer.answers c.append_answer.new.answerer) (last_record c.args.self.now.begun.items) c.append_answer.new.self.text.items
-last_text g c = TextOf-added _ c.args.self.now.begun.items _ _ (has_begun g c) c.requires.none c.in_ok-append_answer.ensures.ok
+    TextOfAnswered (g.A.Answerer.answers c.append_answer.new.answerer) (g.A.Answerer.answered c.args.answerer.now) (g.A.Answerer.answered c.append_answer.new.answerer)
+    (last_record c.args.self.now.begun.items) c.append_answer.new.self.text.items
+last_text g c = last_added (g.A.Answerer.answers c.append_answer.new.answerer) (g.A.Answerer.answered c.args.answerer.now) (g.A.Answerer.answered c.append_answer.new.answerer) c.args.self.now.begun.items _ _ (has_begun g c) c.requires.none c.in_ok-append_answer.ensures.ok
 
 pub returns-clause-ok : goal.returns-clause-ok
 returns-clause-ok g c =

@@ -1,7 +1,7 @@
-use Rattle.std.proofs.Common.{◌≡◌, ◌++◌, false, length}
+use Rattle.std.proofs.Common.{◌≡◌, ◌++◌, [], false, length}
 use Rattle.gix_glob.specs.Watched.{has_failed, inner}
 use Rattle.glob_lines.specs.Lines.{HasNo}
-use Rattle.glob_trees.specs.Records.{StaysAllowed}
+use Rattle.glob_trees.specs.Records.{GrowsBy, StaysAllowed, TextOfAnswered}
 use Rattle.glob_trees.proofs.lemmas.StreamLemmas.{IsTaking}
 use Rattle.glob_trees.proofs.buffers.Buffers.take.Given as goal
 
@@ -11,8 +11,9 @@ invariant-records g l = record {
   stays : StaysAllowed (g.A.Answerer.answers l.fn.answerer) (g.A.Answerer.answers l.answerer);
   fresh : has_failed l.writer ≡ false;
   unended : HasNo l.end l.self.begun.items;
-  taking : IsTaking (g.A.Answerer.answers l.answerer) l.end (l.fn.self.begun.items ++ l.fn.piece) (l.self.begun.items ++ l.rest)
+  taking : IsTaking (TextOfAnswered (g.A.Answerer.answers l.answerer) (g.A.Answerer.answered l.fn.answerer) (g.A.Answerer.answered l.answerer)) l.end (l.fn.self.begun.items ++ l.fn.piece) (l.self.begun.items ++ l.rest)
       (g.W.Write.contents (inner l.fn.writer)) (g.W.Write.contents (inner l.writer)) l.self.text.items;
+  none_refused : GrowsBy (g.A.Answerer.refused l.fn.answerer) (g.A.Answerer.refused l.answerer) [];
 }
 
 abbrev pub decreases-records : goal.decreases-records

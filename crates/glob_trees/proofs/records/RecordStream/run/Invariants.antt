@@ -1,6 +1,6 @@
 use Rattle.std.proofs.Common.{◌≡◌, [], false}
 use Rattle.gix_glob.specs.Watched.{has_failed, inner}
-use Rattle.glob_trees.specs.Records.{StaysAllowed}
+use Rattle.glob_trees.specs.Records.{GrowsBy, StaysAllowed, TextOfAnswered}
 use Rattle.glob_trees.proofs.lemmas.RunLemmas.{IsRunning}
 use Rattle.glob_trees.proofs.records.RecordStream.run.Given as goal
 
@@ -11,6 +11,7 @@ invariant-pieces g l = record {
   readable : has_failed l.reader ≡ false;
   writable : has_failed l.writer ≡ false;
   none : l.buffers.text.items ≡ [];
-  running : IsRunning (g.A.Answerer.answers l.answerer) l.self.end (g.R.Read.remaining (inner l.fn.reader)) (g.R.Read.remaining (inner l.reader))
+  running : IsRunning (TextOfAnswered (g.A.Answerer.answers l.answerer) (g.A.Answerer.answered l.fn.answerer) (g.A.Answerer.answered l.answerer)) l.self.end (g.R.Read.remaining (inner l.fn.reader)) (g.R.Read.remaining (inner l.reader))
       (g.W.Write.contents (inner l.fn.writer)) (g.W.Write.contents (inner l.writer)) l.buffers.begun.items l.counter;
+  none_refused : GrowsBy (g.A.Answerer.refused l.fn.answerer) (g.A.Answerer.refused l.answerer) [];
 }
