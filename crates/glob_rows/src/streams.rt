@@ -21,6 +21,10 @@ impl Answerer for Brackets {
 
     ghost answers = { λ _ bytes text. text ≡ 60 ∷ bytes ++ 62 ∷ [] };
 
+    ghost answered = { λ _ _. ⊥ };
+
+    ghost refused = { λ _ _. ⊥ };
+
     fn answer(&mut self, text: &mut Vec<u8>, bytes: &[u8]) -> Result<(), AllocError> {
         text.push(b'<')?;
         text.extend_from_slice(bytes)?;
