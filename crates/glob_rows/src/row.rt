@@ -38,13 +38,14 @@ fn answer_count(subject: &str) -> usize {
 
 /// The fields of a line before the last ones, and so many last ones.
 fn split_answer(line: &[u8], count: usize) -> (&[u8], &[u8]) {
-    let mut left = line;
-    for _ in 0..count {
-        left = match left.iter().rposition(|byte| *byte == b'\t') {
-            Some(tab) => &left[..tab],
-            None => return (&[], line),
-        };
+    let mut missing = count;
+    'bytes: for place in (0..line.len()).rev() {
+        if line[place] == b'\t' {
+            missing = missing.saturating_sub(1);
+            if missing == 0 {
+                return (&line[..place], &line[place + 1..]);
+            }
+        }
     }
-    let (asked, rest) = line.split_at(left.len());
-    (asked, rest.strip_prefix(b"\t").unwrap_or(rest))
+    (&[], line)
 }
