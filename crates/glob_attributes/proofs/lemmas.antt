@@ -10,6 +10,8 @@ pub mod KeptLemmas
 pub mod LawLemmas
 pub mod LineLemmas
 pub mod MacroLemmas
+pub mod MatchedLemmas
+pub mod NamingLemmas
 pub mod NarrowingLemmas
 pub mod OneRowLemmas
 pub mod PatternLemmas

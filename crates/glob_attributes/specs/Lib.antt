@@ -7,6 +7,7 @@ pub mod Heads
 pub mod Laws
 pub mod Macros
 pub mod Names
+pub mod Narrowing
 pub mod Patterns
 pub mod Private
 pub mod Readings

@@ -1,5 +1,5 @@
 -- What is told of a file besides its entries: the lines that say nothing, and the names in the order in which they are read.
-use Rattle.std.specs.Prelude.{ℕ, Bool, if◌then◌else◌, List, [], ◌∷◌, ◌++◌, map, Option, None, Some}
+use Rattle.std.specs.Prelude.{◌≡◌, ℕ, Bool, if◌then◌else◌, List, [], ◌∷◌, ◌++◌, map, Option, None, Some}
 use Rattle.std.specs.List.{enumerate_from, filter_map, flat_map, fold, list_any}
 use Rattle.std.specs.Str.{bytes_eq}
 use Rattle.glob_attributes.specs.declared.silences.SilentLine.{SilentLine}
@@ -26,3 +26,8 @@ names_read is_top bytes = flat_map (λ line. names_given (line_gives is_top line
 -- names, and behind them each of others that isn't there yet
 abbrev pub with_names : List (List ℕ) → List (List ℕ) → List (List ℕ)
 with_names = fold (λ known name. if list_any (λ other. bytes_eq other name) known then known else known ++ name ∷ [])
+
+-- The names that stand where want of memory ended the reading: those that stood before, and behind them those of the names that
+-- were read first.
+abbrev pub AddsSome : List (List ℕ) → List (List ℕ) → List (List ℕ) → Type 0
+AddsSome old read new = (first rest : List (List ℕ)) × (read ≡ first ++ rest) × (new ≡ with_names old first)

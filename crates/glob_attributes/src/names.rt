@@ -1,9 +1,9 @@
 //! The names of attributes, in the order in which they are first read.
-ghost use Rattle.std.specs.Prelude.{◌≡◌, ◌∷◌, [], IfOk, OnOk, codes, map, true};
+ghost use Rattle.std.specs.Prelude.{◌≡◌, ◌∷◌, [], IfOk, OnErr, OnOk, codes, map, true};
 ghost use Rattle.std.specs.Vec.{vec_items};
 ghost use Rattle.glob_attributes.specs.Private.Filling.{HasNames};
 ghost use Rattle.glob_attributes.specs.Views.{seen_assignments, seen_reading};
-ghost use Rattle.glob_attributes.specs.Told.{names_given, names_read, with_names};
+ghost use Rattle.glob_attributes.specs.Told.{AddsSome, names_given, names_read, with_names};
 
 use crate::assignment::Assignment;
 use crate::line::{LineReading, read_line};
@@ -53,9 +53,11 @@ impl AttributeNames {
     /// those that it assigns to. Macros are defined where `is_top` says that the file is no attribute file of a folder below the top.
     ///
     /// # Errors
-    /// Only where memory was refused. The names are then as many as could be had.
+    /// Only where memory was refused. Then those of the file's names are added that were read before, in their order: the names that
+    /// stood before stay.
     pub fn add_file(&mut self, alloc: Global, bytes: &[u8], is_top: bool) -> Result<(), AllocError>
-        ensures { OnOk result (self.new ≡ with_names self.old (names_read is_top bytes.now)) }
+        ensures added { OnOk result (self.new ≡ with_names self.old (names_read is_top bytes.now)) }
+        ensures err { OnErr result (AddsSome self.old (names_read is_top bytes.now) self.new) }
     {
         let mut rest = file_lines(bytes);
         'lines: while let Some((line, more)) = next_ended_line(rest) {
@@ -70,7 +72,8 @@ impl AttributeNames {
     /// # Errors
     /// Only where memory was refused: the names are then as they were.
     pub fn add_name(&mut self, alloc: Global, name: &[u8]) -> Result<(), AllocError>
-        ensures { OnOk result (self.new ≡ with_names self.old (name.now ∷ [])) }
+        ensures added { OnOk result (self.new ≡ with_names self.old (name.now ∷ [])) }
+        ensures err { OnErr result (self.new ≡ self.old) }
     {
         if self.known.get(name).is_some() {
             return Ok(());
@@ -94,7 +97,8 @@ impl AttributeNames {
 
     /// Adds the names of what a line gives.
     fn add_line(&mut self, alloc: Global, reading: &LineReading) -> Result<(), AllocError>
-        ensures { OnOk result (self.new ≡ with_names self.old (names_given (seen_reading reading.now))) }
+        ensures added { OnOk result (self.new ≡ with_names self.old (names_given (seen_reading reading.now))) }
+        ensures err { OnErr result (AddsSome self.old (names_given (seen_reading reading.now)) self.new) }
     {
         match reading {
             LineReading::Nothing | LineReading::Silent(_) => Ok(()),
@@ -112,7 +116,8 @@ impl AttributeNames {
         alloc: Global,
         assignments: &Vec<Assignment<Vec<u8>>>,
     ) -> Result<(), AllocError>
-        ensures { OnOk result (self.new ≡ with_names self.old (map (λ assigned. assigned.name) (seen_assignments assignments.now))) }
+        ensures added { OnOk result (self.new ≡ with_names self.old (map (λ assigned. assigned.name) (seen_assignments assignments.now))) }
+        ensures err { OnErr result (AddsSome self.old (map (λ assigned. assigned.name) (seen_assignments assignments.now)) self.new) }
     {
         for assignment in assignments {
             self.add_name(alloc, &assignment.name)?;

@@ -6,6 +6,7 @@ ghost use Rattle.gix_glob.specs.declared.pattern.Case.{Case};
 ghost use Rattle.gix_glob.specs.EntryLists.{entry_list_of};
 ghost use Rattle.glob_lists.specs.Paths.{Path};
 ghost use Rattle.glob_attributes.specs.Views.{assignment_with};
+ghost use Rattle.glob_attributes.specs.Narrowing.{concerns};
 ghost use Rattle.glob_attributes.specs.Private.Narrowing.{assigns_named, is_named};
 ghost use Rattle.glob_attributes.specs.Views.{seen_assignments};
 ghost use Rattle.glob_attributes.specs.States.{Assigned, IsAssigned, Lists, state_in};
@@ -17,10 +18,12 @@ use gix_glob::search::pattern;
 
 /// Takes from a list the patterns that assign nothing to an attribute of these names, nor to a macro: the states of these attributes
 /// stay what they are, for each path, whatever lists stand before this one and behind it. The macros have to be those by which the
-/// states are asked.
+/// states are asked. The other patterns stay in their order, each as it was, with its number and with all that it assigns.
 pub fn keep_named(list: &mut pattern::List<AttributeLines>, names: &[&[u8]], macros: &MacroTable)
     ensures source { list.new.source ≡ list.old.source }
     ensures base { list.new.base ≡ list.old.base }
+    ensures kept { list.new.patterns.items
+        ≡ filter (λ mapping. concerns (map (λ name. name.now) names.now) macros.now (seen_assignments mapping.value)) list.old.patterns.items }
     ensures states { (front after : Lists) (path : Path) (case : Case) (filled : List Assigned) →
         IsAssigned (front ++ entry_list_of seen_assignments list.old ∷ after) macros.now path case filled →
         (kept : List Assigned) × IsAssigned (front ++ entry_list_of seen_assignments list.new ∷ after) macros.now path case kept

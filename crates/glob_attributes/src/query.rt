@@ -36,7 +36,12 @@ impl<'a> Model for AttributeQuery<'a> {
 
 impl<'a> AttributeQuery<'a> {
     /// Asks for the attributes of these names, by the lists of the index, which come from the weakest to the strongest, and by the
-    /// macros of their files. A name that no attribute can have, by [`is_name`](crate::is_name), is unspecified for each path.
+    /// macros of their files. Each name is asked for as it is: what [`AttributeLines`] reads, and each macro, assigns to names alone
+    /// that pass [`is_name`](crate::is_name), so another one is unspecified for each path, unless a list that was made by hand
+    /// assigns to it ([`invalid_names_are_unspecified`](crate::laws::invalid_names_are_unspecified)).
+    ///
+    /// A part `.` or `..` of a path is a name like any other, where Git goes to the folder that it means. One trailing slash of a path
+    /// marks a directory, and isn't of its last part, as [`RepositoryPath::of_line`] says.
     pub fn new(
         index: &'a ListIndex<'a, AttributeLines>,
         macros: &'a MacroTable,

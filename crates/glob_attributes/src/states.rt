@@ -47,6 +47,10 @@ impl<'a> PathAttributes<'a> {
     /// What the lists and the macros assign to a path. The lists come from the weakest to the strongest, as the macros do, and have
     /// to meet [`bases_are_folders`](glob_lists::bases_are_folders).
     ///
+    /// A part `.` or `..` of the path is a name like any other, where Git goes to the folder that it means: `/z` doesn't match `./z`.
+    /// A path that was made with its trailing slash has an empty last part, which the pattern `""` matches:
+    /// [`RepositoryPath::of_line`] takes the slash off.
+    ///
     /// # Errors
     /// Only where memory was refused.
     pub fn new(
@@ -69,6 +73,9 @@ impl<'a> PathAttributes<'a> {
 
     /// What the lists of an index, then stronger ones, and the macros assign to a path. The case of letters counts as the index says.
     /// The stronger lists have to meet [`bases_are_folders`](glob_lists::bases_are_folders).
+    ///
+    /// Of the path counts what [`PathAttributes::new`] says: a part `.` or `..` is a name, and a trailing slash leaves an empty last
+    /// part.
     ///
     /// # Errors
     /// Only where memory was refused.

@@ -1,7 +1,8 @@
 -- Lists of which one keeps only what some names need: what is assigned to a path then, and its states.
-use Rattle.std.proofs.Common.{◌≡◌, inl, inr, ⊎_elim, ℕ, zero, suc, ◌<◌, Bool, true, false, cond, ◌||◌, List, [], ◌∷◌, ◌++◌, length, map, reverse, Option, Bor, refl, sym, subst, ap, ◌∙◌, arith}
-use Rattle.std.specs.Prelude.{All, filter, is_some, slice_index_or}
+use Rattle.std.proofs.Common.{◌≡◌, inl, inr, ⊎_elim, ℕ, zero, suc, ◌<◌, Bool, true, false, cond, ◌||◌, List, [], ◌∷◌, ◌++◌, length, map, option_map, reverse, Option, None, Some, Bor, refl, sym, subst, ap, ◌∙◌, arith}
+use Rattle.std.specs.Prelude.{All, filter, if◌then◌else◌, is_some, slice_index_or}
 use Rattle.std.specs.List.{list_any}
+use Rattle.std.specs.Option.{option_or}
 use Rattle.std.specs.Str.{bytes_eq}
 use Rattle.std.proofs.lemmas.Bool.{cases_Bool}
 use Rattle.std.proofs.lemmas.Slice.Eq.{bytes_eq-Decides}
@@ -10,11 +11,12 @@ use Rattle.gix_glob.specs.Entries.{Entry}
 use Rattle.gix_glob.specs.EntryLists.{EntryList}
 use Rattle.glob_lists.specs.Paths.{Path}
 use Rattle.glob_attributes.specs.Macros.{Definition}
+use Rattle.glob_attributes.specs.Narrowing.{concerns, counts}
 use Rattle.glob_attributes.specs.Private.Filling.{last_place}
 use Rattle.glob_attributes.specs.Private.Narrowing.{assigns_named, is_named}
 use Rattle.glob_attributes.specs.States.{Assigned, IsAssigned, Lists, state_in}
 use Rattle.glob_attributes.proofs.lemmas.GivenLemmas.{EntriesGive, ListsGive, given-row, row-given}
-use Rattle.glob_attributes.proofs.lemmas.NarrowingLemmas.{Thinned, filled-thinned, state-thinned, thinned-append, thinned-gone, thinned-reverse, thinned-same}
+use Rattle.glob_attributes.proofs.lemmas.NarrowingLemmas.{Thinned, any-map, filled-thinned, state-thinned, thinned-append, thinned-gone, thinned-reverse, thinned-same}
 
 pub filter-map : {X Y : Type 0} (f : X → Y) (test : Y → Bool) (xs : List X) → map f (filter (λ x. test (f x)) xs) ≡ filter test (map f xs)
 filter-map f test [] = refl
@@ -25,6 +27,16 @@ filter-map f test (x ∷ xs) =
     (λ no. ap (λ b. map f (cond b (x ∷ filter (λ x. test (f x)) xs) (filter (λ x. test (f x)) xs))) no
     ∙ filter-map f test xs ∙ sym (ap (λ b. cond b (f x ∷ filter test (map f xs)) (filter test (map f xs))) no))
     (cases_Bool (test (f x)))
+
+-- two tests that answer alike keep the same
+pub filter-alike : {X : Type 0} (test other : X → Bool) → ((x : X) → test x ≡ other x) → (xs : List X) → filter test xs ≡ filter other xs
+filter-alike test other alike [] = refl
+filter-alike test other alike (x ∷ xs) =
+    ap (λ l. cond (test x) (x ∷ l) l) (filter-alike test other alike xs) ∙ ap (λ b. cond b (x ∷ filter other xs) (filter other xs)) (alike x)
+
+any-alike : {X : Type 0} (test other : X → Bool) → ((x : X) → test x ≡ other x) → (xs : List X) → list_any test xs ≡ list_any other xs
+any-alike test other alike [] = refl
+any-alike test other alike (x ∷ xs) = ap (λ b. test x || b) (any-alike test other alike xs) ∙ ap (λ b. b || list_any other xs) (alike x)
 
 or_true : (a b : Bool) → b ≡ true → (a || b) ≡ true
 or_true true b is = refl
@@ -38,7 +50,29 @@ any-at test [] k d within is = absurd (omega (arith, within))
 any-at test (x ∷ xs) zero d within is = any-here test x xs is
 any-at test (x ∷ xs) (suc k) d within is = or_true (test x) (list_any test xs) (any-at test xs k d (omega (arith, within)) is)
 
+-- a name has a place among macros where one of them has it
+placed-more : (o : Option ℕ) (here more : Bool) → is_some o ≡ more → is_some (option_or (option_map suc o) (if here then Some 0 else None)) ≡ (here || more)
+placed-more None true more is = refl
+placed-more None false more is = is
+placed-more (Some place) true more is = refl
+placed-more (Some place) false more is = is
+
+placed : (name : List ℕ) (macros : List Definition) → is_some (last_place name macros) ≡ list_any (λ macro. bytes_eq macro.name name) macros
+placed name [] = refl
+placed name (macro ∷ macros) =
+    placed-more (last_place name macros) (bytes_eq macro.name name) (list_any (λ (m : Definition). bytes_eq m.name name) macros) (placed name macros)
+
 module _ (names : List (Bor (List ℕ))) (macros : List Definition) where
+  counts-named : (name : List ℕ) → is_named names macros name ≡ counts (map (λ (other : Bor (List ℕ)). other.now) names) macros name
+  counts-named name =
+      ap (λ b. b || list_any (λ (other : Bor (List ℕ)). bytes_eq other.now name) names) (placed name macros)
+      ∙ ap (λ b. list_any (λ (m : Definition). bytes_eq m.name name) macros || b) (sym (any-map (λ (other : Bor (List ℕ)). other.now) (λ other. bytes_eq other name) names))
+
+  pub concerns-named : (assignments : List Assigned) → assigns_named names macros assignments ≡ concerns (map (λ (other : Bor (List ℕ)). other.now) names) macros assignments
+  concerns-named assignments =
+      any-alike (λ (a : Assigned). is_named names macros a.name) (λ (a : Assigned). counts (map (λ (other : Bor (List ℕ)). other.now) names) macros a.name)
+      (λ a. counts-named a.name) assignments
+
   abbrev pub needed : Entry (List Assigned) → Bool
   needed entry = assigns_named names macros entry.value
 

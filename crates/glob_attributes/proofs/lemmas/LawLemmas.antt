@@ -1,5 +1,5 @@
 -- Laws of rows and of lines: how long a row gets, what names no attribute, and lines that are left out.
-use Rattle.std.proofs.Common.{◌≡◌, inl, inr, ⊎_elim, ℕ, ◌+◌, ◌≤◌, Bool, true, false, not, ◌&&◌, List, [], ◌∷◌, ◌++◌, length, map, reverse, replicate, set, Option, None, Some, refl, sym, subst, ap, ◌∙◌, arith}
+use Rattle.std.proofs.Common.{◌≡◌, inl, inr, ⊎_elim, ℕ, zero, suc, ◌+◌, ◌≤◌, Bool, true, false, not, ◌&&◌, List, [], ◌∷◌, ◌++◌, length, map, reverse, replicate, set, Option, None, Some, refl, sym, subst, ap, ◌∙◌, arith}
 use Rattle.std.specs.Prelude.{if◌then◌else◌, slice_get}
 use Rattle.std.specs.List.{AllByRecursion, cons_option, filter_map, find, list_any}
 use Rattle.std.specs.Option.{option_map_or}
@@ -14,7 +14,7 @@ use Rattle.glob_attributes.specs.Laws.Leaving.{SaysNothing, unnumbered}
 use Rattle.glob_attributes.specs.Laws.Totals.{NoMacroNames, NoneNames, macro_total}
 use Rattle.glob_attributes.specs.Private.Filling.{AreMarked, assignments_at, is_set, last_place, unmarked}
 use Rattle.glob_attributes.specs.Readings.{Gives, a_macro, a_pattern, line_gives, nothing, silent}
-use Rattle.glob_attributes.specs.States.{Assigned, IsFilledIn, put_in, state_in}
+use Rattle.glob_attributes.specs.States.{Assigned, IsFilledIn, given_by, put_in, state_in}
 use Rattle.glob_attributes.proofs.lemmas.FillingLemmas.{first_named, last_named, marked-more, marked-new, marked-none, marked-same, names, put_in-if, put_in-marked, put_in-none, put_in-set, put_in-unset, unmarked-less}
 use Rattle.std.proofs.lemmas.List.{length-reverse}
 
@@ -75,13 +75,36 @@ filled-bounded macros row filled h =
     let total = unmarked-new macros in
     omega (arith, all, total)
 
+-- ---- a row is filled in
+
+-- within so many steps: each takes one assignment of the row, and what a macro puts in is counted before
+filled-within : (macros : List Definition) (n : ℕ) (row before : List Assigned) (marks : List Bool) → AreMarked macros before marks → length row + unmarked macros marks ≤ n
+    → (filled : List Assigned) × IsFilledIn macros before row filled
+filled-within macros n [] before marks marked small = ([], refl)
+filled-within macros zero (a ∷ row) before marks marked small = absurd (omega (arith, small))
+filled-within macros (suc n) (a ∷ row) before marks marked small =
+    let next = step macros before marks a marked (last_place a.name macros) refl in
+    let long = length-put (put_in macros before a) row in
+    let less = next.less in
+    let more = filled-within macros n (put_in macros before a ++ row) (a ∷ before) next.new next.marked (omega (arith, small, long, less)) in
+    (a ∷ more.0, (row, refl, more.1))
+
+pub filled-some : (macros : List Definition) (row : List Assigned) → (filled : List Assigned) × IsFilledIn macros [] row filled
+filled-some macros row =
+    let marks = replicate (length macros) false in
+    filled-within macros (length row + unmarked macros marks) row [] marks (marked-new macros) (omega arith)
+
+pub put-once : (macros : List Definition) (before : List Assigned) (assigned : Assigned) → list_any (λ (other : Assigned). bytes_eq other.name assigned.name) before ≡ true
+    → put_in macros before assigned ≡ []
+put-once macros before assigned decided = ap (λ b. if b then [] else given_by macros assigned.name assigned.state) decided
+
 -- ---- what names no attribute
 
-all-append : {X : Type 0} (P : X → Type 0) (xs ys : List X) → AllByRecursion P xs → AllByRecursion P ys → AllByRecursion P (xs ++ ys)
+pub all-append : {X : Type 0} (P : X → Type 0) (xs ys : List X) → AllByRecursion P xs → AllByRecursion P ys → AllByRecursion P (xs ++ ys)
 all-append P [] ys front back = back
 all-append P (x ∷ xs) ys front back = (front.0, all-append P xs ys front.1 back)
 
-all-reverse : {X : Type 0} (P : X → Type 0) (xs : List X) → AllByRecursion P xs → AllByRecursion P (reverse xs)
+pub all-reverse : {X : Type 0} (P : X → Type 0) (xs : List X) → AllByRecursion P xs → AllByRecursion P (reverse xs)
 all-reverse P [] all = all
 all-reverse P (x ∷ xs) all =
     subst (AllByRecursion P) (sym (reverse-append (x ∷ []) xs)) (all-append P (reverse xs) (x ∷ []) (all-reverse P xs all.1) (all.0, record {}))

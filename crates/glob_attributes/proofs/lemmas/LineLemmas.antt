@@ -18,7 +18,7 @@ is_macro-length head is = let parts = and_parts (starts_with nat_eq head (codes 
 
 -- ---- what a head and the rest of its line give, by tests
 
-abbrev by_reasons : Bool → Bool → Bool → Bool → Bool → Gives → Gives → Gives
+abbrev pub by_reasons : Bool → Bool → Bool → Bool → Bool → Gives → Gives → Gives
 by_reasons macro top named valid negative defined given =
     cond (macro && not top) (silent MacroBelowTop)
     (cond (macro && not named) (silent MacroName)
@@ -67,7 +67,7 @@ pub record IsInner (line text inner : List ℕ) : Type 0 where
   pub text_is : text ≡ before_first is_zero line
   pub inner_is : inner ≡ after_blanks text
 
-abbrev by_tests : Bool → Bool → Gives → Gives
+abbrev pub by_tests : Bool → Bool → Gives → Gives
 by_tests says long given = cond says nothing (cond long (silent TooLong) given)
 
 abbrev parts_give : Bool → List ℕ × List ℕ → Gives
@@ -76,7 +76,7 @@ parts_give is_top parts = head_gives is_top (is_macro parts.0) parts.0 parts.1
 abbrev text_gives : Bool → List ℕ → List ℕ → Gives
 text_gives is_top text inner = by_tests (says_nothing inner) (nat_le 2048 (length text)) (parts_give is_top (head_of inner))
 
-line_gives-inner : (is_top : Bool) (line text inner : List ℕ) → IsInner line text inner → text_gives is_top text inner ≡ line_gives is_top line
+pub line_gives-inner : (is_top : Bool) (line text inner : List ℕ) → IsInner line text inner → text_gives is_top text inner ≡ line_gives is_top line
 unfolding line_gives
 line_gives-inner is_top line text inner h = ap (text_gives is_top text) h.inner_is ∙ ap (λ t. text_gives is_top t (after_blanks t)) h.text_is
 

@@ -46,6 +46,15 @@ filled-without_macros before row (x ∷ filled) a =
     let there = subst (λ l. IsFilledIn [] (x ∷ before) (l ++ a.0) filled) none a.2 in
     ap (λ l. x ∷ l) (filled-without_macros (x ∷ before) a.0 filled there) ∙ sym a.1
 
+stays-filled : (before row : List Assigned) → IsFilledIn [] before row row
+stays-filled before [] = refl
+stays-filled before (x ∷ row) =
+    let none : put_in [] before x ≡ [] = put_in-if [] before x ∙ nothing (is_set x.state && not (list_any (λ other. bytes_eq other.name x.name) before)) in
+    (row, refl, subst (λ l. IsFilledIn [] (x ∷ before) (l ++ row) row) (sym none) (stays-filled (x ∷ before) row))
+
+pub filled-itself : (before row filled : List Assigned) → filled ≡ row → IsFilledIn [] before row filled
+filled-itself before row filled same = subst (IsFilledIn [] before row) (sym same) (stays-filled before row)
+
 -- the state of a name does not depend on what follows the first that names it
 state_in-front_more : (x : Assigned) (front more : List Assigned) (name : List ℕ) (b : Bool) → bytes_eq x.name name ≡ b
     → (b || list_any (λ other. bytes_eq other.name name) front) ≡ true

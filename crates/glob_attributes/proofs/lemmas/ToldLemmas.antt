@@ -1,19 +1,17 @@
 -- What is told of lines, one line after the other.
-use Rattle.std.proofs.Common.{◌≡◌, ℕ, ◌+◌, Bool, List, [], ◌∷◌, ◌++◌, None, Some, refl, sym, ap, ◌∙◌, append_assoc, take}
-use Rattle.std.specs.Prelude.{Vec, if◌then◌else◌, slice_get}
+use Rattle.std.proofs.Common.{◌≡◌, ℕ, ◌+◌, Bool, List, [], ◌∷◌, ◌++◌, None, Some, refl, sym, ap, ◌∙◌, append-nil, append_assoc, take}
+use Rattle.std.specs.Prelude.{if◌then◌else◌, slice_get}
 use Rattle.std.specs.List.{cons_option, enumerate_from, filter_map, list_any}
 use Rattle.std.specs.Str.{bytes_eq}
 use Rattle.std.proofs.lemmas.List.{take_more}
 use Rattle.std.proofs.lemmas.Option.{get_or_from_slice_get, slice_get_within}
-use Rattle.std.specs.declared.alloc.Global.{Global}
-use Rattle.glob_attributes.specs.declared.assignment.Assignment.{Assignment}
 use Rattle.glob_attributes.specs.declared.line.LineReading.{LineReading}
 use Rattle.glob_attributes.specs.declared.line.LineReading.TheVariants as read
 use Rattle.glob_attributes.specs.declared.line.Silence.{Silence}
 use Rattle.glob_attributes.specs.declared.silences.SilentLine.{SilentLine}
 use Rattle.glob_attributes.specs.Readings.{line_gives}
 use Rattle.glob_attributes.specs.Views.{seen_reading}
-use Rattle.glob_attributes.specs.Told.{silence_given, with_names}
+use Rattle.glob_attributes.specs.Told.{AddsSome, silence_given, with_names}
 
 module _ (is_top : Bool) where
   -- those of lines, the first of which has this number
@@ -59,3 +57,35 @@ with_names-one old now new all i name there before added =
 -- the names of one line more
 pub with_names-line : (now new mine others : List (List ℕ)) → new ≡ with_names now mine → with_names new others ≡ with_names now (mine ++ others)
 with_names-line now new mine others added = ap (λ l. with_names l others) added ∙ sym (with_names-append now mine others)
+
+-- ---- names of which some first ones were added
+
+-- the names that were read before the rest are added
+abbrev pub AddsUpTo : List (List ℕ) → List (List ℕ) → List (List ℕ) → List (List ℕ) → Type 0
+AddsUpTo old read rest now = (first : List (List ℕ)) × (read ≡ first ++ rest) × (now ≡ with_names old first)
+
+pub up_to-none : (old read rest : List (List ℕ)) → read ≡ rest → AddsUpTo old read rest old
+up_to-none old read rest is = ([], is, refl)
+
+pub up_to-more : (old read rest now mine others new : List (List ℕ)) → AddsUpTo old read rest now → rest ≡ mine ++ others → new ≡ with_names now mine
+    → AddsUpTo old read others new
+up_to-more old read rest now mine others new before is added = (
+  before.0 ++ mine,
+  before.1 ∙ ap (λ l. before.0 ++ l) is ∙ sym (append_assoc before.0 mine others),
+  added ∙ ap (λ names. with_names names mine) before.2 ∙ sym (with_names-append old before.0 mine),
+)
+
+pub up_to-all : (old read rest now : List (List ℕ)) → AddsUpTo old read rest now → rest ≡ [] → now ≡ with_names old read
+up_to-all old read rest now before is =
+    before.2 ∙ ap (with_names old) (sym (before.1 ∙ ap (λ l. before.0 ++ l) is ∙ append-nil before.0))
+
+-- where nothing more was added
+pub some-here : (old read rest now new : List (List ℕ)) → AddsUpTo old read rest now → new ≡ now → AddsSome old read new
+some-here old read rest now new before same = (before.0, rest, before.1, same ∙ before.2)
+
+-- where some more of the rest were added
+pub some-more : (old read rest now mine others new : List (List ℕ)) → AddsUpTo old read rest now → rest ≡ mine ++ others → AddsSome now mine new
+    → AddsSome old read new
+some-more old read rest now mine others new before is some =
+    let done = up_to-more old read rest now some.0 (some.1 ++ others) new before (is ∙ ap (λ l. l ++ others) some.2 ∙ append_assoc some.0 some.1 others) some.3 in
+    (done.0, some.1 ++ others, done.1, done.2)

@@ -74,6 +74,57 @@ fn a_table_answers_after_a_refusal(rt: HostRuntime) -> Result<(), Fail> {
 }
 
 #[test]
+fn names_stay_where_one_is_refused(rt: HostRuntime) -> Result<(), Fail> {
+    let mut names = AttributeNames::new(rt.alloc())?;
+    let first = names.add_name(rt.alloc(), b"a");
+    // a name that was refused is added anew
+    let count = if first.is_ok() { 5 } else { 4 };
+    check_names(
+        &rt,
+        &names,
+        &[b"binary", b"diff", b"merge", b"text", b"a"],
+        count,
+    )?;
+    names.add_name(rt.alloc(), b"a")?;
+    check_names(
+        &rt,
+        &names,
+        &[b"binary", b"diff", b"merge", b"text", b"a"],
+        5,
+    )?;
+    Ok(first?)
+}
+
+#[test]
+fn names_stay_where_a_file_is_refused(rt: HostRuntime) -> Result<(), Fail> {
+    let mut names = AttributeNames::new(rt.alloc())?;
+    let all: [&[u8]; 8] = [
+        b"binary", b"diff", b"merge", b"text", b"m", b"a", b"b", b"c",
+    ];
+    let first = names.add_file(rt.alloc(), FILE, true);
+    let count = names.as_slice().len();
+    assert!(rt; count >= 4 && (first.is_err() || count == 8));
+    check_names(&rt, &names, &all, count)?;
+    names.add_file(rt.alloc(), FILE, true)?;
+    check_names(&rt, &names, &all, 8)?;
+    Ok(first?)
+}
+
+/// Compares the names, so many, with the first ones of these.
+fn check_names(
+    rt: &impl Abort,
+    names: &AttributeNames,
+    all: &[&[u8]],
+    count: usize,
+) -> Result<(), Fail> {
+    assert!(rt; names.as_slice().len() == count);
+    for (name, wanted) in names.as_slice().iter().zip(all) {
+        assert!(rt; name.as_slice() == *wanted);
+    }
+    Ok(())
+}
+
+#[test]
 fn paths_are_answered_by_attributes(rt: HostRuntime) -> Result<(), Fail> {
     let alloc = rt.alloc();
     let source = String::from_str(alloc, "f")?;
