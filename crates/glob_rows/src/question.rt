@@ -90,32 +90,49 @@ pub(crate) fn field_of(alloc: Global, spelling: &[u8]) -> Result<Field, AllocErr
         return Ok(None);
     }
     let mut bytes = Vec::new(alloc);
-    let mut rest = spelling;
-    while let [first, behind @ ..] = rest {
-        let (byte, left) = match escaped(rest) {
-            Some(read) => read,
-            None => (*first, behind),
-        };
-        bytes.push(byte)?;
-        rest = left;
+    let mut place = Place::Plain;
+    'signs: for sign in spelling {
+        let (next, written) = step(place, *sign);
+        if let Some(byte) = written {
+            bytes.push(byte)?;
+        }
+        place = next;
     }
     Ok(Some(bytes))
 }
 
-/// The byte of an escape at the front, and what follows it; `None` where there is no escape.
-fn escaped(spelling: &[u8]) -> Option<(u8, &[u8])> {
-    match spelling {
-        [b'\\', b'\\', rest @ ..] => Some((b'\\', rest)),
-        [b'\\', b'x', high, low, rest @ ..] => { Some((digit(*high)? * 16 + digit(*low)?, rest)) }
-        _ => None,
+/// Where the reader of a field stands.
+#[derive(Clone, Copy, Drop)]
+enum Place {
+    /// Behind no backslash.
+    Plain,
+    /// Behind a backslash.
+    Escape,
+    /// Behind a backslash and an `x`.
+    High,
+    /// Behind the first digit as well.
+    Low(u8),
+}
+
+/// Where the reader stands behind a sign, and the byte that it ends.
+fn step(place: Place, sign: u8) -> (Place, Option<u8>) {
+    match place {
+        Place::Plain if sign == b'\\' => (Place::Escape, None),
+        Place::Escape if sign == b'x' => (Place::High, None),
+        Place::Plain | Place::Escape => (Place::Plain, Some(sign)),
+        Place::High => (Place::Low(digit(sign)), None),
+        Place::Low(high) => (
+            Place::Plain,
+            Some(high.wrapping_mul(16).wrapping_add(digit(sign))),
+        ),
     }
 }
 
 /// The value of a hexadecimal digit.
-fn digit(byte: u8) -> Option<u8> {
-    match byte {
-        b'0'..=b'9' => Some(byte - b'0'),
-        b'a'..=b'f' => Some(byte - b'a' + 10),
-        _ => None,
+fn digit(sign: u8) -> u8 {
+    match sign {
+        b'0'..=b'9' => sign - b'0',
+        b'a'..=b'f' => sign - b'a' + 10,
+        _ => 0,
     }
 }
