@@ -9,13 +9,17 @@ import tempfile
 
 from attribute_rows import rows
 from attribute_trees import ATTRIBUTE_FILE, ATTRIBUTES_INFO, BYTE_ORDER_MARK, NAMES, AttributeTree
-from of_globtree import GLOBTREE, NO_TEXT, Told, quoted, shown
-from trees import is_text, write
+from documents import kinds_in
+from of_globtree import DOTTED, GLOBTREE, NO_TEXT, TOP, Told, lines_with_zeros, quoted, shown, told_kinds
+from trees import OF_GIT, is_text, make_repository, write
 
 FROM_INPUT = ["--stdin a b c m n", "-z --stdin a text eol", "--stdin -a", "-a -z --stdin", "--all --stdin -z --", "--stdin binary diff --", "-az --stdin"]
 # words that paths follow
 FROM_WORDS = ["a", "-a", "a --", "-z m n p --", "-a --", "--all", "a b m --", "-az --"]
-# words as they stand (the top itself, as `a .`, is asked for by none: "From Git" in docs/ATTRIBUTES.md names it)
+NAMED = kinds_in("ATTRIBUTES.md")
+# words for where Git's own folder is the current one
+WITHIN_GIT = ["a x", "-a -- ../x .", "--stdin a", "-az --stdin"]
+# words as they stand
 WRONG = [
     "", "a", "--", "-- a", "-a", "-a --", "-a a -- b", "a --", "--stdin", "--stdin -- a", "--stdin a -- b", "--stdin -a b", "a:b x", "a b:c -- x",
     "- x", "-x a", "--unknown a b", "a x ../y", "a / x", "-a ../x", "a -- x ../../y z", "-z", "=v x", "a x -- y", "a x -z", "x -a", "a -- -a",
@@ -30,7 +34,7 @@ class Pair:
         self.is_named = is_named
         home = os.path.join(room, b"home")
         kept = {name: value for name, value in os.environ.items() if not name.startswith("GIT_")}
-        self.environment = {**kept, "HOME": home, "XDG_CONFIG_HOME": home, "GIT_CONFIG_NOSYSTEM": "1", "GIT_ATTR_NOSYSTEM": "1", "GIT_CONFIG_GLOBAL": "/dev/null", "LC_ALL": "C"}
+        self.environment = {**kept, "HOME": home, "XDG_CONFIG_HOME": home, "LC_ALL": "C"}
         os.makedirs(os.path.join(home, b"git"))
         self.has_system = system is not None
         if self.has_system:
@@ -54,7 +58,8 @@ class Pair:
         return self.run([GLOBTREE, "-C", folder, *more, *options, "check-attr", *words], asked)
 
     def run(self, command, asked):
-        run = subprocess.run(command, input=asked, stdout=subprocess.PIPE, stderr=subprocess.PIPE, env=self.environment)
+        environment = {**self.environment, **OF_GIT} if command[0] == "git" else self.environment
+        run = subprocess.run(command, input=asked, stdout=subprocess.PIPE, stderr=subprocess.PIPE, env=environment)
         return Told(run.returncode, run.stdout, run.stderr)
 
 
@@ -81,13 +86,6 @@ def given(paths, words):
     return b"".join(quoted(path) + b"\n" for path in paths)
 
 
-def make_repository(top):
-    for folder in (b".git/objects", b".git/refs", b".git/info"):
-        os.makedirs(os.path.join(top, folder))
-    write(os.path.join(top, b".git/HEAD"), b"ref: refs/heads/main\n")
-    write(os.path.join(top, b".git/config"), b"[core]\n\trepositoryformatversion = 0\n")
-
-
 # ---- rows
 
 def differs_by_name(row):
@@ -105,7 +103,7 @@ def expected_of(row):
 def check_row(row, room, program):
     """What is wrong with the answers of a program to a row, or None."""
     pair = Pair(room, row.files.get(b"system"), row.files.get(b"user"), True)
-    make_repository(pair.top)
+    make_repository(os.path.join(pair.top, b".git"))
     for name, text in row.files.items():
         if name in (b"system", b"user"):
             continue
@@ -147,7 +145,7 @@ class Comparison:
 
     def __init__(self, with_globtree):
         self.with_globtree = with_globtree
-        self.kinds = collections.Counter()
+        self.kinds, self.named = collections.Counter(), collections.Counter()
         self.warned, self.runs, self.differences, self.refused = 0, 0, 0, 0
 
     def tree(self, seed, room):
@@ -171,6 +169,10 @@ class Comparison:
         bad = self.random.choice([b"../x", b"/", b"a/../../x"])
         self.both(self.pair.top, ["-z", "--stdin", "a", "m"], paths[:at] + [bad] + paths[at:])
         self.both(self.pair.top, ["--stdin", "a"], [], asked=b'x\n"bad\ny\n')
+        self.both(self.pair.top, ["--stdin", "a", "m"], [], asked=lines_with_zeros(self.random, self.random.sample(paths, 12)))
+        for folder in (b".git", b".git/info", b".git/objects"):
+            self.both(os.path.join(self.pair.top, folder), self.random.choice(WITHIN_GIT).split(), [b"x"])
+        self.folders()
 
     def paths(self):
         """Paths of the tree and others, some with a slash at the end."""
@@ -183,17 +185,36 @@ class Comparison:
         self.kinds.update("value" if answer not in (b"set", b"unset", b"unspecified") else answer.decode() for answer in answers)
         self.warned += bool(told.errors)
         self.both(self.pair.top, ["-a", "-z", "--stdin"], paths)
-        if ATTRIBUTES_INFO not in self.tree_of.files:
-            self.without_repository(paths)
+        self.with_top(paths)
 
-    def without_repository(self, paths):
-        """The same where the words alone say which folder is the top."""
+    def with_top(self, paths):
+        """The same where the words say which folder is the top: its file of attributes counts where it is there."""
         words = ["-a", "-z", "--stdin"]
         expected = self.pair.git(self.pair.top, words, given(paths, words))
-        hidden = os.path.join(self.pair.room, b"hidden")
-        os.rename(os.path.join(self.pair.top, b".git"), hidden)
         self.judge(self.pair.top, words, given(paths, words), expected, ["--top", self.pair.top])
-        os.rename(hidden, os.path.join(self.pair.top, b".git"))
+        if ATTRIBUTES_INFO not in self.tree_of.files:
+            repository, hidden = os.path.join(self.pair.top, b".git"), os.path.join(self.pair.room, b"hidden")
+            os.rename(repository, hidden)
+            self.judge(self.pair.top, words, given(paths, words), expected, ["--top", self.pair.top])
+            os.rename(hidden, repository)
+
+    def folders(self):
+        """A folder and those above it, told with dots."""
+        below = self.random.choice(self.tree_of.folders)
+        folder, names = os.path.join(self.pair.top, below), [b"a", b"m", b"text"]
+        paths = {told: os.path.relpath(os.path.join(folder, told), self.pair.top) for told in [*DOTTED, self.pair.top, self.pair.top + b"/"]}
+        paths = {told: path for told, path in paths.items() if not path.startswith(b"..")}
+        words, asked = ["-z", "--stdin", *names], b"".join(told + b"\0" for told in paths)
+        expected = self.pair.git(folder, words, asked)
+        if not self.with_globtree:
+            return
+        fields = expected.output.split(b"\0")
+        found = self.pair.globtree(folder, words, asked).output.split(b"\0")
+        for at in range(2, min(len(fields), len(found)), 3):
+            if TOP in NAMED and fields[at] != found[at] == b"unspecified" and paths[fields[at - 2]] == b".":
+                fields[at] = found[at]
+                self.named[TOP] += 1
+        self.judge(folder, words, asked, expected._replace(output=b"\0".join(fields)))
 
     # ---- paths as they are told
 
@@ -275,6 +296,7 @@ def compare_trees(count, seed, with_globtree, kept):
     print("%d trees, %d states by git: %d set, %d unset, %d values, %d unspecified; something passed over in %d" % (
         count, sum(kinds.values()), kinds["set"], kinds["unset"], kinds["value"], kinds["unspecified"], comparison.warned))
     if with_globtree:
+        print("differences named in From Git: " + told_kinds(comparison.named))
         print("%d runs of globtree check-attr, %d ended at a name that is no text; %d differences" % (comparison.runs, comparison.refused, comparison.differences))
     return 1 if wrong or comparison.differences else 0
 

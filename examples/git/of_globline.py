@@ -1,12 +1,17 @@
 """Compares globline and Git on one work tree: which line of which ignore file decides about each path."""
+import collections
 import os
 import subprocess
 import sys
 import tempfile
 
+from documents import kinds_in
 from trees import BYTE_ORDER_MARK, IGNORE_FILE, has_stars_after_a_literal_front, is_white
 
 HERE = os.path.dirname(os.path.realpath(__file__))
+NAMED, UNNAMED = kinds_in("DIFFERENCES.md"), "not named in From Git"
+# of each kind of differences that is named, so many are shown
+SHOWN = 3
 GLOBLINE = os.environ.get("GLOBLINE") or os.path.join(HERE, "..", "..", "globline")
 
 
@@ -36,17 +41,17 @@ def git_answers(folder, paths):
     return answers
 
 
-def globline_answers(folder, files, entries):
+def globline_answers(folder, files, paths):
     """For each path the file and the number of the line that decides, and the word about it; None where no line does."""
     if not files:
-        return [None for _ in entries]
+        return [None for _ in paths]
     names = [os.path.join(folder, file) for file in files]
-    asked = b"".join(path + (b"/" if is_folder else b"") + b"\n" for path, is_folder in entries)
+    asked = b"".join(path + b"\n" for path in paths)
     command = [os.fsencode(GLOBLINE), b"ignore", b"sensitive", folder] + names
     run = subprocess.run(command, input=asked, stdout=subprocess.PIPE)
     lines = run.stdout.split(b"\n")[:-1]
-    if run.returncode != 0 or len(lines) != len(entries):
-        sys.exit("compare: globline ended with status %d after %d of %d lines" % (run.returncode, len(lines), len(entries)))
+    if run.returncode != 0 or len(lines) != len(paths):
+        sys.exit("compare: globline ended with status %d after %d of %d lines" % (run.returncode, len(lines), len(paths)))
     answers = []
     for line in lines:
         if line == b"none":
@@ -98,24 +103,41 @@ def children(folder, below):
             yield below + entry.name, entry.is_dir(follow_symlinks=False)
 
 
+def ways_to_tell(path, is_folder):
+    """The path as users write it."""
+    below = os.path.dirname(path) + b"/" if b"/" in path else b""
+    ways = {path: None, b"./" + path: None, b"no/../" + path: None, below + b"./" + os.path.basename(path): None}
+    return [*ways, *[path + behind for behind in (b"/", b"/.", b"/./", b"/no/..", b"/no/../") if is_folder]]
+
+
 # ---- differences
 
-def reason(folder, answers):
-    """Why "From Git" in docs/DIFFERENCES.md lets the two answers differ, or None."""
+def reason(folder, path, answers, of_folder):
+    """Why the two answers may differ, by the bold words of "From Git", or None. `of_folder` has the two answers
+    about the folder that the path names, Git's without its slash and globline's with it, or is None."""
+    if set(path.rstrip(b"/").split(b"/")) & {b".", b".."}:
+        return "paths"
     for answer in answers:
-        if answer is None:
-            continue
-        with open(os.path.join(folder, answer[0]), "rb") as file:
-            lines = file.read().removeprefix(BYTE_ORDER_MARK).split(b"\n")
-        line = lines[answer[1] - 1]
-        if b"\0" in line:
-            return "a byte 0"
-        if is_white(line):
-            return "a line of white space other than spaces"
-        if answer[1] == len(lines) and line.endswith(b"\r"):
-            return "a last carriage return without a line feed"
-        if has_stars_after_a_literal_front(line):
-            return "two stars directly after a literal front"
+        why = reason_of_line(folder, answer) if answer else None
+        if why:
+            return why
+    if of_folder and same_line(*of_folder):
+        return "a slash at the end"
+    return None
+
+
+def reason_of_line(folder, answer):
+    with open(os.path.join(folder, answer[0]), "rb") as file:
+        lines = file.read().removeprefix(BYTE_ORDER_MARK).split(b"\n")
+    line = lines[answer[1] - 1]
+    if b"\0" in line:
+        return "a byte 0"
+    if is_white(line):
+        return "a line of white space other than spaces"
+    if answer[1] == len(lines) and line.endswith(b"\r"):
+        return "a last carriage return without a line feed"
+    if has_stars_after_a_literal_front(line):
+        return "two stars directly after a literal front"
     return None
 
 
@@ -128,20 +150,29 @@ def shown(answer):
 def compare(folder):
     if git(folder, ["rev-parse", "--show-prefix"]).strip():
         sys.exit("compare: %s is not the top of a work tree" % os.fsdecode(folder))
-    files, entries, of_git = walk(folder)
-    of_globline = globline_answers(folder, files, entries)
-    differences, unnamed = 0, 0
-    for (path, is_folder), answer, found in zip(entries, of_git, of_globline):
+    files, entries, without_slash = walk(folder)
+    asked = [(told, path) for path, is_folder in entries for told in ways_to_tell(path, is_folder)] + [(b".", b""), (b"./", b"")]
+    of_git = git_answers(folder, [told for told, _ in asked])
+    of_globline = globline_answers(folder, files, [told for told, _ in asked])
+    with_slash = {told: found for (told, _), found in zip(asked, of_globline) if told.endswith(b"/")}
+    of_folders = {
+        path: (within_the_tree(answer), with_slash[path + b"/"])
+        for (path, is_folder), answer in zip(entries, without_slash) if is_folder
+    }
+    kinds = collections.Counter()
+    for (told, path), answer, found in zip(asked, of_git, of_globline):
         expected = within_the_tree(answer)
         if same_line(expected, found):
             continue
-        why = reason(folder, [expected, found])
-        differences += 1
-        unnamed += why is None
-        name = ascii(os.fsdecode(path) + ("/" if is_folder else ""))
-        print("%s: git %s, globline %s: %s" % (name, shown(expected), shown(found), why or "not named in From Git"))
-    print("%d paths, %d differences" % (len(entries), differences))
-    return 1 if unnamed else 0
+        why = reason(folder, told, [expected, found], of_folders.get(path))
+        kind = why if why in NAMED else UNNAMED
+        kinds[kind] += 1
+        if kind == UNNAMED or kinds[kind] <= SHOWN:
+            print("%s: git %s, globline %s: %s" % (ascii(os.fsdecode(told)), shown(expected), shown(found), kind))
+    for kind, count in sorted(kinds.items()):
+        print("%s: %d" % (kind, count))
+    print("%d paths, asked in %d ways, %d differences" % (len(entries), len(asked), sum(kinds.values())))
+    return 1 if kinds[UNNAMED] else 0
 
 
 def same_line(expected, found):

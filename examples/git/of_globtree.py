@@ -8,17 +8,27 @@ import subprocess
 import sys
 import tempfile
 
-from trees import INFO, Tree, is_text, make_repository, write
+from documents import kinds_in
+from trees import INFO, OF_GIT, Tree, is_text, make_repository, write
 
 HERE = os.path.dirname(os.path.realpath(__file__))
 GLOBTREE = os.environ.get("GLOBTREE") or os.path.join(HERE, "..", "..", "globtree")
 # options that take paths from standard input, and what they print
 FROM_INPUT = ["--stdin", "-z --stdin", "-v --stdin", "-v -z --stdin", "--stdin -n -v", "-z --stdin --verbose --non-matching"]
+FROM_LINES = [words for words in FROM_INPUT if "-z" not in words]
 FROM_WORDS = ["", "-v", "-v -n", "--verbose", "-n -v --"]
 WRONG = ["-n a", "-q -v a", "-q a b", "--stdin a", "-z a", "", "-q", "--stdin -q", "--unknown a", "-x a", "-v -n ../a", "/ a", "a ../a", "--stdin=a", "-vn"]
 # what stands behind the paths
 BEHIND = [[], [], ["-v"], ["--", "a"]]
-NO_TEXT = b"no UTF-8 text"
+# words for where Git's own folder is the current one
+WITHIN_GIT = ["a", "-v -n -- HEAD ../a", "-q .", "--stdin", "-z --stdin"]
+NO_TEXT, NO_FOLDER = b"no UTF-8 text", b": no folder"
+# kinds of differences, which count as such where "From Git" in docs/GLOBTREE.md names them
+SLASH, STARS, TOP = "a slash at the end", "a slash at the end, and stars", "the top itself"
+UNLISTED, MESSAGES = "what can't be listed", "messages"
+NAMED = kinds_in("GLOBTREE.md")
+NONE = (b"", b"", b"")
+DOTTED = [b".", b"./", b".//", b"./.", b"..", b"../", b"../..", b"../.", b".././", b"x/..", b"x/../", b"x/../.", b"./x/y/../.."]
 ESCAPES = {7: "a", 8: "b", 9: "t", 10: "n", 11: "v", 12: "f", 13: "r", 34: '"', 92: "\\"}
 
 
@@ -39,7 +49,7 @@ class Pair:
         self.excludes = os.path.join(room, b"excludes")
         home = os.path.join(room, b"home")
         kept = {name: value for name, value in os.environ.items() if not name.startswith("GIT_")}
-        self.environment = {**kept, "HOME": home, "XDG_CONFIG_HOME": home, "GIT_CONFIG_NOSYSTEM": "1", "GIT_CONFIG_GLOBAL": "/dev/null", "LC_ALL": "C"}
+        self.environment = {**kept, "HOME": home, "XDG_CONFIG_HOME": home, "LC_ALL": "C"}
         os.makedirs(os.path.join(home, b"git"))
         if tree.excludes is not None:
             write(self.excludes, tree.excludes)
@@ -55,17 +65,28 @@ class Pair:
         options = ["--excludes", self.excludes] if self.tree.excludes is not None else []
         return options + (["--ignore-case"] if self.tree.is_folding else [])
 
-    def git(self, folder, words, given=b""):
-        return self.run(["git", *self.git_options(), "-C", folder, "check-ignore", "--no-index", *words], given)
+    def leading_to(self, folder):
+        """The options that go to a folder in two steps."""
+        below = os.path.relpath(folder, self.top)
+        return ["-C", self.top, "-C", b"" if below == b"." else below]
 
-    def git_files(self, folder, words):
-        return self.run(["git", "--literal-pathspecs", *self.git_options(), "-C", folder, "ls-files", "-co", "--exclude-standard", *words], b"")
+    def git(self, folder, words, given=b""):
+        return self.run(["git", *self.git_options(), *self.leading_to(folder), "check-ignore", "--no-index", *words], given)
+
+    def git_files(self, folder, words, top=None):
+        more = ["--git-dir", os.path.join(top, b".git"), "--work-tree", top] if top else []
+        options = [*self.git_options(), *self.leading_to(folder), *more]
+        return self.run(["git", "--literal-pathspecs", *options, "ls-files", "-co", "--exclude-standard", *words], b"")
 
     def globtree(self, folder, words, given=b"", options=(), command="check-ignore"):
-        return self.run([GLOBTREE, "-C", folder, *self.globtree_options(), *options, command, *words], given)
+        return self.run([GLOBTREE, *self.leading_to(folder), *self.globtree_options(), *options, command, *words], given)
+
+    def globtree_files(self, folder, words, top=None):
+        return self.globtree(folder, words, b"", ["--top", top] if top else [], "files")
 
     def run(self, command, given):
-        run = subprocess.run(command, input=given, stdout=subprocess.PIPE, stderr=subprocess.PIPE, env=self.environment)
+        environment = {**self.environment, **OF_GIT} if command[0] == "git" else self.environment
+        run = subprocess.run(command, input=given, stdout=subprocess.PIPE, stderr=subprocess.PIPE, env=environment)
         return Told(run.returncode, run.stdout, run.stderr)
 
 
@@ -93,6 +114,19 @@ def unquoted(name):
     return codecs.escape_decode(name[1:-1])[0] if name.startswith(b'"') else name
 
 
+def lines_with_zeros(random, paths):
+    """Lines of paths with a byte 0, which ends the path: as it is, and as an escape."""
+    behind = [random.choice((b"", b"x", b"/", b"\0a")) for _ in paths]
+    lines = [path + b"\0" + more if quoted(path) == path else quoted(path) for path, more in zip(paths, behind)]
+    return b"".join(line + b"\n" for line in lines + [b'"a\\000"', b'"./b\\000x"', b'"dir/a.o\\000/"'])
+
+
+def parts_below(tree, folder):
+    """The names of the folders directly below one."""
+    below = [path[len(folder):-1] for path in tree.folders if path.startswith(folder) and path != folder]
+    return [name for name in below if b"/" not in name]
+
+
 def given(paths, words):
     """The paths as a run with these words reads them."""
     return b"".join(path + b"\0" for path in paths) if "-z" in words else b"".join(quoted(path) + b"\n" for path in paths)
@@ -105,9 +139,10 @@ class Comparison:
 
     def __init__(self, with_globtree):
         self.with_globtree = with_globtree
-        self.kinds = collections.Counter()
-        self.answered, self.runs, self.differences, self.named, self.refused = 0, 0, 0, 0, 0
+        self.kinds, self.named = collections.Counter(), collections.Counter()
+        self.answered, self.runs, self.differences, self.refused = 0, 0, 0, 0
         self.listings, self.listed, self.unreadable = 0, 0, 0
+        self.repositories = []
 
     def tree(self, seed, room):
         self.seed, self.random = seed, random.Random(~seed)
@@ -118,7 +153,9 @@ class Comparison:
         self.from_input(paths)
         self.from_words(paths)
         self.wrong(paths)
+        self.within_git()
         self.files()
+        self.folders(known)
         with_slash = [path for path in paths if not tree.is_below_file(path) and path not in tree.links and not path.endswith(b".gitignore")]
         self.with_slash(with_slash, known)
 
@@ -129,23 +166,30 @@ class Comparison:
         if len(answers) != len(paths):
             sys.exit("compare: tree %d: git answered %d of %d paths" % (self.seed, len(answers), len(paths)))
         self.kinds.update(kind(answer) for answer in answers)
-        if INFO not in self.pair.tree.files:
-            self.without_repository(paths, told)
+        self.with_top(paths, told)
         return {answer[3]: answer[:3] for answer in answers}
 
-    def without_repository(self, paths, expected):
-        """The same where the words alone say which folder is the top."""
-        hidden = os.path.join(os.path.dirname(self.pair.top), b"hidden")
+    def with_top(self, paths, expected):
+        """The same where the words say which folder is the top: its file of excludes counts where it is there."""
         words = ["-v", "-n", "-z", "--stdin"]
-        os.rename(os.path.join(self.pair.top, b".git"), hidden)
         self.compare(self.pair.top, words, given(paths, words), expected, ["--top", self.pair.top])
-        os.rename(hidden, os.path.join(self.pair.top, b".git"))
+        if INFO not in self.pair.tree.files:
+            repository, hidden = os.path.join(self.pair.top, b".git"), os.path.join(os.path.dirname(self.pair.top), b"hidden")
+            os.rename(repository, hidden)
+            self.compare(self.pair.top, words, given(paths, words), expected, ["--top", self.pair.top])
+            os.rename(hidden, repository)
 
     def from_input(self, paths):
         """All paths, told from a folder, with words of each kind."""
         for words in self.random.sample(FROM_INPUT, 3):
             folder, told = self.seen_from(paths)
             self.both(folder, words.split(), told)
+        folder, told = self.seen_from(self.random.sample(paths, 12))
+        self.with_zeros(folder, told)
+
+    def with_zeros(self, folder, paths):
+        words = self.random.choice(FROM_LINES).split()
+        self.both(folder, words, [], asked=lines_with_zeros(self.random, paths))
 
     def from_words(self, paths):
         texts = [path for path in paths if is_text(path)]
@@ -162,46 +206,89 @@ class Comparison:
         words = self.random.choice(WRONG).split()
         self.both(self.pair.top, words, [])
         at = self.random.randrange(len(paths))
-        bad = self.random.choice([b"../x", b"/", b"", b"a/../../x"] + [link + b"/x" for link in self.pair.tree.links if not link.startswith(b":")])
+        links = [link for link in self.pair.tree.links if not link.startswith(b":")]
+        behind_links = [link + behind for link in links for behind in (b"/", b"/.", b"/x")]
+        bad = self.random.choice([b"../x", b"..", b"../", b"/", b"", b"a/../../x"] + behind_links)
         self.both(self.pair.top, ["-v", "-n", "-z", "--stdin"], paths[:at] + [bad] + paths[at:])
 
     def files(self):
         """What isn't ignored below a folder, where some folders are repositories of their own."""
         tree, top = self.pair.tree, self.pair.top
-        repositories = [os.path.join(top, folder, b".git") for folder in tree.folders if folder and self.random.random() < 0.1]
-        for repository in repositories:
-            make_repository(repository)
+        self.repositories = [folder for folder in tree.folders if folder and self.random.random() < 0.1]
+        for folder in self.repositories:
+            make_repository(os.path.join(top, folder, b".git"))
         there = [path for path in list(tree.files) + list(tree.links) + [folder[:-1] for folder in tree.folders if folder] if is_text(path)]
         self.list_files(top, [])
         for words in ([], ["-z"], [], ["-z"]):
             folder, told = self.seen_from(self.random.sample(there, 1))
             told = [os.path.join(b".", path) if path.startswith(b"-") else path for path in told]
-            self.list_files(folder, words + self.random.choice([[], told, told, ["--"] + told, [b".."], [b"."], [b""]]))
-        for repository in repositories:
-            shutil.rmtree(repository)
+            behind = [path + self.random.choice((b"/", b"/.", b"/./", b"/x/..")) for path in told]
+            self.list_files(folder, words + self.random.choice([[], told, behind, ["--"] + told, [self.random.choice(DOTTED)], [b""]]))
+        for folder in self.repositories:
+            below = os.path.join(top, folder)
+            self.list_files(below, self.random.choice([[], ["-z"], [b"."], [b".."]]), os.path.relpath(top, below))
+        for folder in self.repositories:
+            shutil.rmtree(os.path.join(top, folder, b".git"))
+        self.repositories = []
 
-    def list_files(self, folder, words):
-        expected = self.pair.git_files(folder, words)
+    def is_in_repository(self, folder, words):
+        """Whether the path among the words lies in a repository below the top."""
+        told = [word for word in words if isinstance(word, bytes)]
+        path = os.path.relpath(os.path.join(folder, *told), self.pair.top) + b"/"
+        return any(path.startswith(repository) for repository in self.repositories)
+
+    def list_files(self, folder, words, named_top=None):
+        expected = self.pair.git_files(folder, words, named_top)
         end = b"\0" if "-z" in words else b"\n"
         names = expected.output.split(end)[:-1]
         self.listings += 1
         self.listed += len(names)
         if not self.with_globtree:
             return
-        found = self.pair.globtree(folder, words, command="files")
+        found = self.pair.globtree_files(folder, words, named_top)
         if found.status == 1 and NO_TEXT in found.errors:
             # the names that are no text are told, and the others listed
             left = [name for name in names if is_text(name if "-z" in words else unquoted(name))]
             expected = Told(1, b"".join(name + end for name in left), found.errors)
             self.unreadable += len(names) - len(left)
-        self.judge(folder, words, b"", expected, found, "files")
+        elif UNLISTED in NAMED and found.status == 1 and expected.status == 0 and NO_FOLDER in found.errors:
+            self.named[UNLISTED] += 1
+            expected = expected._replace(status=1, errors=found.errors)
+        elif MESSAGES in NAMED and expected.errors and self.is_in_repository(folder, words):
+            self.named[MESSAGES] += not found.errors
+            expected = expected._replace(errors=found.errors)
+        self.judge(folder, words, expected, found, "files")
+
+    def within_git(self):
+        """From Git's own folder, and folders below it: there is no work tree, so both refuse."""
+        for folder in (b".git", b".git/info", b".git/objects"):
+            folder = os.path.join(self.pair.top, folder)
+            self.both(folder, self.random.choice(WITHIN_GIT).split(), [b"a"])
+            self.list_files(folder, self.random.choice([[], ["-z"], ["a"], [".."]]))
+
+    def folders(self, known):
+        """The folders above and below one, told with dots: `.`, `./`, `..`, `x/..`."""
+        folder = self.random.choice(self.pair.tree.folders)
+        asked, named = [], []
+        below = [part + b"/" + dots for part in parts_below(self.pair.tree, folder) for dots in (b"", b".", b"./", b"x/..")]
+        for told in [*DOTTED, *below, self.pair.top, self.pair.top + b"/"]:
+            path = os.path.relpath(os.path.join(self.pair.top, folder, told), self.pair.top)
+            path = b"" if path == b"." else path
+            if path in known or not path:
+                asked.append(told)
+                named.append((SLASH, known[path]) if path else (TOP, NONE))
+        folder = os.path.join(self.pair.top, folder)
+        same = self.each(folder, asked, named)
+        if same:
+            self.as_words(folder, self.random.choice(["--", "-v --", "-v -n --"]).split() + same)
+            self.as_words(folder, ["-q", self.random.choice(same)])
 
     def with_slash(self, paths, known):
-        """Each path with a slash at its end: answered as the folder that it names, which is made where it isn't there."""
-        asked = b"".join(path + b"/\0" for path in paths)
+        """Each path with a slash at its end. Then the folder that it names is made, to ask Git about it without the slash."""
+        asked = [path + b"/" for path in paths]
         words = ["-v", "-n", "-z", "--stdin"]
-        of_git = decisions(self.pair.git(self.pair.top, words, asked))
-        of_globtree = self.pair.globtree(self.pair.top, words, asked) if self.with_globtree else None
+        of_git = self.pair.git(self.pair.top, words, given(asked, words))
+        of_globtree = self.pair.globtree(self.pair.top, words, given(asked, words)) if self.with_globtree else None
         folders = {path for path in paths if path + b"/" in self.pair.tree.folders}
         for path in paths:
             name = os.path.join(self.pair.top, path)
@@ -212,13 +299,43 @@ class Comparison:
         for answer in answers:
             if answer[3] in folders and known[answer[3]] != answer[:3]:
                 sys.exit("compare: tree %d: git answers twice about %s" % (self.seed, shown(answer[3])))
-        expected = [answer[:3] + (answer[3] + b"/",) for answer in answers]
-        self.named += sum(one != other for one, other in zip(expected, of_git))
-        self.answered += len(expected)
-        if of_globtree is not None:
-            output = b"".join(b"\0".join(answer) + b"\0" for answer in expected)
-            status = 0 if any(answer[0] for answer in expected) else 1
-            self.judge(self.pair.top, words, asked, Told(status, output, of_globtree.errors), of_globtree)
+        self.judge_each(self.pair.top, [(SLASH, answer[:3]) for answer in answers], of_git, of_globtree)
+
+    # ---- paths whose answers may differ by name
+
+    def each(self, folder, asked, named):
+        """Asks both about each path as it stands, and gives those that both answer alike. `named` has for each a kind of
+        "From Git", and the answer by which it may differ so."""
+        words = ["-v", "-n", "-z", "--stdin"]
+        of_git = self.pair.git(folder, words, given(asked, words))
+        found = self.pair.globtree(folder, words, given(asked, words)) if self.with_globtree else None
+        differ = self.judge_each(folder, named, of_git, found)
+        return [path for path, differs in zip(asked, differ) if not differs]
+
+    def as_words(self, folder, words):
+        """Runs both with these words. Git alone may tell errors: it also reads the ignore file of a folder with a slash."""
+        expected, found = self.pair.git(folder, words), self.pair.globtree(folder, words)
+        self.judge(folder, words, expected._replace(errors=found.errors), found)
+
+    def judge_each(self, folder, named, expected, found):
+        """Judges the answers one by one, and gives which of them differ by name."""
+        answers = decisions(expected)
+        if len(answers) != len(named):
+            sys.exit("compare: tree %d: git answered %d of %d paths" % (self.seed, len(answers), len(named)))
+        self.answered += len(answers)
+        if found is None:
+            return []
+        lawful, differ = [], []
+        for answer, (name, fields), other in zip(answers, named, decisions(found)):
+            name = STARS if name == SLASH and b"*" in answer[2] else name
+            differ.append(name in NAMED and other != answer and other[:3] == fields)
+            self.named[name] += differ[-1]
+            lawful.append(fields + answer[3:] if differ[-1] else answer)
+        lawful += answers[len(lawful):]
+        status = 0 if any(answer[0] for answer in lawful) else 1
+        told = Told(status, b"".join(b"\0".join(answer) + b"\0" for answer in lawful), found.errors)
+        self.judge(folder, ["-v", "-n", "-z", "--stdin"], told, found)
+        return differ
 
     # ---- paths as they are told
 
@@ -245,10 +362,10 @@ class Comparison:
 
     # ---- both
 
-    def both(self, folder, words, paths, more=()):
-        """Runs both with these words, which more paths follow, on paths from standard input."""
+    def both(self, folder, words, paths, more=(), asked=None):
+        """Runs both with these words, which more paths follow, on paths from standard input, or on what is asked there."""
         words = words + list(more)
-        asked = given(paths, words)
+        asked = given(paths, words) if asked is None else asked
         expected = self.pair.git(folder, words, asked)
         self.answered += expected.output.count(b"\0" if "-z" in words else b"\n")
         self.compare(folder, words, asked, expected)
@@ -256,9 +373,9 @@ class Comparison:
 
     def compare(self, folder, words, asked, expected, options=()):
         if self.with_globtree:
-            self.judge(folder, words, asked, expected, self.pair.globtree(folder, words, asked, options))
+            self.judge(folder, words, expected, self.pair.globtree(folder, words, asked, options))
 
-    def judge(self, folder, words, asked, expected, found, command="check-ignore"):
+    def judge(self, folder, words, expected, found, command="check-ignore"):
         self.runs += 1
         if found.is_as(expected):
             return
@@ -291,6 +408,10 @@ def shown(text):
     return ascii(os.fsdecode(text))
 
 
+def told_kinds(named):
+    return ", ".join("%s: %d" % pair for pair in sorted((+named).items())) or "none"
+
+
 def compare_trees(count, seed, with_globtree, kept):
     """Compares so many trees, the first made from the seed. The status is 1 where anything differs."""
     if with_globtree and not os.access(GLOBTREE, os.X_OK):
@@ -307,8 +428,9 @@ def compare_trees(count, seed, with_globtree, kept):
                 shutil.rmtree(room)
     kinds = comparison.kinds
     print("%d trees, %d paths: %d ignored, %d kept, %d none" % (count, sum(kinds.values()), kinds["ignored"], kinds["kept"], kinds["none"]))
-    print("%d answers of git, %d of them otherwise about a slash at the end" % (comparison.answered, comparison.named))
+    print("%d answers of git" % comparison.answered)
     print("%d listings of git, with %d names" % (comparison.listings, comparison.listed))
     if with_globtree:
+        print("differences named in From Git: " + told_kinds(comparison.named))
         print("%d runs of globtree, %d ended at a name that is no text, which %d listed names are; %d differences" % (comparison.runs, comparison.refused, comparison.unreadable, comparison.differences))
     return 1 if comparison.differences else 0

@@ -6,6 +6,8 @@ IGNORE_FILE = b".gitignore"
 INFO = b".git/info/exclude"
 BYTE_ORDER_MARK = b"\xef\xbb\xbf"
 SPACES = b" \t\n\f\r"
+# what keeps Git alone from the files of the machine: globtree has no such file to keep from, and would tell each as a sign
+OF_GIT = {"GIT_CONFIG_NOSYSTEM": "1", "GIT_ATTR_NOSYSTEM": "1", "GIT_CONFIG_GLOBAL": "/dev/null"}
 
 PLAIN = b"a b c aa ab a.o b.o x.c x.h a.log keep.log build doc src dir Makefile .env a-b 1 12".split()
 FOLDERS = b"a b aa dir src doc build lib.d x .cfg".split()
@@ -215,7 +217,7 @@ def make_repository(folder):
     for name in (b"objects", b"refs", b"info"):
         os.makedirs(os.path.join(folder, name))
     write(os.path.join(folder, b"HEAD"), b"ref: refs/heads/main\n")
-    write(os.path.join(folder, b"config"), b"[core]\n\trepositoryformatversion = 0\n")
+    write(os.path.join(folder, b"config"), b"[core]\n\trepositoryformatversion = 0\n\tbare = false\n")
 
 
 def is_text(path):

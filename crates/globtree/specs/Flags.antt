@@ -30,5 +30,5 @@ with_option flags word =
     else (if bytes_eq word (codes "--non-matching") then Some (record flags { non_matching = true })
     else (if bytes_eq word (codes "--quiet") then Some (record flags { quiet = true })
     else (if bytes_eq word (codes "--stdin") then Some (record flags { stdin = true })
-    else (if bytes_eq word (codes "--no-index") then Some flags
+    else (if bytes_eq word (codes "--no-index") then Some (record flags { no_index = true })
     else with_letters flags (drop 1 word)))))

@@ -1,10 +1,14 @@
 pub mod AttributeFlags
 pub mod AttributeText
+pub mod ConfigKeys
 pub mod Files
 pub mod Flags
+pub mod IndexHead
 pub mod Lines
 pub mod Paths
 pub mod Quoting
+pub mod RecordNames
+pub mod Telling
 pub mod Unquoting
 pub mod Words
 pub mod Private

@@ -1,6 +1,6 @@
 -- Where a told path leads.
-use Rattle.std.specs.Prelude.{ℕ, ◌==◌, ◌||◌, Bool, nat_eq, if◌then◌else◌, List, [], ◌∷◌, ◌++◌, drop, length, Option, None, Some, codes}
-use Rattle.std.specs.List.{flat_map, list_any, slice_split, starts_with}
+use Rattle.std.specs.Prelude.{ℕ, ◌==◌, ◌||◌, Bool, IsTrue, not, nat_eq, if◌then◌else◌, List, [], ◌∷◌, ◌++◌, drop, length, Option, None, Some, codes}
+use Rattle.std.specs.List.{AllByRecursion, flat_map, list_any, slice_split, starts_with}
 use Rattle.std.specs.Option.{option_and_then, option_map, unwrap_or}
 use Rattle.std.specs.Str.{byte, bytes_eq}
 
@@ -23,6 +23,13 @@ stays part = bytes_eq part [] || bytes_eq part (codes ".")
 
 abbrev pub goes_up : List ℕ → Bool
 goes_up part = bytes_eq part (codes "..")
+
+-- a part that leads to what stands below, and parts that all do
+abbrev pub is_name : List ℕ → Bool
+is_name part = not (stays part || goes_up part)
+
+abbrev pub AreNames : List (List ℕ) → Type 0
+AreNames parts = AllByRecursion (λ part. IsTrue (is_name part)) parts
 
 -- a name in a folder; the folder that paths are counted from has no bytes
 abbrev pub below : List ℕ → List ℕ → List ℕ
@@ -71,7 +78,12 @@ folder_parts (b ∷ folder) = parts_of (b ∷ folder)
 abbrev pub steps_up : List (List ℕ) → List ℕ
 steps_up parts = flat_map (λ _. codes "../") parts
 
+-- what leads to what is left of a path: where nothing is, to the folder itself
+abbrev pub or_here : List ℕ → List ℕ
+or_here [] = codes "./"
+or_here (b ∷ left) = b ∷ left
+
 -- what leads to a path from the folder of these parts: what both have in common is left out, and from the rest of the parts it goes up
 abbrev pub seen_from : List (List ℕ) → List ℕ → List ℕ
-seen_from [] path = path
+seen_from [] path = or_here path
 seen_from (part ∷ parts) path = unwrap_or (option_map (λ left. seen_from parts left) (left_below part path)) (steps_up (part ∷ parts) ++ path)

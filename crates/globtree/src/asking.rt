@@ -7,13 +7,13 @@ use crate::fault::CheckFault;
 use crate::finding::Finder;
 use crate::flags::Flags;
 use crate::lines::{Shown, append_line};
-use crate::paths::{below_folder, walk};
+use crate::paths::{append_seen, below_folder, enter, walk};
 use crate::record_names::PathAnswerer;
 use crate::sources::FolderFiles;
 use crate::usual::are_usual_names;
 use glob_lines::IgnoreLines;
 use glob_trees::Tree;
-use std::alloc::Global;
+use std::alloc::{AllocError, Global};
 use std::rt::Files;
 
 /// Where paths are told from.
@@ -56,6 +56,16 @@ impl Standpoint {
             self.strip_top(alloc, path, told)?;
         }
         Ok(is_folder)
+    }
+
+    /// Appends what leads from the current folder to a path that is told from the top.
+    pub(crate) fn append_seen(&self, text: &mut Vec<u8>, path: &[u8]) -> Result<(), AllocError> {
+        if self.is_inside {
+            return append_seen(text, &self.here, path);
+        }
+        let mut whole = self.top.clone()?;
+        enter(&mut whole, path)?;
+        append_seen(text, &self.here, &whole)
     }
 
     /// Cuts the path of the top off.

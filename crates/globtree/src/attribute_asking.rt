@@ -9,7 +9,6 @@ use crate::folder_attributes::FolderAttributes;
 use crate::record_names::PathAnswerer;
 use glob_attributes::{Assignment, AttributeLines, PathAttributes, State};
 use glob_lists::{ListIndex, RepositoryPath, bases_are_folders};
-use memchr::memchr;
 use std::alloc::{AllocError, Global};
 use std::rt::Files;
 
@@ -31,7 +30,6 @@ pub(crate) struct AttributeAsker<'a, R> {
 
 impl<'a, R: Files + Eprint> PathAnswerer for AttributeAsker<'a, R> {
     fn answer_path(&mut self, text: &mut Vec<u8>, told: &[u8]) -> Result<(), CheckFault> {
-        let told = before_zero(told);
         let is_folder = self.lead(told)?;
         let mut quoted = Vec::new(self.alloc);
         let shown = path_text(&mut quoted, told, self.is_nul)?;
@@ -137,13 +135,5 @@ impl<'a, R: Files + Eprint> AttributeAsker<'a, R> {
             append_answer(text, shown, label, &State::Unspecified, self.is_nul)?;
         }
         Ok(())
-    }
-}
-
-/// What stands before the first NUL, which ends a name wherever it comes from.
-fn before_zero(told: &[u8]) -> &[u8] {
-    match memchr(0, told) {
-        Some(place) => &told[..place],
-        None => told,
     }
 }

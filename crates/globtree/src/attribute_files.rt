@@ -1,7 +1,8 @@
 //! Reading attribute files: their lists, their names, and the lines that say nothing.
 
 use crate::fault::CheckFault;
-use crate::sources::{Standing, file_in, file_list, folder_text, own_file, what_stands};
+use crate::sources::{OwnFile, Standing, file_in, file_list, folder_text, own_file, what_stands};
+use crate::telling::tell_line;
 use gix_glob::search::pattern::List;
 use glob_attributes::{
     AttributeLines, AttributeNames, MacroTable, Silence, SilentLine, silent_lines,
@@ -32,10 +33,10 @@ impl<'a, R: Files + Eprint> AttributeReader<'a, R> {
         &mut self,
         file: String,
         macros: &mut MacroTable,
-    ) -> Result<List<AttributeLines>, AllocError> {
+    ) -> Result<List<AttributeLines>, CheckFault> {
         self.bytes.clear();
         if let Ok(found) = fs::metadata(self.rt, file.as_str())
-            && self.is_too_large(file.as_str(), &found)
+            && self.is_too_large(file.as_str(), &found)?
         {
             return Ok(List::empty(self.alloc));
         }
@@ -49,39 +50,52 @@ impl<'a, R: Files + Eprint> AttributeReader<'a, R> {
     pub(crate) fn top(
         &mut self,
         macros: &mut MacroTable,
-    ) -> Result<List<AttributeLines>, AllocError> {
+    ) -> Result<List<AttributeLines>, CheckFault> {
         let file = String::from_str(self.alloc, ".gitattributes")?;
-        let list = self.own_list(file, true)?;
+        let list = match self.own_list(file, true)? {
+            Some(list) => list,
+            None => List::empty(self.alloc),
+        };
         macros.add_file(self.alloc, &self.bytes)?;
         Ok(list)
     }
 
-    /// The list of a folder below the top, with the folder as its base; `None` where no folder stands there.
+    /// The list of a folder below the top, with the folder as its base; `None` where no folder stands there that can be looked into.
     pub(crate) fn list_in(
         &mut self,
         folder: &[u8],
     ) -> Result<Option<List<AttributeLines>>, CheckFault> {
         let name = folder_text(self.alloc, folder)?;
-        if let Standing::Nothing = what_stands(self.rt, name.as_str()) {
-            return Ok(None);
+        match what_stands(self.rt, self.alloc, name.as_str())? {
+            Standing::Nothing | Standing::Unseen => return Ok(None),
+            Standing::Folder | Standing::Link => {}
         }
         let file = file_in(self.alloc, name.as_str(), ".gitattributes")?;
-        let list = self.own_list(file, false)?;
-        Ok(Some(list_in_folder(self.alloc, list, folder)?))
+        match self.own_list(file, false)? {
+            Some(list) => Ok(Some(list_in_folder(self.alloc, list, folder)?)),
+            None => Ok(None),
+        }
     }
 
-    /// The list of a folder's own file; no patterns where there is none. A link isn't followed.
-    fn own_list(&mut self, file: String, is_top: bool) -> Result<List<AttributeLines>, AllocError> {
+    /// The list of a folder's own file; no patterns where there is none, and `None` where the folder can't be looked into. A link
+    /// isn't followed.
+    fn own_list(
+        &mut self,
+        file: String,
+        is_top: bool,
+    ) -> Result<Option<List<AttributeLines>>, CheckFault> {
         self.bytes.clear();
-        let Some(found) = own_file(self.rt, file.as_str()) else {
-            return Ok(List::empty(self.alloc));
+        let found = match own_file(self.rt, self.alloc, file.as_str())? {
+            OwnFile::Found(found) => found,
+            OwnFile::Nothing => return Ok(Some(List::empty(self.alloc))),
+            OwnFile::Shut => return Ok(None),
         };
-        if self.is_too_large(file.as_str(), &found) {
-            return Ok(List::empty(self.alloc));
+        if self.is_too_large(file.as_str(), &found)? {
+            return Ok(Some(List::empty(self.alloc)));
         }
         let list = file_list(self.rt, self.alloc, file, &mut self.bytes, AttributeLines)?;
         self.note(&list, is_top)?;
-        Ok(list)
+        Ok(Some(list))
     }
 
     /// Keeps the names of the file that was read, and tells its lines that say nothing.
@@ -93,30 +107,39 @@ impl<'a, R: Files + Eprint> AttributeReader<'a, R> {
             return Ok(());
         };
         for line in &silent_lines(self.alloc, &self.bytes, is_top)? {
-            tell_silent(self.rt, source.as_str(), line);
+            tell_silent(self.rt, self.alloc, source.as_str(), line)?;
         }
         Ok(())
     }
 
     /// Whether a file is so large that it is passed over, which is told then.
-    fn is_too_large(&self, name: &str, found: &Metadata) -> bool {
+    fn is_too_large(&self, name: &str, found: &Metadata) -> Result<bool, AllocError> {
         if !found.is_file() || found.len() < FILE_LIMIT {
-            return false;
+            return Ok(false);
         }
-        let _ = eprintln!(self.rt;
-            "warning: '{name}' is passed over: it has {FILE_LIMIT} bytes or more"
-        );
-        true
+        tell_line(
+            self.rt,
+            self.alloc,
+            format_args!("warning: '{name}' is passed over: it has {FILE_LIMIT} bytes or more"),
+        )?;
+        Ok(true)
     }
 }
 
 /// Tells a line that says nothing, and why.
-fn tell_silent<R: Eprint>(rt: &R, source: &str, line: &SilentLine) {
+fn tell_silent<R: Eprint>(
+    rt: &R,
+    alloc: Global,
+    source: &str,
+    line: &SilentLine,
+) -> Result<(), AllocError> {
     let reason = reason(line.silence);
-    let _ = eprintln!(rt;
-        "warning: {source}:{number} says nothing: {reason}",
-        number = line.number
-    );
+    let number = line.number;
+    tell_line(
+        rt,
+        alloc,
+        format_args!("warning: {source}:{number} says nothing: {reason}"),
+    )
 }
 
 /// Why a line says nothing, in words.

@@ -5,13 +5,16 @@ ghost use Rattle.gix_glob.specs.Watched.{has_failed};
 use crate::asking::Standpoint;
 use crate::attribute_asking::AttributeAsker;
 use crate::attribute_files::AttributeReader;
-use crate::attribute_flags::{AttributeFlags, Misuse};
+use crate::attribute_flags::AttributeFlags;
 use crate::attribute_text::append_label;
 use crate::attribute_words::operands_of;
 use crate::excludes::users_file;
+use crate::fault::CheckFault;
 use crate::folder_attributes::{FolderAttributes, keep_asked};
-use crate::places::{go_to_folder, go_to_top};
+use crate::places::{go_to_folders, go_to_top};
 use crate::record_names::RecordAnswerer;
+use crate::signs::{Concerns, tell_signs};
+use crate::telling::{tell_line, tell_usage};
 use crate::words::Options;
 use anyhow::{Context, Result, bail};
 use gix_glob::pattern::Case;
@@ -54,7 +57,10 @@ pub(crate) fn check_attr<R: Files + Env + Eprint + AllocGlobal, I: Read, O: Writ
     let operands = operands_of(alloc, words).context("the words")?;
     let count = match flags.names_first(operands.words.len(), operands.before) {
         Ok(count) => count,
-        Err(misuse) => return Ok(tell_misuse(rt, misuse)),
+        Err(misuse) => {
+            tell_usage(rt, misuse.message(), USAGE);
+            return Ok(WRONG_WORDS);
+        }
     };
     let (names, paths) = operands.words.split_at(count);
     let FilesRead {
@@ -65,7 +71,11 @@ pub(crate) fn check_attr<R: Files + Env + Eprint + AllocGlobal, I: Read, O: Writ
         mut info,
     } = read_files(rt, alloc, options, flags)?;
     if let Some(name) = wrong_name(names) {
-        let _ = eprintln!(rt; "error: {name}: not a valid attribute name");
+        tell_line(
+            rt,
+            alloc,
+            format_args!("error: {name}: not a valid attribute name"),
+        )?;
         return Ok(NO_NAME);
     }
     if !flags.all {
@@ -133,7 +143,7 @@ fn read_files<'a, R: Files + Env + Eprint + AllocGlobal>(
     options: Options<'_>,
     flags: AttributeFlags,
 ) -> Result<FilesRead<'a, R>> {
-    go_to_folder(rt, options.folder)?;
+    go_to_folders(rt, options.words)?;
     let mut macros = MacroTable::new(alloc)?;
     let mut reader = AttributeReader {
         rt,
@@ -143,9 +153,15 @@ fn read_files<'a, R: Files + Env + Eprint + AllocGlobal>(
     };
     let mut lists = outer_lists(&mut reader, options, &mut macros)?;
     let standpoint = go_to_top(rt, alloc, options.top)?;
+    let concerns = Concerns {
+        are_attributes: true,
+        is_nul: flags.nul,
+        uses_index: true,
+    };
+    tell_signs(rt, alloc, options, concerns)?;
     let top = reader.top(&mut macros)?;
     lists.push(top)?;
-    let own = info_list(&mut reader, options.top.is_some(), &mut macros)?;
+    let own = info_list(&mut reader, &mut macros)?;
     let mut info = Vec::new(alloc);
     info.push(own)?;
     Ok(FilesRead {
@@ -167,13 +183,6 @@ fn index_of(
     }
     let index = ListIndex::new(alloc, lists, Case::Sensitive).context("the index")?;
     Ok(index)
-}
-
-/// Tells why the words don't go together.
-fn tell_misuse<R: Eprint>(rt: &R, misuse: Misuse) -> u8 {
-    let message = misuse.message();
-    let _ = eprint!(rt; "error: {message}\n{USAGE}");
-    WRONG_WORDS
 }
 
 /// Where all attributes are asked for, the names that are known before any file is read.
@@ -219,15 +228,11 @@ fn outer_lists<R: Files + Env + Eprint + AllocGlobal>(
     Ok(lists)
 }
 
-/// The list of the repository's own file. There is none where a top was named.
+/// The list of the repository's own file.
 fn info_list<R: Files + Eprint>(
     reader: &mut AttributeReader<'_, R>,
-    is_named: bool,
     macros: &mut MacroTable,
-) -> Result<List<AttributeLines>, AllocError> {
-    if is_named {
-        return Ok(List::empty(reader.alloc));
-    }
+) -> Result<List<AttributeLines>, CheckFault> {
     let file = String::from_str(reader.alloc, ".git/info/attributes")?;
     reader.file(file, macros)
 }

@@ -33,20 +33,15 @@ pub(crate) fn push_excludes<R: Files + Env + Eprint + AllocGlobal>(
     Ok(())
 }
 
-/// Pushes the list of the repository's own file of excludes. There is none where a top was named.
+/// Pushes the list of the repository's own file of excludes.
 pub(crate) fn push_info<R: Files + Eprint>(
     rt: &R,
     alloc: Global,
-    is_named: bool,
     lists: &mut Vec<PreparedList<IgnoreLines>>,
 ) -> Result<()> {
     let mut bytes = Vec::new(alloc);
-    let list = if is_named {
-        List::empty(alloc)
-    } else {
-        let source = String::from_str(alloc, ".git/info/exclude")?;
-        file_list(rt, alloc, source, &mut bytes, IgnoreLines)?
-    };
+    let source = String::from_str(alloc, ".git/info/exclude")?;
+    let list = file_list(rt, alloc, source, &mut bytes, IgnoreLines)?;
     lists.push(PreparedList::new(alloc, list))?;
     Ok(())
 }

@@ -6,9 +6,10 @@ ghost use Rattle.globtree.specs.Files.{PutsInOrder};
 use crate::asking::Standpoint;
 use crate::fault::CheckFault;
 use crate::finding::fault_of;
-use crate::paths::{append_seen, enter, last_name};
+use crate::paths::{enter, last_name};
 use crate::quoting::append_quoted;
 use crate::sources::{FolderFiles, folder_text};
+use crate::telling::tell_line;
 use anyhow::{Context, Result};
 use gix_glob::search::Watched;
 use glob_lines::IgnoreLines;
@@ -129,12 +130,12 @@ impl<'a, R: Files + Eprint + AllocGlobal + Clone + Drop> Lister<'a, R> {
     /// Appends the name of a path as it is seen from the current folder, and the byte that ends it.
     fn append(&mut self, path: &[u8]) -> Result<(), AllocError> {
         if self.nul {
-            append_seen(&mut self.text, &self.standpoint.here, path)?;
+            self.standpoint.append_seen(&mut self.text, path)?;
             self.text.push(0)?;
             return Ok(());
         }
         let mut name = Vec::new(self.alloc);
-        append_seen(&mut name, &self.standpoint.here, path)?;
+        self.standpoint.append_seen(&mut name, path)?;
         append_quoted(&mut self.text, &name)?;
         self.text.push(b'\n')?;
         Ok(())
@@ -232,8 +233,12 @@ impl<'a, R: Files + Eprint + AllocGlobal + Clone + Drop> Lister<'a, R> {
     /// Tells why a path isn't listed, or not all of a folder.
     fn tell<D: Display + Drop>(&mut self, path: &[u8], reason: D) -> Result<(), CheckFault> {
         self.is_short = true;
-        let name = String::from_utf8_lossy(self.alloc, path)?;
-        let _ = eprintln!(self.rt; "error: '{name}': {reason}");
+        let name = String::from_utf8_lossy(self.alloc, if path.is_empty() { b"." } else { path })?;
+        tell_line(
+            self.rt,
+            self.alloc,
+            format_args!("error: '{name}': {reason}"),
+        )?;
         Ok(())
     }
 }

@@ -15,6 +15,8 @@ pub(crate) struct Flags {
     pub(crate) quiet: bool,
     /// `--stdin`: the paths are read.
     pub(crate) stdin: bool,
+    /// `--no-index`: Git wouldn't look into the index either.
+    pub(crate) no_index: bool,
 }
 
 impl Flags {
@@ -26,6 +28,7 @@ impl Flags {
             nul: false,
             quiet: false,
             stdin: false,
+            no_index: false,
         }
     }
 
@@ -81,7 +84,10 @@ impl Flags {
             });
         }
         if word == "--no-index" {
-            return Some(self);
+            return Some(Flags {
+                no_index: true,
+                ..self
+            });
         }
         match word.as_bytes() {
             [_dash, letters @ ..] => self.with_letters(letters),

@@ -1,7 +1,7 @@
 //! Where a told path leads: `.` stays, `..` goes up, and slashes that follow one another are one.
-ghost use Rattle.std.specs.Prelude.{◌≡◌, ◌∷◌, ◌++◌, ◌||◌, ℕ, Bool, false, List, if◌then◌else◌, None, Some, IfOk, IsTrue, MatchOption, OnOk};
+ghost use Rattle.std.specs.Prelude.{◌≡◌, ◌∷◌, ◌++◌, ◌||◌, ℕ, Bool, false, List, [], if◌then◌else◌, None, Some, IfOk, IsTrue, MatchOption, OnOk};
 ghost use Rattle.std.specs.Option.{option_copied};
-ghost use Rattle.globtree.specs.Paths.{below, folder_of, folder_parts, goes_up, left_below, names_folder, parts_left, parts_of, seen_from, stays, step, steps_up, walk};
+ghost use Rattle.globtree.specs.Paths.{AreNames, below, folder_of, folder_parts, goes_up, left_below, names_folder, or_here, parts_left, parts_of, seen_from, stays, step, steps_up, walk};
 
 use memchr::{memchr, memrchr};
 use std::alloc::AllocError;
@@ -147,9 +147,11 @@ pub(crate) fn below_folder<'a>(path: &'a [u8], folder: &[u8]) -> Option<&'a [u8]
     rest.strip_prefix(b"/")
 }
 
-/// Appends what leads to a path from a folder, both told from the top.
+/// Appends what leads to a path from a folder, both told from the top: from a folder of names it leads where the path does.
+#[tactic(auto, using(crate::proofs::lemmas::SeenLemmas::seen_leads_back))]
 pub(crate) fn append_seen(text: &mut Vec<u8>, folder: &[u8], path: &[u8]) -> Result<(), AllocError>
-    ensures { OnOk result (text.new.items ≡ text.old.items ++ seen_from (folder_parts folder.now) path.now) }
+    ensures written { OnOk result (text.new.items ≡ text.old.items ++ seen_from (folder_parts folder.now) path.now) }
+    ensures leads { AreNames (folder_parts folder.now) → walk folder.now (parts_of (seen_from (folder_parts folder.now) path.now)) ≡ walk [] (parts_of path.now) }
 {
     let mut rest = path;
     let mut parts = if folder.is_empty() {
@@ -166,7 +168,17 @@ pub(crate) fn append_seen(text: &mut Vec<u8>, folder: &[u8], path: &[u8]) -> Res
         rest = below;
         parts = behind;
     }
-    text.extend_from_slice(rest)
+    text.extend_from_slice(or_here(rest))
+}
+
+/// What leads to what is left of a path: where nothing is, to the folder itself.
+fn or_here(left: &[u8]) -> &[u8]
+    ensures { result.now ≡ or_here left.entry.now }
+{
+    match left {
+        [] => b"./",
+        _ => left,
+    }
 }
 
 /// Appends a step up for each part of what is left of a folder's path.

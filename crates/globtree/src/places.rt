@@ -1,21 +1,41 @@
 //! Going to the top of the work tree.
 use crate::asking::Standpoint;
 use crate::paths::below_folder;
+use crate::words::takes_value;
 use anyhow::{Context, Result, bail};
 use std::alloc::Global;
 use std::rt::{Env, Files};
 use std::{env, fs};
 
-/// Goes to the folder that was named, if one was.
-pub(crate) fn go_to_folder<R: Files + Env>(rt: &R, named: Option<&str>) -> Result<()> {
-    if let Some(folder) = named {
+/// Goes to each folder that `-C` names among the words before the command, from the one before it.
+pub(crate) fn go_to_folders<R: Files + Env>(rt: &R, words: &[String]) -> Result<()> {
+    let mut pending = None;
+    'words: for word in words {
+        let word = word.as_str();
+        match pending {
+            Some(option) => {
+                if option == "-C" {
+                    go_to_folder(rt, word)?;
+                }
+                pending = None;
+            }
+            None if takes_value(word) => pending = Some(word),
+            None => {}
+        }
+    }
+    Ok(())
+}
+
+/// Goes to a folder. One without a name is the current one.
+fn go_to_folder<R: Files + Env>(rt: &R, folder: &str) -> Result<()> {
+    if !folder.is_empty() {
         env::set_current_dir(rt, folder).context(format_args!("cannot change to '{folder}'"))?;
     }
     Ok(())
 }
 
 /// Goes to the top of the work tree, and tells where the current folder was: the top is the folder that was named, or the nearest
-/// one upward that has `.git`.
+/// one upward that has `.git`. What lies in its `.git` is no place in the work tree: from there nothing is answered.
 pub(crate) fn go_to_top<R: Files + Env + AllocGlobal>(
     rt: &R,
     alloc: Global,
@@ -34,6 +54,9 @@ pub(crate) fn go_to_top<R: Files + Env + AllocGlobal>(
         None => None,
     };
     Ok(match below {
+        Some(below) if below_folder(&below, b".git").is_some() => {
+            bail!("this operation must be run in a work tree")
+        }
         Some(below) => Standpoint {
             top,
             here: below,

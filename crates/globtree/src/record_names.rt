@@ -1,10 +1,14 @@
 //! What answers each line or record of the input by the path that it tells.
 
+ghost use Rattle.std.specs.Prelude.{◌≡◌};
 ghost use Rattle.std.specs.Io.{StartsWith};
+ghost use Rattle.std.specs.List.{before_first};
+ghost use Rattle.globtree.specs.RecordNames.{is_zero};
 
 use crate::fault::CheckFault;
 use crate::unquoting::unquote;
 use glob_trees::Answerer;
+use memchr::memchr;
 
 /// What answers told paths.
 pub(crate) trait PathAnswerer: Drop {
@@ -36,6 +40,7 @@ impl<A: PathAnswerer> Answerer for RecordAnswerer<A> {
 
     #[inline(always)]
     fn answer(&mut self, text: &mut Vec<u8>, bytes: &[u8]) -> Result<(), CheckFault> {
+        let bytes = before_zero(bytes);
         if let [b'"', quoted @ ..] = bytes {
             if !self.is_nul {
                 return self.answer_quoted(text, quoted);
@@ -54,6 +59,16 @@ impl<A: PathAnswerer> RecordAnswerer<A> {
         if !unquote(&mut self.name, quoted)? {
             return Err(CheckFault::BadlyQuoted);
         }
-        self.paths.answer_path(text, &self.name)
+        self.paths.answer_path(text, before_zero(&self.name))
+    }
+}
+
+/// What stands before the first byte 0, which ends a name wherever it comes from.
+fn before_zero(name: &[u8]) -> &[u8]
+    ensures { result.now ≡ before_first is_zero name.entry.now }
+{
+    match memchr(0, name) {
+        Some(place) => &name[..place],
+        None => name,
     }
 }

@@ -8,12 +8,14 @@ use crate::excludes::{push_excludes, push_info};
 use crate::files::Lister;
 use crate::finding::Finder;
 use crate::flags::Flags;
-use crate::places::{go_to_folder, go_to_top};
+use crate::places::{go_to_folders, go_to_top};
 use crate::record_names::RecordAnswerer;
+use crate::signs::{Concerns, tell_signs};
 use crate::sources::FolderFiles;
+use crate::telling::{tell_line, tell_no_memory, tell_usage};
 use crate::unlinked::UnlinkedFolders;
 use crate::words::{Command, Options, asked_by, paths_of};
-use anyhow::{Context, Result, anyhow, bail};
+use anyhow::{Context, Result, bail};
 use gix_glob::pattern::Case;
 use gix_glob::search::Watched;
 use glob_lines::IgnoreLines;
@@ -66,7 +68,7 @@ pub fn run_words<R: Files + Env + Eprint + AllocGlobal + Clone + Drop, I: Read, 
     requires writable { has_failed output.old ≡ false }
 {
     let Some((options, command)) = asked_by(words) else {
-        return tell_usage(rt);
+        return tell_wrong_words(rt);
     };
     let answer = match command {
         Command::Help => write_text(output, USAGE),
@@ -81,7 +83,7 @@ pub fn run_words<R: Files + Env + Eprint + AllocGlobal + Clone + Drop, I: Read, 
     };
     match answer {
         Ok(status) => status,
-        Err(fault) => tell_fault(rt, fault),
+        Err(fault) => tell_fault(rt, alloc, fault),
     }
 }
 
@@ -91,24 +93,34 @@ pub(crate) fn without_words<R: Eprint>(rt: &R, refused: ErrorKind) -> u8
     ensures other { refused ≢ ErrorKind.OutOfMemory → result ≡ 129 }
 {
     match refused {
-        ErrorKind::OutOfMemory => tell_fault(rt, anyhow!("no memory")),
-        _ => tell_usage(rt),
+        ErrorKind::OutOfMemory => tell_want_of_memory(rt),
+        _ => tell_wrong_words(rt),
     }
 }
 
 /// Tells a fault.
-fn tell_fault<R: Eprint>(rt: &R, fault: anyhow::Error) -> u8
+fn tell_fault<R: Eprint>(rt: &R, alloc: Global, fault: anyhow::Error) -> u8
     ensures { result ≡ 128 }
 {
-    let _ = eprintln!(rt; "fatal: {fault:#}");
+    match tell_line(rt, alloc, format_args!("fatal: {fault:#}")) {
+        Ok(()) => FAULT,
+        Err(_refused) => tell_want_of_memory(rt),
+    }
+}
+
+/// Tells that memory was refused.
+fn tell_want_of_memory<R: Eprint>(rt: &R) -> u8
+    ensures { result ≡ 128 }
+{
+    tell_no_memory(rt);
     FAULT
 }
 
-/// Tells how the program is used.
-fn tell_usage<R: Eprint>(rt: &R) -> u8
+/// Tells that the words are wrong, and how the program is used.
+fn tell_wrong_words<R: Eprint>(rt: &R) -> u8
     ensures { result ≡ 129 }
 {
-    let _ = eprint!(rt; "error: wrong words\n{USAGE}");
+    tell_usage(rt, "wrong words", USAGE);
     WRONG_WORDS
 }
 
@@ -154,7 +166,12 @@ fn list_files<R: Files + Env + Eprint + AllocGlobal + Clone + Drop, O: Write>(
     folder: &str,
     output: &mut Watched<O>,
 ) -> Result<u8> {
-    let (standpoint, tree) = tree_of(rt, alloc, options)?;
+    let concerns = Concerns {
+        are_attributes: false,
+        is_nul: nul,
+        uses_index: true,
+    };
+    let (standpoint, tree) = tree_of(rt, alloc, options, concerns)?;
     let mut lister = Lister {
         rt,
         alloc,
@@ -181,7 +198,12 @@ fn asker_of<'a, R: Files + Env + Eprint + AllocGlobal>(
     options: Options<'_>,
     flags: Flags,
 ) -> Result<Asker<'a, R>> {
-    let (standpoint, tree) = tree_of(rt, alloc, options)?;
+    let concerns = Concerns {
+        are_attributes: false,
+        is_nul: flags.nul,
+        uses_index: !flags.no_index,
+    };
+    let (standpoint, tree) = tree_of(rt, alloc, options, concerns)?;
     let finder = Finder {
         rt,
         alloc,
@@ -203,12 +225,14 @@ fn tree_of<'a, R: Files + Env + Eprint + AllocGlobal>(
     rt: &'a R,
     alloc: Global,
     options: Options<'_>,
+    concerns: Concerns,
 ) -> Result<(Standpoint, Tree<IgnoreLines, FolderFiles<'a, R>>)> {
-    go_to_folder(rt, options.folder)?;
+    go_to_folders(rt, options.words)?;
     let mut fronts = Vec::new(alloc);
     push_excludes(rt, alloc, options.excludes, &mut fronts)?;
     let standpoint = go_to_top(rt, alloc, options.top)?;
-    push_info(rt, alloc, options.top.is_some(), &mut fronts)?;
+    tell_signs(rt, alloc, options, concerns)?;
+    push_info(rt, alloc, &mut fronts)?;
     let case = if options.ignore_case {
         Case::Fold
     } else {

@@ -1,12 +1,15 @@
 //! Files of patterns: that of each folder, and those outside all folders.
 
 use crate::fault::CheckFault;
+use crate::telling::tell_line;
 use gix_glob::search;
 use gix_glob::search::LoadFault;
 use gix_glob::search::pattern::List;
 use glob_lines::IgnoreLines;
 use glob_trees::{FolderLists, list_in_folder};
+use memchr::memrchr;
 use std::alloc::{AllocError, Global};
+use std::collections::HashSet;
 use std::fs::Metadata;
 use std::io::ErrorKind;
 use std::rt::Files;
@@ -21,6 +24,8 @@ pub(crate) struct FolderFiles<'a, R> {
     bytes: Vec<u8>,
     /// The folder that was looked for last and isn't there, with a slash behind it; no bytes where each was there.
     missing: Vec<u8>,
+    /// The folders that can't be looked at, which was told, and those below them that were asked for.
+    unseen: HashSet<Vec<u8>>,
 }
 
 impl<'a, R> FolderFiles<'a, R> {
@@ -31,6 +36,7 @@ impl<'a, R> FolderFiles<'a, R> {
             alloc,
             bytes: Vec::new(alloc),
             missing: Vec::new(alloc),
+            unseen: HashSet::new(alloc),
         }
     }
 
@@ -46,26 +52,61 @@ impl<'a, R> FolderFiles<'a, R> {
         self.missing.push(b'/')?;
         Ok(())
     }
+
+    /// Keeps that a folder can't be looked at.
+    fn leave_unseen(&mut self, folder: &[u8]) -> Result<(), AllocError> {
+        let name = Vec::from_slice(self.alloc, folder)?;
+        self.unseen.insert(name)?;
+        Ok(())
+    }
+
+    /// Whether a folder lies below one that can't be looked at. Then it can't, either.
+    fn is_below_unseen(&mut self, folder: &[u8]) -> Result<bool, AllocError> {
+        if self.unseen.is_empty() {
+            return Ok(false);
+        }
+        let Some(last) = memrchr(b'/', folder) else {
+            return Ok(false);
+        };
+        let is_below = self.unseen.contains(&folder[..last]);
+        if is_below {
+            self.leave_unseen(folder)?;
+        }
+        Ok(is_below)
+    }
 }
 
 impl<'a, R: Files + Eprint> FolderFiles<'a, R> {
     /// The list of a folder that isn't known to be missing, without its base.
     fn own_list(&mut self, folder: &[u8]) -> Result<List<IgnoreLines>, CheckFault> {
         let name = folder_text(self.alloc, folder)?;
-        match what_stands(self.rt, name.as_str()) {
-            Standing::Link => return Err(CheckFault::BeyondLink(name)),
+        match what_stands(self.rt, self.alloc, name.as_str())? {
+            Standing::Link => Err(CheckFault::BeyondLink(name)),
             Standing::Nothing => {
                 self.miss(folder)?;
-                return Ok(List::empty(self.alloc));
+                Ok(List::empty(self.alloc))
             }
-            Standing::Folder => {}
+            Standing::Unseen => {
+                self.leave_unseen(folder)?;
+                Ok(List::empty(self.alloc))
+            }
+            Standing::Folder => self.file_list(folder, name.as_str()),
         }
-        let file = file_in(self.alloc, name.as_str(), ".gitignore")?;
-        if own_file(self.rt, file.as_str()).is_none() {
-            return Ok(List::empty(self.alloc));
+    }
+
+    /// The list of the file of a folder that is there.
+    fn file_list(&mut self, folder: &[u8], name: &str) -> Result<List<IgnoreLines>, CheckFault> {
+        let file = file_in(self.alloc, name, ".gitignore")?;
+        match own_file(self.rt, self.alloc, file.as_str())? {
+            OwnFile::Found(_known) => {
+                file_list(self.rt, self.alloc, file, &mut self.bytes, IgnoreLines)
+            }
+            OwnFile::Nothing => Ok(List::empty(self.alloc)),
+            OwnFile::Shut => {
+                self.leave_unseen(folder)?;
+                Ok(List::empty(self.alloc))
+            }
         }
-        let list = file_list(self.rt, self.alloc, file, &mut self.bytes, IgnoreLines)?;
-        Ok(list)
     }
 }
 
@@ -77,7 +118,7 @@ impl<'a, R: Files + Eprint> FolderLists<IgnoreLines> for FolderFiles<'a, R> {
     ghost gave = { λ _ _. ⊥ };
 
     fn list_of(&mut self, folder: &[u8]) -> Result<List<IgnoreLines>, CheckFault> {
-        let list = if self.is_below_missing(folder) {
+        let list = if self.is_below_missing(folder) || self.is_below_unseen(folder)? {
             List::empty(self.alloc)
         } else {
             self.own_list(folder)?
@@ -89,25 +130,45 @@ impl<'a, R: Files + Eprint> FolderLists<IgnoreLines> for FolderFiles<'a, R> {
 /// What stands where a folder may be.
 #[derive(Drop)]
 pub(crate) enum Standing {
-    /// A folder, or what can't be looked at.
+    /// A folder.
     Folder,
+    /// What can't be looked at, so that nothing below it can.
+    Unseen,
     /// A link, wherever it leads.
     Link,
     /// Nothing in which a file could lie.
     Nothing,
 }
 
-/// What stands in the place of a folder, the top being named by an empty text.
-pub(crate) fn what_stands<R: Files>(rt: &R, name: &str) -> Standing {
+/// What is known of a folder's own file.
+#[derive(Drop)]
+pub(crate) enum OwnFile {
+    /// There is none, or none that is to be read.
+    Nothing,
+    /// The folder can't be looked into: neither the file nor anything below the folder can be seen.
+    Shut,
+    /// It is to be read.
+    Found(Metadata),
+}
+
+/// What stands in the place of a folder, the top being named by an empty text. Why it can't be looked at is told.
+pub(crate) fn what_stands<R: Files + Eprint>(
+    rt: &R,
+    alloc: Global,
+    name: &str,
+) -> Result<Standing, AllocError> {
     if name.is_empty() {
-        return Standing::Folder;
+        return Ok(Standing::Folder);
     }
     match fs::symlink_metadata(rt, name) {
-        Ok(found) if found.is_symlink() => Standing::Link,
-        Ok(found) if found.is_dir() => Standing::Folder,
-        Ok(_file) => Standing::Nothing,
-        Err(error) if is_fault(&error) => Standing::Folder,
-        Err(_missing) => Standing::Nothing,
+        Ok(found) if found.is_symlink() => Ok(Standing::Link),
+        Ok(found) if found.is_dir() => Ok(Standing::Folder),
+        Ok(_file) => Ok(Standing::Nothing),
+        Err(error) if is_fault(&error) => {
+            tell_unread(rt, alloc, name, error)?;
+            Ok(Standing::Unseen)
+        }
+        Err(_missing) => Ok(Standing::Nothing),
     }
 }
 
@@ -145,20 +206,28 @@ pub(crate) fn is_folder<R: Files>(rt: &R, name: &str) -> bool {
     }
 }
 
-/// What is known of a folder's own file, where it is to be read. A link isn't followed, which is told, as is why one can't be read.
-pub(crate) fn own_file<R: Files + Eprint>(rt: &R, file: &str) -> Option<Metadata> {
+/// What is known of a folder's own file. A link isn't followed, which is told, as is why one can't be read.
+pub(crate) fn own_file<R: Files + Eprint>(
+    rt: &R,
+    alloc: Global,
+    file: &str,
+) -> Result<OwnFile, AllocError> {
     match fs::symlink_metadata(rt, file) {
         Ok(found) if found.is_symlink() => {
-            tell_unread(rt, file, io::Error::from(ErrorKind::FilesystemLoop));
-            None
+            tell_unread(rt, alloc, file, io::Error::from(ErrorKind::FilesystemLoop))?;
+            Ok(OwnFile::Nothing)
         }
-        Ok(found) => Some(found),
-        Err(error) => {
-            if is_fault(&error) {
-                tell_unread(rt, file, error);
-            }
-            None
+        Ok(found) => Ok(OwnFile::Found(found)),
+        Err(error) if is_fault(&error) => {
+            let is_shut = error.kind() == ErrorKind::PermissionDenied;
+            tell_unread(rt, alloc, file, error)?;
+            Ok(if is_shut {
+                OwnFile::Shut
+            } else {
+                OwnFile::Nothing
+            })
         }
+        Err(_missing) => Ok(OwnFile::Nothing),
     }
 }
 
@@ -168,28 +237,43 @@ fn is_fault(error: &io::Error) -> bool {
 }
 
 /// The list of a file, whose bytes are put into `bytes`; no patterns and no bytes where there is none. One that can't be read is
-/// told, and passed over.
+/// told, and passed over; but not one that could be read the next time.
 pub(crate) fn file_list<T: search::Pattern, R: Files + Eprint>(
     rt: &R,
     alloc: Global,
     file: String,
     bytes: &mut Vec<u8>,
     parser: T,
-) -> Result<List<T>, AllocError> {
+) -> Result<List<T>, CheckFault> {
     let name = file.clone()?;
     match List::from_file(rt, alloc, file, None, bytes, parser) {
         Ok(Some(list)) => Ok(list),
         Ok(None) => Ok(List::empty(alloc)),
-        Err(LoadFault::Memory) => Err(AllocError),
+        Err(LoadFault::Memory) => Err(CheckFault::Memory),
+        Err(LoadFault::Read(error)) if is_passing(&error) => Err(CheckFault::Unready(name, error)),
         Err(LoadFault::Read(error)) => {
             bytes.clear();
-            tell_unread(rt, name.as_str(), error);
+            tell_unread(rt, alloc, name.as_str(), error)?;
             Ok(List::empty(alloc))
         }
     }
 }
 
+/// Whether an error says that the same may be done the next time.
+fn is_passing(error: &io::Error) -> bool {
+    matches!(error.kind(), ErrorKind::Interrupted | ErrorKind::WouldBlock)
+}
+
 /// Tells that a file couldn't be read.
-fn tell_unread<R: Eprint>(rt: &R, name: &str, error: io::Error) {
-    let _ = eprintln!(rt; "warning: unable to access '{name}': {error}");
+fn tell_unread<R: Eprint>(
+    rt: &R,
+    alloc: Global,
+    name: &str,
+    error: io::Error,
+) -> Result<(), AllocError> {
+    tell_line(
+        rt,
+        alloc,
+        format_args!("warning: unable to access '{name}': {error}"),
+    )
 }

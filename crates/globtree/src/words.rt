@@ -10,8 +10,8 @@ use std::alloc::{AllocError, Global};
 /// What is asked for before the command.
 #[derive(Clone, Copy, Drop)]
 pub(crate) struct Options<'a> {
-    /// `-C DIR`: the folder to go to first.
-    pub(crate) folder: Option<&'a str>,
+    /// The words before the command: each `-C DIR` among them is a folder to go to first.
+    pub(crate) words: &'a [String],
     /// `--top DIR`: the top of the work tree.
     pub(crate) top: Option<&'a str>,
     /// `--excludes FILE`: the file of excludes.
@@ -58,7 +58,7 @@ pub(crate) fn asked_by(words: &[String]) -> Option<(Options<'_>, Command<'_>)> {
 /// The options before the command, and the words behind them; `None` where a value is missing.
 fn options_of(words: &[String]) -> Option<(Options<'_>, &[String])> {
     let mut options = Options {
-        folder: None,
+        words: &[],
         top: None,
         excludes: None,
         ignore_case: false,
@@ -74,7 +74,10 @@ fn options_of(words: &[String]) -> Option<(Options<'_>, &[String])> {
             }
             None if word.as_str() == "--ignore-case" => options.ignore_case = true,
             None if takes_value(word.as_str()) => pending = Some(word.as_str()),
-            None => return Some((options, &words[place..])),
+            None => {
+                options.words = &words[..place];
+                return Some((options, &words[place..]));
+            }
         }
     }
     match pending {
@@ -84,7 +87,7 @@ fn options_of(words: &[String]) -> Option<(Options<'_>, &[String])> {
 }
 
 /// Whether a value follows an option.
-fn takes_value(option: &str) -> bool
+pub(crate) fn takes_value(option: &str) -> bool
     ensures { result ≡ takes_value option.now }
 {
     option == "-C"
@@ -98,7 +101,8 @@ fn takes_value(option: &str) -> bool
 fn with_value<'a>(options: Options<'a>, option: &str, value: &'a str) -> Options<'a> {
     let mut options = options;
     match option {
-        "-C" => options.folder = Some(value),
+        // the folders are gone to in turn, once all words are known to be right
+        "-C" => {}
         "--top" => options.top = Some(value),
         "--system" => options.system = Some(value),
         "--attributes" => options.attributes = Some(value),

@@ -10,7 +10,7 @@ use Rattle.glob_lines.proofs.lemmas.LinesLemmas.{HasNo-not_found, IsCutAt-found}
 use Rattle.std.proofs.lemmas.List.Splits.{length-slice_split}
 use Rattle.globtree.specs.Paths.{folder_of, is_slash, names_folder, parts_of}
 
-eqb_false : (b : ℕ) → b ≢ byte "/" → is_slash b ≡ false
+pub eqb_false : (b : ℕ) → b ≢ byte "/" → is_slash b ≡ false
 eqb_false b other = grind (arith, common_steps)
 
 -- what stands before a slash is the first part

@@ -1,10 +1,10 @@
 -- What an assignment puts in is left in place of it.
-use Rattle.std.proofs.Common.{◌≡◌, ◌∷◌, ◌++◌, [], List, false, length, map, replicate, reverse, ap, sym, subst, ◌∙◌, refl, arith}
+use Rattle.std.proofs.Common.{◌≡◌, ◌∷◌, [], false, length, map, replicate, reverse, ap, sym, subst, ◌∙◌, arith}
 use Rattle.std.specs.Vec.{vec_items}
 use Rattle.std.proofs.lemmas.List.{append-nil, map_push, reverse-append, with_items_is}
 use Rattle.glob_attributes.specs.Views.{assignment_with}
 use Rattle.glob_attributes.specs.Private.Filling.{AreMarked, seen_entry}
-use Rattle.glob_attributes.specs.States.{Assigned, IsFilledIn}
+use Rattle.glob_attributes.specs.States.{IsFilledIn}
 use Rattle.glob_attributes.proofs.lemmas.FillingLemmas.{empty_items, filled-more, marked-new, reverse_map_push}
 use Rattle.glob_attributes.proofs.filling.fill_in.Goals as goal
 

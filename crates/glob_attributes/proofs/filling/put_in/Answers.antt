@@ -1,12 +1,12 @@
 -- The mark of the macro tells whether an assignment before names it.
-use Rattle.std.proofs.Common.{◌≡◌, ◌<◌, ◌≤◌, length, map, reverse, true, false, List, None, Some, ap, sym, ◌∙◌, arith, rules}
+use Rattle.std.proofs.Common.{◌≡◌, ◌<◌, length, map, reverse, true, false, None, Some, ap, sym, ◌∙◌, arith}
 use Rattle.std.specs.Prelude.{slice_get}
 use Rattle.std.specs.Vec.{vec_items}
 use Rattle.std.proofs.lemmas.List.{length-map}
 use Rattle.std.proofs.lemmas.Option.{slice_get-get_or}
 use Rattle.glob_attributes.specs.Views.{assignment_with}
 use Rattle.glob_attributes.specs.Private.Filling.{assignments_at, last_place}
-use Rattle.glob_attributes.proofs.lemmas.FillingLemmas.{marked-more, marked-none, marked-same, place_within, put_in-marked, put_in-none, put_in-set, unmarked-less}
+use Rattle.glob_attributes.proofs.lemmas.FillingLemmas.{marked-more, marked-same, place_within, put_in-marked, put_in-none, put_in-set, unmarked-less}
 use Rattle.glob_attributes.proofs.filling.put_in.Goals as goal
 
 pub returns-in_default-clause-put_in : goal.returns-in_default-clause-put_in

@@ -1,5 +1,5 @@
 -- A macro of this name comes after those before it.
-use Rattle.std.proofs.Common.{◌≡◌, ◌<◌, Some, length, map, ap, sym, ◌∙◌, arith}
+use Rattle.std.proofs.Common.{◌<◌, Some, length, map, ap, sym, ◌∙◌, arith}
 use Rattle.std.proofs.lemmas.Grind.{common_steps}
 use Rattle.std.specs.Prelude.{if◌then◌else◌}
 use Rattle.std.specs.Str.{bytes_eq}

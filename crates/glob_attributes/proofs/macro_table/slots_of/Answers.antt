@@ -1,12 +1,11 @@
 -- The slot of a macro more is taken.
-use Rattle.std.proofs.Common.{◌≡◌, ◌<◌, ◌∙◌, ◌+◌, Bool, List, false, true, length, map, replicate, sym, subst, ap, take, arith}
+use Rattle.std.proofs.Common.{◌≡◌, ◌<◌, ◌∙◌, ◌+◌, Bool, false, true, length, map, replicate, sym, subst, ap, take, arith}
 use Rattle.std.proofs.lemmas.Grind.{common_steps}
 use Rattle.std.proofs.lemmas.List.{length-map, length-replicate, length-set, take_all}
 use Rattle.std.specs.Prelude.{slice_set}
 use Rattle.gix_glob.proofs.lemmas.Elements.{slice_get-map_at}
 use Rattle.glob_attributes.specs.declared.macro_table.TheConstants.{SLOTS}
 use Rattle.glob_attributes.specs.declared.macros.Macro.{Macro}
-use Rattle.glob_attributes.specs.Macros.{Definition}
 use Rattle.glob_attributes.specs.Views.{seen_macro}
 use Rattle.glob_attributes.specs.Private.Slots.{HasSlots, slot_of}
 use Rattle.glob_attributes.proofs.lemmas.SlotLemmas.{none_taken, slots-more}
