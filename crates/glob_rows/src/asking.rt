@@ -1,0 +1,96 @@
+//! Which call of the libraries answers the rows of a subject.
+
+use crate::answer::Answer;
+use crate::fault::RowFault;
+use crate::question::Question;
+use crate::{
+    attribute_files, attribute_states, bases, lines, lists, matching, patterns, streams, trees,
+};
+use std::alloc::Global;
+
+/// Asks what a row of a subject asks.
+pub(crate) fn ask(alloc: Global, subject: &str, question: &Question) -> Result<Answer, RowFault> {
+    let mut answer = Answer::new(alloc);
+    match subject {
+        "matching"
+        | "reading"
+        | "wildcards"
+        | "parts"
+        | "shown"
+        | "values"
+        | "basenames"
+        | "repository_paths" => ask_patterns(alloc, subject, question, &mut answer)?,
+        "file_parts" | "bases" | "stripping" | "folders" | "decided" | "listed" | "answered" => {
+            ask_lists(alloc, subject, question, &mut answer)?
+        }
+        "ignore_files" => lines::ignore_files(alloc, question, &mut answer)?,
+        "ignore_lines" => lines::ignore_lines(question, &mut answer)?,
+        "marks" => lines::marks(question, &mut answer)?,
+        "labels" => lines::labels(alloc, question, &mut answer)?,
+        "trees" => trees::trees(alloc, question, &mut answer)?,
+        "trees_asked" => trees::trees_asked(alloc, question, &mut answer)?,
+        "records" => streams::records(alloc, question, &mut answer)?,
+        _ => ask_attributes(alloc, subject, question, &mut answer)?,
+    }
+    Ok(answer)
+}
+
+/// The same of patterns.
+fn ask_patterns(
+    alloc: Global,
+    subject: &str,
+    question: &Question,
+    answer: &mut Answer,
+) -> Result<(), RowFault> {
+    match subject {
+        "matching" => matching::matching(alloc, question, answer),
+        "reading" => patterns::reading(alloc, question, answer),
+        "wildcards" => patterns::wildcards(alloc, question, answer),
+        "parts" => patterns::parts(alloc, question, answer),
+        "shown" => patterns::shown(alloc, question, answer),
+        "values" => patterns::values(alloc, question, answer),
+        "basenames" => patterns::basenames(alloc, question, answer),
+        _ => patterns::repository_paths(alloc, question, answer),
+    }
+}
+
+/// The same of lists and of what the engines of lines write.
+fn ask_lists(
+    alloc: Global,
+    subject: &str,
+    question: &Question,
+    answer: &mut Answer,
+) -> Result<(), RowFault> {
+    match subject {
+        "file_parts" => bases::file_parts(question, answer),
+        "bases" => bases::bases(alloc, question, answer),
+        "stripping" => bases::stripping(alloc, question, answer),
+        "folders" => lists::folders(alloc, question, answer),
+        "decided" => lists::decided(alloc, question, answer),
+        "listed" => lists::listed(alloc, question, answer),
+        _ => matching::answered(alloc, question, answer),
+    }
+}
+
+/// The same of attributes.
+fn ask_attributes(
+    alloc: Global,
+    subject: &str,
+    question: &Question,
+    answer: &mut Answer,
+) -> Result<(), RowFault> {
+    match subject {
+        "attribute_lines" => attribute_files::attribute_lines(alloc, question, answer),
+        "attribute_names" => attribute_files::attribute_names(question, answer),
+        "attribute_files" => attribute_files::attribute_files(alloc, question, answer),
+        "attribute_macros" => attribute_files::attribute_macros(alloc, question, answer),
+        "attribute_matches" => attribute_files::attribute_matches(alloc, question, answer),
+        "silent_lines" => attribute_files::silences(alloc, question, answer),
+        "names_read" => attribute_files::names_read(alloc, question, answer),
+        "attributes_kept" => attribute_states::attributes_kept(alloc, question, answer),
+        "attribute_states" => attribute_states::attribute_states(alloc, question, answer),
+        "all_states" => attribute_states::all_states(alloc, question, answer),
+        "attribute_streams" => streams::attribute_streams(alloc, question, answer),
+        _ => Err(RowFault::Subject),
+    }
+}

@@ -1,0 +1,188 @@
+//! Rows of attributes: which states they have for a path, by which files.
+
+use crate::answer::Answer;
+use crate::attribute_files::push_state;
+use crate::fault::RowFault;
+use crate::question::{Field, Question};
+use gix_glob::pattern::Case;
+use gix_glob::search::has_file_part;
+use gix_glob::search::pattern::List;
+use glob_attributes::{AttributeLines, AttributeNames, MacroTable, PathAttributes, keep_named};
+use glob_lists::{ListIndex, RepositoryPath, bases_are_folders};
+use glob_trees::list_in_folder;
+use std::alloc::{AllocError, Global};
+
+/// The rank of the strongest file. No row has a folder that is as deep.
+const STRONGEST: usize = 9;
+
+/// What files say, from the weakest to the strongest.
+#[derive(Drop)]
+pub(crate) struct Sources {
+    pub(crate) lists: Vec<List<AttributeLines>>,
+    pub(crate) macros: MacroTable,
+}
+
+impl Sources {
+    /// What the files of these fields say, two for each, a name and the bytes, each at the place of its kind.
+    pub(crate) fn new(alloc: Global, files: &[Field]) -> Result<Sources, RowFault> {
+        let mut sources = Sources {
+            lists: Vec::new(alloc),
+            macros: MacroTable::new(alloc)?,
+        };
+        for wanted in 0..=STRONGEST {
+            sources.add_files(alloc, files, wanted)?;
+        }
+        Ok(sources)
+    }
+
+    /// Adds the files of one rank.
+    fn add_files(&mut self, alloc: Global, files: &[Field], wanted: usize) -> Result<(), RowFault> {
+        for file in files.chunks_exact(2) {
+            if let [Some(name), Some(bytes)] = file
+                && rank(name) == wanted
+            {
+                self.add(alloc, name, bytes)?;
+            }
+        }
+        Ok(())
+    }
+
+    /// Adds a file after the weaker ones.
+    fn add(&mut self, alloc: Global, name: &[u8], bytes: &[u8]) -> Result<(), RowFault> {
+        let list = list_of(alloc, bytes)?;
+        match name.strip_suffix(b"/.gitattributes") {
+            Some(folder) => self.lists.push(list_in_folder(alloc, list, folder)?)?,
+            None => {
+                self.lists.push(list)?;
+                self.macros.add_file(alloc, bytes)?;
+            }
+        }
+        Ok(())
+    }
+
+    /// Takes from the lists what doesn't concern the attributes of these names.
+    fn keep(&mut self, names: &[&[u8]]) {
+        for list in &mut self.lists {
+            keep_named(list, names, &self.macros);
+        }
+    }
+
+    /// A word for the state of each attribute of these names, for a path.
+    fn states(&self, alloc: Global, path: &[u8], names: &[&[u8]]) -> Result<Vec<u8>, RowFault> {
+        let path = RepositoryPath::of_line(path).ok_or(RowFault::Field("a path"))?;
+        if !bases_are_folders(&self.lists) {
+            return Err(RowFault::Field("bases of folders"));
+        }
+        let attributes = PathAttributes::new(
+            alloc,
+            &self.lists,
+            &self.macros,
+            &path,
+            Case::Sensitive,
+        )?;
+        let mut text = Vec::new(alloc);
+        for name in names {
+            push_state(&mut text, name, &attributes.state_of(name))?;
+        }
+        Ok(text)
+    }
+}
+
+/// The names of a field, with a space between each two.
+fn names_in(alloc: Global, words: &[u8]) -> Result<Vec<&[u8]>, AllocError> {
+    let mut names = Vec::new(alloc);
+    for name in words.split(|byte| *byte == b' ') {
+        if !name.is_empty() {
+            names.push(name)?;
+        }
+    }
+    Ok(names)
+}
+
+/// The list of a file's bytes, without a base.
+fn list_of(alloc: Global, bytes: &[u8]) -> Result<List<AttributeLines>, RowFault> {
+    let source = String::from_str(alloc, "attributes")?;
+    if !has_file_part(source.as_str()) {
+        return Err(RowFault::Field("a source with a file part"));
+    }
+    Ok(List::from_bytes(alloc, bytes, source, None, AttributeLines)?)
+}
+
+/// The place of a file among all, by its kind: the system's, the user's, those of folders by their depth, and the strongest.
+fn rank(name: &[u8]) -> usize {
+    match name {
+        b"system" => 0,
+        b"user" => 1,
+        b"info" => STRONGEST,
+        _ => name
+            .iter()
+            .filter(|byte| **byte == b'/')
+            .count()
+            .saturating_add(2),
+    }
+}
+
+/// The states of attributes for a path: by all lines of the files, and by those alone that these attributes need.
+pub(crate) fn attribute_states(
+    alloc: Global,
+    question: &Question,
+    answer: &mut Answer,
+) -> Result<(), RowFault> {
+    let (path, names) = (question.bytes(0)?, names_in(alloc, question.bytes(1)?)?);
+    let mut sources = Sources::new(alloc, question.rest(2))?;
+    let states = sources.states(alloc, path, &names)?;
+    sources.keep(&names);
+    if sources.states(alloc, path, &names)?.as_slice() != states.as_slice() {
+        return Err(RowFault::Call("lines that were left out count"));
+    }
+    Ok(answer.push(&states)?)
+}
+
+/// The lines of a file that are left where only some attributes are asked for.
+pub(crate) fn attributes_kept(
+    alloc: Global,
+    question: &Question,
+    answer: &mut Answer,
+) -> Result<(), RowFault> {
+    let (file, names) = (question.bytes(0)?, names_in(alloc, question.bytes(1)?)?);
+    let mut macros = MacroTable::new(alloc)?;
+    macros.add_file(alloc, file)?;
+    let mut list = list_of(alloc, file)?;
+    keep_named(&mut list, &names, &macros);
+    let mut text = Vec::new(alloc);
+    for mapping in &list.patterns {
+        let number = mapping.sequence_number;
+        let separator = if text.is_empty() { "" } else { " " };
+        text.extend_from_slice(format!(in alloc; "{separator}{number}")?.as_bytes())?;
+    }
+    Ok(answer.push(&text)?)
+}
+
+/// A word for the state of each attribute of a path that isn't unspecified, by an index of a file and a stronger one.
+pub(crate) fn all_states(
+    alloc: Global,
+    question: &Question,
+    answer: &mut Answer,
+) -> Result<(), RowFault> {
+    let path = RepositoryPath::of_line(question.bytes(0)?).ok_or(RowFault::Field("a path"))?;
+    let mut macros = MacroTable::new(alloc)?;
+    let mut names = AttributeNames::new(alloc)?;
+    for bytes in [question.bytes(1)?, question.bytes(2)?] {
+        macros.add_file(alloc, bytes)?;
+        names.add_file(alloc, bytes, true)?;
+    }
+    let weaker = [list_of(alloc, question.bytes(1)?)?];
+    let stronger = [list_of(alloc, question.bytes(2)?)?];
+    if !bases_are_folders(&weaker) || !bases_are_folders(&stronger) {
+        return Err(RowFault::Field("bases of folders"));
+    }
+    let Ok(index) = ListIndex::new(alloc, &weaker, Case::Sensitive) else {
+        return Err(RowFault::Call("ListIndex::new"));
+    };
+    let attributes = PathAttributes::with_index(alloc, &index, &stronger, &macros, &path)?;
+    let mut text = Vec::new(alloc);
+    for told in &attributes.states_of(alloc, names.as_slice())? {
+        push_state(&mut text, told.name, &told.state)?;
+    }
+    Ok(answer.push(&text)?)
+}

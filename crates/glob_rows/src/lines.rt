@@ -1,0 +1,61 @@
+//! Rows of lines: what ignore files and files with labels say.
+
+use crate::answer::Answer;
+use crate::fault::RowFault;
+use crate::question::Question;
+use gix_glob::search::Pattern as _;
+use glob_lines::{IgnoreLines, LabelLines, next_ignore_line, without_byte_order_mark};
+use std::alloc::Global;
+
+/// The patterns of an ignore file, each as it is shown behind the number of its line.
+pub(crate) fn ignore_files(
+    alloc: Global,
+    question: &Question,
+    answer: &mut Answer,
+) -> Result<(), RowFault> {
+    let mappings = IgnoreLines.bytes_to_patterns(alloc, question.bytes(0)?, "")?;
+    let mut text = String::new(alloc);
+    for mapping in &mappings {
+        let number = mapping.sequence_number;
+        let pattern = &mapping.pattern;
+        let line = format!(in alloc; "{number}:{pattern}\n")?;
+        text.push_str(&line)?;
+    }
+    Ok(answer.push(text.as_bytes())?)
+}
+
+/// What the first line of an ignore file gives, and what follows it.
+pub(crate) fn ignore_lines(question: &Question, answer: &mut Answer) -> Result<(), RowFault> {
+    let line = next_ignore_line(question.bytes(0)?).ok_or(RowFault::Field("a line"))?;
+    answer.push_option(line.text)?;
+    Ok(answer.push(line.rest)?)
+}
+
+/// What follows a byte order mark.
+pub(crate) fn marks(question: &Question, answer: &mut Answer) -> Result<(), RowFault> {
+    let rest = without_byte_order_mark(question.bytes(0)?);
+    Ok(answer.push(rest)?)
+}
+
+/// The pattern and the label of a line.
+pub(crate) fn labels(
+    alloc: Global,
+    question: &Question,
+    answer: &mut Answer,
+) -> Result<(), RowFault> {
+    let mappings = LabelLines.bytes_to_patterns(alloc, question.bytes(0)?, "")?;
+    match mappings.as_slice() {
+        [] => {
+            answer.push_option(None)?;
+            answer.push_option(None)?;
+        }
+        [mapping] => {
+            let pattern = &mapping.pattern;
+            let shown = format!(in alloc; "{pattern}")?;
+            answer.push(shown.as_bytes())?;
+            answer.push(&mapping.value)?;
+        }
+        _ => return Err(RowFault::Field("one line")),
+    }
+    Ok(())
+}

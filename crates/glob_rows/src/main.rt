@@ -1,0 +1,124 @@
+//! Asks the libraries what rows of data ask, and tells each row whose answer is another one.
+#![tactic(auto)]
+
+mod answer;
+mod asking;
+mod attribute_files;
+mod attribute_states;
+mod bases;
+mod fault;
+mod lines;
+mod lists;
+mod matching;
+mod patterns;
+mod question;
+mod row;
+mod streams;
+mod trees;
+
+use crate::asking::ask;
+use crate::fault::RowFault;
+use crate::row::{Row, row_of};
+use anyhow::{Context, Result};
+use std::fs;
+use std::process::ExitCode;
+use std::rt::Files;
+
+/// The subjects of the rows. Each has a file of its name.
+const SUBJECTS: [&str; 33] = [
+    "matching",
+    "reading",
+    "wildcards",
+    "parts",
+    "shown",
+    "values",
+    "basenames",
+    "repository_paths",
+    "file_parts",
+    "bases",
+    "stripping",
+    "ignore_files",
+    "ignore_lines",
+    "marks",
+    "labels",
+    "answered",
+    "listed",
+    "decided",
+    "folders",
+    "trees",
+    "trees_asked",
+    "attribute_lines",
+    "attribute_names",
+    "attribute_files",
+    "attribute_macros",
+    "attribute_matches",
+    "attributes_kept",
+    "attribute_states",
+    "attribute_streams",
+    "silent_lines",
+    "names_read",
+    "all_states",
+    "records",
+];
+
+/// Asks all rows. The status is 1 where an answer is another one, or a row can't be read.
+fn main(rt: HostRuntime) -> Result<ExitCode> {
+    let mut wrong = 0usize;
+    for subject in SUBJECTS {
+        let name = format!(in rt.alloc(); "{subject}.tsv")?;
+        let bytes = fs::read(&rt, name.as_str()).context(subject)?;
+        let tally = ask_rows(&rt, subject, &bytes)?;
+        wrong = wrong.saturating_add(tally.wrong);
+        println!(rt;
+            "{subject}: {rows} rows, {wrong} wrong",
+            rows = tally.rows,
+            wrong = tally.wrong
+        )?;
+    }
+    Ok(if wrong == 0 {
+        ExitCode::SUCCESS
+    } else {
+        ExitCode::FAILURE
+    })
+}
+
+/// How many rows a file has, and how many of them have another answer.
+#[derive(Clone, Copy)]
+struct Tally {
+    rows: usize,
+    wrong: usize,
+}
+
+/// Asks each row of a file, and tells those that are wrong, each by its line, from 1.
+fn ask_rows<R: Print + AllocGlobal>(rt: &R, subject: &str, bytes: &[u8]) -> Result<Tally> {
+    let mut tally = Tally { rows: 0, wrong: 0 };
+    for (place, line) in bytes.split(|byte| *byte == b'\n').enumerate() {
+        if line.is_empty() || line.starts_with(b"#") {
+            continue;
+        }
+        tally.rows = tally.rows.saturating_add(1);
+        if let Some(told) = difference(rt, subject, line)? {
+            tally.wrong = tally.wrong.saturating_add(1);
+            println!(rt;
+                "{subject}.tsv:{line}: {told}",
+                line = place.saturating_add(1)
+            )?;
+        }
+    }
+    Ok(tally)
+}
+
+/// What is wrong with a row; `None` where its answer is the one that the library gives.
+fn difference<R: AllocGlobal>(rt: &R, subject: &str, line: &[u8]) -> Result<Option<String>> {
+    let row = row_of(rt.alloc(), subject, line)?;
+    match ask(rt.alloc(), subject, &row.question) {
+        Ok(answer) if answer.text() == row.wanted => Ok(None),
+        Ok(answer) => {
+            let wanted = String::from_utf8_lossy(rt.alloc(), row.wanted)?;
+            let text = String::from_utf8_lossy(rt.alloc(), answer.text())?;
+            Ok(Some(format!(in rt.alloc(); "wanted {wanted}, answered {text}")?))
+        }
+        Err(RowFault::Memory) => Err(RowFault::Memory.into()),
+        Err(fault) => Ok(Some(format!(in rt.alloc(); "{fault}")?)),
+    }
+}

@@ -1,0 +1,153 @@
+//! Rows of patterns: what is read of lines, how it is shown, and what it matches.
+ghost use Rattle.std.specs.Prelude.{◌↔◌, IsTrue};
+ghost use Rattle.gix_glob.specs.Bytes.{HasByte, slash};
+
+use crate::answer::Answer;
+use crate::fault::RowFault;
+use crate::question::Question;
+use bitflags::Flags;
+use gix_glob::parse;
+use gix_glob::pattern::{Mode, Pattern, PatternView, basename_start};
+use std::alloc::Global;
+
+/// What is read of a line, or of a text in which a sign at the front has no meaning.
+pub(crate) fn reading(
+    alloc: Global,
+    question: &Question,
+    answer: &mut Answer,
+) -> Result<(), RowFault> {
+    let line = question.bytes(1)?;
+    let (is_line, pattern) = match question.bytes(0)? {
+        b"line" => (true, parse::parse(alloc, line)?),
+        b"text" => (false, Pattern::from_bytes_without_negation(alloc, line)?),
+        _ => return Err(RowFault::Field("a way to read")),
+    };
+    let read = parse::pattern(line, is_line);
+    let view = pattern.as_ref().map(|pattern| pattern.view());
+    if view.map(|view| (view.text, view.mode, view.first_wildcard_pos)) != read {
+        return Err(RowFault::Call("both readings differ"));
+    }
+    match read {
+        None => {
+            answer.push_option(None)?;
+            answer.push_option(None)?;
+            answer.push_option(None)?;
+        }
+        Some((text, mode, wildcard)) => {
+            answer.push(text)?;
+            answer.push(format!(in alloc; "{bits}", bits = mode.bits())?.as_bytes())?;
+            answer.push_number(alloc, wildcard)?;
+        }
+    }
+    Ok(())
+}
+
+/// The pattern of a line.
+fn pattern_of(alloc: Global, line: &[u8]) -> Result<Pattern, RowFault> {
+    Pattern::from_bytes(alloc, line)?.ok_or(RowFault::Field("a line with a pattern"))
+}
+
+/// Whether the pattern of a line has a wildcard, and where its first special byte stands.
+pub(crate) fn wildcards(
+    alloc: Global,
+    question: &Question,
+    answer: &mut Answer,
+) -> Result<(), RowFault> {
+    let pattern = pattern_of(alloc, question.bytes(0)?)?;
+    answer.push_bool(pattern.has_wildcard())?;
+    Ok(answer.push_number(alloc, pattern.first_wildcard_pos())?)
+}
+
+/// Whether parts make a pattern.
+pub(crate) fn parts(
+    alloc: Global,
+    question: &Question,
+    answer: &mut Answer,
+) -> Result<(), RowFault> {
+    let text = Vec::from_slice(alloc, question.bytes(0)?)?;
+    let Ok(bits) = question.text(1)?.parse::<u32>() else {
+        return Err(RowFault::Field("bits"));
+    };
+    let made = Pattern::from_parts(text, Mode::from_bits_retain(bits), question.number(2)?);
+    Ok(answer.push_bool(made.is_ok())?)
+}
+
+/// How the pattern of a line is shown.
+pub(crate) fn shown(
+    alloc: Global,
+    question: &Question,
+    answer: &mut Answer,
+) -> Result<(), RowFault> {
+    let pattern = pattern_of(alloc, question.bytes(0)?)?;
+    let text = format!(in alloc; "{pattern}")?;
+    Ok(answer.push(text.as_bytes())?)
+}
+
+/// Whether the pattern of a line matches a value.
+pub(crate) fn values(
+    alloc: Global,
+    question: &Question,
+    answer: &mut Answer,
+) -> Result<(), RowFault> {
+    let (mode, line, value) = (question.mode(0)?, question.bytes(1)?, question.bytes(2)?);
+    let pattern = pattern_of(alloc, line)?;
+    let is_matched = pattern.matches(value, mode);
+    let view = PatternView::from_bytes(line).ok_or(RowFault::Field("a line with a pattern"))?;
+    if view.matches(value, mode) != is_matched {
+        return Err(RowFault::Call("the pattern and its view differ"));
+    }
+    Ok(answer.push_bool(is_matched)?)
+}
+
+/// Where the last part of a path begins.
+pub(crate) fn basenames(
+    alloc: Global,
+    question: &Question,
+    answer: &mut Answer,
+) -> Result<(), RowFault> {
+    let start = basename_start(question.bytes(0)?);
+    Ok(answer.push_number(alloc, start)?)
+}
+
+/// Whether a path has no leading slash.
+fn is_relative(path: &[u8]) -> bool
+    ensures { IsTrue result ↔ ¬ HasByte path.now 0 slash }
+{
+    !path.starts_with(b"/")
+}
+
+/// Whether a path is a directory's, where that is known.
+fn kind_of(question: &Question, place: usize) -> Result<Option<bool>, RowFault> {
+    match question.bytes(place)? {
+        b"unknown" => Ok(None),
+        b"file" => Ok(Some(false)),
+        b"folder" => Ok(Some(true)),
+        _ => Err(RowFault::Field("a kind")),
+    }
+}
+
+/// Whether the pattern of a line matches the path of a repository.
+pub(crate) fn repository_paths(
+    alloc: Global,
+    question: &Question,
+    answer: &mut Answer,
+) -> Result<(), RowFault> {
+    let (case, mode) = (question.case(0)?, question.mode(1)?);
+    let (line, path) = (question.bytes(2)?, question.bytes(3)?);
+    let kind = kind_of(question, 5)?;
+    let pattern = pattern_of(alloc, line)?;
+    if !is_relative(path) {
+        return Err(RowFault::Field("a relative path"));
+    }
+    let start = question.number(4)?;
+    let is_matched = if start.is_none() {
+        pattern.matches_repo_relative_path(path, None, kind, case, mode)
+    } else {
+        let found = basename_start(path);
+        if found != start {
+            return Err(RowFault::Field("where the last part begins"));
+        }
+        pattern.matches_repo_relative_path(path, found, kind, case, mode)
+    };
+    Ok(answer.push_bool(is_matched)?)
+}

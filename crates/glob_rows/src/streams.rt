@@ -1,0 +1,83 @@
+//! Rows of streams: records of bytes, and the states of attributes for the paths of a stream.
+
+use crate::answer::Answer;
+use crate::attribute_states::Sources;
+use crate::fault::RowFault;
+use crate::question::Question;
+use gix_glob::search::Watched;
+use glob_attributes::{AttributeQuery, run_attributes};
+use glob_lists::{ListIndex, bases_are_folders};
+use glob_trees::{Answerer, RecordStream};
+use std::alloc::{AllocError, Global};
+
+/// Answers a record by the record in brackets.
+#[derive(Drop)]
+struct Brackets;
+
+impl Answerer for Brackets {
+    ghost use Rattle.std.specs.Prelude.{◌≡◌, ◌++◌, ◌∷◌, []};
+
+    type Fault = AllocError;
+
+    ghost answers = { λ _ bytes text. text ≡ 60 ∷ bytes ++ 62 ∷ [] };
+
+    ghost answered = { λ _ _. ⊥ };
+
+    ghost refused = { λ _ _. ⊥ };
+
+    fn answer(&mut self, text: &mut Vec<u8>, bytes: &[u8]) -> Result<(), AllocError> {
+        text.push(b'<')?;
+        text.extend_from_slice(bytes)?;
+        text.push(b'>')?;
+        Ok(())
+    }
+}
+
+/// Which records bytes are, each in brackets.
+pub(crate) fn records(
+    alloc: Global,
+    question: &Question,
+    answer: &mut Answer,
+) -> Result<(), RowFault> {
+    let end = match question.bytes(0)? {
+        b"feed" => b'\n',
+        b"nul" => 0,
+        _ => return Err(RowFault::Field("an end")),
+    };
+    let mut reader = Watched::new(question.bytes(1)?);
+    let mut writer = Watched::new(Vec::new(alloc));
+    match (RecordStream { alloc, end }).run(&mut reader, &mut writer, &mut Brackets) {
+        Ok(()) => Ok(answer.push(&writer.into_inner())?),
+        Err(_fault) => Err(RowFault::Call("RecordStream::run")),
+    }
+}
+
+/// The states of attributes for the paths of a stream.
+pub(crate) fn attribute_streams(
+    alloc: Global,
+    question: &Question,
+    answer: &mut Answer,
+) -> Result<(), RowFault> {
+    let (case, paths) = (question.case(0)?, question.bytes(2)?);
+    let mut names = Vec::new(alloc);
+    if let Some(words) = question.option(1)? {
+        for name in words.split(|byte| *byte == 0) {
+            names.push(name)?;
+        }
+    }
+    let sources = Sources::new(alloc, question.rest(3))?;
+    let lists = sources.lists.as_slice();
+    if !bases_are_folders(lists) {
+        return Err(RowFault::Field("bases of folders"));
+    }
+    let Ok(index) = ListIndex::new(alloc, lists, case) else {
+        return Err(RowFault::Call("ListIndex::new"));
+    };
+    let query = AttributeQuery::new(&index, &sources.macros, &names);
+    let mut reader = Watched::new(paths);
+    let mut writer = Watched::new(Vec::new(alloc));
+    match run_attributes(alloc, &query, &mut reader, &mut writer) {
+        Ok(()) => Ok(answer.push(&writer.into_inner())?),
+        Err(_fault) => Err(RowFault::Call("run_attributes")),
+    }
+}

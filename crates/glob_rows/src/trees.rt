@@ -1,0 +1,121 @@
+//! Rows of work trees: which line of which ignore file decides, or decides about a folder above.
+
+use crate::answer::Answer;
+use crate::fault::RowFault;
+use crate::lists::lists_of;
+use crate::question::{Field, Question};
+use gix_glob::pattern::Case;
+use gix_glob::search::Pattern as _;
+use gix_glob::search::pattern::List;
+use glob_lines::{IgnoreLines, bases_are_folders};
+use glob_lists::RepositoryPath;
+use glob_trees::{FolderLists, Tree, decide_in_tree, list_in_folder};
+use std::alloc::{AllocError, Global};
+
+/// Which line of which file decides about a path: both numbers count from 1.
+pub(crate) fn trees(
+    alloc: Global,
+    question: &Question,
+    answer: &mut Answer,
+) -> Result<(), RowFault> {
+    let case = question.case(0)?;
+    let path = RepositoryPath::of_line(question.bytes(1)?).ok_or(RowFault::Field("a path"))?;
+    let lists = lists_of(alloc, question, 2)?;
+    if !bases_are_folders(&lists) {
+        return Err(RowFault::Field("bases of folders"));
+    }
+    let Some((list, place)) = decide_in_tree(&lists, &path, case) else {
+        return Ok(answer.push_option(None)?);
+    };
+    let list = list.saturating_add(1);
+    let line = place.saturating_add(1);
+    Ok(answer.push(format!(in alloc; "{list}:{line}")?.as_bytes())?)
+}
+
+/// A source that has the ignore files of its folders in fields, and notes each folder that it is asked for.
+#[derive(Drop)]
+struct Table<'a> {
+    alloc: Global,
+    folders: &'a [Field],
+    asked: Vec<u8>,
+}
+
+impl<'a> Table<'a> {
+    /// The bytes of a folder's ignore file.
+    fn bytes_of(&self, folder: &[u8]) -> &'a [u8] {
+        for file in self.folders.chunks_exact(2) {
+            if let [Some(name), Some(bytes)] = file
+                && name.as_slice() == folder
+            {
+                return bytes.as_slice();
+            }
+        }
+        b""
+    }
+}
+
+impl<'a> FolderLists<IgnoreLines> for Table<'a> {
+    type Fault = AllocError;
+
+    ghost shows = { λ _ _ _ _. Unit {0} };
+
+    ghost gave = { λ _ _. ⊥ };
+
+    fn list_of(&mut self, folder: &[u8]) -> Result<List<IgnoreLines>, AllocError> {
+        self.asked.push(b'<')?;
+        self.asked.extend_from_slice(folder)?;
+        self.asked.push(b'>')?;
+        let mut list = List::empty(self.alloc);
+        list.patterns = IgnoreLines.bytes_to_patterns(self.alloc, self.bytes_of(folder), "")?;
+        list_in_folder(self.alloc, list, folder)
+    }
+}
+
+/// Which line decides about each path, one after the other, and for which folders the source was asked.
+pub(crate) fn trees_asked(
+    alloc: Global,
+    question: &Question,
+    answer: &mut Answer,
+) -> Result<(), RowFault> {
+    let source = Table {
+        alloc,
+        folders: question.rest(1),
+        asked: Vec::new(alloc),
+    };
+    let fronts = Vec::new(alloc);
+    let mut tree = Tree::new(alloc, source, fronts, Case::Sensitive).ok_or(RowFault::Call(
+        "Tree::new",
+    ))?;
+    let mut text = Vec::new(alloc);
+    for line in question.bytes(0)?.split(|byte| *byte == b'\n') {
+        if !text.is_empty() {
+            text.push(b' ')?;
+        }
+        push_decision(alloc, &mut tree, line, &mut text)?;
+    }
+    answer.push(&text)?;
+    Ok(answer.push(&tree.source().asked)?)
+}
+
+/// Adds what decides about a path: the base of the list and the number of the line, or a dash.
+fn push_decision(
+    alloc: Global,
+    tree: &mut Tree<IgnoreLines, Table<'_>>,
+    line: &[u8],
+    text: &mut Vec<u8>,
+) -> Result<(), RowFault> {
+    let path = RepositoryPath::of_line(line).ok_or(RowFault::Field("a path"))?;
+    let Ok(pair) = tree.find(&path) else {
+        return Err(RowFault::Memory);
+    };
+    let Some(pair) = pair else {
+        text.push(b'-')?;
+        return Ok(());
+    };
+    let decision = tree.decision(pair).ok_or(RowFault::Call("Tree::decision"))?;
+    if let Some(base) = &decision.list.base {
+        text.extend_from_slice(base)?;
+    }
+    let number = decision.mapping.sequence_number;
+    Ok(text.extend_from_slice(format!(in alloc; ":{number}")?.as_bytes())?)
+}
