@@ -28,6 +28,7 @@ pub(crate) fn ask(alloc: Global, subject: &str, question: &Question) -> Result<A
         "marks" => lines::marks(question, &mut answer)?,
         "labels" => lines::labels(alloc, question, &mut answer)?,
         "trees" => trees::trees(alloc, question, &mut answer)?,
+        "trees_told" => trees::trees_told(alloc, question, &mut answer)?,
         "trees_asked" => trees::trees_asked(alloc, question, &mut answer)?,
         "records" => streams::records(alloc, question, &mut answer)?,
         _ => ask_attributes(alloc, subject, question, &mut answer)?,

@@ -68,18 +68,18 @@ impl Sources {
     }
 
     /// A word for the state of each attribute of these names, for a path.
-    fn states(&self, alloc: Global, path: &[u8], names: &[&[u8]]) -> Result<Vec<u8>, RowFault> {
+    fn states(
+        &self,
+        alloc: Global,
+        path: &[u8],
+        names: &[&[u8]],
+        case: Case,
+    ) -> Result<Vec<u8>, RowFault> {
         let path = RepositoryPath::of_line(path).ok_or(RowFault::Field("a path"))?;
         if !bases_are_folders(&self.lists) {
             return Err(RowFault::Field("bases of folders"));
         }
-        let attributes = PathAttributes::new(
-            alloc,
-            &self.lists,
-            &self.macros,
-            &path,
-            Case::Sensitive,
-        )?;
+        let attributes = PathAttributes::new(alloc, &self.lists, &self.macros, &path, case)?;
         let mut text = Vec::new(alloc);
         for name in names {
             push_state(&mut text, name, &attributes.state_of(name))?;
@@ -128,11 +128,12 @@ pub(crate) fn attribute_states(
     question: &Question,
     answer: &mut Answer,
 ) -> Result<(), RowFault> {
-    let (path, names) = (question.bytes(0)?, names_in(alloc, question.bytes(1)?)?);
-    let mut sources = Sources::new(alloc, question.rest(2))?;
-    let states = sources.states(alloc, path, &names)?;
+    let (case, path) = (question.case(0)?, question.bytes(1)?);
+    let names = names_in(alloc, question.bytes(2)?)?;
+    let mut sources = Sources::new(alloc, question.rest(3))?;
+    let states = sources.states(alloc, path, &names, case)?;
     sources.keep(&names);
-    if sources.states(alloc, path, &names)?.as_slice() != states.as_slice() {
+    if sources.states(alloc, path, &names, case)?.as_slice() != states.as_slice() {
         return Err(RowFault::Call("lines that were left out count"));
     }
     Ok(answer.push(&states)?)

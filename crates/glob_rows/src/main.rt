@@ -25,7 +25,7 @@ use std::process::ExitCode;
 use std::rt::Files;
 
 /// The subjects of the rows. Each has a file of its name.
-const SUBJECTS: [&str; 33] = [
+const SUBJECTS: [&str; 34] = [
     "matching",
     "reading",
     "wildcards",
@@ -46,6 +46,7 @@ const SUBJECTS: [&str; 33] = [
     "decided",
     "folders",
     "trees",
+    "trees_told",
     "trees_asked",
     "attribute_lines",
     "attribute_names",

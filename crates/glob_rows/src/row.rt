@@ -1,4 +1,4 @@
-//! A row of data: fields with a tab between each two, of which the last are the answer.
+//! A row of data: fields with a tab between each two, of which the last are the answer. One more may tell what Git answers otherwise.
 
 use crate::question::{Field, Question, field_of};
 use std::alloc::{AllocError, Global};
@@ -16,7 +16,7 @@ pub(crate) fn row_of<'a>(
     subject: &str,
     line: &'a [u8],
 ) -> Result<Row<'a>, AllocError> {
-    let (asked, wanted) = split_answer(line, answer_count(subject));
+    let (asked, wanted) = split_answer(without_git(line), answer_count(subject));
     let mut fields: Vec<Field> = Vec::new(alloc);
     for text in asked.split(|byte| *byte == b'\t') {
         fields.push(field_of(alloc, text)?)?;
@@ -25,6 +25,16 @@ pub(crate) fn row_of<'a>(
         question: Question { fields },
         wanted,
     })
+}
+
+/// A line without the last field where that has an answer of Git: only the project's answers are asked here.
+fn without_git(line: &[u8]) -> &[u8] {
+    let (front, last) = split_answer(line, 1);
+    if last.starts_with(b"\\G") {
+        front
+    } else {
+        line
+    }
 }
 
 /// How many fields of a row are the answer.

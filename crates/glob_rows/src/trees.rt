@@ -18,17 +18,40 @@ pub(crate) fn trees(
     question: &Question,
     answer: &mut Answer,
 ) -> Result<(), RowFault> {
+    decision(alloc, question, 1, answer)
+}
+
+/// The same of a path that is told with a slash at its end. It is a folder's, whatever is there.
+pub(crate) fn trees_told(
+    alloc: Global,
+    question: &Question,
+    answer: &mut Answer,
+) -> Result<(), RowFault> {
+    decision(alloc, question, 2, answer)
+}
+
+/// Which line of which file decides about the path of a field, behind which the files stand.
+fn decision(
+    alloc: Global,
+    question: &Question,
+    place: usize,
+    answer: &mut Answer,
+) -> Result<(), RowFault> {
     let case = question.case(0)?;
-    let path = RepositoryPath::of_line(question.bytes(1)?).ok_or(RowFault::Field("a path"))?;
-    let lists = lists_of(alloc, question, 2)?;
+    let path = RepositoryPath::of_line(question.bytes(place)?).ok_or(RowFault::Field("a path"))?;
+    let lists = lists_of(alloc, question, place.saturating_add(1))?;
     if !bases_are_folders(&lists) {
         return Err(RowFault::Field("bases of folders"));
     }
-    let Some((list, place)) = decide_in_tree(&lists, &path, case) else {
+    let Some((list, pattern)) = decide_in_tree(&lists, &path, case) else {
         return Ok(answer.push_option(None)?);
     };
-    let list = list.saturating_add(1);
-    let line = place.saturating_add(1);
+    let file = lists.get(list).ok_or(RowFault::Call("decide_in_tree"))?;
+    let mapping = file
+        .patterns
+        .get(pattern)
+        .ok_or(RowFault::Call("decide_in_tree"))?;
+    let (list, line) = (list.saturating_add(1), mapping.sequence_number);
     Ok(answer.push(format!(in alloc; "{list}:{line}")?.as_bytes())?)
 }
 
