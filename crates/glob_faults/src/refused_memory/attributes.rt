@@ -44,17 +44,9 @@ fn check_states(
 }
 
 #[test]
-fn attributes_of_a_path(rt: HostRuntime) -> Result<(), Fail> {
-    check_states(&rt, FILE, b"x y", b"a", State::Value(b"1"), 4)
-}
-
-#[test]
-fn many_attributes_of_a_path(rt: HostRuntime) -> Result<(), Fail> {
-    check_states(&rt, MANY, b"x", b"q", State::Set, 17)
-}
-
-#[test]
-fn lines_that_say_nothing(rt: HostRuntime) -> Result<(), Fail> {
+fn attributes_of_paths_and_silent_lines(rt: HostRuntime) -> Result<(), Fail> {
+    check_states(&rt, FILE, b"x y", b"a", State::Value(b"1"), 4)?;
+    check_states(&rt, MANY, b"x", b"q", State::Set, 17)?;
     let lines = silent_lines(rt.alloc(), FILE, true)?;
     let first = lines.first().ok_or("a line")?;
     assert!(rt; first.number == 3 && first.silence == Silence::Negative);
@@ -79,19 +71,10 @@ fn names_stay_where_one_is_refused(rt: HostRuntime) -> Result<(), Fail> {
     let first = names.add_name(rt.alloc(), b"a");
     // a name that was refused is added anew
     let count = if first.is_ok() { 5 } else { 4 };
-    check_names(
-        &rt,
-        &names,
-        &[b"binary", b"diff", b"merge", b"text", b"a"],
-        count,
-    )?;
+    let all: [&[u8]; 5] = [b"binary", b"diff", b"merge", b"text", b"a"];
+    check_names(&rt, &names, &all, count)?;
     names.add_name(rt.alloc(), b"a")?;
-    check_names(
-        &rt,
-        &names,
-        &[b"binary", b"diff", b"merge", b"text", b"a"],
-        5,
-    )?;
+    check_names(&rt, &names, &all, 5)?;
     Ok(first?)
 }
 
