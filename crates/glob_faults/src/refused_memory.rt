@@ -71,14 +71,9 @@ fn is_loaded(list: &List<PlainLines>) -> bool {
 }
 
 #[test]
-fn a_list_is_made_of_bytes_and_copied(rt: HostRuntime) -> Result<(), Fail> {
+fn a_list_is_made_copied_and_read(rt: HostRuntime) -> Result<(), Fail> {
     let list = list_of(rt.alloc())?;
     assert!(rt; is_loaded(&list) && list.clone()? == list);
-    Ok(())
-}
-
-#[test]
-fn a_list_is_read_from_a_reader(rt: HostRuntime) -> Result<(), Fail> {
     let source = String::from_str(rt.alloc(), "d/ig")?;
     let mut reader = Watched::new(LINES);
     let mut buf = Vec::new(rt.alloc());
@@ -143,7 +138,7 @@ fn a_refusal_leaves_two_lists(rt: HostRuntime) -> Result<(), Fail> {
     });
     fs::remove_file(&rt, path.as_str())?;
     let count = if matches!(added, Ok(Ok(true))) { 3 } else { 2 };
-    assert_eq!(rt; lists.len(), count);
+    assert!(rt; lists.len() == count);
     let [first, second, ..] = lists.as_slice() else {
         return Err(Fail::new("a list is lost"));
     };
