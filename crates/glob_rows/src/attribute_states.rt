@@ -172,15 +172,19 @@ pub(crate) fn all_states(
         macros.add_file(alloc, bytes)?;
         names.add_file(alloc, bytes, true)?;
     }
-    let weaker = [list_of(alloc, question.bytes(1)?)?];
-    let stronger = [list_of(alloc, question.bytes(2)?)?];
-    if !bases_are_folders(&weaker) || !bases_are_folders(&stronger) {
+    let weaker = vec![in alloc; list_of(alloc, question.bytes(1)?)?]?;
+    let stronger = vec![in alloc; list_of(alloc, question.bytes(2)?)?]?;
+    let (weaker, stronger) = (weaker.as_slice(), stronger.as_slice());
+    if !bases_are_folders(weaker) {
         return Err(RowFault::Field("bases of folders"));
     }
-    let Ok(index) = ListIndex::new(alloc, &weaker, Case::Sensitive) else {
+    let Ok(index) = ListIndex::new(alloc, weaker, Case::Sensitive) else {
         return Err(RowFault::Call("ListIndex::new"));
     };
-    let attributes = PathAttributes::with_index(alloc, &index, &stronger, &macros, &path)?;
+    if !bases_are_folders(stronger) {
+        return Err(RowFault::Field("bases of folders"));
+    }
+    let attributes = PathAttributes::with_index(alloc, &index, stronger, &macros, &path)?;
     let mut text = Vec::new(alloc);
     for told in &attributes.states_of(alloc, names.as_slice())? {
         push_state(&mut text, told.name, &told.state)?;
