@@ -4,7 +4,8 @@ use crate::answer::Answer;
 use crate::fault::RowFault;
 use crate::question::Question;
 use crate::{
-    attribute_files, attribute_states, bases, lines, lists, matching, patterns, streams, trees,
+    attempts, attribute_files, attribute_states, bases, lines, lists, matching, patterns, streams,
+    trees,
 };
 use std::alloc::Global;
 
@@ -13,6 +14,8 @@ pub(crate) fn ask(alloc: Global, subject: &str, question: &Question) -> Result<A
     let mut answer = Answer::new(alloc);
     match subject {
         "matching"
+        | "starts"
+        | "attempts"
         | "reading"
         | "wildcards"
         | "parts"
@@ -45,6 +48,8 @@ fn ask_patterns(
 ) -> Result<(), RowFault> {
     match subject {
         "matching" => matching::matching(alloc, question, answer),
+        "starts" => attempts::starts(alloc, question, answer),
+        "attempts" => attempts::attempts(alloc, question, answer),
         "reading" => patterns::reading(alloc, question, answer),
         "wildcards" => patterns::wildcards(alloc, question, answer),
         "parts" => patterns::parts(alloc, question, answer),
@@ -86,6 +91,7 @@ fn ask_attributes(
         "attribute_files" => attribute_files::attribute_files(alloc, question, answer),
         "attribute_macros" => attribute_files::attribute_macros(alloc, question, answer),
         "attribute_matches" => attribute_files::attribute_matches(alloc, question, answer),
+        "attribute_folders" => attribute_files::attribute_folders(alloc, question, answer),
         "silent_lines" => attribute_files::silences(alloc, question, answer),
         "names_read" => attribute_files::names_read(alloc, question, answer),
         "attributes_kept" => attribute_states::attributes_kept(alloc, question, answer),

@@ -139,8 +139,28 @@ pub(crate) fn attribute_matches(
     question: &Question,
     answer: &mut Answer,
 ) -> Result<(), RowFault> {
-    let mappings = AttributeLines.bytes_to_patterns(alloc, question.bytes(0)?, "")?;
     let path = RepositoryPath::of_line(question.bytes(1)?).ok_or(RowFault::Field("a path"))?;
+    assigned(alloc, question, &path, answer)
+}
+
+/// The same of a folder's path that is made with its slash: its last part has no bytes.
+pub(crate) fn attribute_folders(
+    alloc: Global,
+    question: &Question,
+    answer: &mut Answer,
+) -> Result<(), RowFault> {
+    let path = RepositoryPath::new(question.bytes(1)?, true).ok_or(RowFault::Field("a path"))?;
+    assigned(alloc, question, &path, answer)
+}
+
+/// What the lines of the first field assign that match a path.
+fn assigned(
+    alloc: Global,
+    question: &Question,
+    path: &RepositoryPath<'_>,
+    answer: &mut Answer,
+) -> Result<(), RowFault> {
+    let mappings = AttributeLines.bytes_to_patterns(alloc, question.bytes(0)?, "")?;
     let mut text = Vec::new(alloc);
     for mapping in &mappings {
         if path.is_matched_by(mapping.pattern.view(), Case::Sensitive) {

@@ -3,6 +3,7 @@
 
 mod answer;
 mod asking;
+mod attempts;
 mod attribute_files;
 mod attribute_states;
 mod bases;
@@ -25,8 +26,10 @@ use std::process::ExitCode;
 use std::rt::Files;
 
 /// The subjects of the rows. Each has a file of its name.
-const SUBJECTS: [&str; 34] = [
+const SUBJECTS: [&str; 37] = [
     "matching",
+    "starts",
+    "attempts",
     "reading",
     "wildcards",
     "parts",
@@ -53,6 +56,7 @@ const SUBJECTS: [&str; 34] = [
     "attribute_files",
     "attribute_macros",
     "attribute_matches",
+    "attribute_folders",
     "attributes_kept",
     "attribute_states",
     "attribute_streams",

@@ -1,0 +1,54 @@
+//! Rows of the recursive engine: where an attempt may begin, and what it answers.
+
+use crate::answer::Answer;
+use crate::fault::RowFault;
+use crate::question::Question;
+use gix_glob::wildmatch::{attempt, is_start};
+use std::alloc::Global;
+
+/// The places of a pattern from which an attempt may begin.
+pub(crate) fn starts(
+    alloc: Global,
+    question: &Question,
+    answer: &mut Answer,
+) -> Result<(), RowFault> {
+    let (mode, pattern) = (question.mode(0)?, question.bytes(1)?);
+    let mut text = Vec::new(alloc);
+    for place in 0..=pattern.len() {
+        if is_start(pattern, place, mode) {
+            let separator = if text.is_empty() { "" } else { " " };
+            text.extend_from_slice(format!(in alloc; "{separator}{place}")?.as_bytes())?;
+        }
+    }
+    Ok(answer.push(&text)?)
+}
+
+/// The number of a field that has one.
+fn count(question: &Question, place: usize) -> Result<usize, RowFault> {
+    question.number(place)?.ok_or(RowFault::Field("a number"))
+}
+
+/// What an attempt answers from a place of a pattern and one of a value, at a depth.
+pub(crate) fn attempts(
+    alloc: Global,
+    question: &Question,
+    answer: &mut Answer,
+) -> Result<(), RowFault> {
+    let (mode, pattern, value) = (question.mode(0)?, question.bytes(1)?, question.bytes(3)?);
+    let (place, at, depth) = (
+        count(question, 2)?,
+        count(question, 4)?,
+        count(question, 5)?,
+    );
+    if !is_start(pattern, place, mode) {
+        return Err(RowFault::Field("a place where an attempt may begin"));
+    }
+    if at > value.len() {
+        return Err(RowFault::Field("a place of the value"));
+    }
+    if depth > 64 {
+        return Err(RowFault::Field("a depth"));
+    }
+    let told = attempt(pattern, place, value, at, mode, depth);
+    Ok(answer.push(format!(in alloc; "{told:?}")?.as_bytes())?)
+}
