@@ -2,9 +2,13 @@
 """Answers by the Python package `pathspec` whether paths are ignored: tools/vectors examples/vectors/pathspec_.py"""
 import os
 import re
+import warnings
 
 import pathspec
 import rows
+
+# (`re` warns of some sets)
+warnings.simplefilter("ignore")
 
 
 def ignored(case, path, *fields):

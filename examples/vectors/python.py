@@ -65,7 +65,10 @@ def ignore_files(text):
 
 
 def list_of(fields):
-    return IgnoreList([IgnoreFile(text, base or b"") for base, text in rows.pairs(fields)])
+    """The files of a row, or None: the binding takes no base that isn't a folder's below the top."""
+    files = [(base or b"", text) for base, text in rows.pairs(fields)]
+    are_folders = all(not base or base.endswith(b"/") and rows.is_plain(base) for base, _ in files)
+    return IgnoreList([IgnoreFile(text, base) for base, text in files]) if are_folders else None
 
 
 def place_of(rules, found):
@@ -74,6 +77,9 @@ def place_of(rules, found):
 
 def decided(case, paths, *fields):
     rules, text = list_of(fields), ""
+    if rules is None or b"./" in (path[:2] for path in paths.split(b"\n")):
+        # (the binding passes over a `./` in front)
+        return ()
     for path in paths.removesuffix(b"\n").split(b"\n") if paths else []:
         try:
             found = rules.decide(path, ignore_case=case == b"fold")
@@ -85,6 +91,8 @@ def decided(case, paths, *fields):
 
 def trees(case, path, *fields):
     rules, fold = list_of(fields), case == b"fold"
+    if rules is None or not rows.is_plain(path):
+        return ()
     found = rules.decide_in_tree(path, ignore_case=fold)
     is_ignored = found is not None and found.is_ignored
     matched = list(rules.match_files([path, path], ignore_case=fold))
@@ -93,4 +101,8 @@ def trees(case, path, *fields):
     return [place_of(rules, found) if found else None]
 
 
-rows.answer({it.__name__: it for it in (matching, values, reading, repository_paths, ignore_files, decided, trees)})
+def trees_told(case, _there, path, *fields):
+    return trees(case, path, *fields)
+
+
+rows.answer({it.__name__: it for it in (matching, values, reading, repository_paths, ignore_files, decided, trees, trees_told)})

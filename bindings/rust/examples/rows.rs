@@ -250,9 +250,10 @@ fn decided(fields: &[Field]) -> Option<String> {
     Some(spelt(text.as_bytes()))
 }
 
-fn decided_in_tree(fields: &[Field]) -> Option<String> {
-    let lists = lists_of(fields.get(2..)?)?;
-    let (path, is_dir) = below_top(fields.get(1)?.as_deref()?)?;
+/// Which line decides about a path in a work tree, of the files in the fields from `first` on.
+fn decided_in_tree(fields: &[Field], first: usize) -> Option<String> {
+    let lists = lists_of(fields.get(first..)?)?;
+    let (path, is_dir) = below_top(fields.get(first - 1)?.as_deref()?)?;
     let found = Lists::new(&lists).decide_in_tree(path.into(), is_dir, case_of(&fields[0]));
     Some(found.map_or("\\N".to_string(), |(list, mapping)| numbered(&lists, list, mapping)))
 }
@@ -277,7 +278,8 @@ fn answer(subject: &[u8], fields: &[Field]) -> Option<String> {
         b"stripping" => stripped(fields),
         b"listed" => listed(fields),
         b"decided" => decided(fields),
-        b"trees" => decided_in_tree(fields),
+        b"trees" => decided_in_tree(fields, 2),
+        b"trees_told" => decided_in_tree(fields, 3),
         _ => None,
     }
 }

@@ -152,10 +152,11 @@ static bool decided(const struct field *fields, size_t count, struct answer *ans
     return true;
 }
 
-static bool trees(const struct field *fields, size_t count, struct answer *answer)
+/* Which line decides about a path in a work tree, of the files in the fields from `first` on. */
+static bool trees(const struct field *fields, size_t count, size_t first, struct answer *answer)
 {
-    const size_t file_count = read_files(fields + 2, count - 2);
-    const struct gix_glob_path path = path_of(&fields[1]);
+    const size_t file_count = read_files(fields + first, count - first);
+    const struct gix_glob_path path = path_of(&fields[first - 1]);
     struct gix_glob_list lists[MOST_FILES];
     struct gix_glob_decision by = {0, 0};
     struct text text = {.len = 0};
@@ -182,5 +183,7 @@ bool answer_ignore(const char *subject, const struct field *fields, size_t count
         return ignore_files(fields, answer);
     if (strcmp(subject, "decided") == 0)
         return decided(fields, count, answer);
-    return strcmp(subject, "trees") == 0 && trees(fields, count, answer);
+    if (strcmp(subject, "trees_told") == 0)
+        return trees(fields, count, 3, answer);
+    return strcmp(subject, "trees") == 0 && trees(fields, count, 2, answer);
 }
