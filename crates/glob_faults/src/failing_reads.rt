@@ -37,7 +37,7 @@ fn check_each_read(
             failed: (fails && of_patterns, fails && !of_patterns, false),
             written: if fails { b"" } else { engine.text() },
         };
-        check_run(rt, engine, devices, wanted, (kind, successes))?;
+        check_run(rt, engine, devices, wanted, successes)?;
     }
     Ok(())
 }

@@ -12,20 +12,6 @@ use std::test::Fail;
 
 const BYTES: &[u8] = b"*.rs";
 
-#[test]
-fn readers_are_read_whole(rt: HostRuntime) -> Result<(), Fail> {
-    let mut buf = Vec::from_slice(rt.alloc(), b"old")?;
-    let mut reader = Watched::new(BYTES);
-    let source = String::from_str(rt.alloc(), "src/ig")?;
-    let list = List::from_reader(rt.alloc(), &mut reader, source, None, &mut buf, Whole)?;
-    let source = String::from_str(rt.alloc(), "src/ig")?;
-    let wanted = List::from_bytes(rt.alloc(), BYTES, source, None, Whole)?;
-    assert!(rt; list == Some(wanted));
-    assert_eq!(rt; buf.as_slice(), BYTES);
-    assert!(rt; !reader.failed());
-    Ok(())
-}
-
 /// Reads from a reader of so many bytes a read, of which each read fails in turn.
 fn check_each_read(
     rt: &(impl Abort + AllocGlobal),
@@ -37,26 +23,35 @@ fn check_each_read(
         let given = successes.saturating_mul(piece);
         // the read behind the last byte finds the end
         let fails = given <= BYTES.len();
-        let row = (piece, kind, successes);
         let mut buf = Vec::from_slice(rt.alloc(), b"old")?;
         let mut reader = Watched::new(Source::new(BYTES, piece, successes).failing_with(kind));
         let source = String::from_str(rt.alloc(), "src/ig")?;
         let answer = List::from_reader(rt.alloc(), &mut reader, source, None, &mut buf, Whole);
         let words = if fails { words } else { "1 patterns" };
-        same_words(rt, count_of(answer), words, row)?;
-        same(rt, reader.failed(), fails, "the reader failed:", row);
+        same_words(rt, count_of(answer), words, successes)?;
         same(
             rt,
-            buf.as_slice(),
-            &BYTES[..given.min(BYTES.len())],
-            "what is read:",
-            row,
+            reader.failed() == fails,
+            "whether the reader failed",
+            successes,
         );
+        let read = &BYTES[..given.min(BYTES.len())];
+        same(rt, buf.as_slice() == read, "what is read", successes);
     }
     Ok(())
 }
 
-/// Catches a call that answers for each failed read that there is no file.
+/// A reader on which each read fails, with a text of its own.
+#[derive(Drop)]
+struct Torn;
+
+impl Read for Torn {
+    fn read(&mut self, _buf: &mut [u8]) -> io::Result<usize> {
+        Err(io::Error::new(ErrorKind::Other, "told at reading"))
+    }
+}
+
+/// Catches a call that answers for each failed read that there is no file. The error of a read is handed on.
 #[test]
 fn failed_read_is_none(rt: HostRuntime) -> Result<(), Fail> {
     let rows = [
@@ -72,25 +67,10 @@ fn failed_read_is_none(rt: HostRuntime) -> Result<(), Fail> {
         check_each_read(&rt, 1, kind, words)?;
         check_each_read(&rt, BYTES.len(), kind, words)?;
     }
-    Ok(())
-}
-
-/// A reader on which each read fails, with a text of its own.
-#[derive(Drop)]
-struct Torn;
-
-impl Read for Torn {
-    fn read(&mut self, _buf: &mut [u8]) -> io::Result<usize> {
-        Err(io::Error::new(ErrorKind::Other, "told at reading"))
-    }
-}
-
-#[test]
-fn the_error_of_a_read_is_handed_on(rt: HostRuntime) -> Result<(), Fail> {
     let mut buf = Vec::new(rt.alloc());
     let source = String::from_str(rt.alloc(), "d/ig")?;
     let mut reader = Watched::new(Torn);
     let answer = List::from_reader(rt.alloc(), &mut reader, source, None, &mut buf, Whole);
     let words = "reading patterns: told at reading";
-    Ok(same_words(&rt, count_of(answer), words, "a torn reader")?)
+    Ok(same_words(&rt, count_of(answer), words, 0)?)
 }

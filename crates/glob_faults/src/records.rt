@@ -8,7 +8,6 @@ use crate::fakes::{Sink, Source};
 use gix_glob::search::Watched;
 use glob_trees::{Answerer, RecordFault, RecordStream};
 use std::alloc::AllocError;
-use std::fmt::Debug;
 use std::io::ErrorKind;
 use std::process::Abort;
 use std::test::Fail;
@@ -67,7 +66,7 @@ impl Answerer for Brackets {
 }
 
 /// What a run comes to.
-#[derive(Clone, Copy, PartialEq, Debug)]
+#[derive(Clone, Copy, PartialEq)]
 pub(crate) enum Told {
     Nothing,
     Memory,
@@ -90,12 +89,12 @@ fn told_of(run: Result<(), RecordFault<Unanswered>>) -> Told {
 }
 
 /// Runs records that a line feed ends, and compares what it comes to with what is told and written.
-pub(crate) fn check_run<R: Copy + Debug>(
+pub(crate) fn check_run(
     rt: &(impl Abort + AllocGlobal),
     devices: (Source<'_>, Sink),
     answerer: &mut Brackets,
     wanted: (Told, &[u8]),
-    row: R,
+    row: usize,
 ) -> Result<(), Fail> {
     let mut reader = Watched::new(devices.0);
     let mut writer = Watched::new(devices.1);
@@ -105,6 +104,11 @@ pub(crate) fn check_run<R: Copy + Debug>(
     };
     let told = told_of(stream.run(&mut reader, &mut writer, answerer));
     let sink = writer.into_inner();
-    same(rt, (told, sink.taken()), wanted, "the run:", row);
+    same(
+        rt,
+        (told, sink.taken()) == wanted,
+        "the run over records",
+        row,
+    );
     Ok(())
 }

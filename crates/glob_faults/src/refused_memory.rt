@@ -2,6 +2,7 @@
 //!
 //! `.ci/refuse-memory` runs each of these tests with each of its allocations refused in turn. The test then ends with the
 //! fault of memory, and with no other; what the call leaves is looked at first. Here, with ample memory, each one answers.
+use crate::compare::same;
 use crate::records::Brackets;
 use bitflags::Flags;
 use gix_glob::pattern::Case;
@@ -12,6 +13,7 @@ use gix_glob::{Pattern, parse};
 use glob_lines::{IgnoreLines, PlainLines, bases_are_folders, run_ignore, run_list, run_wild};
 use glob_trees::RecordStream;
 use std::alloc::{AllocError, Global};
+use std::process::Abort;
 use std::test::Fail;
 use std::{env, fs, process};
 
@@ -27,23 +29,20 @@ fn is_read(read: Option<Pattern>, text: &[u8], bits: u32) -> bool {
 }
 
 #[test]
-fn parse_reads_a_line(rt: HostRuntime) -> Result<(), Fail> {
+fn lines_are_read_and_copied(rt: HostRuntime) -> Result<(), Fail> {
     let read = parse::parse(rt.alloc(), b"!a*")?;
     assert!(rt; is_read(read, b"a*", 9));
-    Ok(())
-}
-
-#[test]
-fn from_bytes_reads_a_line(rt: HostRuntime) -> Result<(), Fail> {
     let read = Pattern::from_bytes(rt.alloc(), b"!a*")?;
     assert!(rt; is_read(read, b"a*", 9));
-    Ok(())
-}
-
-#[test]
-fn from_bytes_without_negation_reads_a_line(rt: HostRuntime) -> Result<(), Fail> {
     let read = Pattern::from_bytes_without_negation(rt.alloc(), b"!a*")?;
     assert!(rt; is_read(read, b"!a*", 1));
+    let mappings = PlainLines.bytes_to_patterns(rt.alloc(), LINES, "d/ig")?;
+    assert!(rt; are_read(&mappings));
+    for mapping in &mappings {
+        assert!(rt; mapping.clone()? == *mapping && mapping.pattern.clone()? == mapping.pattern);
+    }
+    let mappings = IgnoreLines.bytes_to_patterns(rt.alloc(), LINES, "d/ig")?;
+    assert!(rt; are_read(&mappings));
     Ok(())
 }
 
@@ -59,23 +58,6 @@ fn are_read(mappings: &[Mapping<()>]) -> bool {
         && second.pattern.is_negative()
 }
 
-#[test]
-fn plain_lines_are_mappings(rt: HostRuntime) -> Result<(), Fail> {
-    let mappings = PlainLines.bytes_to_patterns(rt.alloc(), LINES, "d/ig")?;
-    assert!(rt; are_read(&mappings));
-    Ok(())
-}
-
-#[test]
-fn copies_of_mappings_and_patterns_are_equal(rt: HostRuntime) -> Result<(), Fail> {
-    let mappings = PlainLines.bytes_to_patterns(rt.alloc(), LINES, "d/ig")?;
-    for mapping in &mappings {
-        assert!(rt; mapping.clone()? == *mapping);
-        assert!(rt; mapping.pattern.clone()? == mapping.pattern);
-    }
-    Ok(())
-}
-
 /// The list of the lines of a file in the folder `d`.
 fn list_of(alloc: Global) -> Result<List<PlainLines>, AllocError> {
     let source = String::from_str(alloc, "d/ig")?;
@@ -89,20 +71,9 @@ fn is_loaded(list: &List<PlainLines>) -> bool {
 }
 
 #[test]
-fn a_list_is_made_of_bytes(rt: HostRuntime) -> Result<(), Fail> {
-    assert!(rt; is_loaded(&list_of(rt.alloc())?));
-    Ok(())
-}
-
-#[test]
-fn a_copied_list_is_equal(rt: HostRuntime) -> Result<(), Fail> {
+fn a_list_is_made_copied_and_read(rt: HostRuntime) -> Result<(), Fail> {
     let list = list_of(rt.alloc())?;
-    assert!(rt; list.clone()? == list);
-    Ok(())
-}
-
-#[test]
-fn a_list_is_read_from_a_reader(rt: HostRuntime) -> Result<(), Fail> {
+    assert!(rt; is_loaded(&list) && list.clone()? == list);
     let source = String::from_str(rt.alloc(), "d/ig")?;
     let mut reader = Watched::new(LINES);
     let mut buf = Vec::new(rt.alloc());
@@ -114,10 +85,8 @@ fn a_list_is_read_from_a_reader(rt: HostRuntime) -> Result<(), Fail> {
         &mut buf,
         PlainLines,
     );
-    assert!(rt; !reader.failed());
-    assert!(rt; LINES.starts_with(&buf));
-    assert!(rt; read?.is_some_and(|list| is_loaded(&list)));
-    assert!(rt; buf.as_slice() == LINES);
+    assert!(rt; !reader.failed() && LINES.starts_with(&buf));
+    assert!(rt; read?.is_some_and(|list| is_loaded(&list)) && buf.as_slice() == LINES);
     Ok(())
 }
 
@@ -169,7 +138,7 @@ fn a_refusal_leaves_two_lists(rt: HostRuntime) -> Result<(), Fail> {
     });
     fs::remove_file(&rt, path.as_str())?;
     let count = if matches!(added, Ok(Ok(true))) { 3 } else { 2 };
-    assert_eq!(rt; lists.len(), count);
+    assert!(rt; lists.len() == count);
     let [first, second, ..] = lists.as_slice() else {
         return Err(Fail::new("a list is lost"));
     };
@@ -178,55 +147,54 @@ fn a_refusal_leaves_two_lists(rt: HostRuntime) -> Result<(), Fail> {
     Ok(())
 }
 
-#[test]
-fn values_are_answered(rt: HostRuntime) -> Result<(), Fail> {
-    let mut reader = Watched::new(b"ab\nb\n".as_slice());
-    // with room for all that is written
-    let mut writer = Watched::new(Vec::with_capacity(rt.alloc(), 16)?);
-    let mode = Mode::NO_MATCH_SLASH_LITERAL;
-    let answer = run_wild(rt.alloc(), b"a*", mode, &mut reader, &mut writer);
-    let output = writer.into_inner();
-    assert!(rt; output.is_empty() || answer.is_ok());
-    answer?;
-    assert!(rt; output.as_slice() == b"yes\nno\n".as_slice());
-    Ok(())
-}
-
-#[test]
-fn paths_are_answered(rt: HostRuntime) -> Result<(), Fail> {
+/// What an engine of lines wrote, where it was refused no memory: then it wrote nothing.
+fn written_by(
+    rt: &(impl Abort + AllocGlobal),
+    engine: usize,
+    lists: &[List<IgnoreLines>],
+    lines: &[u8],
+) -> Result<Vec<u8>, Fail> {
+    let (alloc, case) = (rt.alloc(), Case::Sensitive);
     let mut patterns = Watched::new(LINES);
-    let mut paths = Watched::new(b"a.rs\nsrc/\n/\n".as_slice());
+    let mut lines = Watched::new(lines);
     // with room for all that is written
-    let mut writer = Watched::new(Vec::with_capacity(rt.alloc(), 16)?);
-    let answer = run_list(
-        rt.alloc(),
-        &mut patterns,
-        "ig",
-        Some(""),
-        Case::Sensitive,
-        &mut paths,
-        &mut writer,
-    );
+    let mut writer = Watched::new(Vec::with_capacity(alloc, 32)?);
+    assert!(rt; bases_are_folders(lists));
+    let answer = match engine {
+        0 => {
+            let mode = Mode::NO_MATCH_SLASH_LITERAL;
+            run_wild(alloc, b"a*", mode, &mut lines, &mut writer)
+        }
+        1 => run_list(
+            alloc,
+            &mut patterns,
+            "ig",
+            Some(""),
+            case,
+            &mut lines,
+            &mut writer,
+        ),
+        _ => run_ignore(alloc, lists, case, &mut lines, &mut writer),
+    };
     let output = writer.into_inner();
     assert!(rt; output.is_empty() || answer.is_ok());
     answer?;
-    assert!(rt; output.as_slice() == b"1\n3\n!\n".as_slice());
-    Ok(())
+    Ok(output)
 }
 
 #[test]
-fn paths_are_decided(rt: HostRuntime) -> Result<(), Fail> {
+fn lines_are_answered(rt: HostRuntime) -> Result<(), Fail> {
     let source = String::from_str(rt.alloc(), "ig")?;
     let lists = [List::from_bytes(rt.alloc(), LINES, source, None, IgnoreLines)?];
-    assert!(rt; bases_are_folders(&lists));
-    let mut paths = Watched::new(b"a.rs\nsrc/\n/\n".as_slice());
-    // with room for all that is written
-    let mut writer = Watched::new(Vec::with_capacity(rt.alloc(), 32)?);
-    let answer = run_ignore(rt.alloc(), &lists, Case::Sensitive, &mut paths, &mut writer);
-    let output = writer.into_inner();
-    assert!(rt; output.is_empty() || answer.is_ok());
-    answer?;
-    assert!(rt; output.as_slice() == b"ignored 1:1\nkept 1:3\n!\n".as_slice());
+    let rows: [(&[u8], &[u8]); 3] = [
+        (b"ab\nb\n", b"yes\nno\n"),
+        (b"a.rs\nsrc/\n/\n", b"1\n3\n!\n"),
+        (b"a.rs\nsrc/\n/\n", b"ignored 1:1\nkept 1:3\n!\n"),
+    ];
+    for (engine, (lines, text)) in rows.into_iter().enumerate() {
+        let output = written_by(&rt, engine, &lists, lines)?;
+        same(&rt, output.as_slice() == text, "what is written", engine);
+    }
     Ok(())
 }
 

@@ -4,7 +4,6 @@ use gix_glob::search::LoadFault;
 use gix_glob::search::pattern::List;
 use glob_uses::Whole;
 use std::alloc::{AllocError, Global};
-use std::fmt::Debug;
 use std::process::Abort;
 
 /// How many patterns the list has, where there is one.
@@ -27,13 +26,13 @@ fn words_of(alloc: Global, answer: Result<Option<usize>, LoadFault>) -> Result<S
 }
 
 /// Compares what loading came to with the words of a row.
-pub(crate) fn same_words<R: Copy + Debug>(
+pub(crate) fn same_words(
     rt: &(impl Abort + AllocGlobal),
     answer: Result<Option<usize>, LoadFault>,
     words: &str,
-    row: R,
+    row: usize,
 ) -> Result<(), AllocError> {
     let told = words_of(rt.alloc(), answer)?;
-    same(rt, told.as_str(), words, "what is told of", row);
+    same(rt, told.as_str() == words, words, row);
     Ok(())
 }

@@ -1,16 +1,16 @@
-//! Trees whose source fails: the fault is told, and the next call answers right.
+//! Trees whose source fails: the fault is told, and the next call answers right. And a deep tree, with a list before all folders.
 use crate::compare::same;
 use gix_glob::pattern::Case;
 use gix_glob::search::Pattern as _;
 use gix_glob::search::pattern::List;
 use glob_lines::IgnoreLines;
-use glob_lists::RepositoryPath;
+use glob_lists::{PreparedList, RepositoryPath};
 use glob_trees::{FolderLists, Tree, TreeFault, list_in_folder};
 use std::alloc::{AllocError, Global};
 use std::test::Fail;
 
 /// Why the source has no list.
-#[derive(Debug, Clone, Copy, PartialEq, Eq)]
+#[derive(Clone, Copy, PartialEq)]
 pub(crate) enum SourceFault {
     /// It is the call that fails.
     Broken,
@@ -94,22 +94,54 @@ fn the_call_after_a_fault_answers(rt: HostRuntime) -> Result<(), Fail> {
         let fronts = Vec::new(rt.alloc());
         let mut tree = Tree::new(rt.alloc(), source, fronts, Case::Sensitive).ok_or("a tree")?;
         let mut told = 0u32;
-        for (line, wanted) in paths {
+        for (row, (line, wanted)) in paths.into_iter().enumerate() {
             let mut answer = answer_of(&mut tree, line);
             if answer == Err(TreeFault::Source(SourceFault::Broken)) {
                 told = told.saturating_add(1);
                 answer = answer_of(&mut tree, line);
             }
-            same(&rt, answer.ok(), Some(wanted), "what decides about", line);
+            same(&rt, answer.ok() == Some(wanted), "what decides", row);
         }
         let wanted = u32::from((1..4).contains(&fails_at));
-        same(
-            &rt,
-            told,
-            wanted,
-            "how often a fault is told, of call",
-            fails_at,
-        );
+        same(&rt, told == wanted, "how often a fault is told", fails_at);
     }
+    Ok(())
+}
+
+/// How many folders of the deep path lie in one another.
+const DEPTH: usize = 200;
+
+#[test]
+fn deep_folders_and_lists_before_all_are_asked(rt: HostRuntime) -> Result<(), Fail> {
+    let mut excludes = List::empty(rt.alloc());
+    excludes.patterns = IgnoreLines.bytes_to_patterns(rt.alloc(), b"q\nx\ny\n", "")?;
+    let mut fronts = Vec::new(rt.alloc());
+    fronts.push(PreparedList::new(rt.alloc(), excludes))?;
+    let source = Failing::at(rt.alloc(), 0);
+    let mut tree = Tree::new(rt.alloc(), source, fronts, Case::Sensitive).ok_or("a tree")?;
+    let mut line = Vec::new(rt.alloc());
+    for _ in 0..DEPTH {
+        line.extend_from_slice(b"a/")?;
+    }
+    line.push(b'x')?;
+    // the list before all folders, that of the top, and that of `a`
+    same(
+        &rt,
+        answer_of(&mut tree, &line).ok() == Some(Some((2, 0))),
+        "deep",
+        DEPTH,
+    );
+    same(
+        &rt,
+        answer_of(&mut tree, b"x").ok() == Some(Some((1, 0))),
+        "at the top",
+        DEPTH,
+    );
+    same(
+        &rt,
+        answer_of(&mut tree, b"a/y").ok() == Some(Some((0, 2))),
+        "before all",
+        DEPTH,
+    );
     Ok(())
 }

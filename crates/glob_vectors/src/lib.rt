@@ -1,28 +1,20 @@
-//! Rows: what the public calls answer to bytes in memory, short and long, where nothing fails. Tests alone; what comes from
-//! outside, readers, writers, memory and files, is in `glob_faults`.
+//! What the public calls do with bytes in memory that is no row of data: long ones, many, costly ones, counts, orders, and texts that
+//! are shown. Tests alone; rows are in `glob_rows`, and what comes from outside, readers, writers, memory and files, is in `glob_faults`.
 #![tactic(auto)]
 
 #[cfg(test)]
-mod attributes;
+mod asked;
 #[cfg(test)]
 mod compare;
 #[cfg(test)]
-mod index;
+mod engines;
+#[cfg(test)]
+mod hostile;
 #[cfg(test)]
 mod large;
-#[cfg(test)]
-mod lines;
-#[cfg(test)]
-mod lists;
-#[cfg(test)]
-mod matching;
-#[cfg(test)]
-mod patterns;
-#[cfg(test)]
-mod records;
 #[cfg(test)]
 mod shown;
 #[cfg(test)]
 mod texts;
 #[cfg(test)]
-mod trees;
+mod values;

@@ -1,4 +1,4 @@
-//! What is shown of lines, of faults, and by `Debug`.
+//! What is shown of faults, and by `Debug`.
 use crate::compare::same;
 use bitflags::Flags;
 use gix_glob::Pattern;
@@ -13,16 +13,16 @@ use std::io;
 use std::process::Abort;
 use std::test::Fail;
 
-/// Compares what is shown of a value with a text.
-fn displayed<T: Display, R: Copy + Debug>(
+/// Compares what is shown of a fault with texts.
+fn displayed<T: Display + Debug>(
     rt: &(impl Abort + AllocGlobal),
-    value: &T,
+    fault: &T,
     text: &str,
-    row: R,
+    debug: &str,
 ) -> Result<(), AllocError> {
-    let shown = format!(in rt.alloc(); "{value}")?;
-    same(rt, shown.as_str(), text, "shown:", row);
-    Ok(())
+    let shown = format!(in rt.alloc(); "{fault}")?;
+    same(rt, shown.as_str() == text, text, 0);
+    debugged(rt, fault, debug)
 }
 
 /// Compares what `Debug` shows of a value with a text.
@@ -32,66 +32,34 @@ fn debugged<T: Debug>(
     text: &str,
 ) -> Result<(), AllocError> {
     let shown = format!(in rt.alloc(); "{value:?}")?;
-    assert_eq!(rt; shown.as_str(), text);
+    same(rt, shown.as_str() == text, text, 1);
     Ok(())
 }
 
 #[test]
-fn lines_are_shown_again(rt: HostRuntime) -> Result<(), Fail> {
-    let rows: [(&[u8], &str); 8] = [
-        (b"!/*.o/", "!/*.o/"),
-        (b"//", "//"),
-        (b"foo", "foo"),
-        (b"\\!foo", "!foo"),
-        (b"\\#x", "#x"),
-        (b"!a", "!a"),
-        (b"a/", "a/"),
-        // a byte that is no text is shown by a replacement
-        (b"a\xff", "a\u{FFFD}"),
-    ];
-    for (line, text) in rows {
-        let pattern = Pattern::from_bytes(rt.alloc(), line)?.ok_or("a pattern")?;
-        displayed(&rt, &pattern, text, line)?;
-    }
-    Ok(())
-}
-
-#[test]
-fn texts_of_faults(rt: HostRuntime) -> Result<(), Fail> {
-    let rows = [
-        (EngineFault::Memory, "no memory", "Memory"),
-        (EngineFault::Read, "read failed", "Read"),
-        (EngineFault::Write, "write failed", "Write"),
-    ];
-    for (fault, text, debug) in rows {
-        displayed(&rt, &fault, text, debug)?;
-        debugged(&rt, &fault, debug)?;
-    }
-    let rows = [
-        (
-            LoadFault::Memory,
-            "out of memory while loading patterns",
-            "Memory",
-        ),
-        (
-            LoadFault::Read(io::Error::other("gone")),
-            "reading patterns: gone",
-            "Read(Custom { kind: Other, error: \"gone\" })",
-        ),
-    ];
-    for (fault, text, debug) in rows {
-        displayed(&rt, &fault, text, debug)?;
-        debugged(&rt, &fault, debug)?;
-    }
-    Ok(())
-}
-
-#[test]
-fn texts_for_debugging(rt: HostRuntime) -> Result<(), Fail> {
+fn texts_of_faults_and_values(rt: HostRuntime) -> Result<(), Fail> {
+    displayed(&rt, &EngineFault::Memory, "no memory", "Memory")?;
+    displayed(&rt, &EngineFault::Read, "read failed", "Read")?;
+    displayed(&rt, &EngineFault::Write, "write failed", "Write")?;
+    let memory = "out of memory while loading patterns";
+    displayed(&rt, &LoadFault::Memory, memory, "Memory")?;
+    let gone = LoadFault::Read(io::Error::other("gone"));
+    let debug = "Read(Custom { kind: Other, error: \"gone\" })";
+    displayed(&rt, &gone, "reading patterns: gone", debug)?;
     debugged(&rt, &wildmatch::Mode::from_bits_retain(3), "Mode(3)")?;
     debugged(&rt, &Mode::from_bits_retain(31), "Mode(31)")?;
     debugged(&rt, &Case::Fold, "Fold")?;
     debugged(&rt, &Answer::AbortToStarStar, "AbortToStarStar")?;
+    debugged(&rt, &PlainLines, "PlainLines")?;
+    debugged(&rt, &IgnoreLines, "IgnoreLines")?;
+    debugged(&rt, &LabelLines, "LabelLines")?;
+    let watched = Watched::new(b"a".as_slice());
+    debugged(&rt, &watched, "Watched { inner: [97], failed: false }")?;
+    Ok(())
+}
+
+#[test]
+fn texts_of_patterns_and_lists(rt: HostRuntime) -> Result<(), Fail> {
     let pattern = Pattern::from_bytes(rt.alloc(), b"!a*")?.ok_or("a pattern")?;
     debugged(
         &rt,
@@ -112,10 +80,5 @@ fn texts_for_debugging(rt: HostRuntime) -> Result<(), Fail> {
         "List { patterns: [Mapping { pattern: Pattern { text: [97], mode: Mode(1), first_wildcard_pos: None }, \
          value: (), sequence_number: 2 }], source: Some(\"d/ig\"), base: Some([100, 47]) }",
     )?;
-    let watched = Watched::new(b"a".as_slice());
-    debugged(&rt, &watched, "Watched { inner: [97], failed: false }")?;
-    debugged(&rt, &PlainLines, "PlainLines")?;
-    debugged(&rt, &IgnoreLines, "IgnoreLines")?;
-    debugged(&rt, &LabelLines, "LabelLines")?;
     Ok(())
 }

@@ -1,4 +1,4 @@
-//! The state of an attribute, asked as C asks it. The answers are Git's.
+//! The state of an attribute, asked as C asks it: what each argument is for, and how much room is needed. The answers are Git's.
 use super::*;
 use crate::parsed::{GlobPattern, gix_glob_parse};
 use crate::tests::same;
@@ -84,32 +84,24 @@ fn the_strongest_line_decides(rt: HostRuntime) {
         lists: &lists,
         macros: &macros,
     };
-    // the path, whether it is a directory's, whether case counts, the name, and the answer
-    let rows: [(&[u8], bool, bool, &[u8], Option<(u32, &[u8])>); 16] = [
-        (b"q", false, false, b"a", Some((1, b""))),
+    // the path, whether it is a directory's, whether case is folded, the name, and the answer
+    let rows: [(&[u8], bool, bool, &[u8], Option<(u32, &[u8])>); 8] = [
         (b"q", false, false, b"b", Some((3, b"2"))),
-        (b"q", false, false, b"f", Some((0, b""))),
         (b"x", false, false, b"a", Some((2, b""))),
-        (b"x", false, false, b"c", Some((0, b""))),
-        (b"x", false, false, b"e", Some((3, b"#\xff"))),
-        (b"y", false, false, b"a", Some((1, b""))),
         (b"y", true, false, b"a", Some((3, b""))),
-        (b"d/x", false, false, b"c", Some((3, b"3"))),
-        (b"d/x", false, false, b"d", Some((0, b""))),
         (b"d/e/x", false, false, b"b", Some((3, b"2"))),
         (b"d/e/x", false, true, b"b", Some((2, b""))),
-        (b"d/e/x", false, true, b"A", Some((0, b""))),
         (b"d/", true, false, b"a", None),
         (b"/x", false, false, b"a", None),
         (b"", false, false, b"a", None),
     ];
-    for (path, is_dir, fold, name, answer) in rows {
+    for (row, (path, is_dir, fold, name, answer)) in rows.into_iter().enumerate() {
         let path = GlobPath {
             bytes: path,
             is_dir,
         };
         let is_told = tells(&attributes, &path, fold, name, (ROOM, 0), answer);
-        same(&rt, is_told, true, "path and name:", (path.bytes, name));
+        same(&rt, is_told, "a state", row);
     }
 }
 
@@ -117,9 +109,6 @@ fn the_strongest_line_decides(rt: HostRuntime) {
 fn macros_are_put_in(rt: HostRuntime) {
     let lines = [
         assigning(b"*", b"o"),
-        assigning(b"a", b"-o"),
-        assigning(b"b", b"!o"),
-        assigning(b"c", b"o=v"),
         assigning(b"d", b"m"),
         assigning(b"e", b"text binary"),
         assigning(b"f", b"binary text"),
@@ -150,50 +139,24 @@ fn macros_are_put_in(rt: HostRuntime) {
         lists: &lists,
         macros: &macros,
     };
-    let rows: [(&[u8], &[u8], (u32, &[u8])); 20] = [
-        (b"x", b"o", (1, b"")),
-        (b"x", b"p", (3, b"2")),
-        (b"x", b"q", (3, b"v")),
-        (b"x", b"k", (3, b"m")),
-        (b"x", b"diff", (2, b"")),
-        (b"a", b"o", (2, b"")),
-        (b"a", b"p", (0, b"")),
-        (b"b", b"o", (0, b"")),
-        (b"b", b"q", (0, b"")),
-        (b"c", b"o", (3, b"v")),
-        (b"c", b"m", (0, b"")),
-        (b"d", b"m", (1, b"")),
-        (b"d", b"o", (3, b"n")),
-        (b"d", b"p", (0, b"")),
-        (b"d", b"k", (3, b"m")),
-        (b"e", b"text", (2, b"")),
-        (b"e", b"diff", (2, b"")),
-        (b"f", b"text", (1, b"")),
-        (b"f", b"diff", (2, b"")),
-        (b"f", b"p", (3, b"2")),
+    // a path, a name, and the room for texts and for marks. Two lines match `d`, two macros are put in, and for `r` all is told
+    let rows: [(&[u8], &[u8], (usize, usize), Option<(u32, &[u8])>); 9] = [
+        (b"x", b"p", (11, 4), Some((3, b"2"))),
+        (b"d", b"o", (11, 4), Some((3, b"n"))),
+        (b"e", b"text", (11, 4), Some((2, b""))),
+        (b"f", b"text", (11, 4), Some((1, b""))),
+        (b"d", b"r", (1, 4), None),
+        (b"d", b"r", (2, 4), None),
+        (b"d", b"r", (3, 4), None),
+        (b"d", b"r", (4, 4), Some((0, b""))),
+        (b"d", b"r", (11, 3), None),
     ];
-    for (path, name, answer) in rows {
+    for (row, (path, name, room, answer)) in rows.into_iter().enumerate() {
         let path = GlobPath {
             bytes: path,
             is_dir: false,
         };
-        let is_told = tells(&attributes, &path, false, name, (11, 4), Some(answer));
-        same(&rt, is_told, true, "path and name:", (path.bytes, name));
-    }
-    // the room for texts and for marks, and the answer for `r` of `d`, which two lines match, where two macros are put in and all is told
-    let rooms: [((usize, usize), Option<(u32, &[u8])>); 5] = [
-        ((1, 4), None),
-        ((2, 4), None),
-        ((3, 4), None),
-        ((4, 4), Some((0, b""))),
-        ((11, 3), None),
-    ];
-    for (room, answer) in rooms {
-        let path = GlobPath {
-            bytes: b"d",
-            is_dir: false,
-        };
-        let is_told = tells(&attributes, &path, false, b"r", room, answer);
-        same(&rt, is_told, true, "this room:", room);
+        let is_told = tells(&attributes, &path, false, name, room, answer);
+        same(&rt, is_told, "a state by macros", row);
     }
 }

@@ -1,4 +1,4 @@
-//! The lines of an ignore file, taken off one after the other: rows that were worked out by hand.
+//! The lines of an ignore file, taken off one after the other: what each argument gets, and where the file ends.
 use super::*;
 use crate::tests::same;
 
@@ -25,21 +25,23 @@ fn lines_are_taken_one_by_one(rt: HostRuntime) {
     let mut has_pattern = false;
     for (number, (left, is_pattern, text, mode)) in rows.into_iter().enumerate() {
         let is_line = gix_glob_parse_ignore_line(&mut lines, &mut out, &mut has_pattern);
-        same(&rt, is_line, true, "there is line", number);
-        same(&rt, lines.number, number + 1, "the number of line", number);
         same(
             &rt,
-            lines.rest.len(),
-            left,
-            "what is left behind line",
+            is_line && has_pattern == is_pattern,
+            "there is a pattern",
             number,
         );
-        same(&rt, has_pattern, is_pattern, "a pattern in line", number);
-        same(&rt, out.text, text, "the text after line", number);
-        same(&rt, out.mode, mode, "the mode after line", number);
+        let is_after = lines.number == number + 1 && lines.rest.len() == left;
+        same(&rt, is_after, "what follows", number);
+        same(
+            &rt,
+            *out.text == *text && out.mode == mode,
+            "the pattern",
+            number,
+        );
     }
     assert!(rt; !gix_glob_parse_ignore_line(&mut lines, &mut out, &mut has_pattern));
-    assert_eq!(rt; lines.number, 6);
+    assert!(rt; lines.number == 6);
 }
 
 #[test]
@@ -55,7 +57,7 @@ fn files_end(rt: HostRuntime) {
         (b"a\r", 0, 1),
         (b"\\", usize::MAX, usize::MAX),
     ];
-    for (bytes, number, last) in rows {
+    for (row, (bytes, number, last)) in rows.into_iter().enumerate() {
         let mut lines = GlobLines {
             rest: bytes,
             number,
@@ -69,12 +71,6 @@ fn files_end(rt: HostRuntime) {
         for _ in 0..4 {
             gix_glob_parse_ignore_line(&mut lines, &mut out, &mut has_pattern);
         }
-        same(
-            &rt,
-            lines.number,
-            last,
-            "the last of bytes after a line:",
-            (bytes, number),
-        );
+        same(&rt, lines.number == last, "the last line", row);
     }
 }

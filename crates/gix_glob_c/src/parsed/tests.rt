@@ -1,4 +1,4 @@
-//! The exports over parsed patterns, called as functions: rows that were worked out by hand, and input that no caller should hand over.
+//! The exports over parsed patterns, called as functions: what each argument is for, and input that no caller should hand over.
 use super::*;
 use crate::tests::same;
 
@@ -17,48 +17,26 @@ fn parsed(line: &[u8]) -> GlobPattern<'_> {
 
 #[test]
 fn lines_are_read(rt: HostRuntime) {
-    let rows: [(&[u8], &[u8], usize, u32); 7] = [
-        (b"x", b"x", NONE, 1),
-        (b"*.o", b"*.o", 0, 3),
-        (b"!/a[b]/", b"a[b]", 1, 29),
-        (b"a/b", b"a/b", NONE, 0),
-        (b"\\#x", b"#x", NONE, 1),
-        (b"/", b"", NONE, 17),
-        (b"\xff\0?", b"\xff\0?", 2, 1),
-    ];
-    for (line, text, place, mode) in rows {
-        let mut pattern = BLANK;
-        let is_read = gix_glob_parse(line, &mut pattern);
-        same(&rt, is_read, true, "it is read:", line);
-        same(&rt, pattern.text, text, "the text of", line);
-        same(&rt, pattern.first_wildcard_pos, place, "the place of", line);
-        same(&rt, pattern.mode, mode, "the mode of", line);
-    }
-}
-
-#[test]
-fn blank_lines_leave_the_pattern(rt: HostRuntime) {
-    for line in [b"".as_slice(), b" ", b"!", b"\t\r\n"] {
+    let pattern = parsed(b"!/a[b]/");
+    assert!(rt;
+        pattern.text == b"a[b]".as_slice() && pattern.first_wildcard_pos == 1 && pattern.mode == 29
+    );
+    // a blank line leaves the pattern
+    for (row, line) in [b"".as_slice(), b" ", b"!", b"\t\r\n"]
+        .into_iter()
+        .enumerate()
+    {
         let mut pattern = parsed(b"!kept");
         let is_read = gix_glob_parse(line, &mut pattern);
-        same(&rt, is_read, false, "it is read:", line);
-        same(
-            &rt,
-            pattern.text,
-            b"kept".as_slice(),
-            "the text after",
-            line,
-        );
-        same(&rt, pattern.mode, 9, "the mode after", line);
+        let is_kept = pattern.text == b"kept".as_slice() && pattern.mode == 9;
+        same(&rt, !is_read && is_kept, "a blank line", row);
     }
 }
 
 #[test]
-fn paths_are_matched(rt: HostRuntime) {
-    let rows: [(&[u8], &[u8], bool, bool, bool); 12] = [
-        (b"*.o", b"a/b.o", false, false, true),
-        (b"/*.o", b"a/b.o", false, false, false),
-        (b"!*.o", b"b.o", false, false, true),
+fn arguments_stand_for_themselves(rt: HostRuntime) {
+    // a line, a path, whether it is a directory's, whether case is folded; what is no path matches nothing
+    let rows: [(&[u8], &[u8], bool, bool, bool); 8] = [
         (b"a/", b"a", true, false, true),
         (b"a/", b"a", false, true, false),
         (b"A", b"a", false, true, true),
@@ -67,17 +45,11 @@ fn paths_are_matched(rt: HostRuntime) {
         (b"*", b"/a", false, false, false),
         (b"**", b"a//b", false, false, false),
         (b"**", b"a/", true, false, false),
-        (b"**/b", b"a/b", false, false, true),
     ];
-    for (line, path, is_dir, fold, answer) in rows {
-        let pattern = parsed(line);
-        let found = gix_glob_pattern_matches_path(&pattern, path, is_dir, fold);
-        same(&rt, found, answer, "line and path:", (line, path));
+    for (row, (line, path, is_dir, fold, answer)) in rows.into_iter().enumerate() {
+        let found = gix_glob_pattern_matches_path(&parsed(line), path, is_dir, fold);
+        same(&rt, found == answer, "a path", row);
     }
-}
-
-#[test]
-fn the_last_match_is_found(rt: HostRuntime) {
     let patterns = [parsed(b"*"), parsed(b"!b"), parsed(b"a/")];
     let rows: [(usize, &[u8], bool, bool, usize); 8] = [
         (3, b"a", true, false, 2),
@@ -89,15 +61,9 @@ fn the_last_match_is_found(rt: HostRuntime) {
         (3, b"a//b", false, false, NONE),
         (3, b"", false, false, NONE),
     ];
-    for (count, path, is_dir, fold, index) in rows {
+    for (row, (count, path, is_dir, fold, index)) in rows.into_iter().enumerate() {
         let found = gix_glob_last_match(&patterns[..count], path, is_dir, fold);
-        same(
-            &rt,
-            found,
-            index,
-            "the last of so many, for a path:",
-            (count, path),
-        );
+        same(&rt, found == index, "the last of so many", row);
     }
 }
 
@@ -105,7 +71,7 @@ fn the_last_match_is_found(rt: HostRuntime) {
 #[test]
 fn made_up_parts_are_safe(rt: HostRuntime) {
     let texts = [b"".as_slice(), b"*", b"[", b"\\", b"**/**/**", b"a/b"];
-    for text in texts {
+    for (row, text) in texts.into_iter().enumerate() {
         for first_wildcard_pos in [0, 1, 2, 1 << 40, NONE] {
             for mode in [0, 2, 16, 31, u32::MAX] {
                 let pattern = GlobPattern {
@@ -115,8 +81,7 @@ fn made_up_parts_are_safe(rt: HostRuntime) {
                 };
                 let matched = gix_glob_pattern_matches_path(&pattern, b"a/b", true, true);
                 let last = gix_glob_last_match(&[pattern], b"a/b", true, true);
-                let row = (text, first_wildcard_pos, mode);
-                same(&rt, last == 0, matched, "text, place, mode:", row);
+                same(&rt, (last == 0) == matched, "parts of a text", row);
             }
         }
     }

@@ -40,12 +40,12 @@ fn each_path_is_told(rt: HostRuntime) {
     let mut places = [70; 8];
     for fold in [false, true] {
         let has_room = gix_glob_index_last_matches(&index, &paths, fold, &mut places);
-        same(&rt, has_room, true, "there is room with a fold:", fold);
-        for ((path, _, in_case, folded), place) in asked.iter().zip(places.iter()) {
+        for (row, ((_, _, in_case, folded), place)) in asked.iter().zip(places.iter()).enumerate() {
             let wanted = if fold { *folded } else { *in_case };
-            same(&rt, *place, wanted, "the last, for a path:", *path);
+            same(&rt, *place == wanted, "the last, for a path", row);
         }
-        same(&rt, places[7], 70, "one place more is kept", fold);
+        // one place more is kept
+        assert!(rt; has_room && places[7] == 70);
     }
 }
 
@@ -67,8 +67,8 @@ fn too_few_places_are_refused(rt: HostRuntime) {
     for room in [0, 2, 3] {
         let mut places = [70; 3];
         let has_room = gix_glob_index_last_matches(&index, &paths, false, &mut places[..room]);
-        same(&rt, has_room, room == 3, "there is room:", room);
-        let wanted = if room == 3 { 0 } else { 70 };
-        same(&rt, places[0], wanted, "the first place, of so many:", room);
+        let first = if room == 3 { 0 } else { 70 };
+        let is_so = has_room == (room == 3) && places[0] == first;
+        same(&rt, is_so, "so much room", room);
     }
 }

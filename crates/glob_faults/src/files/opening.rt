@@ -27,16 +27,21 @@ fn each_error_of_opening_is_told(rt: HostRuntime) -> Result<(), Fail> {
         (ErrorKind::Interrupted, "reading patterns: told at opening"),
         (ErrorKind::Other, "reading patterns: told at opening"),
     ];
-    for (kind, words) in rows {
+    for (row, (kind, words)) in rows.into_iter().enumerate() {
         let files = OneFile::new(&rt, "d/ig", Opening::Fails(kind));
         let (answer, buf) = list_of(&files, rt.alloc(), "d/ig")?;
-        same_words(&rt, count_of(answer), words, kind)?;
-        same(&rt, buf.len(), 0, "bytes left at", kind);
+        same_words(&rt, count_of(answer), words, row)?;
+        same(&rt, buf.is_empty(), "no bytes are left", row);
         let mut lists = Vec::new(rt.alloc());
         let (answer, buf) = add_list(&files, rt.alloc(), &mut lists, "d/ig")?;
         let added = answer.map(|is_added| is_added.then_some(0));
-        same_words(&rt, added, words, kind)?;
-        same(&rt, (lists.len(), buf.len()), (0, 0), "left at", kind);
+        same_words(&rt, added, words, row)?;
+        same(
+            &rt,
+            lists.is_empty() && buf.is_empty(),
+            "nothing is left",
+            row,
+        );
     }
     Ok(())
 }
@@ -51,30 +56,21 @@ fn a_file_is_opened_by_its_source_alone(rt: HostRuntime) -> Result<(), Fail> {
     let list = List::from_file(&files, rt.alloc(), source, Some("r"), &mut buf, Whole)?;
     fs::remove_file(&rt, path.as_str())?;
     let list = list.ok_or("no list")?;
-    assert_eq!(rt; list.patterns.len(), 1);
-    let base = list.base.ok_or("no base")?;
-    assert_eq!(rt; base.as_slice(), b"d/".as_slice());
-    let source = list.source.ok_or("no source")?;
-    assert_eq!(rt; source.as_str(), "r/d/ig");
-    Ok(())
-}
-
-/// Catches a call that answers want of memory for a file with a long name.
-#[test]
-fn no_memory_for_a_long_name(rt: HostRuntime) -> Result<(), Fail> {
+    let (base, source) = (list.base.ok_or("no base")?, list.source.ok_or("no source")?);
+    assert!(rt; base.as_slice() == b"d/".as_slice() && source.as_str() == "r/d/ig");
+    // catches a call that answers want of memory for a file with a long name
     let name = "a".repeat(rt.alloc(), 1_200_000)?;
     let name = name.as_str();
     let files = OneFile::new(&rt, name, Opening::Opens("/dev/null"));
     let (answer, _) = list_of(&files, rt.alloc(), name)?;
     let list = answer?.ok_or("no list")?;
-    assert!(rt;
-        list.source
-            .as_ref()
-            .is_some_and(|source| source.as_str() == name)
-    );
+    let is_named = list
+        .source
+        .as_ref()
+        .is_some_and(|source| source.as_str() == name);
+    assert!(rt; is_named);
     let mut lists = Vec::new(rt.alloc());
     let (answer, _) = add_list(&files, rt.alloc(), &mut lists, name)?;
-    assert!(rt; answer?);
-    assert!(rt; lists.pop().is_some_and(|added| added == list));
+    assert!(rt; answer? && lists.pop().is_some_and(|added| added == list));
     Ok(())
 }

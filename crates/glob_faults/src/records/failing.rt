@@ -1,10 +1,13 @@
-//! Reads, writes, flushes and answers of records that fail, each in turn.
+//! Reads, writes, flushes and answers of records that fail, each in turn; and long records, and many.
 use super::{Brackets, Told, Unanswered, check_run};
 use crate::fakes::{Sink, Source};
 use std::io::ErrorKind;
 use std::test::Fail;
 
 const RECORDS: &[u8] = b"ab\n\nc";
+
+/// What is answered for all of them.
+const TEXT: &[u8] = b"<ab><><c>";
 
 /// A piece that is never too short, and a number of calls after which none is left.
 pub(super) const WHOLE: usize = usize::MAX;
@@ -13,11 +16,11 @@ pub(super) const WHOLE: usize = usize::MAX;
 pub(super) const KINDS: [ErrorKind; 2] = [ErrorKind::Interrupted, ErrorKind::Other];
 
 #[test]
-fn each_failed_read_leaves_the_answers_so_far(rt: HostRuntime) -> Result<(), Fail> {
+fn each_failed_read_and_write_leaves_a_beginning(rt: HostRuntime) -> Result<(), Fail> {
     // a read for each byte, and one that finds the end
-    let written: [&[u8]; 7] = [b"", b"", b"", b"<ab>", b"<ab><>", b"<ab><>", b"<ab><><c>"];
+    let written = [0, 0, 0, 4, 6, 6, 9];
     for kind in KINDS {
-        for (successes, text) in written.iter().enumerate() {
+        for (successes, count) in written.into_iter().enumerate() {
             let source = Source::new(RECORDS, 1, successes).failing_with(kind);
             let sink = Sink::new(Vec::new(rt.alloc()), WHOLE, WHOLE);
             let told = if successes < 6 {
@@ -26,88 +29,80 @@ fn each_failed_read_leaves_the_answers_so_far(rt: HostRuntime) -> Result<(), Fai
                 Told::Nothing
             };
             let mut answerer = Brackets::new(WHOLE);
-            check_run(
-                &rt,
-                (source, sink),
-                &mut answerer,
-                (told, text),
-                (kind, successes),
-            )?;
+            let wanted = (told, &TEXT[..count]);
+            check_run(&rt, (source, sink), &mut answerer, wanted, successes)?;
         }
-    }
-    Ok(())
-}
-
-#[test]
-fn each_failed_write_leaves_a_beginning(rt: HostRuntime) -> Result<(), Fail> {
-    let text = b"<ab><><c>".as_slice();
-    for kind in KINDS {
         // a write for each byte; the last fault is that of the last flush
-        for successes in 0..text.len() + 2 {
+        for successes in 0..TEXT.len() + 2 {
             let source = Source::new(RECORDS, WHOLE, WHOLE);
             let sink = Sink::new(Vec::new(rt.alloc()), 1, successes).failing_with(kind);
-            let told = if successes <= text.len() {
+            let told = if successes <= TEXT.len() {
                 Told::Write(kind)
             } else {
                 Told::Nothing
             };
-            let wanted = (told, &text[..successes.min(text.len())]);
-            check_run(
-                &rt,
-                (source, sink),
-                &mut Brackets::new(WHOLE),
-                wanted,
-                (kind, successes),
-            )?;
+            let mut answerer = Brackets::new(WHOLE);
+            let wanted = (told, &TEXT[..successes.min(TEXT.len())]);
+            check_run(&rt, (source, sink), &mut answerer, wanted, successes)?;
         }
     }
     Ok(())
 }
 
 #[test]
-fn a_writer_that_takes_no_byte_has_failed(rt: HostRuntime) -> Result<(), Fail> {
-    let source = Source::new(RECORDS, WHOLE, WHOLE);
-    let sink = Sink::new(Vec::new(rt.alloc()), 0, WHOLE);
-    let wanted = (Told::Write(ErrorKind::WriteZero), b"".as_slice());
-    check_run(&rt, (source, sink), &mut Brackets::new(WHOLE), wanted, 0)
-}
-
-#[test]
 fn each_failed_answer_leaves_those_before_it(rt: HostRuntime) -> Result<(), Fail> {
-    // how many bytes a read gives, and how many records are answered
-    let rows: [(usize, usize, &[u8]); 7] = [
-        (WHOLE, 0, b""),
-        (WHOLE, 1, b"<ab>"),
-        (WHOLE, 2, b"<ab><>"),
-        (WHOLE, 3, b"<ab><><c>"),
-        (1, 0, b""),
-        (1, 1, b"<ab>"),
-        (1, 2, b"<ab><>"),
+    // how many bytes a read and a write move, how many writes succeed, how many records are answered, and what is told and written
+    let chosen = Told::Answer(Unanswered::Chosen);
+    let rows = [
+        (WHOLE, 1, WHOLE, 0, chosen, 0),
+        (WHOLE, 1, WHOLE, 1, chosen, 4),
+        (WHOLE, 1, WHOLE, 2, chosen, 6),
+        (WHOLE, 1, WHOLE, 3, Told::Nothing, 9),
+        (1, 1, WHOLE, 0, chosen, 0),
+        (1, 1, WHOLE, 1, chosen, 4),
+        (1, 1, WHOLE, 2, chosen, 6),
+        // a writer that takes no byte has failed
+        (WHOLE, 0, WHOLE, WHOLE, Told::Write(ErrorKind::WriteZero), 0),
+        // a failed write is told before a failed answer
+        (WHOLE, 1, 2, 1, Told::Write(ErrorKind::Other), 2),
     ];
-    for (piece, successes, text) in rows {
-        let source = Source::new(RECORDS, piece, WHOLE);
-        let sink = Sink::new(Vec::new(rt.alloc()), 1, WHOLE);
-        let told = if successes < 3 {
-            Told::Answer(Unanswered::Chosen)
-        } else {
-            Told::Nothing
-        };
-        let mut answerer = Brackets::new(successes);
-        check_run(
-            &rt,
-            (source, sink),
-            &mut answerer,
-            (told, text),
-            (piece, successes),
-        )?;
+    for (row, (read, write, writes, answers, told, count)) in rows.into_iter().enumerate() {
+        let source = Source::new(RECORDS, read, WHOLE);
+        let sink = Sink::new(Vec::new(rt.alloc()), write, writes);
+        let mut answerer = Brackets::new(answers);
+        let wanted = (told, &TEXT[..count]);
+        check_run(&rt, (source, sink), &mut answerer, wanted, row)?;
     }
     Ok(())
 }
 
+/// No contract says that memory is there for long records.
 #[test]
-fn a_failed_write_is_told_before_a_failed_answer(rt: HostRuntime) -> Result<(), Fail> {
-    let source = Source::new(RECORDS, WHOLE, WHOLE);
-    let sink = Sink::new(Vec::new(rt.alloc()), 1, 2);
-    let wanted = (Told::Write(ErrorKind::Other), b"<a".as_slice());
-    check_run(&rt, (source, sink), &mut Brackets::new(1), wanted, 1)
+fn long_records_and_many_are_answered(rt: HostRuntime) -> Result<(), Fail> {
+    // how long the first record is, and how many records of one byte follow it: a read asks for 16,384 bytes
+    let rows = [
+        (16_383, 1),
+        (16_384, 1),
+        (16_385, 0),
+        (50_000, 20_000),
+        (0, 8_191),
+        (0, 8_192),
+        (1, 8_192),
+    ];
+    for (row, (length, count)) in rows.into_iter().enumerate() {
+        let mut bytes = vec![in rt.alloc(); b'x'; length]?;
+        let mut wanted = vec![in rt.alloc(); b'<'; 1]?;
+        wanted.extend_from_slice(&bytes)?;
+        wanted.extend_from_slice(b">")?;
+        for _ in 0..count {
+            bytes.extend_from_slice(b"\ny")?;
+            wanted.extend_from_slice(b"<y>")?;
+        }
+        bytes.push(b'\n')?;
+        let source = Source::new(&bytes, WHOLE, WHOLE);
+        let sink = Sink::new(Vec::new(rt.alloc()), WHOLE, WHOLE);
+        let wanted = (Told::Nothing, wanted.as_slice());
+        check_run(&rt, (source, sink), &mut Brackets::new(WHOLE), wanted, row)?;
+    }
+    Ok(())
 }

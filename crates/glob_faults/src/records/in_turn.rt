@@ -55,7 +55,7 @@ fn who_waits_for_an_answer_gets_it(rt: HostRuntime) -> Result<(), Fail> {
         (&[b"a", b"b\nc", b"\n\n"], &[0, 0, 4, 9]),
         (&[b"a\nb\nc", b"d"], &[0, 6, 6]),
     ];
-    for (pieces, wanted) in rows {
+    for (row, (pieces, wanted)) in rows.into_iter().enumerate() {
         let flushed = Cell::new(0);
         let mut reader = Watched::new(Asker {
             pieces,
@@ -73,13 +73,8 @@ fn who_waits_for_an_answer_gets_it(rt: HostRuntime) -> Result<(), Fail> {
         let run = stream.run(&mut reader, &mut writer, &mut Brackets::new(usize::MAX));
         assert!(rt; run.is_ok());
         let asker = reader.into_inner();
-        same(
-            &rt,
-            asker.seen.as_slice(),
-            wanted,
-            "flushed before each read of",
-            pieces,
-        );
+        let is_flushed = asker.seen.as_slice() == wanted;
+        same(&rt, is_flushed, "flushed before each read", row);
     }
     Ok(())
 }

@@ -1,7 +1,7 @@
-//! Lists of labels and of ignore lines, whose parsers and copies want memory.
+//! Lists of labels, whose parser and copies want memory.
 use gix_glob::search::Pattern as _;
 use gix_glob::search::pattern::{List, Mapping};
-use glob_lines::{IgnoreLines, LabelLines};
+use glob_lines::LabelLines;
 use std::alloc::AllocError;
 use std::test::Fail;
 
@@ -25,34 +25,16 @@ fn are_read(mappings: &[Mapping<Vec<u8>>]) -> bool {
 }
 
 #[test]
-fn labels_are_read(rt: HostRuntime) -> Result<(), Fail> {
+fn labels_are_read_and_copied(rt: HostRuntime) -> Result<(), Fail> {
     let mappings = LabelLines.bytes_to_patterns(rt.alloc(), LABELS, "labels")?;
     assert!(rt; are_read(&mappings));
+    let mut list = List::empty(rt.alloc());
+    list.patterns = mappings;
+    assert!(rt; copy_of(&list)? == list);
     Ok(())
 }
 
 /// A copy of a list of labels.
 fn copy_of(list: &List<LabelLines>) -> Result<List<LabelLines>, AllocError> {
     list.clone()
-}
-
-#[test]
-fn copies_of_labels_are_equal(rt: HostRuntime) -> Result<(), Fail> {
-    let source = String::from_str(rt.alloc(), "labels")?;
-    let list = List::from_bytes(rt.alloc(), LABELS, source, None, LabelLines)?;
-    assert!(rt; are_read(&list.patterns));
-    assert!(rt; copy_of(&list)? == list);
-    Ok(())
-}
-
-#[test]
-fn ignore_lines_are_read(rt: HostRuntime) -> Result<(), Fail> {
-    let bytes = b"\xEF\xBB\xBF*.o \r\n#c\n!keep.o\n".as_slice();
-    let mappings = IgnoreLines.bytes_to_patterns(rt.alloc(), bytes, "ig")?;
-    let [first, second] = mappings.as_slice() else {
-        return Err(Fail::new("not two patterns"));
-    };
-    assert!(rt; first.sequence_number == 1 && first.pattern.text() == b"*.o".as_slice());
-    assert!(rt; second.sequence_number == 3 && second.pattern.is_negative());
-    Ok(())
 }

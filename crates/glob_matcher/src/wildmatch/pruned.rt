@@ -6,9 +6,6 @@ ghost use Rattle.glob_matcher.specs.Matching.{Splits};
 ghost use Rattle.glob_matcher.specs.Pruning.{Holds, IsStart, IsBoundary, IsAttempt};
 ghost use Rattle.glob_matcher.specs.Private.StarSearch.{wanted_by, AsksFor, Skips, IsComponentEnd, IsTriedEverywhere, IsTriedInComponent, IsTriedInDirectories};
 
-#[cfg(test)]
-mod tests;
-
 use super::mode::Mode;
 use super::slices::token_at;
 use super::tokens::TokenKind;

@@ -1,10 +1,10 @@
 //! The engines answer as the plain program does: on all short patterns and values, and on values of more than a stride of the
-//! scans, with what follows a star at each place. Worked rows show what is rare among these.
+//! scans, with what follows a star at each place.
 ghost use Rattle.std.specs.Prelude.{◌<◌, ◌≤◌, length};
 
 use super::mode::Mode;
 use super::plain::splits_from;
-use super::pruned::{Answer, attempt, is_start, recursive};
+use super::pruned::{Answer, attempt, is_start};
 use super::wildmatch;
 use bitflags::Flags;
 use std::process::Abort;
@@ -43,13 +43,16 @@ fn says_no(answer: &Answer, value: &[u8], at: usize, later: usize) -> bool
     }
 }
 
+/// Tells what isn't so of a pattern and a value. What proves a formatted text is proved once, here.
+fn same(rt: &impl Abort, is_so: bool, asked: &str, pattern: &[u8], value: &[u8]) {
+    assert!(rt; is_so, "{asked}: {pattern:?} on {value:?}");
+}
+
 /// The engine with two marks agrees with the plain program on this pattern and value.
 fn matcher_agrees(rt: &impl Abort, pattern: &[u8], value: &[u8], mode: Mode) {
-    assert_eq!(rt;
-        wildmatch(pattern, value, mode),
-        splits_from(pattern, 0, value, 0, mode),
-        "{pattern:?} on {value:?}, by two marks"
-    );
+    let splits = splits_from(pattern, 0, value, 0, mode);
+    let is_so = wildmatch(pattern, value, mode) == splits;
+    same(rt, is_so, "by two marks", pattern, value);
 }
 
 /// The pruned engine agrees with the plain program on this pattern and value, at each start and place.
@@ -61,11 +64,8 @@ fn attempts_agree(rt: &impl Abort, pattern: &[u8], value: &[u8], mode: Mode) {
         for at in 0..value.len() + 1 {
             let answer = attempt(pattern, place, value, at, mode, 0);
             let splits = splits_from(pattern, place, value, at, mode);
-            assert_eq!(rt;
-                answer == Answer::Match,
-                splits,
-                "{pattern:?} from {place} on {value:?} at {at}"
-            );
+            let is_so = (answer == Answer::Match) == splits;
+            same(rt, is_so, "by an attempt", pattern, value);
             aborts_rightly(rt, pattern, place, value, at, mode, &answer);
         }
     }
@@ -87,10 +87,9 @@ fn aborts_rightly(
         return;
     }
     for later in at..value.len() + 1 {
-        assert!(rt;
-            !(says_no(answer, value, at, later) && splits_from(pattern, place, value, later, mode)),
-            "{pattern:?} from {place} on {value:?} at {at}, {answer:?}, but split at {later}"
-        );
+        let is_wrong = says_no(answer, value, at, later)
+            && splits_from(pattern, place, value, later, mode);
+        same(rt, !is_wrong, "after an abort", pattern, value);
     }
 }
 
@@ -120,17 +119,9 @@ fn all_agree(rt: &impl Abort, letters: &[u8], longest: usize, bytes: &[u8])
 }
 
 #[test]
-fn escapes_agree_with_the_plain_program(rt: HostRuntime) {
+fn short_texts_agree_with_the_plain_program(rt: HostRuntime) {
     all_agree(&rt, b"*/a?\\", 4, b"aA/");
-}
-
-#[test]
-fn sets_agree_with_the_plain_program(rt: HostRuntime) {
     all_agree(&rt, b"*a[]", 4, b"aA/");
-}
-
-#[test]
-fn runs_and_slashes_agree_with_the_plain_program(rt: HostRuntime) {
     all_agree(&rt, b"*/a", 6, b"a/");
 }
 
@@ -166,34 +157,5 @@ fn long_values_agree_with_the_plain_program(rt: HostRuntime) {
         for bits in 0..4u8 {
             agrees_on_long_values(&rt, pattern, Mode::from_bits_retain(bits));
         }
-    }
-}
-
-#[test]
-fn rows_of_both_engines(rt: HostRuntime) {
-    let mut stars = [b'*'; 126];
-    for star in 0..63 {
-        stars[2 * star + 1] = b'a';
-    }
-    let letters = [b'a'; 63];
-    let path = Mode::NO_MATCH_SLASH_LITERAL;
-    for (pattern, value, mode, answer) in [
-        // an abort at the value's start says nothing of a later place
-        (b"**/x".as_slice(), b"ax".as_slice(), path, false),
-        // a star that crosses slashes goes on where a component was lost
-        (b"**/a*c", b"x/ab/ac", path, true),
-        // as many star tokens as the pruned engine knows what to say of
-        (&stars, &letters, Mode::default(), true),
-    ] {
-        assert_eq!(rt;
-            wildmatch(pattern, value, mode),
-            answer,
-            "{pattern:?} on {value:?}, by two marks"
-        );
-        assert_eq!(rt;
-            recursive(pattern, value, mode),
-            answer,
-            "{pattern:?} on {value:?}, by attempts"
-        );
     }
 }

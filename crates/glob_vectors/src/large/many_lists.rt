@@ -1,6 +1,5 @@
 //! Many lists, many patterns, and many matches.
-use crate::lines::{TOP, decided, listed};
-use crate::lists::list_of;
+use crate::engines::{decided, list_of, listed};
 use crate::texts::repeated;
 use gix_glob::pattern::Case;
 use gix_glob::search::pattern::List;
@@ -15,22 +14,6 @@ const LISTS: usize = 65_600;
 /// More than a million.
 const PATTERNS: usize = 1_000_100;
 
-/// The last pair of those that match the path `a`, how many they are, and the pair that decides.
-type Matches = (Option<(usize, usize)>, usize, Option<(usize, usize)>);
-
-/// What the index of the lists answers for the path `a`.
-fn matches_of(
-    rt: &(impl Abort + AllocGlobal),
-    lists: &[List<IgnoreLines>],
-) -> Result<Matches, Fail> {
-    let path = RepositoryPath::new(b"a", false).expect(rt, "a path");
-    assert!(rt; bases_are_folders(lists));
-    let index = ListIndex::new(rt.alloc(), lists, Case::Sensitive)?;
-    let mut pairs = Vec::new(rt.alloc());
-    index.matches_into(&path, &mut pairs)?;
-    Ok((pairs.last().copied(), pairs.len(), index.decide(&path)))
-}
-
 /// Compares the pair that decides about the path `a`, the last of so many matches, and what `run_ignore` writes of it.
 fn check(
     rt: &(impl Abort + AllocGlobal),
@@ -39,8 +22,14 @@ fn check(
     count: usize,
     text: &[u8],
 ) -> Result<(), Fail> {
-    assert!(rt; matches_of(rt, lists)? == (Some(pair), count, Some(pair)));
-    let output = decided(rt, lists, Case::Sensitive, b"a")?;
+    let path = RepositoryPath::new(b"a", false).ok_or("a path")?;
+    assert!(rt; bases_are_folders(lists));
+    let index = ListIndex::new(rt.alloc(), lists, Case::Sensitive)?;
+    let mut pairs = Vec::new(rt.alloc());
+    index.matches_into(&path, &mut pairs)?;
+    assert!(rt; pairs.last().copied() == Some(pair) && pairs.len() == count);
+    assert!(rt; index.decide(&path) == Some(pair));
+    let output = decided(rt, lists, b"a")?;
     assert!(rt; output.as_slice() == text);
     Ok(())
 }
@@ -49,7 +38,7 @@ fn check(
 fn many_lists_decide(rt: HostRuntime) -> Result<(), Fail> {
     let mut lists = Vec::new(rt.alloc());
     for _ in 0..LISTS {
-        lists.push(list_of(rt.alloc(), IgnoreLines, b"a", None)?)?;
+        lists.push(list_of(rt.alloc(), IgnoreLines, b"a")?)?;
     }
     check(&rt, &lists, (LISTS - 1, 0), LISTS, b"ignored 65600:1\n")?;
     lists.truncate(1_001);
@@ -57,9 +46,9 @@ fn many_lists_decide(rt: HostRuntime) -> Result<(), Fail> {
 }
 
 #[test]
-fn many_ignore_lines_decide(rt: HostRuntime) -> Result<(), Fail> {
+fn many_lines_decide(rt: HostRuntime) -> Result<(), Fail> {
     let lines = repeated(rt.alloc(), ("a\nb\n", PATTERNS / 2, ""))?;
-    let lists = [list_of(rt.alloc(), IgnoreLines, &lines, None)?];
+    let lists = [list_of(rt.alloc(), IgnoreLines, &lines)?];
     let pair = (0, PATTERNS - 2);
     check(&rt, &lists, pair, PATTERNS / 2, b"ignored 1:1000099\n")
 }
@@ -67,21 +56,16 @@ fn many_ignore_lines_decide(rt: HostRuntime) -> Result<(), Fail> {
 #[test]
 fn of_many_patterns_those_that_match_are_listed(rt: HostRuntime) -> Result<(), Fail> {
     let patterns = repeated(rt.alloc(), ("q\n", PATTERNS, "b\n"))?;
-    let output = listed(&rt, TOP, &patterns, b"a\nb")?;
+    let output = listed(rt.alloc(), &patterns, b"a\nb")?;
     assert!(rt; output.as_slice() == b"\n1000101\n".as_slice());
-    Ok(())
-}
-
-/// With the index, and without it.
-#[test]
-fn many_matches_are_listed(rt: HostRuntime) -> Result<(), Fail> {
+    // with the index, and without it
     for others in [0, 2_000] {
         let mut patterns = repeated(rt.alloc(), ("a\n", 1_001, ""))?;
         patterns.extend_from_slice(&repeated(rt.alloc(), ("q\n", others, ""))?)?;
-        let output = listed(&rt, TOP, &patterns, b"a\nb")?;
+        let output = listed(rt.alloc(), &patterns, b"a\nb")?;
         assert!(rt; output.starts_with(b"1 2 3 4 5 6 7 8 9 10 11 "));
         assert!(rt; output.ends_with(b" 999 1000 1001\n\n"));
-        assert_eq!(rt; output.len(), 9 * 2 + 90 * 3 + 900 * 4 + 2 * 5 + 1);
+        assert!(rt; output.len() == 9 * 2 + 90 * 3 + 900 * 4 + 2 * 5 + 1);
     }
     Ok(())
 }

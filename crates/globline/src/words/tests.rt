@@ -81,20 +81,16 @@ fn check_on<F: Files, I: Read + Drop>(
     let alloc = rt.alloc();
     let (status, output, errors) = run(files, alloc, words, input, Vec::new(alloc));
     let answer = (status, output.as_slice(), errors.as_slice());
-    assert_eq!(rt; answer, wanted, "{words:?}");
+    assert!(rt; answer == wanted, "{words:?}");
 }
 
 #[test]
 fn wild_answers_each_line(rt: HostRuntime) -> Result<(), AllocError> {
-    let rows: [(&str, &str, &[u8], &[u8]); 8] = [
-        ("plain", "a*b", b"ab\naxb\nb\n", b"yes\nyes\nno\n"),
-        ("plain", "a?", b"", b""),
-        ("plain", "*", b"a/b\n", b"yes\n"),
-        ("path", "*", b"a/b\na\n", b"no\nyes\n"),
-        ("plain", "*.RS", b"lib.rs\n", b"no\n"),
+    let rows: [(&str, &str, &[u8], &[u8]); 4] = [
+        ("plain", "*.RS", b"lib.rs\na/b.RS\n", b"no\nyes\n"),
+        ("path", "*.RS", b"lib.RS\na/b.RS\n", b"yes\nno\n"),
         ("fold", "*.RS", b"lib.rs\na/b.rs\n", b"yes\nyes\n"),
         ("path-fold", "*.RS", b"lib.rs\na/b.rs\n", b"yes\nno\n"),
-        ("plain", "", b"\na\n", b"yes\nno\n"),
     ];
     for (mode, pattern, lines, text) in rows {
         let words = words_of(rt.alloc(), &["wild", mode, pattern])?;
@@ -104,56 +100,12 @@ fn wild_answers_each_line(rt: HostRuntime) -> Result<(), AllocError> {
 }
 
 #[test]
-fn wrong_words_show_the_usage(rt: HostRuntime) -> Result<(), AllocError> {
-    let rows: [&[&str]; 22] = [
-        &[],
-        &["wild"],
-        &["wild", "plain"],
-        &["wild", "plain", "a", "b"],
-        &["wild", "Plain", "a"],
-        &["wild", "", "a"],
-        &["Wild", "plain", "a"],
-        &["plain", "wild", "a"],
-        &["list"],
-        &["list", "sensitive", "f"],
-        &["list", "sensitive", "f", "-", "-"],
-        &["list", "upper", "f", "-"],
-        &["list", "sensitive", "", "-"],
-        &["list", "sensitive", "/", "-"],
-        &["list", "sensitive", "//", ""],
-        &["ignore"],
-        &["ignore", "sensitive", "-"],
-        &["ignore", "upper", "-", "f"],
-        &["ignore", "sensitive", "-", "/"],
-        &["ignore", "sensitive", "-", "f", "//"],
-        &["Ignore", "sensitive", "-", "f"],
-        &["", "", ""],
-    ];
-    for words in rows {
-        let words = words_of(rt.alloc(), words)?;
-        check(&rt, &words, Broken, (2, b"", USAGE.as_bytes()));
-    }
-    Ok(())
-}
-
-#[test]
-fn a_failed_read_is_told(rt: HostRuntime) -> Result<(), AllocError> {
+fn failing_devices_are_told(rt: HostRuntime) -> Result<(), Fail> {
     let words = words_of(rt.alloc(), &["wild", "plain", "a"])?;
     check(&rt, &words, Broken, (1, b"", b"globline: read failed\n"));
-    Ok(())
-}
-
-#[test]
-fn a_failed_write_is_told(rt: HostRuntime) -> Result<(), AllocError> {
-    let words = words_of(rt.alloc(), &["wild", "plain", "a"])?;
     let (status, _, errors) = run(&rt, rt.alloc(), &words, b"a\n".as_slice(), Broken);
-    assert_eq!(rt; status, 1);
-    assert_eq!(rt; errors.as_slice(), b"globline: write failed\n".as_slice());
-    Ok(())
-}
-
-#[test]
-fn failing_errors_change_no_status(rt: HostRuntime) -> Result<(), Fail> {
+    assert!(rt; status == 1 && errors.as_slice() == b"globline: write failed\n".as_slice());
+    // failing errors change no status
     for (words, status) in [
         (["wild", "plain", "a"].as_slice(), 1),
         (["wild"].as_slice(), 2),
@@ -169,7 +121,7 @@ fn failing_errors_change_no_status(rt: HostRuntime) -> Result<(), Fail> {
             &mut output,
             &mut Broken,
         );
-        assert_eq!(rt; answer, status, "{words:?}");
+        assert!(rt; answer == status);
     }
     Ok(())
 }
@@ -241,10 +193,10 @@ fn want_of_memory_in_opening_is_a_failed_read(rt: HostRuntime) -> Result<(), All
 #[test]
 fn words_that_cannot_be_had_are_told(rt: HostRuntime) -> Result<(), Fail> {
     let mut errors = Vec::new(rt.alloc());
-    assert_eq!(rt; without_words(ErrorKind::OutOfMemory, &mut errors), 1);
-    assert_eq!(rt; errors.as_slice(), b"globline: no memory\n".as_slice());
+    assert!(rt; without_words(ErrorKind::OutOfMemory, &mut errors) == 1);
+    assert!(rt; errors.as_slice() == b"globline: no memory\n".as_slice());
     let mut errors = Vec::new(rt.alloc());
-    assert_eq!(rt; without_words(ErrorKind::InvalidData, &mut errors), 2);
-    assert_eq!(rt; errors.as_slice(), USAGE.as_bytes());
+    assert!(rt; without_words(ErrorKind::InvalidData, &mut errors) == 2);
+    assert!(rt; errors.as_slice() == USAGE.as_bytes());
     Ok(())
 }

@@ -1,0 +1,167 @@
+//! How many patterns an index asks: those alone that can match by what a path shows. And the engines ask it.
+use crate::compare::same;
+use crate::engines::{decided, list_of, listed};
+use gix_glob::pattern::Case;
+use glob_lines::{IgnoreLines, PlainLines, bases_are_folders};
+use glob_lists::{CountedDecision, ListIndex, RepositoryPath};
+use std::alloc::AllocError;
+use std::test::Fail;
+
+/// Pattern lines, how many other ones follow, a path, and what an index of the lines answers for it.
+type Row<'a> = (&'a str, usize, &'a str, Option<(usize, usize)>, usize);
+
+/// A pattern is asked where the path ends as its literal end does; where it has none, where the path's last part has its literal bytes,
+/// side by side as they stand in it. With few lines the look-up doesn't pay, and each is asked.
+const ROWS: [Row<'static>; 16] = [
+    ("a\nb\na\n/c/a\n", 12, "a", Some((0, 2)), 2),
+    ("a\nb\na\n/c/a\n", 12, "c/a", Some((0, 3)), 1),
+    ("a\nb\na\n/c/a\n", 12, "b", Some((0, 1)), 1),
+    ("a\nb\na\n/c/a\n", 12, "x", None, 0),
+    ("*.rs\n*.c\nx.rs\n", 12, "y.rs", Some((0, 0)), 1),
+    ("*ab*\n*ac*\n*b*\n", 12, "cba", Some((0, 2)), 1),
+    ("*ab*\n*ac*\n*d*\n", 12, "cba", None, 0),
+    ("*cb*\n*ab*\n*d*\n", 12, "cba", Some((0, 0)), 1),
+    ("*c*a*\n*a*c*\n*a?b*\n", 12, "cba", Some((0, 0)), 3),
+    ("*c/\n*bc/\nabc\n*xc\n", 12, "yabc", None, 3),
+    ("*c\n*bc\nabc\n*xc\n", 12, "abc", Some((0, 2)), 1),
+    ("*.b\n*a.b\n*.b\n*a.b/\n", 12, "xa.b", Some((0, 2)), 2),
+    (
+        "abcdefghi\nxbcdefghi\nbcdefghi\n",
+        12,
+        "abcdefghi",
+        Some((0, 0)),
+        3,
+    ),
+    ("a\nb\nc\nd\ne\nf\ng\nh\n", 0, "a", Some((0, 0)), 1),
+    ("a\nb\nc\nd\ne\nf\ng\n", 0, "a", Some((0, 0)), 7),
+    (
+        "*a\n*b\n*ca\n*da\n*ea\n*fa\n*ga\n*ha\n",
+        0,
+        "a",
+        Some((0, 0)),
+        8,
+    ),
+];
+
+#[test]
+fn only_what_can_match_is_asked(rt: HostRuntime) -> Result<(), Fail> {
+    for (row, (text, others, path, pair, asked)) in ROWS.into_iter().enumerate() {
+        let mut lines = Vec::from_slice(rt.alloc(), text.as_bytes())?;
+        for _ in 0..others {
+            // no path of the rows ends so
+            lines.extend_from_slice(b"q\n")?;
+        }
+        let lists = [list_of(rt.alloc(), PlainLines, &lines)?];
+        assert!(rt; bases_are_folders(&lists));
+        let index = ListIndex::new(rt.alloc(), &lists, Case::Sensitive)?;
+        let named = RepositoryPath::new(path.as_bytes(), false).ok_or("a path")?;
+        let wanted = CountedDecision { pair, asked };
+        same(&rt, index.decide_and_count(&named) == wanted, "asked", row);
+        let found = index.matches(rt.alloc(), &named)?;
+        same(&rt, found.last().copied() == pair, "matches", row);
+    }
+    Ok(())
+}
+
+/// The next number of a fixed row of numbers.
+fn next(seed: &mut u32) -> usize {
+    *seed = seed.wrapping_mul(1_664_525).wrapping_add(1_013_904_223);
+    (*seed / 65_536) as usize
+}
+
+/// Syllables of names. They have no `n` and no `o`, which the sets of bytes don't tell from a dot and a slash.
+const SYLLABLES: [&str; 12] = [
+    "ba", "ce", "di", "fu", "ga", "hi", "ju", "ke", "la", "mi", "re", "su",
+];
+
+/// Appends so many syllables behind a sign.
+fn append_name(
+    text: &mut String,
+    seed: &mut u32,
+    sign: &str,
+    count: usize,
+) -> Result<(), AllocError> {
+    text.push_str(sign)?;
+    for _ in 0..count {
+        text.push_str(SYLLABLES[next(seed) % 12])?;
+    }
+    Ok(())
+}
+
+/// Appends a pattern line: a name, an ending of names, a folder, a rooted path, a part of a name, or a name that is kept.
+fn append_pattern(text: &mut String, seed: &mut u32) -> Result<(), AllocError> {
+    match next(seed) % 8 {
+        0 | 1 => append_name(text, seed, "", 3)?,
+        2 | 3 => append_name(text, seed, "*.", 2)?,
+        4 => {
+            append_name(text, seed, "", 3)?;
+            text.push('/')?;
+        }
+        5 => {
+            append_name(text, seed, "/", 3)?;
+            append_name(text, seed, "/", 3)?;
+        }
+        6 => {
+            append_name(text, seed, "*", 3)?;
+            text.push('*')?;
+        }
+        _ => {
+            append_name(text, seed, "!", 3)?;
+            append_name(text, seed, ".", 1)?;
+        }
+    }
+    text.push('\n')
+}
+
+#[test]
+fn of_a_thousand_patterns_few_are_asked(rt: HostRuntime) -> Result<(), Fail> {
+    let mut seed = 7;
+    let mut lines = String::new(rt.alloc());
+    for _ in 0..1_000 {
+        append_pattern(&mut lines, &mut seed)?;
+    }
+    let lists = [list_of(rt.alloc(), PlainLines, lines.as_bytes())?];
+    assert!(rt; bases_are_folders(&lists));
+    let index = ListIndex::new(rt.alloc(), &lists, Case::Sensitive)?;
+    let (mut asked, mut undecided): (usize, usize) = (0, 0);
+    for _ in 0..300 {
+        let mut path = String::new(rt.alloc());
+        append_name(&mut path, &mut seed, "", 3)?;
+        append_name(&mut path, &mut seed, "/", 3)?;
+        append_name(&mut path, &mut seed, ".", 2)?;
+        let named = RepositoryPath::new(path.as_bytes(), false).ok_or("a path")?;
+        let counted = index.decide_and_count(&named);
+        asked = asked.saturating_add(counted.asked);
+        undecided = undecided.saturating_add(usize::from(counted.pair.is_none()));
+    }
+    // A path shows its own ending, one of 144, which some two patterns ask for, and few that ask for a part of its name. In
+    // turn each of the 1,000 would be asked where none decides.
+    assert!(rt; asked <= 1_500 && undecided >= 30);
+    Ok(())
+}
+
+/// So many letters `a`.
+fn append_letters(text: &mut Vec<u8>, count: usize) -> Result<(), AllocError> {
+    let long = text.len().saturating_add(count);
+    text.resize(long, b'a')
+}
+
+/// With the index an engine answers in a moment; without it each path takes seconds, and all of them minutes: the lines take long to
+/// test, and the index passes them over, since they have another end.
+#[test]
+fn the_engines_ask_the_index(rt: HostRuntime) -> Result<(), Fail> {
+    let (mut patterns, mut paths) = (Vec::new(rt.alloc()), Vec::new(rt.alloc()));
+    for _ in 0..30 {
+        patterns.push(b'*')?;
+        append_letters(&mut patterns, 8_000)?;
+        patterns.extend_from_slice(b"c*cccccccb\nd\nd\n")?;
+        append_letters(&mut paths, 16_000)?;
+        paths.extend_from_slice(b"b\n")?;
+    }
+    let output = listed(rt.alloc(), &patterns, &paths)?;
+    assert!(rt; output.as_slice() == [b'\n'; 30].as_slice());
+    let lists = [list_of(rt.alloc(), IgnoreLines, &patterns)?];
+    let output = decided(&rt, &lists, &paths)?;
+    assert!(rt; output.as_slice() == b"none\n".repeat(rt.alloc(), 30)?.as_slice());
+    Ok(())
+}

@@ -1,8 +1,0 @@
-//! Rows of matching: patterns and values, in each mode.
-mod engines;
-mod hostile_patterns;
-mod long_values;
-pub(crate) mod modes;
-mod rules;
-mod sets;
-mod tokens;

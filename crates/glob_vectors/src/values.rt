@@ -1,0 +1,100 @@
+//! Patterns, mappings and lists as values: taken apart, copied, empty, and ordered.
+use crate::compare::same;
+use bitflags::Flags;
+use gix_glob::pattern::{Case, Pattern};
+use gix_glob::search::Pattern as _;
+use gix_glob::search::pattern::{List, Mapping};
+use glob_lines::PlainLines;
+use std::alloc::{AllocError, Global};
+use std::cmp::Ordering;
+use std::test::Fail;
+
+#[test]
+fn values_are_taken_apart_and_copied(rt: HostRuntime) -> Result<(), Fail> {
+    let alloc = rt.alloc();
+    let negated = Pattern::from_bytes(alloc, b"!a/*.c")?.ok_or("a pattern")?;
+    assert!(rt; negated.is_negative() && negated.clone()? == negated);
+    let (text, mode, place) = negated.into_parts();
+    assert!(rt; text.as_slice() == b"a/*.c".as_slice() && mode.bits() == 8 && place == Some(2));
+    let back = Pattern::from_parts(text, mode, None)
+        .err()
+        .ok_or("no pattern")?;
+    assert!(rt; back.as_slice() == b"a/*.c".as_slice());
+    let list: List<PlainLines> = List::empty(alloc);
+    assert!(rt; list.patterns.is_empty() && list.source.is_none() && list.base.is_none());
+    let left = list.strip_base_handle_recompute_basename_pos(b"a", Some(0), Case::Sensitive);
+    assert!(rt; left == Some((b"a".as_slice(), Some(0))));
+    assert!(rt; list.clone()? == list);
+    Ok(())
+}
+
+/// Whether the first of two values is the lesser, by all comparisons.
+fn ascend<T: Ord>(first: &T, second: &T) -> bool {
+    let is_less = first.cmp(second) == Ordering::Less && first != second;
+    is_less && second.cmp(first) == Ordering::Greater && first.cmp(first) == Ordering::Equal
+}
+
+/// The mapping of a pattern line, with a value and a number.
+fn mapping(
+    alloc: Global,
+    (line, value, sequence_number): (&str, u8, usize),
+) -> Result<Mapping<u8>, Fail> {
+    let pattern = Pattern::from_bytes(alloc, line.as_bytes())?.ok_or("a pattern")?;
+    Ok(Mapping {
+        pattern,
+        value,
+        sequence_number,
+    })
+}
+
+/// The pattern lines of a list, its source and its base.
+type Parts = (&'static str, Option<&'static str>, Option<&'static str>);
+
+/// Such a list.
+fn list(alloc: Global, (lines, source, base): Parts) -> Result<List<PlainLines>, AllocError> {
+    let patterns = PlainLines.bytes_to_patterns(alloc, lines.as_bytes(), "")?;
+    let source = match source {
+        Some(text) => Some(String::from_str(alloc, text)?),
+        None => None,
+    };
+    let base = match base {
+        Some(text) => Some(Vec::from_slice(alloc, text.as_bytes())?),
+        None => None,
+    };
+    Ok(List {
+        patterns,
+        source,
+        base,
+    })
+}
+
+/// Mappings ascend by pattern, value and number; lists by mappings, source and base.
+#[test]
+fn values_ascend(rt: HostRuntime) -> Result<(), Fail> {
+    let mappings = [
+        (("/", 1, 2), ("a", 0, 1)),
+        (("a", 1, 2), ("b", 0, 1)),
+        (("a", 1, 2), ("!a", 0, 1)),
+        (("!a", 1, 2), ("/a", 0, 1)),
+        (("a", 0, 1), ("a", 1, 0)),
+        (("a", 0, 1), ("a", 0, 2)),
+    ];
+    for (row, (low, high)) in mappings.into_iter().enumerate() {
+        let (first, second) = (mapping(rt.alloc(), low)?, mapping(rt.alloc(), high)?);
+        same(&rt, ascend(&first, &second), "mappings", row);
+    }
+    let lists: [(Parts, Parts); 7] = [
+        (("", Some("b"), Some("b")), ("a", None, None)),
+        (("a", Some("b"), None), ("a\nb", None, None)),
+        (("a\nb", None, None), ("b", None, None)),
+        (("a", None, Some("")), ("a", Some(""), None)),
+        (("", None, Some("")), ("", Some(""), None)),
+        (("", Some("a"), Some("")), ("", Some("b"), None)),
+        (("", Some("a"), None), ("", Some("a"), Some(""))),
+    ];
+    for (row, (low, high)) in lists.into_iter().enumerate() {
+        let (first, second) = (list(rt.alloc(), low)?, list(rt.alloc(), high)?);
+        same(&rt, ascend(&first, &second), "lists", row);
+    }
+    Ok(())
+}
