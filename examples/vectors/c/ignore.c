@@ -1,7 +1,7 @@
 /* Rows of ignore files and of paths: which line decides. */
 #include "rows.h"
 
-enum { MOST_RULES = 64, MOST_FILES = 16 };
+enum { MOST_RULES = 256, MOST_FILES = 16 };
 
 /* The patterns of an ignore file with the numbers of their lines, what is prepared of them, and the folder of the file. */
 struct file {
