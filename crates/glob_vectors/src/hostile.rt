@@ -54,20 +54,12 @@ fn patterns_and_values_that_try_an_engine(rt: HostRuntime) -> Result<(), Fail> {
         let text = repeated(rt.alloc(), pattern)?;
         let mut value = repeated(rt.alloc(), value)?;
         let parsed = Pattern::from_bytes(rt.alloc(), &text)?.ok_or("a pattern")?;
-        same(
-            &rt,
-            wildmatch(&text, &value, mode) == answer,
-            "wildmatch",
-            row,
-        );
+        let is_matched = wildmatch(&text, &value, mode);
+        same(&rt, is_matched == answer, "wildmatch", row);
         same(&rt, parsed.matches(&value, mode) == answer, "parsed", row);
         if by_recursion {
-            same(
-                &rt,
-                recursive(&text, &value, mode) == answer,
-                "recursive",
-                row,
-            );
+            let is_matched = recursive(&text, &value, mode);
+            same(&rt, is_matched == answer, "recursive", row);
         }
         value.push(b'\n')?;
         let written = answered(rt.alloc(), &text, mode, &value)?;
@@ -77,17 +69,42 @@ fn patterns_and_values_that_try_an_engine(rt: HostRuntime) -> Result<(), Fail> {
     Ok(())
 }
 
-/// A line, paths, and what `run_list` and `run_ignore` write for them.
-const LINES: [(Repeated, Repeated, &[u8], &[u8]); 9] = [
-    (("[:", 50_000, "a]"), (":", 1, ""), b"1\n", b"ignored 1:1\n"),
-    (("[:", 50_000, "a]"), ("b", 1, ""), b"\n", b"none\n"),
-    (("[:", 50_000, "a]"), ("b", 100, ""), b"\n", b"none\n"),
-    (("[:", 50_000, "a"), (":", 1, ""), b"\n", b"none\n"),
-    (("[:", 50_000, "a"), ("[", 100, ""), b"\n", b"none\n"),
-    (("[", 100_000, ""), ("[", 1, ""), b"\n", b"none\n"),
-    (("[", 100_000, "]"), ("[", 1, ""), b"1\n", b"ignored 1:1\n"),
-    (("a", 100_000, "]"), ("b", 100, ""), b"\n", b"none\n"),
+/// What may begin a line, the rest of it, paths, and what `run_list` and `run_ignore` write for them.
+type Lines = (
+    &'static [&'static str],
+    Repeated,
+    Repeated,
+    &'static [u8],
+    &'static [u8],
+);
+
+/// A set, and a star before one.
+const SET: &[&str] = &["[", "*["];
+
+/// The lines.
+const LINES: [Lines; 9] = [
     (
+        SET,
+        ("[:", 50_000, "a]"),
+        (":", 1, ""),
+        b"1\n",
+        b"ignored 1:1\n",
+    ),
+    (SET, ("[:", 50_000, "a]"), ("b", 1, ""), b"\n", b"none\n"),
+    (SET, ("[:", 50_000, "a]"), ("b", 100, ""), b"\n", b"none\n"),
+    (SET, ("[:", 50_000, "a"), (":", 1, ""), b"\n", b"none\n"),
+    (SET, ("[:", 50_000, "a"), ("[", 100, ""), b"\n", b"none\n"),
+    (SET, ("[", 100_000, ""), ("[", 1, ""), b"\n", b"none\n"),
+    (
+        SET,
+        ("[", 100_000, "]"),
+        ("[", 1, ""),
+        b"1\n",
+        b"ignored 1:1\n",
+    ),
+    (SET, ("a", 100_000, "]"), ("b", 100, ""), b"\n", b"none\n"),
+    (
+        &[""],
         ("*a", 64, "\nb\n"),
         ("a", 64, "\nb\n"),
         b"1\n2\n",
@@ -97,14 +114,10 @@ const LINES: [(Repeated, Repeated, &[u8], &[u8]); 9] = [
 
 #[test]
 fn lines_that_try_an_engine(rt: HostRuntime) -> Result<(), Fail> {
-    for (row, (line, paths, list, ignore)) in LINES.into_iter().enumerate() {
+    for (row, (fronts, line, paths, list, ignore)) in LINES.into_iter().enumerate() {
         let paths = repeated(rt.alloc(), paths)?;
-        for begins in ["[", "*["] {
-            let mut lines = Vec::new(rt.alloc());
-            // (the last row has no set)
-            if row < 8 {
-                lines.extend_from_slice(begins.as_bytes())?;
-            }
+        for front in fronts {
+            let mut lines = Vec::from_slice(rt.alloc(), front.as_bytes())?;
             lines.extend_from_slice(&repeated(rt.alloc(), line)?)?;
             let written = listed(rt.alloc(), &lines, &paths)?;
             same(&rt, written.as_slice() == list, "run_list", row);

@@ -29,40 +29,49 @@ type Row<'a> = (
     (&'a [u8], &'a [u8]),
 );
 
+/// What is left of the pattern where there is none.
+const NO_PATTERN: (&[u8], u32, usize, &[u8]) = (b"none", 0, 7, b"none");
+
+/// The same of the macro.
+const NO_NAME: (&[u8], &[u8]) = (b"none", b"none");
+
+/// The rows.
+const ROWS: [Row<'static>; 9] = [
+    (
+        (b"\xef\xbb\xbf*.c text -diff\r\nx", 0, false),
+        (1, 1),
+        (b"*.c", 3, 0, b" text -diff"),
+        NO_NAME,
+    ),
+    (
+        (b"\xef\xbb\xbfx a", 1, false),
+        (1, 0),
+        (b"\xef\xbb\xbfx", 1, usize::MAX, b" a"),
+        NO_NAME,
+    ),
+    (
+        (b"\"/d/\\\\*\\t\" a=\"v\n\n", 0, false),
+        (1, 1),
+        (b"d/\\*\t", 16, 2, b" a=\"v"),
+        NO_NAME,
+    ),
+    ((b" #x a\nx a", 4, true), (0, 3), NO_PATTERN, NO_NAME),
+    (
+        (b"[attr]m a -b", 0, true),
+        (2, 0),
+        NO_PATTERN,
+        (b"m", b" a -b"),
+    ),
+    ((b"[attr]m a -b", 0, false), (4, 0), NO_PATTERN, NO_NAME),
+    ((b"[attr]m=v a", 0, true), (5, 0), NO_PATTERN, NO_NAME),
+    ((b"x a #", 0, true), (6, 0), NO_PATTERN, NO_NAME),
+    ((b"\"!y\"a", 0, false), (7, 0), NO_PATTERN, NO_NAME),
+];
+
 #[test]
 fn each_argument_gets_its_own(rt: HostRuntime) {
-    let none: (&[u8], u32, usize, &[u8]) = (b"none", 0, 7, b"none");
-    let no_macro: (&[u8], &[u8]) = (b"none", b"none");
-    let rows: [Row<'_>; 9] = [
-        (
-            (b"\xef\xbb\xbf*.c text -diff\r\nx", 0, false),
-            (1, 1),
-            (b"*.c", 3, 0, b" text -diff"),
-            no_macro,
-        ),
-        (
-            (b"\xef\xbb\xbfx a", 1, false),
-            (1, 0),
-            (b"\xef\xbb\xbfx", 1, usize::MAX, b" a"),
-            no_macro,
-        ),
-        (
-            (b"\"/d/\\\\*\\t\" a=\"v\n\n", 0, false),
-            (1, 1),
-            (b"d/\\*\t", 16, 2, b" a=\"v"),
-            no_macro,
-        ),
-        ((b" #x a\nx a", 4, true), (0, 3), none, no_macro),
-        ((b"[attr]m a -b", 0, true), (2, 0), none, (b"m", b" a -b")),
-        ((b"[attr]m a -b", 0, false), (4, 0), none, no_macro),
-        ((b"[attr]m=v a", 0, true), (5, 0), none, no_macro),
-        ((b"x a #", 0, true), (6, 0), none, no_macro),
-        ((b"\"!y\"a", 0, false), (7, 0), none, no_macro),
-    ];
-    for (row, ((bytes, number, is_top), (kind, left), wanted, wanted_macro)) in rows
-        .into_iter()
-        .enumerate()
-    {
+    for (row, (asked, (kind, left), wanted, wanted_macro)) in ROWS.into_iter().enumerate() {
+        let (bytes, number, is_top) = asked;
         let mut lines = GlobLines {
             rest: bytes,
             number,

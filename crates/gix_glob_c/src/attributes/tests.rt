@@ -105,6 +105,22 @@ fn the_strongest_line_decides(rt: HostRuntime) {
     }
 }
 
+/// A path, a name, the room for texts and for marks, and what is told.
+type Asked<'a> = (&'a [u8], &'a [u8], (usize, usize), Option<(u32, &'a [u8])>);
+
+/// Two lines match `d`, two macros are put in, and for `r` all is told.
+const BY_MACROS: [Asked<'static>; 9] = [
+    (b"x", b"p", (11, 4), Some((3, b"2"))),
+    (b"d", b"o", (11, 4), Some((3, b"n"))),
+    (b"e", b"text", (11, 4), Some((2, b""))),
+    (b"f", b"text", (11, 4), Some((1, b""))),
+    (b"d", b"r", (1, 4), None),
+    (b"d", b"r", (2, 4), None),
+    (b"d", b"r", (3, 4), None),
+    (b"d", b"r", (4, 4), Some((0, b""))),
+    (b"d", b"r", (11, 3), None),
+];
+
 #[test]
 fn macros_are_put_in(rt: HostRuntime) {
     let lines = [
@@ -139,19 +155,7 @@ fn macros_are_put_in(rt: HostRuntime) {
         lists: &lists,
         macros: &macros,
     };
-    // a path, a name, and the room for texts and for marks. Two lines match `d`, two macros are put in, and for `r` all is told
-    let rows: [(&[u8], &[u8], (usize, usize), Option<(u32, &[u8])>); 9] = [
-        (b"x", b"p", (11, 4), Some((3, b"2"))),
-        (b"d", b"o", (11, 4), Some((3, b"n"))),
-        (b"e", b"text", (11, 4), Some((2, b""))),
-        (b"f", b"text", (11, 4), Some((1, b""))),
-        (b"d", b"r", (1, 4), None),
-        (b"d", b"r", (2, 4), None),
-        (b"d", b"r", (3, 4), None),
-        (b"d", b"r", (4, 4), Some((0, b""))),
-        (b"d", b"r", (11, 3), None),
-    ];
-    for (row, (path, name, room, answer)) in rows.into_iter().enumerate() {
+    for (row, (path, name, room, answer)) in BY_MACROS.into_iter().enumerate() {
         let path = GlobPath {
             bytes: path,
             is_dir: false,
