@@ -4,7 +4,6 @@ import os
 import random
 import shutil
 import subprocess
-import sys
 import tempfile
 
 from attribute_trees import ATTRIBUTE_FILE, ATTRIBUTES_INFO, BYTE_ORDER_MARK, NAMES, AttributeTree
