@@ -72,17 +72,19 @@ def check_attributes(case, words, paths, fields):
 
 
 def attribute_states(case, path, names, *fields):
-    if any(value in text for text in fields[1::2] for value in WORDS_OF_STATES):
-        # (such values can't be told from the states of these names)
+    # (such values can't be told from the states of these names; and a command goes to the folder that `.` or `..` means)
+    is_ambiguous = any(value in text for text in fields[1::2] for value in WORDS_OF_STATES)
+    if is_ambiguous or not IS_GIT and not rows.is_plain(path):
         return ()
     told = check_attributes(case, names.split(b" "), path, fields)
     return () if told is None else [b"".join(b" " + word(name, state) for name, state in zip(told[1::3], told[2::3]))]
 
 
 def all_states(path, file, stronger):
-    told = check_attributes(b"sensitive", ["-a"], path, [b".gitattributes", file, b"info", stronger])
-    # (here no attribute is unspecified, so this is a value)
-    return [b"".join(b" " + (name + b"=" + state if state == b"unspecified" else word(name, state)) for name, state in zip(told[1::3], told[2::3]))]
+    told = check_attributes(b"sensitive", ["-a"], path, [b".gitattributes", file, b"info", stronger]) or []
+    # (no attribute that is told is unspecified, so here this is a value)
+    words = (name + b"=" + state if state == b"unspecified" else word(name, state) for name, state in zip(told[1::3], told[2::3]))
+    return [b"".join(b" " + it for it in words)] if told else ()
 
 
 def word(name, state):

@@ -33,7 +33,8 @@ def listed(case, source, root, patterns, paths):
 def decided(case, paths, *fields):
     # (under the empty root a file has the base of its folder; one that isn't there is passed over)
     files = [((base or b"") + b"ignore%d" % at, text) for at, (base, text) in enumerate(rows.pairs(fields))]
-    return () if not all(rows.is_plain(name) for name, _ in files) else run([b"ignore", case, b"", *[name for name, _ in files], b"none"], paths, files)
+    names = [name for name, _ in files]
+    return run([b"ignore", case, b"", *names, b"none"], paths, files) if all(map(rows.is_plain, names)) else ()
 
 
 rows.answer({"matching": matching, "answered": answered, "listed": listed, "decided": decided})
