@@ -1,17 +1,15 @@
-"""Compares `globtree check-attr` and Git: on the rows of attribute_rows.txt, and on trees made at random, byte by byte."""
+"""Compares `globtree check-attr` and Git on trees made at random, byte by byte. `tools/vectors` asks both the rows of attributes."""
 import collections
 import os
 import random
 import shutil
 import subprocess
-import sys
 import tempfile
 
-from attribute_rows import rows
 from attribute_trees import ATTRIBUTE_FILE, ATTRIBUTES_INFO, BYTE_ORDER_MARK, NAMES, AttributeTree
 from documents import kinds_in
 from of_globtree import DOTTED, GLOBTREE, NO_TEXT, TOP, Told, lines_with_zeros, quoted, shown, told_kinds
-from trees import OF_GIT, is_text, make_repository, write
+from trees import OF_GIT, is_text, write
 
 FROM_INPUT = ["--stdin a b c m n", "-z --stdin a text eol", "--stdin -a", "-a -z --stdin", "--all --stdin -z --", "--stdin binary diff --", "-az --stdin"]
 # words that paths follow
@@ -84,58 +82,6 @@ def given(paths, words):
     if is_nul(words):
         return b"".join(path + b"\0" for path in paths)
     return b"".join(quoted(path) + b"\n" for path in paths)
-
-
-# ---- rows
-
-def differs_by_name(row):
-    """Whether "From Git" in docs/DIFFERENCES.md names the row: its answers are Git's alone."""
-    return any(b"a**/b" in text for text in row.files.values())
-
-
-def expected_of(row):
-    return b"".join(
-        path + b"\0" + name + b"\0" + row.answers[at * len(row.names) + place] + b"\0"
-        for at, path in enumerate(row.paths) for place, name in enumerate(row.names)
-    )
-
-
-def check_row(row, room, program):
-    """What is wrong with the answers of a program to a row, or None."""
-    pair = Pair(room, row.files.get(b"system"), row.files.get(b"user"), True)
-    make_repository(os.path.join(pair.top, b".git"))
-    for name, text in row.files.items():
-        if name in (b"system", b"user"):
-            continue
-        place = os.path.join(pair.top, ATTRIBUTES_INFO if name == b"info" else name)
-        os.makedirs(os.path.dirname(place), exist_ok=True)
-        write(place, text)
-    words = ["-z", "--stdin", *row.names]
-    told = getattr(pair, program)(pair.top, words, given(row.paths, words))
-    if program == "globtree" and row.has_name_of_no_text():
-        return None if told.status == 128 and NO_TEXT in told.errors else "no fault for a name that is no text"
-    expected = expected_of(row)
-    if told.status != 0 or told.output != expected:
-        return "expected %s, %s told %s, status %d" % (shown(expected), program, shown(told.output), told.status)
-    return None
-
-
-def check_rows(with_globtree):
-    """Asks all rows. The answer is how many are wrong."""
-    wrong, asked = 0, 0
-    for program in (["globtree"] if with_globtree else []) + (["git"] if shutil.which("git") else []):
-        for row in rows():
-            if program == "globtree" and differs_by_name(row):
-                continue
-            room = os.fsencode(tempfile.mkdtemp())
-            told = check_row(row, room, program)
-            shutil.rmtree(room)
-            asked += 1
-            if told:
-                wrong += 1
-                print("%s\n    %s" % (row.line, told))
-    print("%d rows of attributes asked, %d wrong" % (asked, wrong))
-    return wrong
 
 
 # ---- trees
@@ -280,8 +226,7 @@ def records(output, end):
 
 
 def compare_trees(count, seed, with_globtree, kept):
-    """Compares the rows, and so many trees, the first made from the seed. The status is 1 where anything differs."""
-    wrong = check_rows(with_globtree)
+    """Compares so many trees, the first made from the seed. The status is 1 where anything differs."""
     comparison = Comparison(with_globtree)
     for number in range(seed, seed + count):
         room = os.fsencode(tempfile.mkdtemp())
@@ -298,5 +243,5 @@ def compare_trees(count, seed, with_globtree, kept):
     if with_globtree:
         print("differences named in From Git: " + told_kinds(comparison.named))
         print("%d runs of globtree check-attr, %d ended at a name that is no text; %d differences" % (comparison.runs, comparison.refused, comparison.differences))
-    return 1 if wrong or comparison.differences else 0
+    return 1 if comparison.differences else 0
 

@@ -1,49 +1,90 @@
 #!/usr/bin/env python3
-"""Answers rows of work trees and of attributes by Git: tools/vectors examples/vectors/git.py [PROGRAM [WORD..]]
+"""Answers rows of work trees and of attributes by Git: tools/vectors examples/vectors/git.py [PROGRAM]
 
-A program that takes Git's words may be named, as `globtree`."""
+PROGRAM is another one that takes Git's words, as `globtree` does."""
 import os
+import re
 import subprocess
 import sys
 
 import rows
 
-PROGRAM = sys.argv[1:] or ["git"]
-ALONE = {**os.environ, "HOME": "/nonexistent", "GIT_CONFIG_NOSYSTEM": "1"}
-# The options before the command: what Git reads from its configuration is an option of globtree.
-IS_GIT = os.path.basename(PROGRAM[0]) == "git"
+PROGRAM = os.path.abspath(sys.argv[1]) if sys.argv[1:] else "git"
+IS_GIT = PROGRAM == "git"
+ALONE = {"PATH": os.environ["PATH"], "HOME": "/nonexistent", "GIT_CONFIG_NOSYSTEM": "1"}
+# What Git reads from its configuration is an option of globtree. The system's file has a place that is built into Git.
 FOLDS = ["-c", "core.ignoreCase=true"] if IS_GIT else ["--ignore-case"]
 EXCLUDES = ["-c", "core.excludesFile=.excludes"] if IS_GIT else ["--excludes", ".excludes"]
-USER = ["-c", "core.attributesFile=user"] if IS_GIT else ["--attributes", "user"]
+OUTER = ["-c", "core.attributesFile=user"] if IS_GIT else ["--system", "system", "--attributes", "user"]
 NO_INDEX = ["--no-index"] if IS_GIT else []
-VALUES = (b"=set", b"=unset", b"=unspecified")
+# Git compares a literal front first, and then the stars as if they stood at the front: no row of matching asks that.
+STARS_BEHIND_FRONT = re.compile(rb"[^*?[\\]*[^*?[\\/]\*\*")
+WORDS_OF_STATES = (b"=set", b"=unset", b"=unspecified")
 
 
-def ask(top, options, words, path):
-    command = [*PROGRAM, "-C", top, *options, *words]
-    ran = subprocess.run(command, input=path + b"\0", stdout=subprocess.PIPE, stderr=subprocess.DEVNULL, env=ALONE, check=False)
-    return ran.stdout.split(b"\0")
+def ask(top, options, words, asked):
+    """What is written for the bytes that are asked; no bytes where the program fails."""
+    ran = subprocess.run([PROGRAM, "-C", top, *options, *words], input=asked, env=ALONE, capture_output=True, check=False)
+    return ran.stdout if ran.returncode < 2 else b""
 
 
 def trees(case, path, *fields):
+    return check_ignore(case, path, path.rstrip(b"/"), fields)
+
+
+def trees_told(case, there, path, *fields):
+    return check_ignore(case, path if there == b"folder" else b"other", path, fields)
+
+
+def check_ignore(case, there, path, fields):
+    """Which line decides about a path, of a repository with these files that has what is there."""
     files = rows.ignore_files(fields)
-    with rows.folder_of([(b".git/HEAD", b"ref: refs/heads/main"), (b".git/objects/x", b""), (b".git/refs/x", b""), *files]) as top:
-        rows.make(top, path)
-        options = [*(FOLDS if case == b"fold" else []), *(EXCLUDES if files and files[0][0] == b".excludes" else [])]
-        source, line, *_ = ask(top, options, ["check-ignore", "-v", "-n", "-z", *NO_INDEX, "--stdin"], path.rstrip(b"/"))
-        names = [name for name, _ in files]
-        return [f"{names.index(source) + 1}:{line.decode()}" if source else None]
-
-
-def attribute_states(path, names, *fields):
-    files = [(b".git/info/attributes" if name == b"info" else name, text) for name, text in zip(fields[::2], fields[1::2])]
-    if IS_GIT and b"system" in fields[::2] or any(value in text for text in fields[1::2] for value in VALUES):
-        # (the place of the system's file is built into Git; and such values can't be told from the states of these names)
+    if not IS_GIT and not rows.is_text(path):
         return ()
-    with rows.folder_of([(b".git/HEAD", b"ref: refs/heads/main"), (b".git/objects/x", b""), (b".git/refs/x", b""), *files]) as top:
-        options = [*(USER if b"user" in fields[::2] else []), *(["--system", "system"] if b"system" in fields[::2] else [])]
-        told = ask(top, options, ["check-attr", "-z", "--stdin", *map(os.fsdecode, names.split(b" "))], path)
-        return [b"".join(b" " + word(name, state) for name, state in zip(told[1::3], told[2::3]))]
+    with rows.repository_of(files) as top:
+        rows.make(top, there)
+        options = [*(FOLDS if case == b"fold" else []), *(EXCLUDES if files and files[0][0] == b".excludes" else [])]
+        told = ask(top, options, ["check-ignore", "-v", "-n", "-z", *NO_INDEX, "--stdin"], path + b"\0").split(b"\0")
+        names = [name for name, _ in files]
+        return [f"{names.index(told[0]) + 1}:{told[1].decode()}" if told[0] else None if told[1:] else "a fault"]
+
+
+def matching(mode, pattern, value):
+    if not rows.is_lone(mode, pattern, value) or STARS_BEHIND_FRONT.match(pattern):
+        return ()
+    line = re.sub(rb'(["\\])', rb"\\\1", pattern).replace(b"\n", b"\\n")
+    told = check_attributes(rows.case_of(mode), ["a"], value, [b".gitattributes", b'"/' + line + b'" a'])
+    return () if told is None else rows.told(told[2:3] == [b"set"])
+
+
+def check_attributes(case, words, paths, fields):
+    """The fields that check-attr writes for paths, each ended by a byte 0; None where it can't be asked."""
+    files = rows.attribute_files(fields)
+    if not IS_GIT and (case == b"fold" or not all(rows.is_text(os.path.dirname(path)) for path in paths.split(b"\0"))):
+        return None
+    if IS_GIT:
+        # (so the lines of the system's file stand before the user's)
+        outer = b"\n".join(text for name, text in sorted(files) if name in (b"system", b"user"))
+        files = [*(file for file in files if file[0] != b"user"), (b"user", outer)]
+    with rows.repository_of(files) as top:
+        options = [*OUTER, *(FOLDS if case == b"fold" else [])]
+        return ask(top, options, ["check-attr", "-z", "--stdin", *words], paths).split(b"\0")
+
+
+def attribute_states(case, path, names, *fields):
+    # (such values can't be told from the states of these names; and a command goes to the folder that `.` or `..` means)
+    is_ambiguous = any(value in text for text in fields[1::2] for value in WORDS_OF_STATES)
+    if is_ambiguous or not IS_GIT and not rows.is_plain(path):
+        return ()
+    told = check_attributes(case, names.split(b" "), path, fields)
+    return () if told is None else [b"".join(b" " + word(name, state) for name, state in zip(told[1::3], told[2::3]))]
+
+
+def all_states(path, file, stronger):
+    told = check_attributes(b"sensitive", ["-a"], path, [b".gitattributes", file, b"info", stronger]) or []
+    # (no attribute that is told is unspecified, so here this is a value)
+    words = (name + b"=" + state if state == b"unspecified" else word(name, state) for name, state in zip(told[1::3], told[2::3]))
+    return [b"".join(b" " + it for it in words)] if told else ()
 
 
 def word(name, state):
@@ -51,4 +92,17 @@ def word(name, state):
     return {b"set": name, b"unset": b"-" + name, b"unspecified": b"!" + name}.get(state, name + b"=" + state)
 
 
-rows.answer({"trees": trees, "attribute_states": attribute_states})
+def attribute_streams(case, names, paths, *fields):
+    if names is None or not all(map(rows.is_plain, paths.removesuffix(b"\0").split(b"\0"))):
+        return ()
+    told = check_attributes(case, names.split(b"\0"), paths, fields)
+    return () if told is None else [b"\0".join(told)]
+
+
+def attribute_names(name):
+    if name.startswith(b"-"):
+        return ()
+    return rows.told(len(check_attributes(b"sensitive", [name], b"x", [])) > 1)
+
+
+rows.answer({it.__name__: it for it in (matching, trees, trees_told, attribute_states, all_states, attribute_streams, attribute_names)})

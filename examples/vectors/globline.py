@@ -9,30 +9,32 @@ import rows
 PROGRAM = os.path.abspath(sys.argv[1])
 
 
-def run(words, lines, folder="."):
-    try:
-        return subprocess.run([PROGRAM, *map(os.fsdecode, words)], input=lines, cwd=folder, stdout=subprocess.PIPE, check=True).stdout
-    except (UnicodeError, ValueError, subprocess.CalledProcessError):
-        # (a word has to be a text, and has no byte 0)
-        return None
+def run(words, lines, files=()):
+    """What globline writes, in a folder with these files, as the answer; none where a word can't be one of a command line."""
+    if not all(rows.is_text(word) and b"\0" not in word for word in words):
+        return ()
+    with rows.folder_of(files) as top:
+        ran = subprocess.run([PROGRAM, *words], input=lines, cwd=top, stdout=subprocess.PIPE, check=False)
+        return [f"status {ran.returncode}"] if ran.returncode else [ran.stdout]
 
 
 def matching(mode, pattern, value):
-    written = None if b"\n" in value else run(["wild", mode.replace(b"+", b"-"), pattern], value + b"\n")
-    return () if written is None else [written.strip()]
+    return () if b"\n" in value else [text.strip() for text in answered(mode, pattern, value + b"\n")]
 
 
 def answered(mode, pattern, values):
-    written = run(["wild", mode.replace(b"+", b"-"), pattern], values)
-    return () if written is None else [written]
+    return run([b"wild", mode.replace(b"+", b"-"), pattern], values)
+
+
+def listed(case, source, root, patterns, paths):
+    return () if not rows.is_plain(source) else run([b"list", case, source, b"-" if root is None else root], paths, [(source, patterns)])
 
 
 def decided(case, paths, *fields):
-    pairs = list(zip(fields[::2], fields[1::2]))
-    names = [b"top%d" % at if not base else base + b"ignore%d" % at for at, (base, _) in enumerate(pairs)]
-    with rows.folder_of([(name, text) for name, (_, text) in zip(names, pairs)]) as top:
-        written = run(["ignore", case, b"", *names], paths, top) if names else None
-    return () if written is None else [written]
+    # (under the empty root a file has the base of its folder; one that isn't there is passed over)
+    files = [((base or b"") + b"ignore%d" % at, text) for at, (base, text) in enumerate(rows.pairs(fields))]
+    names = [name for name, _ in files]
+    return run([b"ignore", case, b"", *names, b"none"], paths, files) if all(map(rows.is_plain, names)) else ()
 
 
-rows.answer({"matching": matching, "answered": answered, "decided": decided})
+rows.answer({"matching": matching, "answered": answered, "listed": listed, "decided": decided})

@@ -1,5 +1,7 @@
 #!/usr/bin/env python3
-"""Answers by the binding for Python: tools/vectors examples/vectors/python.py, with bindings/python on PYTHONPATH."""
+"""Answers by the binding for Python: tools/vectors examples/vectors/python.py, with bindings/python on PYTHONPATH.
+
+Of several calls that answer a question all are asked: where they don't agree, the answer is `differs`."""
 import rows
 from gix_glob import IgnoreFile, IgnoreList, Mode, Pattern, wildmatch
 
@@ -11,20 +13,19 @@ MODES = {
 }
 
 
-def told(is_so):
-    return ["yes" if is_so else "no"]
-
-
-def number(value):
-    return None if value is None else str(value)
+def agreed(found, *others):
+    return ["differs"] if any(other != found for other in others) else found
 
 
 def matching(mode, pattern, value):
-    return told(wildmatch(pattern, value, MODES[mode]))
+    # (a line takes a slash off each end)
+    line = Pattern(b"/" + pattern + b"/")
+    return agreed(rows.told(wildmatch(pattern, value, MODES[mode])), rows.told(line.matches(value, MODES[mode])))
 
 
 def values(mode, line, value):
-    return told(Pattern(line).matches(value, MODES[mode]))
+    pattern = Pattern(line)
+    return agreed(rows.told(pattern.matches(value, MODES[mode])), rows.told(wildmatch(pattern.text, value, MODES[mode])))
 
 
 def reading(how, line):
@@ -34,13 +35,74 @@ def reading(how, line):
         pattern = Pattern(line)
     except ValueError:
         return [None, None, None]
-    return [pattern.text, str(int(pattern.mode)), number(pattern.first_wildcard_pos)]
+    place = pattern.first_wildcard_pos
+    return [pattern.text, str(int(pattern.mode)), None if place is None else str(place)]
+
+
+def repository_paths(case, mode, line, path, place, kind):
+    last = b"%d" % (path.rfind(b"/") + 1) if b"/" in path else None
+    if mode not in (b"path", b"path+fold") or kind == b"unknown" or place != last or path.endswith(b"/") or not rows.is_plain(path):
+        # (patterns always match as `path` does, find the last part themselves, and take no other paths)
+        return ()
+    asked, options = (path, kind == b"folder"), {"ignore_case": b"fold" in (case, mode[-4:])}
+    is_decided = IgnoreFile.from_lines([line]).decide(*asked, **options) is not None
+    return agreed(rows.told(Pattern(line).matches_path(*asked, **options)), rows.told(is_decided))
+
+
+def shown(file):
+    """The patterns of a file as their lines would show them, each behind the number of its line."""
+    text = b""
+    for line, it in file:
+        signs = b"!" * it.is_negative + b"/" * it.is_absolute
+        text += b"%d:%s%s%s\n" % (line, signs, it.text, b"/" * it.is_for_directories)
+    return [text]
+
+
+def ignore_files(text):
+    found = shown(IgnoreFile(text))
+    # (each of the lines of from_lines ends in a line feed)
+    return agreed(found, shown(IgnoreFile.from_lines(text[:-1].split(b"\n")))) if text.endswith(b"\n") else found
+
+
+def list_of(fields):
+    """The files of a row, or None: the binding takes no base that isn't a folder's below the top."""
+    files = [(base or b"", text) for base, text in rows.pairs(fields)]
+    are_folders = all(not base or base.endswith(b"/") and rows.is_plain(base) for base, _ in files)
+    return IgnoreList([IgnoreFile(text, base) for base, text in files]) if are_folders else None
+
+
+def place_of(rules, found):
+    return f"{rules.files.index(found.file) + 1}:{found.line}"
+
+
+def decided(case, paths, *fields):
+    rules, text = list_of(fields), ""
+    if rules is None or b"./" in (path[:2] for path in paths.split(b"\n")):
+        # (the binding passes over a `./` in front)
+        return ()
+    for path in paths.removesuffix(b"\n").split(b"\n") if paths else []:
+        try:
+            found = rules.decide(path, ignore_case=case == b"fold")
+            text += f"{'ignored' if found.is_ignored else 'kept'} {place_of(rules, found)}\n" if found else "none\n"
+        except ValueError:
+            text += "!\n"
+    return [text]
 
 
 def trees(case, path, *fields):
-    files = [IgnoreFile(text, base or b"") for base, text in zip(fields[::2], fields[1::2])]
-    found = IgnoreList(files).decide_in_tree(path, ignore_case=case == b"fold")
-    return [f"{files.index(found.file) + 1}:{found.line}" if found else None]
+    rules, fold = list_of(fields), case == b"fold"
+    if rules is None or not rows.is_plain(path):
+        return ()
+    found = rules.decide_in_tree(path, ignore_case=fold)
+    is_ignored = found is not None and found.is_ignored
+    matched = list(rules.match_files([path, path], ignore_case=fold))
+    if rules.match_file(path, ignore_case=fold) != is_ignored or matched != [path, path] * is_ignored:
+        return ["differs"]
+    return [place_of(rules, found) if found else None]
 
 
-rows.answer({"matching": matching, "values": values, "reading": reading, "trees": trees})
+def trees_told(case, _there, path, *fields):
+    return trees(case, path, *fields)
+
+
+rows.answer({it.__name__: it for it in (matching, values, reading, repository_paths, ignore_files, decided, trees, trees_told)})

@@ -1,5 +1,6 @@
 #!/usr/bin/env python3
-"""Answers by ripgrep whether paths are ignored: tools/vectors examples/vectors/ripgrep.py"""
+"""Answers by ripgrep whether paths are ignored, which it tells of the files that it passes over:
+tools/vectors examples/vectors/ripgrep.py"""
 import os
 import re
 import subprocess
@@ -15,15 +16,15 @@ def ignored(case, path, *fields):
         return ()
     names = {b".excludes": b".user/git/ignore"}
     files = [(names.get(name, name), text) for name, text in rows.ignore_files(fields)]
-    with rows.folder_of([(b".git/HEAD", b"ref: refs/heads/main"), *files]) as top:
+    with rows.repository_of(files) as top:
         rows.make(top, path)
-        options = ["--files", "--hidden", "--no-config", "--debug", *(["--ignore-file-case-insensitive"] if case == b"fold" else [])]
+        folds = ["--ignore-file-case-insensitive"] if case == b"fold" else []
         environment = {"PATH": os.environ["PATH"], "XDG_CONFIG_HOME": f"{top}/.user"}
-        ran = subprocess.run(["rg", *options, "./"], cwd=top, env=environment, stdout=subprocess.DEVNULL, stderr=subprocess.PIPE, check=False)
-        passed = {it.strip(b"/") for it in IGNORING.findall(ran.stderr)}
+        words = ["rg", "--files", "--hidden", "--no-config", "--debug", *folds, "./"]
+        said = subprocess.run(words, cwd=top, env=environment, capture_output=True, check=False).stderr
         parts = path.rstrip(b"/").split(b"/")
         above = {b"/".join(parts[: at + 1]) for at in range(len(parts))}
-        return ["yes" if above & passed else "no"]
+        return rows.told(above & {it.strip(b"/") for it in IGNORING.findall(said)})
 
 
-rows.answer({"ignored": ignored})
+rows.answer({"ignored": ignored, "matching": rows.by_line(ignored)})

@@ -1,4 +1,4 @@
-"""Questions and answers of tools/vectors: the spelling of fields, and a loop that answers."""
+"""Questions and answers of tools/vectors: the spelling of fields, a loop that answers, and folders with the files of a row."""
 import contextlib
 import os
 import re
@@ -19,19 +19,38 @@ def spelt(value):
     if value is None:
         return "\\N"
     bytes_ = value.encode() if isinstance(value, str) else value
-    signs = [chr(b) if 32 <= b < 127 else f"\\x{b:02x}" for b in bytes_.replace(b"\\", b"\\\\")]
+    signs = ["\\\\" if b == 92 else chr(b) if 32 <= b < 127 else f"\\x{b:02x}" for b in bytes_]
     for end in (0, -1):
         if signs and signs[end] == " ":
             signs[end] = "\\x20"
     return "".join(signs)
 
 
+def told(is_so):
+    """The answer to a question by yes or no."""
+    return ["yes" if is_so else "no"]
+
+
 def answer(calls):
-    """Answers each question by the call of its subject, which takes the fields and returns those of the answer."""
+    """Answers each question by the call of its subject, which takes the fields and returns those of the answer: none of them, (),
+    where it can't ask."""
     for line in sys.stdin:
         subject, *fields = line.rstrip("\n").split("\t")
         found = calls[subject](*map(read, fields)) if subject in calls else ()
-        print("\t".join(map(spelt, found)) or "?" if found != () else "?", flush=True)
+        print("\t".join(map(spelt, found)) if found != () else "?", flush=True)
+
+
+def is_text(bytes_):
+    try:
+        bytes_.decode()
+    except UnicodeDecodeError:
+        return False
+    return True
+
+
+def is_plain(path):
+    """Whether the path is one below the top, with no part that names the same or another folder."""
+    return not {b"", b".", b".."} & set(path.removesuffix(b"/").split(b"/"))
 
 
 @contextlib.contextmanager
@@ -39,6 +58,7 @@ def folder_of(files):
     """A folder with these files, each a name and its bytes."""
     with tempfile.TemporaryDirectory() as top:
         for name, text in files:
+            assert is_plain(name), name
             path = os.path.join(os.fsencode(top), name)
             os.makedirs(os.path.dirname(path), exist_ok=True)
             with open(path, "wb") as it:
@@ -46,8 +66,14 @@ def folder_of(files):
         yield top
 
 
+def repository_of(files):
+    """The same, with what makes it a repository."""
+    return folder_of([(b".git/HEAD", b"ref: refs/heads/main\n"), (b".git/objects/x", b""), (b".git/refs/x", b""), *files])
+
+
 def make(top, path):
     """Makes what a path names: a folder where it ends in a slash, else a file."""
+    assert is_plain(path), path
     path = os.path.join(os.fsencode(top), path)
     os.makedirs(os.path.dirname(path), exist_ok=True)
     if not path.endswith(b"/") and not os.path.lexists(path):
@@ -55,10 +81,44 @@ def make(top, path):
             pass
 
 
+def pairs(fields):
+    """Fields two by two."""
+    return list(zip(fields[::2], fields[1::2]))
+
+
 def ignore_files(fields):
     """Names of the ignore files of a row, whose bases are none or a folder, and their bytes: with no base, at most the file of
     excludes, the repository's own and that of the top, the last of these last."""
-    pairs = list(zip(fields[::2], fields[1::2]))
+    files = pairs(fields)
     outer = [b".excludes", b".git/info/exclude", b".gitignore"]
-    names = iter(outer[-sum(base is None for base, _ in pairs) :])
-    return [(next(names) if base is None else base + b".gitignore", text) for base, text in pairs]
+    names = iter(outer[-sum(base is None for base, _ in files) :])
+    return [(next(names) if base is None else base + b".gitignore", text) for base, text in files]
+
+
+def by_line(ignored):
+    """A call that answers rows of `matching` by one that answers those of `ignored`: the pattern is that of a line."""
+
+    def matching(mode, pattern, value):
+        if not is_lone(mode, pattern, value) or pattern.endswith((b" ", b"\r")) or b"\n" in pattern:
+            return ()
+        file = (None, b"/" + pattern + b"\n")
+        above = [value[:end] + b"/" for end in range(len(value)) if value[end] == ord("/")]
+        # (what lies in an ignored folder is ignored, whatever the pattern says of itself)
+        return () if any(ignored(case_of(mode), it, *file) != ["no"] for it in above) else ignored(case_of(mode), value, *file)
+
+    return matching
+
+
+def is_lone(mode, pattern, value):
+    """Whether the pattern can stand in a line, alone but for a slash before it, and the value can be the path of a file."""
+    is_path = is_plain(value) and not value.endswith(b"/") and b"\0" not in value and max(map(len, value.split(b"/"))) < 256
+    return mode.startswith(b"path") and is_path and not pattern.endswith(b"/") and b"\0" not in pattern
+
+
+def case_of(mode):
+    return b"fold" if mode.endswith(b"fold") else b"sensitive"
+
+
+def attribute_files(fields):
+    """Names of the attribute files of a row, and their bytes: `system` and `user` lie at the top."""
+    return [(b".git/info/attributes" if name == b"info" else name, text) for name, text in pairs(fields)]

@@ -1,4 +1,4 @@
-"""Ignore files and lists of them: which line decides."""
+"""Ignore files and lists of them, where no row of crates/glob_rows/data asks which line decides."""
 
 import copy
 import io
@@ -56,37 +56,21 @@ def plainly_in_tree(rules, path, is_dir, fold):
 
 
 class Deciding(unittest.TestCase):
-    def test_the_last_match_decides(self):
+    def test_directories_are_told_in_two_ways(self):
         rules = IgnoreFile("*.log\n!keep.log\nbuild/\n")
-        for path, wanted in (("debug.log", 1), ("keep.log", 2), ("build/", 3), ("build", None), ("build/x", None)):
-            with self.subTest(path=path):
-                decision = rules.decide(path)
-                self.assertEqual(decision and decision.line, wanted)
-        self.assertEqual(rules.decide("build", True).line, 3)
+        self.assertIsNone(rules.decide("build"))
+        self.assertEqual(rules.decide("build/"), rules.decide("build", True))
         self.assertEqual(rules.decide("build", is_dir=True).pattern, Pattern("build/"))
+        self.assertEqual(rules.decide(pathlib.PurePath("build/"), True).line, 3)
         self.assertTrue(rules.decide("debug.log").is_ignored)
         self.assertFalse(rules.decide("keep.log").is_ignored)
 
-    def test_files_with_bases(self):
-        # the table of docs/LINES.md
-        top = IgnoreFile("*.o\n!keep.o\n# built files\nbuild/\n", name="1")
-        web = IgnoreFile("!web.o\n/dist\n", "web", "2")
-        rows = [
-            ("a.o", ("1", 1, True)),
-            ("web/web.o", ("2", 1, False)),
-            ("web/keep.o", ("1", 2, False)),
-            ("build/", ("1", 4, True)),
-            ("build", None),
-            ("web/dist", ("2", 2, True)),
-            ("dist", None),
-            ("web", None),
-        ]
+    def test_files_are_told(self):
+        top, web = IgnoreFile("*.o\n", name="1"), IgnoreFile("!web.o\n", "web", "2")
         for rules in (IgnoreList([top, web]), IgnoreList(iter((top, web)))):
-            for path, wanted in rows:
-                with self.subTest(path=path):
-                    self.assertEqual(place(rules.decide(path)), wanted)
-                    self.assertEqual(place(rules.decide(pathlib.PurePath(path), path.endswith("/"))), wanted)
-        self.assertEqual(IgnoreList([top, web]).files, (top, web))
+            self.assertEqual(place(rules.decide("web/web.o")), ("2", 1, False))
+            self.assertEqual(place(rules.decide("web/a.o")), ("1", 1, True))
+            self.assertEqual(rules.files, (top, web))
 
     def test_bases_are_written_in_several_ways(self):
         for base in ("web", "web/", b"web", b"./web/", pathlib.PurePath("web")):
@@ -102,24 +86,6 @@ class Deciding(unittest.TestCase):
         for base in ("/web", "a//b", "web//"):
             with self.subTest(base=base), self.assertRaises(ValueError):
                 IgnoreFile("/dist", base)
-
-    def test_trees(self):
-        rows = [
-            ("build/", "build/x", 1),
-            ("build/\n!build/x", "build/x", 1),
-            ("/*\n!/a/", "a/x", None),
-            ("/*\n!/a/", "b/x", 1),
-            ("*\n!a\n!x", "a/x", 3),
-            ("*\n!x", "a/x", 1),
-            ("!a/\nx", "a/x", 2),
-            ("a/**\n!a/b/x", "a/b/x", 1),
-            ("a/b/\na/", "a/b/x", 2),
-        ]
-        for text, path, wanted in rows:
-            with self.subTest(text=text, path=path):
-                decision = IgnoreFile(text).decide_in_tree(path)
-                self.assertEqual(decision and decision.line, wanted)
-                self.assertIs(IgnoreFile(text).match_file(path), decision is not None and decision.is_ignored)
 
     def test_match_files_yields_what_it_was_given(self):
         rules = IgnoreFile("build/\n*.o")

@@ -1,4 +1,4 @@
-"""Patterns and `wildmatch`: the rows of the documents."""
+"""Patterns and `wildmatch`, where no row of crates/glob_rows/data asks: types, lines that are read back, and modes."""
 
 import copy
 import itertools
@@ -8,73 +8,18 @@ import unittest
 
 from gix_glob import Mode, Pattern, PatternMode, wildmatch
 
-PATH = Mode.NO_MATCH_SLASH_LITERAL
-ALL = (
-    PatternMode.NO_SUB_DIR
-    | PatternMode.ENDS_WITH
-    | PatternMode.MUST_BE_DIR
-    | PatternMode.NEGATIVE
-    | PatternMode.ABSOLUTE
-)
-
-#: lines with their text, mode and place
-READINGS = [
-    ("!/*.o/", b"*.o", ALL, 0),
-    (r"\#x", b"#x", PatternMode.NO_SUB_DIR, None),
-    (r"\!x", b"!x", PatternMode.NO_SUB_DIR, None),
-    ("#x", b"#x", PatternMode.NO_SUB_DIR, None),
-    ("a/b?c", b"a/b?c", PatternMode(0), 3),
-    ("/", b"", PatternMode.NO_SUB_DIR | PatternMode.ABSOLUTE, None),
-    ("a\\/", b"a\\", PatternMode.NO_SUB_DIR | PatternMode.MUST_BE_DIR, 1),
-    ("a ", b"a ", PatternMode.NO_SUB_DIR, None),
-    ("\0", b"\0", PatternMode.NO_SUB_DIR, None),
-    ("é", b"\xc3\xa9", PatternMode.NO_SUB_DIR, None),
-    (b"\xe9", b"\xe9", PatternMode.NO_SUB_DIR, None),
-]
-
-#: texts, values and modes, and whether they match
-MATCHES = [
-    ("*", "a/b", 0, True),
-    ("*", "a/b", PATH, False),
-    ("**", "a/b", PATH, True),
-    ("**/b", "b", PATH, True),
-    ("a/**/b", "a/b", PATH, True),
-    ("a**b", "a/b", PATH, False),
-    ("[A-C]", "b", 0, False),
-    ("[A-C]", "b", Mode.IGNORE_CASE, True),
-    ("[!a]", "/", PATH, False),
-    ("[[:digit:]]", "7", 0, True),
-    ("[[[:]", ":", 0, True),
-    ("a\\", "a\\", 0, False),
-    ("[a", "[a", 0, False),
-    ("", "", 0, True),
-    ("?", "\n", 0, True),
-    ("?", "\0", 0, True),
-    ("é", "é", 0, True),
-]
-
-#: patterns, paths, whether a directory's, and whether they match
-PATHS = [
-    ("*.rs", "src/lib.rs", False, True),
-    ("/foo", "foo", False, True),
-    ("/foo", "d/foo", False, False),
-    ("build/", "build", False, False),
-    ("build/", "build", True, True),
-    ("build/", "build/", False, True),
-    ("build/", "build/x", False, False),
-    ("a/b", "./a/b", False, True),
-    ("!a", "a", False, True),
-    ("a/*", "a/b/c", False, False),
-]
+#: lines of all kinds
+LINES = ("!/*.o/", r"\#x", r"\!x", "#x", "a/b?c", "/", "a\\/", "a ", "\0", "é", b"\xe9")
 
 
 class Patterns(unittest.TestCase):
-    def test_readings(self):
-        for line, text, mode, place in READINGS:
-            with self.subTest(line=line):
-                pattern = Pattern(line)
-                self.assertEqual((pattern.text, pattern.mode, pattern.first_wildcard_pos), (text, mode, place))
-                self.assertIs(type(pattern.text), bytes)
+    def test_parts(self):
+        pattern = Pattern("!/*.o/")
+        self.assertEqual((pattern.text, pattern.mode, pattern.first_wildcard_pos), (b"*.o", PatternMode(31), 0))
+        self.assertIs(type(pattern.text), bytes)
+        self.assertIs(type(pattern.mode), PatternMode)
+        self.assertIsNone(Pattern("a").first_wildcard_pos)
+        self.assertEqual(Pattern("é").text, b"\xc3\xa9")
 
     def test_blank_lines(self):
         for line in ("", " \t\r\n\f", "! ", b"!"):
@@ -82,7 +27,7 @@ class Patterns(unittest.TestCase):
                 Pattern(line)
 
     def test_what_is_shown_is_read_back(self):
-        for line in [row[0] for row in READINGS] + ["!\\#x", "\\\\#", "!!x", "/!x", "\\!x/", "a/", "!a", "//a//"]:
+        for line in [*LINES, "!\\#x", "\\\\#", "!!x", "/!x", "\\!x/", "a/", "!a", "//a//"]:
             with self.subTest(line=line):
                 pattern = Pattern(line)
                 for other in (Pattern(bytes(pattern)), copy.deepcopy(pattern), pickle.loads(pickle.dumps(pattern))):
@@ -106,22 +51,18 @@ class Patterns(unittest.TestCase):
         self.assertNotEqual(Pattern("a"), Pattern("a/"))
         self.assertNotEqual(Pattern("a"), "a")
 
-    def test_matches(self):
-        for text, value, mode, wanted in MATCHES:
-            with self.subTest(text=text, value=value, mode=mode):
-                self.assertIs(wildmatch(text, value, mode), wanted)
-                # modes may have other bits
-                self.assertIs(wildmatch(text, value, mode + 0x10000), wanted)
-                if text:
-                    self.assertIs(Pattern(text).matches(value, mode), wanted)
+    def test_modes_may_have_other_bits(self):
+        for mode, wanted in ((0x10000, True), (Mode.NO_MATCH_SLASH_LITERAL + 0x10000, False)):
+            self.assertIs(wildmatch("*", "a/b", mode), wanted)
+            self.assertIs(Pattern("*").matches("a/b", mode), wanted)
+        self.assertTrue(wildmatch("é", "é") and Pattern("é").matches("é"))
 
-    def test_paths(self):
-        for line, path, is_dir, wanted in PATHS:
+    def test_kinds_of_paths(self):
+        rows = (("build/", "build/", True), ("build/", "build", False), ("a/b", "./a/b", True), ("é", "é", True))
+        for line, path, wanted in rows:
             with self.subTest(line=line, path=path):
-                pattern = Pattern(line)
-                self.assertIs(pattern.matches_path(path, is_dir), wanted)
-                self.assertIs(pattern.matches_path(path.encode(), is_dir), wanted)
-                self.assertFalse(pattern.matches_path(path.upper(), is_dir))
-                self.assertIs(pattern.matches_path(path.upper(), is_dir, ignore_case=True), wanted)
-                if not path.endswith("/"):
-                    self.assertIs(pattern.matches_path(pathlib.PurePosixPath(path), is_dir), wanted)
+                self.assertIs(Pattern(line).matches_path(path), wanted)
+                self.assertIs(Pattern(line).matches_path(path.encode()), wanted)
+                self.assertIs(Pattern(line).matches_path(pathlib.PurePosixPath(path), path.endswith("/")), wanted)
+        self.assertTrue(Pattern("build/").matches_path("build", True))
+        self.assertTrue(Pattern("build/").matches_path("BUILD/", ignore_case=True))

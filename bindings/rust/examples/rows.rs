@@ -1,12 +1,14 @@
-//! Answers rows by the binding for Rust: `tools/vectors PROGRAM`. It knows the subjects of which the crate has calls.
+//! Answers rows by the binding for Rust: `tools/vectors PROGRAM`. Of several calls that answer a question all are asked: where they
+//! don't agree, the answer is `differs`. What no call answers is `?`.
 use std::io::{self, BufRead, Write};
+use std::panic;
 use std::path::Path;
 
-use gix_glob::pattern::Case;
-use gix_glob::search::pattern::{List, strip_base_handle_recompute_basename_pos};
-use gix_glob::search::{self, pattern::Mapping};
+use gix_glob::decide::{Index, Lists};
+use gix_glob::pattern::{self, Case};
+use gix_glob::search::pattern::{List, Mapping, strip_base_handle_recompute_basename_pos};
 use gix_glob::wildmatch::Mode;
-use gix_glob::{Pattern, wildmatch};
+use gix_glob::{Pattern, search, wildmatch};
 
 type Field = Option<Vec<u8>>;
 
@@ -17,10 +19,15 @@ struct Lines;
 impl search::Pattern for Lines {
     type Value = ();
 
-    fn bytes_to_patterns(&self, _bytes: &[u8], _source: &Path) -> Vec<Mapping<()>> {
-        Vec::new()
+    fn bytes_to_patterns(&self, bytes: &[u8], _source: &Path) -> Vec<Mapping<()>> {
+        let lines = bytes.split(|&byte| byte == b'\n').zip(1..);
+        let read =
+            |(line, sequence_number)| Some(Mapping { pattern: Pattern::from_bytes(line)?, value: (), sequence_number });
+        lines.filter_map(read).collect()
     }
 }
+
+// ---- fields
 
 /// The field of its spelling.
 fn read(spelling: &[u8]) -> Field {
@@ -61,6 +68,11 @@ fn told(is_so: bool) -> String {
     if is_so { "yes" } else { "no" }.to_string()
 }
 
+/// The answer of calls that have to agree.
+fn agreed(is_so: bool, others: &[bool]) -> String {
+    if others.iter().all(|&other| other == is_so) { told(is_so) } else { "differs".to_string() }
+}
+
 fn place(place: Option<usize>) -> String {
     place.map_or("\\N".to_string(), |place| place.to_string())
 }
@@ -83,11 +95,44 @@ fn number_of(field: &Field) -> Option<usize> {
     std::str::from_utf8(field.as_deref()?).ok()?.parse().ok()
 }
 
+fn path_of(bytes: &[u8]) -> Option<&Path> {
+    std::str::from_utf8(bytes).ok().map(Path::new)
+}
+
+/// The lines of bytes, without what is behind the last line feed where nothing is.
+fn lines_of(bytes: &[u8]) -> impl Iterator<Item = &[u8]> {
+    bytes.split_inclusive(|&byte| byte == b'\n').map(|line| line.strip_suffix(b"\n").unwrap_or(line))
+}
+
+/// A path as a row has it, and whether it is a directory's, for which it ends in a slash; `None` where it isn't one below the top.
+fn below_top(path: &[u8]) -> Option<(&[u8], bool)> {
+    let (path, is_dir) = path.strip_suffix(b"/").map_or((path, false), |path| (path, true));
+    path.split(|&byte| byte == b'/').all(|part| !part.is_empty()).then_some((path, is_dir))
+}
+
+// ---- patterns
+
+fn text_matched(text: &[u8], value: &[u8], mode: Mode) -> String {
+    let is_special = |byte: &u8| b"*?[\\".contains(byte);
+    let first_wildcard_pos = text.iter().position(is_special);
+    let is_suffix = text.first() == Some(&b'*') && !text[1..].iter().any(is_special);
+    let bits = if is_suffix { pattern::Mode::ENDS_WITH } else { pattern::Mode::empty() };
+    let made = Pattern { text: text.into(), mode: bits, first_wildcard_pos };
+    agreed(wildmatch(text.into(), value.into(), mode), &[made.matches(value.into(), mode)])
+}
+
+fn line_matched(line: &[u8], value: &[u8], mode: Mode) -> Option<String> {
+    let read = Pattern::from_bytes(line)?;
+    let is_matched = read.matches(value.into(), mode);
+    Some(agreed(is_matched, &[wildmatch(read.text.as_slice().into(), value.into(), mode)]))
+}
+
 fn pattern_read(how: &Field, line: &[u8]) -> String {
-    let read = match how.as_deref() {
-        Some(b"line") => Pattern::from_bytes(line),
-        _ => Pattern::from_bytes_without_negation(line),
-    };
+    let is_line = how.as_deref() == Some(b"line");
+    let read = if is_line { Pattern::from_bytes(line) } else { Pattern::from_bytes_without_negation(line) };
+    if is_line && gix_glob::parse(line) != read {
+        return "differs".to_string();
+    }
     read.map_or("\\N\t\\N\t\\N".to_string(), |it| {
         format!("{}\t{}\t{}", spelt(&it.text), it.mode.bits(), place(it.first_wildcard_pos))
     })
@@ -100,48 +145,148 @@ fn path_matched(fields: &[Field]) -> Option<String> {
         b"folder" => Some(true),
         _ => None,
     };
-    let pattern = Pattern::from_bytes(line.as_deref()?)?;
-    let path = path.as_deref()?.into();
-    Some(told(pattern.matches_repo_relative_path(path, number_of(start), is_dir, case_of(case), mode_of(mode)?)))
+    let (line, path, start) = (line.as_deref()?, path.as_deref()?, number_of(start));
+    let (case, mode) = (case_of(case), mode_of(mode)?);
+    let is_matched = Pattern::from_bytes(line)?.matches_repo_relative_path(path.into(), start, is_dir, case, mode);
+    // (an index always matches as `path` does, and finds the last part itself)
+    let last = path.iter().rposition(|&byte| byte == b'/').map(|slash| slash + 1);
+    let is_known = mode == Mode::NO_MATCH_SLASH_LITERAL && start == last && below_top(path) == Some((path, false));
+    let list = List::from_bytes(line, "file".into(), None, Lines);
+    let found = is_dir.filter(|_| is_known).map(|is_dir| Index::new(&list)?.last_match(path.into(), is_dir, case));
+    Some(agreed(is_matched, found.map(|found| found.is_some()).as_slice()))
 }
 
+// ---- lists
+
 fn base_of(source: &[u8], root: &Field) -> Option<String> {
-    let path = |bytes: &[u8]| std::str::from_utf8(bytes).ok().map(Path::new).map(Path::to_path_buf);
-    let root = root.as_deref().map(path);
-    let root = root.as_ref().and_then(|it| it.as_deref());
-    let list = List::from_bytes(b"", path(source)?, root, Lines);
+    let root = root.as_deref().map(path_of);
+    let list = List::from_bytes(b"", path_of(source)?.into(), root.flatten(), Lines);
     Some(list.base.map_or("\\N".to_string(), |base| spelt(&base)))
+}
+
+/// Whether a source has a file part: where it has none, the call panics.
+fn has_file_part(source: &[u8]) -> Option<String> {
+    let source = path_of(source)?.to_path_buf();
+    let made = panic::catch_unwind(|| List::from_bytes(b"", source, Some(Path::new("")), Lines));
+    Some(told(made.is_ok()))
 }
 
 fn stripped(fields: &[Field]) -> Option<String> {
     let [case, base, path, start] = fields else { return None };
     let (base, start) = (base.as_deref()?, number_of(start));
+    // (a last part that begins within the base panics)
     if start.is_some_and(|start| start < base.len()) {
-        return Some("\\N\t\\N".to_string());
+        return None;
     }
     let left = strip_base_handle_recompute_basename_pos(base.into(), path.as_deref()?.into(), start, case_of(case));
     Some(left.map_or("\\N\t\\N".to_string(), |(rest, start)| format!("{}\t{}", spelt(rest), place(start))))
 }
 
+/// The numbers of the lines that match each path.
+fn listed(fields: &[Field]) -> Option<String> {
+    let [case, source, root, patterns, paths] = fields else { return None };
+    let root = root.as_deref().map(path_of);
+    let list = List::from_bytes(patterns.as_deref()?, path_of(source.as_deref()?)?.into(), root.flatten(), Lines);
+    let mut text = String::new();
+    for line in lines_of(paths.as_deref()?) {
+        text += &below_top(line).map_or("!".to_string(), |(path, is_dir)| numbers(&list, path, is_dir, case_of(case)));
+        text += "\n";
+    }
+    Some(spelt(text.as_bytes()))
+}
+
+fn numbers(list: &List<Lines>, path: &[u8], is_dir: bool, case: Case) -> String {
+    let start = path.iter().rposition(|&byte| byte == b'/').map(|slash| slash + 1);
+    let base = list.base.as_ref().map_or(0, |base| base.len());
+    let start = start.filter(|&start| start >= base);
+    let Some((rest, start)) = list.strip_base_handle_recompute_basename_pos(path.into(), start, case) else {
+        return String::new();
+    };
+    let is_matched = |mapping: &&Mapping<()>| {
+        let mode = Mode::NO_MATCH_SLASH_LITERAL;
+        mapping.pattern.matches_repo_relative_path(rest, start, Some(is_dir), case, mode)
+    };
+    let found = list.patterns.iter().filter(is_matched);
+    found.map(|mapping| mapping.sequence_number.to_string()).collect::<Vec<_>>().join(" ")
+}
+
+/// The lists of ignore files, two fields for each; `None` where a line has to be read as one of an ignore file, which is the
+/// business of the crate's caller.
+fn lists_of(files: &[Field]) -> Option<Vec<List<Lines>>> {
+    let list = |file: &[Field]| {
+        let bytes = file[1].as_deref()?;
+        let is_more = |line: &[u8]| line.starts_with(b"#") || line.ends_with(b" ") || line.ends_with(b"\r");
+        if bytes.starts_with(b"\xef\xbb\xbf") || lines_of(bytes).any(is_more) {
+            return None;
+        }
+        let mut list = List::from_bytes(bytes, "file".into(), None, Lines);
+        list.base = file[0].as_deref().map(Into::into);
+        Some(list)
+    };
+    files.chunks_exact(2).map(list).collect()
+}
+
+/// Which line of which list it is, both from 1.
+fn numbered(lists: &[List<Lines>], list: &List<Lines>, mapping: &Mapping<()>) -> String {
+    let at = lists.iter().position(|it| std::ptr::eq(it, list)).map_or(0, |at| at + 1);
+    format!("{at}:{}", mapping.sequence_number)
+}
+
+fn decided(fields: &[Field]) -> Option<String> {
+    let (case, lists) = (case_of(fields.first()?), lists_of(fields.get(2..)?)?);
+    let indices: Vec<_> = lists.iter().map(Index::new).collect::<Option<_>>()?;
+    let mut text = String::new();
+    for line in lines_of(fields.get(1)?.as_deref()?) {
+        text += &below_top(line).map_or("!".to_string(), |(path, is_dir)| {
+            let mut found = lists.iter().zip(&indices).rev().filter_map(|(list, index)| {
+                let mapping = index.last_match(path.into(), is_dir, case)?;
+                let word = if mapping.pattern.is_negative() { "kept" } else { "ignored" };
+                Some(format!("{word} {}", numbered(&lists, list, mapping)))
+            });
+            found.next().unwrap_or("none".to_string())
+        });
+        text += "\n";
+    }
+    Some(spelt(text.as_bytes()))
+}
+
+/// Which line decides about a path in a work tree, of the files in the fields from `first` on.
+fn decided_in_tree(fields: &[Field], first: usize) -> Option<String> {
+    let lists = lists_of(fields.get(first..)?)?;
+    let (path, is_dir) = below_top(fields.get(first - 1)?.as_deref()?)?;
+    let found = Lists::new(&lists).decide_in_tree(path.into(), is_dir, case_of(&fields[0]));
+    Some(found.map_or("\\N".to_string(), |(list, mapping)| numbered(&lists, list, mapping)))
+}
+
+// ---- questions
+
 /// The answer to a question; `None` where the crate has no such call.
 fn answer(subject: &[u8], fields: &[Field]) -> Option<String> {
     let bytes = |at: usize| fields.get(at)?.as_deref();
     match subject {
-        b"matching" => Some(told(wildmatch(bytes(1)?.into(), bytes(2)?.into(), mode_of(&fields[0])?))),
-        b"values" => Some(told(Pattern::from_bytes(bytes(1)?)?.matches(bytes(2)?.into(), mode_of(&fields[0])?))),
+        b"matching" => Some(text_matched(bytes(1)?, bytes(2)?, mode_of(&fields[0])?)),
+        b"values" => line_matched(bytes(1)?, bytes(2)?, mode_of(&fields[0])?),
         b"reading" => Some(pattern_read(&fields[0], bytes(1)?)),
         b"wildcards" => {
             let pattern = Pattern::from_bytes(bytes(0)?)?;
             Some(format!("{}\t{}", told(pattern.has_wildcard()), place(pattern.first_wildcard_pos)))
         }
+        b"shown" => Some(spelt(Pattern::from_bytes(bytes(0)?)?.to_string().as_bytes())),
         b"repository_paths" => path_matched(fields),
         b"bases" => base_of(bytes(0)?, &fields[1]),
+        b"file_parts" => has_file_part(bytes(0)?),
         b"stripping" => stripped(fields),
+        b"listed" => listed(fields),
+        b"decided" => decided(fields),
+        b"trees" => decided_in_tree(fields, 2),
+        b"trees_told" => decided_in_tree(fields, 3),
         _ => None,
     }
 }
 
 fn main() -> io::Result<()> {
+    // (one call is meant to panic)
+    panic::set_hook(Box::new(|_| ()));
     let mut output = io::stdout().lock();
     for line in io::stdin().lock().split(b'\n') {
         let line = line?;

@@ -1,4 +1,4 @@
-//! What decides about a path in a work tree: the rows of docs/LINES.md about folders above a path.
+//! What decides about a path in a work tree, where no row of `crates/glob_rows/data` asks.
 mod lines;
 
 use std::path::Path;
@@ -14,69 +14,23 @@ fn list(folder: &str, lines: &str) -> List<Lines> {
     List::from_bytes(lines.as_bytes(), format!("{folder}.gitignore").into(), Some(Path::new("")), Lines)
 }
 
-/// The folder and the line that decide, with a space between them.
-fn decided(lists: &[List<Lines>], path: &str, is_dir: bool, case: Case) -> Option<String> {
-    let (list, mapping) = Lists::new(lists).decide_in_tree(path.as_bytes().into(), is_dir, case)?;
-    let base = list.base.as_ref().map_or(&b""[..], |base| base.as_slice());
-    Some(format!("{} {}", String::from_utf8_lossy(base), mapping.pattern))
+fn is_decided(lists: &[List<Lines>], path: &str, is_dir: bool) -> bool {
+    Lists::new(lists).decide_in_tree(path.as_bytes().into(), is_dir, Case::Sensitive).is_some()
 }
 
 #[test]
-fn folders_above_are_asked_first() {
-    let lists = [
-        list("", "/*\n!/a/\n*.log\nbuild/\n!build/keep\n"),
-        list("a/", "!x.log\nlf\n!lf/y\n"),
-        list("a/b/", "Readme"),
-        list("build/", "!x"),
-    ];
-    for (path, is_dir, wanted) in [
-        ("c", false, Some(" /*")),
-        ("c/d/e", false, Some(" /*")),
-        ("a", true, Some(" !/a/")),
-        ("a", false, Some(" /*")),
-        ("a/x", false, None),
-        ("a/x.log", false, Some("a/ !x.log")),
-        ("a/y.log", false, Some(" *.log")),
-        ("a/lf/y", false, Some("a/ lf")),
-        ("a/build/keep", false, Some(" build/")),
-        ("build/x", false, Some(" build/")),
-        ("a/b/Readme", false, Some("a/b/ Readme")),
-        ("a/b/README", false, None),
-        // no path that these calls take
-        ("", false, None),
-        ("/c", false, None),
-        ("c/", true, None),
-        ("c//d", false, None),
-    ] {
-        let found = decided(&lists, path, is_dir, Case::Sensitive);
-        assert_eq!(found.as_deref(), wanted, "{path:?} (a directory: {is_dir})");
+fn nothing_decides_about_what_is_no_path() {
+    let lists = [list("", "*")];
+    for path in ["", "/c", "c//d"] {
+        assert!(!is_decided(&lists, path, false), "{path:?}");
     }
-    assert_eq!(decided(&lists, "A/B/README", false, Case::Fold).as_deref(), Some("a/b/ Readme"));
-    assert_eq!(decided(&[], "a", false, Case::Sensitive), None);
+    assert!(!is_decided(&lists, "c/", true) && is_decided(&lists, "c", true));
+    assert!(!is_decided(&[], "a", false));
 }
 
 #[test]
-fn an_index_finds_the_last_match() {
-    // enough patterns that few of them can match a path
-    let mut lines: Vec<_> = (0..100).map(|number| format!("*.e{number}")).collect();
-    lines.extend(["!/x.e7".into(), "dir/".into()]);
-    let list = list("a/", &lines.join("\n"));
-    let index = Index::new(&list).unwrap();
-    for (path, is_dir, wanted) in [
-        ("a/b/x.e7", false, Some(8)),
-        ("a/x.e7", false, Some(101)),
-        ("a/x.e99", false, Some(100)),
-        ("a/b/dir", true, Some(102)),
-        ("a/b/dir", false, None),
-        ("x.e7", false, None),
-        ("a/x.E7", false, None),
-        ("a/", true, None),
-    ] {
-        let found = index.last_match(path.as_bytes().into(), is_dir, Case::Sensitive);
-        assert_eq!(found.map(|mapping| mapping.sequence_number), wanted, "{path:?} (a directory: {is_dir})");
-    }
-    assert!(index.last_match(b"A/X.E7"[..].into(), false, Case::Fold).is_some());
-    let empty = List { patterns: Vec::new(), ..list };
+fn an_index_of_no_patterns() {
+    let empty = List { patterns: Vec::new(), ..list("a/", "x") };
     assert!(Index::new(&empty).unwrap().last_match(b"a/x"[..].into(), false, Case::Sensitive).is_none());
 }
 
@@ -84,7 +38,7 @@ fn an_index_finds_the_last_match() {
 fn a_base_that_is_no_folder_leaves_nothing() {
     let mut lists = [list("a/", "x")];
     lists[0].base = Some("a".into());
-    assert_eq!(decided(&lists, "ax", false, Case::Sensitive), None);
+    assert!(!is_decided(&lists, "ax", false));
 }
 
 #[test]

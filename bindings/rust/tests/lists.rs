@@ -1,4 +1,4 @@
-//! Lists: the rows of docs/PATTERNS.md about bases, stripping and files.
+//! Lists, where no row of `crates/glob_rows/data` asks: what they hold, what panics, and files.
 use std::fs;
 use std::io::ErrorKind;
 use std::os::unix::fs::symlink;
@@ -26,30 +26,14 @@ impl search::Pattern for Lines {
     }
 }
 
-fn base(source: &str, root: Option<&str>) -> Option<Vec<u8>> {
-    let list = List::from_bytes(b"", source.into(), root.map(Path::new), Lines);
-    assert_eq!(list.source, Some(source.into()));
-    list.base.map(|base| base.to_vec())
-}
-
 #[test]
-fn bases() {
-    for (source, root, wanted) in [
-        ("x/y", None, None),
-        ("x/y", Some(""), Some("x/")),
-        ("a//b/./f", Some(""), Some("a/b/")),
-        ("/r/s/t/f", Some("/r/"), Some("s/t/")),
-        ("/r/f", Some("/r"), None),
-        ("rs/f", Some("r"), None),
-        ("/x", Some(""), Some("/")),
-        ("./x", Some(""), Some("./")),
-        ("./x", Some("."), None),
-        ("a/../b/f", Some("a"), Some("../b/")),
-    ] {
-        assert_eq!(base(source, root).as_deref(), wanted.map(str::as_bytes), "{source} under {root:?}");
-    }
-    assert!(std::panic::catch_unwind(|| base("/", Some(""))).is_err());
-    assert_eq!(base("/", None), None);
+fn a_source_that_names_no_file() {
+    let read = |root: Option<&'static str>| {
+        let list = List::from_bytes(b"", PathBuf::from("/"), root.map(Path::new), Lines);
+        (list.source, list.base)
+    };
+    assert!(std::panic::catch_unwind(|| read(Some(""))).is_err());
+    assert_eq!(read(None), (Some("/".into()), None));
 }
 
 #[test]
@@ -63,23 +47,8 @@ fn lists_hold_what_their_parser_says() {
     assert!(empty.patterns.is_empty() && empty.source.is_none() && empty.base.is_none());
 }
 
-fn stripped(base: &str, path: &str, place: Option<usize>, case: Case) -> Option<(String, Option<usize>)> {
-    let (base, path) = (base.as_bytes().into(), path.as_bytes().into());
-    let (rest, place) = strip_base_handle_recompute_basename_pos(base, path, place, case)?;
-    Some((String::from_utf8(rest.to_vec()).unwrap(), place))
-}
-
 #[test]
-fn stripping() {
-    let rest = |rest: &str, place| Some((rest.to_owned(), place));
-    assert_eq!(stripped("a/", "a/b/c", Some(4), Case::Sensitive), rest("b/c", Some(2)));
-    assert_eq!(stripped("a/", "a/c", Some(2), Case::Sensitive), rest("c", None));
-    assert_eq!(stripped("a/", "a/c", None, Case::Sensitive), rest("c", None));
-    assert_eq!(stripped("A/", "a/c", Some(2), Case::Sensitive), None);
-    assert_eq!(stripped("A/", "a/c", Some(2), Case::Fold), rest("c", None));
-    assert_eq!(stripped("a/b/", "a/", Some(2), Case::Fold), None);
-    assert_eq!(stripped("", "a/c", Some(2), Case::Sensitive), rest("a/c", Some(2)));
-
+fn a_list_strips_its_base() {
     let mut list = List::from_bytes(b"", PathBuf::from("a/f"), Some(Path::new("")), Lines);
     let path = b"a/c".as_slice();
     let answer = list.strip_base_handle_recompute_basename_pos(path.into(), Some(2), Case::Sensitive);
@@ -91,9 +60,12 @@ fn stripping() {
 
 #[test]
 fn a_position_before_the_base_has_an_answer_or_an_assertion() {
-    let result = std::panic::catch_unwind(|| stripped("a/b/", "a/b/c", Some(2), Case::Sensitive));
+    let (base, path, rest) = (b"a/b/".as_slice(), b"a/b/c".as_slice(), b"c".as_slice());
+    let result = std::panic::catch_unwind(|| {
+        strip_base_handle_recompute_basename_pos(base.into(), path.into(), Some(2), Case::Sensitive)
+    });
     assert_eq!(result.is_err(), cfg!(debug_assertions));
-    assert_eq!(result.unwrap_or(Some(("c".into(), None))), Some(("c".into(), None)));
+    assert_eq!(result.unwrap_or(Some((rest.into(), None))), Some((rest.into(), None)));
 }
 
 /// A folder of its own, which is gone at the end.

@@ -1,0 +1,280 @@
+/* Rows of attributes: what attribute files say, and which states attributes have for paths. */
+#include "rows.h"
+
+enum { MOST_LINES = 64, MOST_LISTS = 16, MOST_MACROS = 16, TOP = 2, STRONGEST = 9 };
+
+/* Why lines of each kind say nothing. */
+static const char *const SILENCES[] = {
+    [GIX_GLOB_LINE_TOO_LONG] = "TooLong",          [GIX_GLOB_LINE_MACRO_BELOW_TOP] = "MacroBelowTop",
+    [GIX_GLOB_LINE_MACRO_NAME] = "MacroName",      [GIX_GLOB_LINE_ATTRIBUTE_NAME] = "AttributeName",
+    [GIX_GLOB_LINE_NEGATIVE] = "Negative",
+};
+
+/* The lines of an attribute file as they are read one after the other, and what the last one gave. */
+struct reader {
+    struct gix_glob_lines left;
+    bool is_top;
+    struct gix_glob_attribute_line line;
+    struct gix_glob_macro macro;
+    uint32_t kind;
+};
+
+static struct reader reader_of(const struct field *bytes, bool is_top)
+{
+    const struct reader reader = {
+        gix_glob_lines_of(bytes->bytes, bytes->len), is_top, GIX_GLOB_ATTRIBUTE_LINE_INIT, GIX_GLOB_MACRO_INIT, GIX_GLOB_LINE_NOTHING,
+    };
+    return reader;
+}
+
+/* Reads a line. The heads that are quoted are kept as long as the row is asked. */
+static bool read_line(struct reader *reader, struct text *heads)
+{
+    const size_t left = reader->left.rest_len;
+    if (left > sizeof heads->bytes - heads->len)
+        abort();
+    if (!gix_glob_parse_attribute_line(&reader->left, reader->is_top, heads->bytes + heads->len, left, &reader->line, &reader->macro,
+                                       &reader->kind))
+        return false;
+    heads->len += left - reader->left.rest_len;
+    return true;
+}
+
+/* What files say, from the weakest to the strongest. */
+struct sources {
+    struct gix_glob_attribute_line lines[MOST_LINES];
+    struct gix_glob_attribute_list lists[MOST_LISTS];
+    struct gix_glob_macro macros[MOST_MACROS];
+    size_t line_count, list_count, macro_count;
+    struct text heads;
+};
+
+static struct sources sources;
+
+static void clear_sources(void)
+{
+    sources.line_count = sources.list_count = sources.heads.len = 0;
+    sources.macros[0] = (struct gix_glob_macro)GIX_GLOB_MACRO_BINARY;
+    sources.macro_count = 1;
+}
+
+/* Adds a file that is stronger than those before it. */
+static void add_file(const struct field *bytes, const uint8_t *base, size_t base_len)
+{
+    const size_t first = sources.line_count;
+    struct reader reader = reader_of(bytes, base_len == 0);
+    while (read_line(&reader, &sources.heads)) {
+        if (sources.line_count == MOST_LINES || sources.macro_count == MOST_MACROS || sources.list_count == MOST_LISTS)
+            abort();
+        if (reader.kind == GIX_GLOB_LINE_PATTERN)
+            sources.lines[sources.line_count++] = reader.line;
+        if (reader.kind == GIX_GLOB_LINE_MACRO)
+            sources.macros[sources.macro_count++] = reader.macro;
+    }
+    sources.lists[sources.list_count++] =
+        (struct gix_glob_attribute_list){&sources.lines[first], sources.line_count - first, base, base_len};
+}
+
+/* How strong a file is, by its name, and how many bytes its folder has. */
+static size_t rank_of(const struct field *name, size_t *folder_len)
+{
+    size_t rank = TOP;
+    *folder_len = 0;
+    if (is(name, "system"))
+        return 0;
+    if (is(name, "user"))
+        return 1;
+    if (is(name, "info"))
+        return STRONGEST;
+    for (size_t i = 0; i < name->len; i++)
+        if (name->bytes[i] == '/') {
+            rank++;
+            *folder_len = i + 1;
+        }
+    return rank;
+}
+
+/* Reads the files of a row, two fields for each, in the order of their strength. */
+static void read_sources(const struct field *fields, size_t count)
+{
+    size_t folder_len;
+    clear_sources();
+    for (size_t rank = 0; rank <= STRONGEST; rank++)
+        for (size_t i = 0; i + 1 < count; i += 2)
+            if (rank_of(&fields[i], &folder_len) == rank)
+                add_file(&fields[i + 1], fields[i].bytes, folder_len);
+}
+
+/* The state of an attribute for a path; false where the path is none. */
+static bool ask_state(const struct gix_glob_path *path, bool fold, const struct field *name, struct gix_glob_state *state)
+{
+    const struct gix_glob_attributes all = {sources.lists, sources.list_count, sources.macros, sources.macro_count};
+    struct gix_glob_text texts[MOST_LINES + MOST_MACROS];
+    bool marks[MOST_MACROS] = {false};
+    gix_glob_init_texts(texts, MOST_LINES + MOST_MACROS);
+    return gix_glob_attribute_of(&all, path, fold, name->bytes, name->len, texts, MOST_LINES + MOST_MACROS, marks, MOST_MACROS, state);
+}
+
+/* Adds a space and a word that assigns the state. */
+static void add_state(struct text *text, const struct field *name, const struct gix_glob_state *state)
+{
+    static const char *const signs[] = {" !", " ", " -", " "};
+    add_word(text, signs[state->kind]);
+    add(text, name->bytes, name->len);
+    if (state->kind == GIX_GLOB_VALUE) {
+        add_word(text, "=");
+        add(text, state->value, state->value_len);
+    }
+}
+
+/* Adds what each word of a line assigns: the state that its attribute has by a line of this word alone. */
+static void add_words(struct text *text, const uint8_t *words, size_t len)
+{
+    static const struct gix_glob_path path = {(const uint8_t *)"x", 1, false};
+    for (size_t at = 0, end; at < len; at = end + 1) {
+        for (end = at; end < len && !memchr(" \t\r", words[end], 3); end++)
+            ;
+        const size_t sign = end > at && memchr("-!", words[at], 2) ? 1 : 0;
+        struct field rest = {words + at + sign, end - at - sign, false}, name;
+        if (!take(&rest, '=', &name))
+            continue;
+        struct gix_glob_state state = GIX_GLOB_STATE_INIT;
+        clear_sources();
+        sources.lines[0] = (struct gix_glob_attribute_line){GIX_GLOB_PATTERN_INIT, words + at, end - at};
+        gix_glob_parse((const uint8_t *)"x", 1, &sources.lines[0].pattern);
+        sources.lists[0] = (struct gix_glob_attribute_list){sources.lines, 1, words, 0};
+        sources.list_count = 1;
+        if (!ask_state(&path, false, &name, &state))
+            abort();
+        add_state(text, &name, &state);
+    }
+}
+
+/* Adds what a line gives: a pattern, or a macro's name between these signs, and what it assigns; or why it says nothing. */
+static void add_line(struct text *text, const struct reader *reader, const char *before, const char *behind)
+{
+    if (reader->kind == GIX_GLOB_LINE_PATTERN) {
+        add_pattern(text, &reader->line.pattern);
+        add_words(text, reader->line.words, reader->line.words_len);
+    } else if (reader->kind == GIX_GLOB_LINE_MACRO) {
+        add_word(text, before);
+        add(text, reader->macro.name, reader->macro.name_len);
+        add_word(text, behind);
+        add_words(text, reader->macro.words, reader->macro.words_len);
+    } else if (reader->kind != GIX_GLOB_LINE_NOTHING) {
+        add_word(text, SILENCES[reader->kind]);
+    }
+}
+
+/* What one line gives. A line of nothing stands before it, since a file's first line may have a byte order mark. */
+static void one_line(const struct field *fields, struct text *text)
+{
+    static struct text file, heads;
+    file.len = heads.len = 0;
+    add_word(&file, "\n");
+    add(&file, fields[1].bytes, fields[1].len);
+    struct reader reader = reader_of(&(struct field){file.bytes, file.len, false}, is(&fields[0], "top"));
+    if (read_line(&reader, &heads) && read_line(&reader, &heads))
+        add_line(text, &reader, "[", "]");
+}
+
+/* What the lines of a file give that are of one kind, or of all that say nothing where `kind` is GIX_GLOB_LINE_TOO_LONG. */
+static void lines_of_kind(const struct field *bytes, bool is_top, uint32_t kind, struct text *text)
+{
+    static struct text heads;
+    struct reader reader = reader_of(bytes, is_top);
+    for (heads.len = 0; read_line(&reader, &heads);) {
+        if (kind == GIX_GLOB_LINE_TOO_LONG ? reader.kind < kind : reader.kind != kind)
+            continue;
+        if (kind != GIX_GLOB_LINE_MACRO) {
+            add_number(text, reader.left.number);
+            add_word(text, ":");
+        }
+        add_line(text, &reader, "", "");
+        add_word(text, "\n");
+    }
+}
+
+/* What the lines that match a path assign. */
+static void matched_lines(const struct field *fields, struct text *text)
+{
+    static struct text heads;
+    struct reader reader = reader_of(&fields[0], true);
+    const struct gix_glob_path path = path_of(&fields[1]);
+    for (heads.len = 0; read_line(&reader, &heads);)
+        if (reader.kind == GIX_GLOB_LINE_PATTERN &&
+            gix_glob_pattern_matches_path(&reader.line.pattern, path.bytes, path.len, path.is_dir, false))
+            add_words(text, reader.line.words, reader.line.words_len);
+}
+
+static void states(const struct field *fields, size_t count, struct text *text)
+{
+    const struct gix_glob_path path = path_of(&fields[1]);
+    struct field names = fields[2], name;
+    read_sources(fields + 3, count - 3);
+    while (take(&names, ' ', &name)) {
+        struct gix_glob_state state = GIX_GLOB_STATE_INIT;
+        if (ask_state(&path, folds(&fields[0]), &name, &state))
+            add_state(text, &name, &state);
+        else
+            add_word(text, " no state");
+    }
+}
+
+/* Adds a path, a name and the word for a state, as check-attr -z writes them. */
+static void add_answer(struct text *text, const struct field *path, const struct field *name, bool fold)
+{
+    static const char *const words[] = {"unspecified", "set", "unset"};
+    struct gix_glob_state state = GIX_GLOB_STATE_INIT;
+    const struct gix_glob_path asked = path_of(path);
+    ask_state(&asked, fold, name, &state);
+    add(text, path->bytes, path->len);
+    add(text, "", 1);
+    add(text, name->bytes, name->len);
+    add(text, "", 1);
+    if (state.kind == GIX_GLOB_VALUE)
+        add(text, state.value, state.value_len);
+    else
+        add_word(text, words[state.kind]);
+    add(text, "", 1);
+}
+
+static void streams(const struct field *fields, size_t count, struct text *text)
+{
+    struct field paths = fields[2], path;
+    read_sources(fields + 3, count - 3);
+    while (take(&paths, 0, &path)) {
+        struct field names = fields[1], name;
+        bool is_last = names.is_none;
+        while (!is_last) {
+            /* (behind a byte 0 there is a name, also an empty one) */
+            is_last = !memchr(names.bytes, 0, names.len);
+            take(&names, 0, &name);
+            add_answer(text, &path, &name, folds(&fields[0]));
+        }
+    }
+}
+
+bool answer_attributes(const char *subject, const struct field *fields, size_t count, struct answer *answer)
+{
+    static struct text text;
+    text.len = 0;
+    if (strcmp(subject, "attribute_lines") == 0)
+        one_line(fields, &text);
+    else if (strcmp(subject, "attribute_files") == 0)
+        lines_of_kind(&fields[0], true, GIX_GLOB_LINE_PATTERN, &text);
+    else if (strcmp(subject, "attribute_macros") == 0)
+        lines_of_kind(&fields[0], true, GIX_GLOB_LINE_MACRO, &text);
+    else if (strcmp(subject, "silent_lines") == 0)
+        lines_of_kind(&fields[1], is(&fields[0], "top"), GIX_GLOB_LINE_TOO_LONG, &text);
+    else if (strcmp(subject, "attribute_matches") == 0)
+        matched_lines(fields, &text);
+    else if (strcmp(subject, "attribute_states") == 0)
+        states(fields, count, &text);
+    else if (strcmp(subject, "attribute_streams") == 0)
+        streams(fields, count, &text);
+    else
+        return false;
+    push_text(answer, &text);
+    return true;
+}

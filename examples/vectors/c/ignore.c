@@ -1,0 +1,189 @@
+/* Rows of ignore files and of paths: which line decides. */
+#include "rows.h"
+
+enum { MOST_RULES = 256, MOST_FILES = 16 };
+
+/* The patterns of an ignore file with the numbers of their lines, what is prepared of them, and the folder of the file. */
+struct file {
+    struct gix_glob_pattern patterns[MOST_RULES];
+    struct gix_glob_row rows[MOST_RULES];
+    struct gix_glob_heads heads;
+    size_t numbers[MOST_RULES], count;
+    const struct field *base;
+};
+
+static struct file files[MOST_FILES];
+
+/* Reads an ignore file, and prepares its patterns. */
+static void read_file(const struct field *base, const struct field *bytes, struct file *file)
+{
+    struct gix_glob_lines lines = gix_glob_lines_of(bytes->bytes, bytes->len);
+    struct gix_glob_pattern pattern = GIX_GLOB_PATTERN_INIT;
+    bool has_pattern = false;
+    file->base = base;
+    for (file->count = 0; gix_glob_parse_ignore_line(&lines, &pattern, &has_pattern);)
+        if (has_pattern) {
+            if (file->count == MOST_RULES)
+                abort();
+            file->numbers[file->count] = lines.number;
+            file->patterns[file->count++] = pattern;
+        }
+    if (!gix_glob_prepare(file->patterns, file->count, file->rows, MOST_RULES, &file->heads))
+        abort();
+}
+
+/* Reads the files of a row, two fields for each. */
+static size_t read_files(const struct field *fields, size_t count)
+{
+    for (size_t i = 0; i + 1 < count; i += 2)
+        read_file(&fields[i], &fields[i + 1], &files[i / 2]);
+    return count / 2;
+}
+
+/* The last pattern of a file that matches a path, by each call that tells it. */
+static size_t last_match(const struct file *file, const struct gix_glob_path *path, bool fold, struct answer *answer)
+{
+    const struct gix_glob_index index = {file->patterns, file->count, file->rows, MOST_RULES, &file->heads};
+    const size_t found = gix_glob_last_match(file->patterns, file->count, path->bytes, path->len, path->is_dir, fold);
+    size_t place = 0, at = file->count;
+    agree(answer, "gix_glob_index_last_match",
+          gix_glob_index_last_match(&index, path->bytes, path->len, path->is_dir, fold) == found);
+    agree(answer, "gix_glob_index_last_matches", gix_glob_index_last_matches(&index, path, 1, fold, &place, 1) && place == found);
+    while (at > 0 && !gix_glob_pattern_matches_path(&file->patterns[at - 1], path->bytes, path->len, path->is_dir, fold))
+        at--;
+    agree(answer, "gix_glob_pattern_matches_path", (at ? at - 1 : GIX_GLOB_NONE) == found);
+    return found;
+}
+
+/* Whether a path is one below the top, without empty parts. */
+static bool is_plain(const struct gix_glob_path *path)
+{
+    for (size_t i = 0; i < path->len; i++)
+        if (path->bytes[i] == '/' && (i == 0 || i + 1 == path->len || path->bytes[i + 1] == '/'))
+            return false;
+    return path->len > 0;
+}
+
+static bool repository_paths(const struct field *fields, struct answer *answer)
+{
+    const struct field *line = &fields[2], *path = &fields[3], *place = &fields[4];
+    const bool fold = folds(&fields[0]) || is(&fields[1], "path+fold"), is_dir = is(&fields[5], "folder");
+    const struct gix_glob_path asked = {path->bytes, path->len, is_dir};
+    size_t start = path->len;
+    while (start > 0 && path->bytes[start - 1] != '/')
+        start--;
+    /* (the library always matches as `path` does, knows the kind, and finds the last part itself) */
+    if (!(mode_of(&fields[1]) & GIX_GLOB_NO_MATCH_SLASH_LITERAL) || is(&fields[5], "unknown") || place->is_none != (start == 0))
+        return false;
+    const bool matches = gix_glob_matches_path(line->bytes, line->len, path->bytes, path->len, is_dir, fold);
+    if (is_plain(&asked)) {
+        files[0].patterns[0] = parsed(line);
+        files[0].count = 1;
+        gix_glob_prepare(files[0].patterns, 1, files[0].rows, MOST_RULES, &files[0].heads);
+        agree(answer, "gix_glob_last_match", (last_match(&files[0], &asked, fold, answer) == 0) == matches);
+    }
+    push_bool(answer, matches);
+    return true;
+}
+
+static bool ignore_files(const struct field *fields, struct answer *answer)
+{
+    struct text text = {.len = 0};
+    read_file(NULL, &fields[0], &files[0]);
+    for (size_t i = 0; i < files[0].count; i++) {
+        add_number(&text, files[0].numbers[i]);
+        add_word(&text, ":");
+        add_pattern(&text, &files[0].patterns[i]);
+        add_word(&text, "\n");
+    }
+    push_text(answer, &text);
+    return true;
+}
+
+/* Takes the base of a file off a path, where the path lies below it. */
+static bool strip(const struct field *base, bool fold, struct gix_glob_path *path)
+{
+    const size_t len = base->is_none ? 0 : base->len;
+    if (len >= path->len)
+        return false;
+    for (size_t i = 0; i < len; i++) {
+        const uint8_t one = base->bytes[i], other = path->bytes[i];
+        const bool is_letter = (one | 32) >= 'a' && (one | 32) <= 'z';
+        if (one != other && !(fold && is_letter && (one ^ other) == 32))
+            return false;
+    }
+    path->bytes += len;
+    path->len -= len;
+    return true;
+}
+
+/* Adds what decides about a path by itself: the last match of the last file that has one. */
+static void add_decision(struct text *text, size_t count, const struct gix_glob_path *path, bool fold, struct answer *answer)
+{
+    for (size_t at = count; at > 0; at--) {
+        const struct file *file = &files[at - 1];
+        struct gix_glob_path rest = *path;
+        const size_t found = strip(file->base, fold, &rest) ? last_match(file, &rest, fold, answer) : GIX_GLOB_NONE;
+        if (found != GIX_GLOB_NONE) {
+            add_word(text, file->patterns[found].mode & GIX_GLOB_NEGATIVE ? "kept " : "ignored ");
+            add_number(text, at);
+            add_word(text, ":");
+            add_number(text, file->numbers[found]);
+            return;
+        }
+    }
+    add_word(text, "none");
+}
+
+static bool decided(const struct field *fields, size_t count, struct answer *answer)
+{
+    const size_t file_count = read_files(fields + 2, count - 2);
+    struct field rest = fields[1], line;
+    struct text text = {.len = 0};
+    while (take(&rest, '\n', &line)) {
+        const struct gix_glob_path path = path_of(&line);
+        if (is_plain(&path))
+            add_decision(&text, file_count, &path, folds(&fields[0]), answer);
+        else
+            add_word(&text, "!");
+        add_word(&text, "\n");
+    }
+    push_text(answer, &text);
+    return true;
+}
+
+/* Which line decides about a path in a work tree, of the files in the fields from `first` on. */
+static bool trees(const struct field *fields, size_t count, size_t first, struct answer *answer)
+{
+    const size_t file_count = read_files(fields + first, count - first);
+    const struct gix_glob_path path = path_of(&fields[first - 1]);
+    struct gix_glob_list lists[MOST_FILES];
+    struct gix_glob_decision by = {0, 0};
+    struct text text = {.len = 0};
+    for (size_t i = 0; i < file_count; i++) {
+        const struct field *base = files[i].base;
+        lists[i] = (struct gix_glob_list){files[i].patterns, files[i].count, base->bytes, base->is_none ? 0 : base->len};
+    }
+    if (!gix_glob_decide_in_tree(lists, file_count, path.bytes, path.len, path.is_dir, folds(&fields[0]), &by)) {
+        push_none(answer);
+        return true;
+    }
+    add_number(&text, by.list + 1);
+    add_word(&text, ":");
+    add_number(&text, files[by.list].numbers[by.pattern]);
+    push_text(answer, &text);
+    return true;
+}
+
+bool answer_ignore(const char *subject, const struct field *fields, size_t count, struct answer *answer)
+{
+    if (strcmp(subject, "repository_paths") == 0)
+        return repository_paths(fields, answer);
+    if (strcmp(subject, "ignore_files") == 0)
+        return ignore_files(fields, answer);
+    if (strcmp(subject, "decided") == 0)
+        return decided(fields, count, answer);
+    if (strcmp(subject, "trees_told") == 0)
+        return trees(fields, count, 3, answer);
+    return strcmp(subject, "trees") == 0 && trees(fields, count, 2, answer);
+}

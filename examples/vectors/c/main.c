@@ -1,0 +1,103 @@
+/* Answers rows by the C library: tools/vectors PROGRAM, where PROGRAM is built of the files of this folder. Of several calls that
+ * answer a question all are asked: where they don't agree, the answer is `differs: ` and the name of one. What no call answers is
+ * `?`. */
+#include "rows.h"
+
+static bool matching(const struct field *fields, struct answer *answer)
+{
+    const struct field *text = &fields[1], *value = &fields[2];
+    const uint8_t mode = mode_of(&fields[0]);
+    const bool matches = gix_glob_wildmatch(text->bytes, text->len, value->bytes, value->len, mode);
+    size_t place = 0;
+    while (place < text->len && !memchr("*?[\\", text->bytes[place], 4))
+        place++;
+    agree(answer, "gix_glob_matches",
+          gix_glob_matches(text->bytes, text->len, 0, place, value->bytes, value->len, mode) == matches);
+    push_bool(answer, matches);
+    return true;
+}
+
+static bool values(const struct field *fields, struct answer *answer)
+{
+    const struct gix_glob_pattern pattern = parsed(&fields[1]);
+    const struct field *value = &fields[2];
+    const uint8_t mode = mode_of(&fields[0]);
+    const bool matches = gix_glob_matches(pattern.text, pattern.text_len, pattern.mode, pattern.first_wildcard_pos, value->bytes,
+                                          value->len, mode);
+    agree(answer, "gix_glob_wildmatch",
+          gix_glob_wildmatch(pattern.text, pattern.text_len, value->bytes, value->len, mode) == matches);
+    push_bool(answer, matches);
+    return true;
+}
+
+static bool reading(const struct field *fields, struct answer *answer)
+{
+    struct gix_glob_pattern pattern = GIX_GLOB_PATTERN_INIT;
+    if (!is(&fields[0], "line"))
+        return false;
+    if (!gix_glob_parse(fields[1].bytes, fields[1].len, &pattern)) {
+        for (int i = 0; i < 3; i++)
+            push_none(answer);
+        return true;
+    }
+    push(answer, pattern.text, pattern.text_len);
+    push_number(answer, pattern.mode);
+    push_number(answer, pattern.first_wildcard_pos);
+    return true;
+}
+
+static bool answer_row(const char *subject, const struct field *fields, size_t count, struct answer *answer)
+{
+    if (strcmp(subject, "matching") == 0)
+        return matching(fields, answer);
+    if (strcmp(subject, "values") == 0)
+        return values(fields, answer);
+    if (strcmp(subject, "reading") == 0)
+        return reading(fields, answer);
+    return answer_ignore(subject, fields, count, answer) || answer_attributes(subject, fields, count, answer);
+}
+
+static unsigned digit(char sign) { return sign <= '9' ? (unsigned)(sign - '0') : (unsigned)(sign - 'a' + 10); }
+
+/* Reads the spelling of a field, in place. */
+static struct field read_field(char *text)
+{
+    uint8_t *bytes = (uint8_t *)text;
+    struct field field = {bytes, 0, strcmp(text, "\\N") == 0};
+    for (char *at = text; *at && !field.is_none; at++) {
+        if (at[0] == '\\' && at[1] == 'x') {
+            bytes[field.len++] = (uint8_t)(16 * digit(at[2]) + digit(at[3]));
+            at += 3;
+        } else {
+            at += at[0] == '\\';
+            bytes[field.len++] = (uint8_t)*at;
+        }
+    }
+    return field;
+}
+
+int main(void)
+{
+    static struct field fields[MOST_FIELDS];
+    static struct answer answer;
+    char *line = NULL, *rest;
+    size_t room = 0, count;
+    while (getline(&line, &room, stdin) > 0) {
+        line[strcspn(line, "\n")] = 0;
+        rest = line;
+        const char *subject = strsep(&rest, "\t");
+        for (count = 0; rest && count < MOST_FIELDS; count++)
+            fields[count] = read_field(strsep(&rest, "\t"));
+        answer.text.len = 0;
+        answer.has_field = false;
+        answer.differs = NULL;
+        if (!answer_row(subject, fields, count, &answer))
+            puts("?");
+        else if (answer.differs)
+            printf("differs: %s\n", answer.differs);
+        else
+            printf("%.*s\n", (int)answer.text.len, (const char *)answer.text.bytes);
+    }
+    free(line);
+    return 0;
+}
