@@ -64,11 +64,8 @@ fn a_file_is_opened_by_its_source_alone(rt: HostRuntime) -> Result<(), Fail> {
     let files = OneFile::new(&rt, name, Opening::Opens("/dev/null"));
     let (answer, _) = list_of(&files, rt.alloc(), name)?;
     let list = answer?.ok_or("no list")?;
-    let is_named = list
-        .source
-        .as_ref()
-        .is_some_and(|source| source.as_str() == name);
-    assert!(rt; is_named);
+    let source = list.source.as_ref().ok_or("no source")?;
+    assert!(rt; source.as_str() == name);
     let mut lists = Vec::new(rt.alloc());
     let (answer, _) = add_list(&files, rt.alloc(), &mut lists, name)?;
     assert!(rt; answer? && lists.pop().is_some_and(|added| added == list));

@@ -29,8 +29,8 @@ fn each_failed_read_and_write_leaves_a_beginning(rt: HostRuntime) -> Result<(), 
                 Told::Nothing
             };
             let mut answerer = Brackets::new(WHOLE);
-            let wanted = (told, &TEXT[..count]);
-            check_run(&rt, (source, sink), &mut answerer, wanted, successes)?;
+            let text = TEXT.get(..count).ok_or("a beginning")?;
+            check_run(&rt, (source, sink), &mut answerer, (told, text), successes)?;
         }
         // a write for each byte; the last fault is that of the last flush
         for successes in 0..TEXT.len() + 2 {
@@ -42,8 +42,8 @@ fn each_failed_read_and_write_leaves_a_beginning(rt: HostRuntime) -> Result<(), 
                 Told::Nothing
             };
             let mut answerer = Brackets::new(WHOLE);
-            let wanted = (told, &TEXT[..successes.min(TEXT.len())]);
-            check_run(&rt, (source, sink), &mut answerer, wanted, successes)?;
+            let text = TEXT.get(..successes).unwrap_or(TEXT);
+            check_run(&rt, (source, sink), &mut answerer, (told, text), successes)?;
         }
     }
     Ok(())
@@ -70,8 +70,8 @@ fn each_failed_answer_leaves_those_before_it(rt: HostRuntime) -> Result<(), Fail
         let source = Source::new(RECORDS, read, WHOLE);
         let sink = Sink::new(Vec::new(rt.alloc()), write, writes);
         let mut answerer = Brackets::new(answers);
-        let wanted = (told, &TEXT[..count]);
-        check_run(&rt, (source, sink), &mut answerer, wanted, row)?;
+        let text = TEXT.get(..count).ok_or("a beginning")?;
+        check_run(&rt, (source, sink), &mut answerer, (told, text), row)?;
     }
     Ok(())
 }
