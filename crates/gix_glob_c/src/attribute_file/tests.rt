@@ -118,6 +118,7 @@ fn files_end_and_memory_may_be_short(rt: HostRuntime) {
         };
         let (mut memory, mut out, mut definition) = ([0u8; 8], no_line(), NO_MACRO);
         let mut kind = 9;
+        assert!(rt; size <= 8);
         let is_line = gix_glob_parse_attribute_line(
             &mut lines,
             true,

@@ -62,6 +62,7 @@ fn arguments_stand_for_themselves(rt: HostRuntime) {
         (3, b"", false, false, NONE),
     ];
     for (row, (count, path, is_dir, fold, index)) in rows.into_iter().enumerate() {
+        assert!(rt; count <= 3);
         let found = gix_glob_last_match(&patterns[..count], path, is_dir, fold);
         same(&rt, found == index, "the last of so many", row);
     }

@@ -53,6 +53,7 @@ fn folders_above_decide(rt: HostRuntime) {
         (0, b"a/x", true, false, None),
     ];
     for (row, (count, path, is_dir, fold, pair)) in rows.into_iter().enumerate() {
+        assert!(rt; count <= 2);
         let found = decision(&lists[..count], path, is_dir, fold);
         same(&rt, found == pair, "what decides", row);
     }
