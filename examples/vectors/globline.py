@@ -19,7 +19,7 @@ def run(words, lines, files=()):
 
 
 def matching(mode, pattern, value):
-    return () if b"\n" in value else [text.strip() for text in answered(mode, pattern, value + b"\n")]
+    return () if b"\n" in value else tuple(text.strip() for text in answered(mode, pattern, value + b"\n"))
 
 
 def answered(mode, pattern, values):
