@@ -2,10 +2,11 @@
 use crate::compare::same;
 use crate::fakes::{Sink, Source};
 use gix_glob::pattern::Case;
-use gix_glob::search::Watched;
 use gix_glob::search::pattern::List;
+use gix_glob::search::{Pattern as _, Watched};
 use gix_glob::wildmatch::Mode;
 use glob_lines::{EngineFault, IgnoreLines, bases_are_folders, run_ignore, run_list, run_wild};
+use std::alloc::{AllocError, Global};
 use std::io::ErrorKind;
 use std::process::Abort;
 use std::test::Fail;
@@ -68,6 +69,66 @@ pub(crate) struct Outcome<'a> {
     pub(crate) written: &'a [u8],
 }
 
+/// What a run came to: the fault, which devices have failed, and the writer.
+type Ended = (Option<EngineFault>, (bool, bool, bool), Sink);
+
+/// Runs `run_wild`.
+fn wild(alloc: Global, devices: Devices<'_>) -> Ended {
+    let mut lines = Watched::new(devices.lines);
+    let mut writer = Watched::new(devices.sink);
+    let mode = Mode::NO_MATCH_SLASH_LITERAL;
+    let answer = run_wild(alloc, b"a*", mode, &mut lines, &mut writer);
+    let failed = (false, lines.failed(), writer.failed());
+    (answer.err(), failed, writer.into_inner())
+}
+
+/// Runs `run_list`.
+fn list(alloc: Global, devices: Devices<'_>) -> Ended {
+    let mut patterns = Watched::new(devices.patterns);
+    let mut lines = Watched::new(devices.lines);
+    let mut writer = Watched::new(devices.sink);
+    let case = Case::Sensitive;
+    let answer = run_list(
+        alloc,
+        &mut patterns,
+        "f",
+        None,
+        case,
+        &mut lines,
+        &mut writer,
+    );
+    let failed = (patterns.failed(), lines.failed(), writer.failed());
+    (answer.err(), failed, writer.into_inner())
+}
+
+/// Runs `run_ignore` by these lists.
+fn ignore(alloc: Global, lists: &[List<IgnoreLines>], devices: Devices<'_>) -> Result<Ended, Fail> {
+    if !bases_are_folders(lists) {
+        return Err(Fail::new("bases of folders"));
+    }
+    let mut lines = Watched::new(devices.lines);
+    let mut writer = Watched::new(devices.sink);
+    let answer = run_ignore(alloc, lists, Case::Sensitive, &mut lines, &mut writer);
+    let failed = (false, lines.failed(), writer.failed());
+    Ok((answer.err(), failed, writer.into_inner()))
+}
+
+/// The list of one line.
+fn list_of_line(alloc: Global) -> Result<List<IgnoreLines>, AllocError> {
+    let mut list = List::empty(alloc);
+    list.patterns = IgnoreLines.bytes_to_patterns(alloc, b"!a*\n", "")?;
+    Ok(list)
+}
+
+/// Runs an engine.
+fn run(alloc: Global, engine: Engine, devices: Devices<'_>) -> Result<Ended, Fail> {
+    match engine {
+        Engine::Wild => Ok(wild(alloc, devices)),
+        Engine::List => Ok(list(alloc, devices)),
+        Engine::Ignore => ignore(alloc, &[list_of_line(alloc)?], devices),
+    }
+}
+
 /// Runs an engine, and compares what it comes to. The row is how many calls succeed before one fails.
 pub(crate) fn check_run(
     rt: &(impl Abort + AllocGlobal),
@@ -76,33 +137,9 @@ pub(crate) fn check_run(
     wanted: Outcome<'_>,
     row: usize,
 ) -> Result<(), Fail> {
-    let case = Case::Sensitive;
-    let mut patterns = Watched::new(devices.patterns);
-    let mut lines = Watched::new(devices.lines);
-    let mut writer = Watched::new(devices.sink);
-    let source = String::from_str(rt.alloc(), "ig")?;
-    let lists = [List::from_bytes(rt.alloc(), b"!a*\n", source, None, IgnoreLines)?];
-    assert!(rt; bases_are_folders(&lists));
-    let answer = match engine {
-        Engine::Wild => {
-            let mode = Mode::NO_MATCH_SLASH_LITERAL;
-            run_wild(rt.alloc(), b"a*", mode, &mut lines, &mut writer)
-        }
-        Engine::List => run_list(
-            rt.alloc(),
-            &mut patterns,
-            "f",
-            None,
-            case,
-            &mut lines,
-            &mut writer,
-        ),
-        Engine::Ignore => run_ignore(rt.alloc(), &lists, case, &mut lines, &mut writer),
-    };
-    let failed = (patterns.failed(), lines.failed(), writer.failed());
-    let sink = writer.into_inner();
+    let (fault, failed, sink) = run(rt.alloc(), engine, devices)?;
     let outcome = Outcome {
-        fault: answer.err(),
+        fault,
         failed,
         written: sink.taken(),
     };

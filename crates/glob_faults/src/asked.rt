@@ -1,8 +1,8 @@
-//! How many patterns an index asks: those alone that can match by what a path shows. And the engines ask it.
+//! How many patterns an index asks: those alone that can match by what a path shows.
 use crate::compare::same;
-use crate::engines::{decided, list_of, listed};
+use crate::lists::list_of;
 use gix_glob::pattern::Case;
-use glob_lines::{IgnoreLines, PlainLines, bases_are_folders};
+use glob_lines::{PlainLines, bases_are_folders};
 use glob_lists::{CountedDecision, ListIndex, RepositoryPath};
 use std::alloc::AllocError;
 use std::test::Fail;
@@ -137,31 +137,5 @@ fn of_a_thousand_patterns_few_are_asked(rt: HostRuntime) -> Result<(), Fail> {
     // A path shows its own ending, one of 144, which some two patterns ask for, and few that ask for a part of its name. In
     // turn each of the 1,000 would be asked where none decides.
     assert!(rt; asked <= 1_500 && undecided >= 30);
-    Ok(())
-}
-
-/// So many letters `a`.
-fn append_letters(text: &mut Vec<u8>, count: usize) -> Result<(), AllocError> {
-    let long = text.len().saturating_add(count);
-    text.resize(long, b'a')
-}
-
-/// With the index an engine answers in a moment; without it each path takes seconds, and all of them minutes: the lines take long to
-/// test, and the index passes them over, since they have another end.
-#[test]
-fn the_engines_ask_the_index(rt: HostRuntime) -> Result<(), Fail> {
-    let (mut patterns, mut paths) = (Vec::new(rt.alloc()), Vec::new(rt.alloc()));
-    for _ in 0..30 {
-        patterns.push(b'*')?;
-        append_letters(&mut patterns, 8_000)?;
-        patterns.extend_from_slice(b"c*cccccccb\nd\nd\n")?;
-        append_letters(&mut paths, 16_000)?;
-        paths.extend_from_slice(b"b\n")?;
-    }
-    let output = listed(rt.alloc(), &patterns, &paths)?;
-    assert!(rt; output.as_slice() == [b'\n'; 30].as_slice());
-    let lists = [list_of(rt.alloc(), IgnoreLines, &patterns)?];
-    let output = decided(&rt, &lists, &paths)?;
-    assert!(rt; output.as_slice() == b"none\n".repeat(rt.alloc(), 30)?.as_slice());
     Ok(())
 }
