@@ -88,29 +88,27 @@ fn append_name(
     Ok(())
 }
 
-/// Appends a pattern line: a name, an ending of names, a folder, a rooted path, a part of a name, or a name that is kept.
+/// What a pattern line is: a sign, how many syllables follow it, the same once more, and what ends the line.
+type Shape = (&'static str, usize, &'static str, usize, &'static str);
+
+/// A name, an ending of names, each twice as often as the others; a folder, a rooted path, a part of a name, and a name that is kept.
+const SHAPES: [Shape; 8] = [
+    ("", 3, "", 0, "\n"),
+    ("", 3, "", 0, "\n"),
+    ("*.", 2, "", 0, "\n"),
+    ("*.", 2, "", 0, "\n"),
+    ("", 3, "", 0, "/\n"),
+    ("/", 3, "/", 3, "\n"),
+    ("*", 3, "", 0, "*\n"),
+    ("!", 3, ".", 1, "\n"),
+];
+
+/// Appends a pattern line.
 fn append_pattern(text: &mut String, seed: &mut u32) -> Result<(), AllocError> {
-    match next(seed) % 8 {
-        0 | 1 => append_name(text, seed, "", 3)?,
-        2 | 3 => append_name(text, seed, "*.", 2)?,
-        4 => {
-            append_name(text, seed, "", 3)?;
-            text.push('/')?;
-        }
-        5 => {
-            append_name(text, seed, "/", 3)?;
-            append_name(text, seed, "/", 3)?;
-        }
-        6 => {
-            append_name(text, seed, "*", 3)?;
-            text.push('*')?;
-        }
-        _ => {
-            append_name(text, seed, "!", 3)?;
-            append_name(text, seed, ".", 1)?;
-        }
-    }
-    text.push('\n')
+    let (sign, count, second, more, end) = SHAPES[next(seed) % 8];
+    append_name(text, seed, sign, count)?;
+    append_name(text, seed, second, more)?;
+    text.push_str(end)
 }
 
 #[test]

@@ -8,12 +8,6 @@ mod asked;
 #[cfg(test)]
 mod compare;
 #[cfg(test)]
-mod engine_runs;
-#[cfg(test)]
-mod failing_reads;
-#[cfg(test)]
-mod failing_writes;
-#[cfg(test)]
 mod fakes;
 #[cfg(test)]
 mod files;
