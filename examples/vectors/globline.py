@@ -7,11 +7,17 @@ import sys
 import rows
 
 PROGRAM = os.path.abspath(sys.argv[1])
+# of a word of a command line under Linux
+MOST_BYTES = 1 << 17
+
+
+def is_word(bytes_):
+    return rows.is_text(bytes_) and b"\0" not in bytes_ and len(bytes_) < MOST_BYTES
 
 
 def run(words, lines, files=()):
     """What globline writes, in a folder with these files, as the answer; none where a word can't be one of a command line."""
-    if not all(rows.is_text(word) and b"\0" not in word for word in words):
+    if not all(is_word(word) for word in words):
         return ()
     with rows.folder_of(files) as top:
         ran = subprocess.run([PROGRAM, *words], input=lines, cwd=top, stdout=subprocess.PIPE, check=False)
@@ -27,7 +33,7 @@ def answered(mode, pattern, values):
 
 
 def listed(case, source, root, patterns, paths):
-    return () if not rows.is_plain(source) else run([b"list", case, source, b"-" if root is None else root], paths, [(source, patterns)])
+    return () if not rows.is_plain(source) or not is_word(source) else run([b"list", case, source, b"-" if root is None else root], paths, [(source, patterns)])
 
 
 def decided(case, paths, *fields):

@@ -112,7 +112,8 @@ def by_line(ignored):
 def is_lone(mode, pattern, value):
     """Whether the pattern can stand in a line, alone but for a slash before it, and the value can be the path of a file."""
     is_path = is_plain(value) and not value.endswith(b"/") and b"\0" not in value and max(map(len, value.split(b"/"))) < 256
-    return mode.startswith(b"path") and is_path and not pattern.endswith(b"/") and b"\0" not in pattern
+    # (in an attribute file Git passes over a line of 2,048 bytes)
+    return mode.startswith(b"path") and is_path and not pattern.endswith(b"/") and b"\0" not in pattern and len(pattern) < 1000
 
 
 def case_of(mode):

@@ -1,28 +1,33 @@
-//! What comes from outside: readers, writers, memory and files, each call of them failing in turn, and every real file. Tests
-//! alone; what only answers to bytes in memory, with nothing that fails, is in `glob_vectors`.
+//! What no row asks of the public calls. What comes from outside: readers, writers, memory and files, each call of them failing in turn,
+//! and every real file. And with bytes in memory: many lists, how many patterns an index asks, orders, and texts that are shown. Tests
+//! alone; rows are in `glob_rows`.
 #![tactic(auto)]
 
 #[cfg(test)]
+mod asked;
+#[cfg(test)]
 mod compare;
-#[cfg(test)]
-mod engine_runs;
-#[cfg(test)]
-mod failing_reads;
-#[cfg(test)]
-mod failing_writes;
 #[cfg(test)]
 mod fakes;
 #[cfg(test)]
 mod files;
 #[cfg(test)]
+mod lists;
+#[cfg(test)]
 mod lists_from_readers;
+#[cfg(test)]
+mod many_lists;
 #[cfg(test)]
 mod records;
 #[cfg(test)]
 mod refused_memory;
 #[cfg(test)]
+mod shown;
+#[cfg(test)]
 mod told;
 #[cfg(test)]
 mod trees;
+#[cfg(test)]
+mod values;
 #[cfg(test)]
 mod watched;

@@ -7,6 +7,7 @@ use glob_lines::IgnoreLines;
 use glob_lists::{PreparedList, RepositoryPath};
 use glob_trees::{FolderLists, Tree, TreeFault, list_in_folder};
 use std::alloc::{AllocError, Global};
+use std::process::Abort;
 use std::test::Fail;
 
 /// Why the source has no list.
@@ -70,6 +71,17 @@ impl FolderLists<IgnoreLines> for Failing {
     }
 }
 
+/// The tree of the source whose call of this number fails, with lists before all folders.
+pub(crate) fn tree_of(
+    alloc: Global,
+    fails_at: usize,
+    fronts: Vec<PreparedList<IgnoreLines>>,
+) -> Result<Tree<IgnoreLines, Failing>, Fail> {
+    let source = Failing::at(alloc, fails_at);
+    let tree = Tree::new(alloc, source, fronts, Case::Sensitive);
+    Ok(tree.ok_or("a tree")?)
+}
+
 /// Which pattern decides about the path of a line.
 pub(crate) fn answer_of(
     tree: &mut Tree<IgnoreLines, Failing>,
@@ -81,28 +93,31 @@ pub(crate) fn answer_of(
     }
 }
 
-#[test]
-fn the_call_after_a_fault_answers(rt: HostRuntime) -> Result<(), Fail> {
+/// Asks about paths, and once more where the source fails: how often it did. The row is the call that fails.
+fn faults_told(rt: &(impl Abort + AllocGlobal), fails_at: usize) -> Result<u32, Fail> {
     let paths: [(&[u8], Option<(usize, usize)>); 4] = [
         (b"a/b/x", Some((2, 0))),
         (b"x", Some((0, 0))),
         (b"a/x", Some((1, 0))),
         (b"a/b/c", None),
     ];
-    for fails_at in 0..5 {
-        let source = Failing::at(rt.alloc(), fails_at);
-        let fronts = Vec::new(rt.alloc());
-        let mut tree = Tree::new(rt.alloc(), source, fronts, Case::Sensitive).ok_or("a tree")?;
-        let mut told = 0u32;
-        for (row, (line, wanted)) in paths.into_iter().enumerate() {
-            let mut answer = answer_of(&mut tree, line);
-            if answer == Err(TreeFault::Source(SourceFault::Broken)) {
-                told = told.saturating_add(1);
-                answer = answer_of(&mut tree, line);
-            }
-            same(&rt, answer.ok() == Some(wanted), "what decides", row);
+    let mut tree = tree_of(rt.alloc(), fails_at, Vec::new(rt.alloc()))?;
+    let mut told = 0u32;
+    for (line, wanted) in paths {
+        let mut answer = answer_of(&mut tree, line);
+        if answer == Err(TreeFault::Source(SourceFault::Broken)) {
+            told = told.saturating_add(1);
+            answer = answer_of(&mut tree, line);
         }
-        let wanted = u32::from((1..4).contains(&fails_at));
+        same(rt, answer == Ok(wanted), "what decides", fails_at);
+    }
+    Ok(told)
+}
+
+#[test]
+fn the_call_after_a_fault_answers(rt: HostRuntime) -> Result<(), Fail> {
+    for (fails_at, wanted) in [0, 1, 1, 1, 0].into_iter().enumerate() {
+        let told = faults_told(&rt, fails_at)?;
         same(&rt, told == wanted, "how often a fault is told", fails_at);
     }
     Ok(())
@@ -111,37 +126,25 @@ fn the_call_after_a_fault_answers(rt: HostRuntime) -> Result<(), Fail> {
 /// How many folders of the deep path lie in one another.
 const DEPTH: usize = 200;
 
+/// A list before all folders.
+fn front(alloc: Global) -> Result<Vec<PreparedList<IgnoreLines>>, AllocError> {
+    let mut excludes = List::empty(alloc);
+    excludes.patterns = IgnoreLines.bytes_to_patterns(alloc, b"q\nx\ny\n", "")?;
+    let mut fronts = Vec::new(alloc);
+    fronts.push(PreparedList::new(alloc, excludes))?;
+    Ok(fronts)
+}
+
 #[test]
 fn deep_folders_and_lists_before_all_are_asked(rt: HostRuntime) -> Result<(), Fail> {
-    let mut excludes = List::empty(rt.alloc());
-    excludes.patterns = IgnoreLines.bytes_to_patterns(rt.alloc(), b"q\nx\ny\n", "")?;
-    let mut fronts = Vec::new(rt.alloc());
-    fronts.push(PreparedList::new(rt.alloc(), excludes))?;
-    let source = Failing::at(rt.alloc(), 0);
-    let mut tree = Tree::new(rt.alloc(), source, fronts, Case::Sensitive).ok_or("a tree")?;
-    let mut line = Vec::new(rt.alloc());
-    for _ in 0..DEPTH {
-        line.extend_from_slice(b"a/")?;
-    }
+    let mut line = b"a/".repeat(rt.alloc(), DEPTH)?;
     line.push(b'x')?;
     // the list before all folders, that of the top, and that of `a`
-    same(
-        &rt,
-        answer_of(&mut tree, &line).ok() == Some(Some((2, 0))),
-        "deep",
-        DEPTH,
-    );
-    same(
-        &rt,
-        answer_of(&mut tree, b"x").ok() == Some(Some((1, 0))),
-        "at the top",
-        DEPTH,
-    );
-    same(
-        &rt,
-        answer_of(&mut tree, b"a/y").ok() == Some(Some((0, 2))),
-        "before all",
-        DEPTH,
-    );
+    let rows: [(&[u8], (usize, usize)); 3] = [(&line, (2, 0)), (b"x", (1, 0)), (b"a/y", (0, 2))];
+    let mut tree = tree_of(rt.alloc(), 0, front(rt.alloc())?)?;
+    for (row, (line, wanted)) in rows.into_iter().enumerate() {
+        let answer = answer_of(&mut tree, line);
+        same(&rt, answer == Ok(Some(wanted)), "what decides", row);
+    }
     Ok(())
 }

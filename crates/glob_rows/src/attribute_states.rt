@@ -8,7 +8,7 @@ use gix_glob::pattern::Case;
 use gix_glob::search::has_file_part;
 use gix_glob::search::pattern::List;
 use glob_attributes::{AttributeLines, AttributeNames, MacroTable, PathAttributes, keep_named};
-use glob_lists::{ListIndex, RepositoryPath, bases_are_folders};
+use glob_lists::{IndexError, ListIndex, RepositoryPath, bases_are_folders};
 use glob_trees::list_in_folder;
 use std::alloc::{AllocError, Global};
 
@@ -178,8 +178,10 @@ pub(crate) fn all_states(
     if !bases_are_folders(weaker) {
         return Err(RowFault::Field("bases of folders"));
     }
-    let Ok(index) = ListIndex::new(alloc, weaker, Case::Sensitive) else {
-        return Err(RowFault::Call("ListIndex::new"));
+    let index = match ListIndex::new(alloc, weaker, Case::Sensitive) {
+        Ok(index) => index,
+        Err(IndexError::Memory) => return Err(RowFault::Memory),
+        Err(IndexError::TooMany) => return Err(RowFault::Call("ListIndex::new")),
     };
     if !bases_are_folders(stronger) {
         return Err(RowFault::Field("bases of folders"));

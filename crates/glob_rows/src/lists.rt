@@ -3,9 +3,10 @@
 use crate::answer::Answer;
 use crate::fault::RowFault;
 use crate::question::{Field, Question};
+use crate::streams::room;
 use gix_glob::search::pattern::List;
 use gix_glob::search::{Pattern as _, Watched, has_file_part};
-use glob_lines::{IgnoreLines, bases_are_folders, run_ignore, run_list};
+use glob_lines::{EngineFault, IgnoreLines, bases_are_folders, run_ignore, run_list};
 use std::alloc::Global;
 
 /// The list of an ignore file's bytes, under a base or none.
@@ -64,9 +65,10 @@ pub(crate) fn decided(
     if !bases_are_folders(&lists) {
         return Err(RowFault::Field("bases of folders"));
     }
-    let (mut paths, mut writer) = (Watched::new(paths), Watched::new(Vec::new(alloc)));
+    let (mut paths, mut writer) = (Watched::new(paths), Watched::new(room(alloc)?));
     match run_ignore(alloc, &lists, case, &mut paths, &mut writer) {
         Ok(()) => Ok(answer.push(&writer.into_inner())?),
+        Err(EngineFault::Memory) => Err(RowFault::Memory),
         Err(_fault) => Err(RowFault::Call("run_ignore")),
     }
 }
@@ -86,10 +88,7 @@ pub(crate) fn listed(
         return Err(RowFault::Field("a source with a file part"));
     }
     let mut patterns = Watched::new(question.bytes(3)?);
-    let (mut paths, mut writer) = (
-        Watched::new(question.bytes(4)?),
-        Watched::new(Vec::new(alloc)),
-    );
+    let (mut paths, mut writer) = (Watched::new(question.bytes(4)?), Watched::new(room(alloc)?));
     match run_list(
         alloc,
         &mut patterns,
@@ -100,6 +99,7 @@ pub(crate) fn listed(
         &mut writer,
     ) {
         Ok(()) => Ok(answer.push(&writer.into_inner())?),
+        Err(EngineFault::Memory) => Err(RowFault::Memory),
         Err(_fault) => Err(RowFault::Call("run_list")),
     }
 }

@@ -19,7 +19,7 @@ mod trees;
 
 use crate::asking::ask;
 use crate::fault::RowFault;
-use crate::row::{Row, row_of};
+use crate::row::{WrittenOut, row_of};
 use anyhow::{Context, Result};
 use std::fs;
 use std::process::ExitCode;
@@ -115,7 +115,8 @@ fn ask_rows<R: Print + AllocGlobal>(rt: &R, subject: &str, bytes: &[u8]) -> Resu
 
 /// What is wrong with a row; `None` where its answer is the one that the library gives.
 fn difference<R: AllocGlobal>(rt: &R, subject: &str, line: &[u8]) -> Result<Option<String>> {
-    let row = row_of(rt.alloc(), subject, line)?;
+    let line = WrittenOut::new(rt.alloc(), line)?;
+    let row = row_of(rt.alloc(), subject, line.text())?;
     match ask(rt.alloc(), subject, &row.question) {
         Ok(answer) if answer.text() == row.wanted => Ok(None),
         Ok(answer) => {

@@ -3,10 +3,27 @@
 use crate::answer::Answer;
 use crate::fault::RowFault;
 use crate::question::Question;
+use crate::streams::room;
 use gix_glob::search::Watched;
 use gix_glob::wildmatch::{Mode, recursive, wildmatch};
-use glob_lines::run_wild;
+use glob_lines::{EngineFault, run_wild};
 use std::alloc::Global;
+
+/// With more stars than these the recursive engine may give up.
+const MOST_STARS: usize = 63;
+
+/// How many stars a pattern has, where those side by side are one.
+fn stars(pattern: &[u8]) -> usize {
+    let mut count = 0usize;
+    let mut before = 0;
+    for byte in pattern {
+        if *byte == b'*' && before != b'*' {
+            count = count.saturating_add(1);
+        }
+        before = *byte;
+    }
+    count
+}
 
 /// Whether a pattern matches a value in a mode. Both engines and that of lines have to agree.
 pub(crate) fn matching(
@@ -16,7 +33,8 @@ pub(crate) fn matching(
 ) -> Result<(), RowFault> {
     let (mode, pattern, value) = (question.mode(0)?, question.bytes(1)?, question.bytes(2)?);
     let is_matched = wildmatch(pattern, value, mode);
-    if recursive(pattern, value, mode) != is_matched {
+    let is_found = recursive(pattern, value, mode);
+    if is_found != is_matched && (is_found || stars(pattern) <= MOST_STARS) {
         return Err(RowFault::Call("the engines differ"));
     }
     if !value.contains(&b'\n') && line_answer(alloc, pattern, mode, value)? != is_matched {
@@ -49,9 +67,10 @@ pub(crate) fn answered(
 
 /// What the engine of lines writes.
 fn wild(alloc: Global, pattern: &[u8], mode: Mode, values: &[u8]) -> Result<Vec<u8>, RowFault> {
-    let (mut reader, mut writer) = (Watched::new(values), Watched::new(Vec::new(alloc)));
+    let (mut reader, mut writer) = (Watched::new(values), Watched::new(room(alloc)?));
     match run_wild(alloc, pattern, mode, &mut reader, &mut writer) {
         Ok(()) => Ok(writer.into_inner()),
+        Err(EngineFault::Memory) => Err(RowFault::Memory),
         Err(_fault) => Err(RowFault::Call("run_wild")),
     }
 }

@@ -10,7 +10,7 @@ pub(crate) struct Row<'a> {
     pub(crate) wanted: &'a [u8],
 }
 
-/// The row of a line.
+/// The row of a line that is written out.
 pub(crate) fn row_of<'a>(
     alloc: Global,
     subject: &str,
@@ -58,4 +58,80 @@ fn split_answer(line: &[u8], count: usize) -> (&[u8], &[u8]) {
         }
     }
     (&[], line)
+}
+
+/// A line in which each `\*N{TEXT}` is written out: TEXT stands there so many times.
+#[derive(Drop)]
+pub(crate) struct WrittenOut {
+    text: Vec<u8>,
+    place: Place,
+    /// How often the text behind a `{` stands there, and where it begins; 0 outside of braces.
+    times: usize,
+    start: usize,
+}
+
+/// Where the reader of a line stands.
+#[derive(Clone, Copy, Drop)]
+enum Place {
+    /// Behind no backslash.
+    Plain,
+    /// Behind a backslash.
+    Escape,
+    /// In the number behind `\*`.
+    Number,
+}
+
+impl WrittenOut {
+    /// The line, written out.
+    pub(crate) fn new(alloc: Global, line: &[u8]) -> Result<WrittenOut, AllocError> {
+        let mut written = WrittenOut {
+            text: Vec::with_capacity(alloc, line.len())?,
+            place: Place::Plain,
+            times: 0,
+            start: 0,
+        };
+        for sign in line {
+            written.take(alloc, *sign)?;
+        }
+        Ok(written)
+    }
+
+    /// The text of the line.
+    pub(crate) fn text(&self) -> &[u8] {
+        &self.text
+    }
+
+    /// Takes the next sign of the line.
+    fn take(&mut self, alloc: Global, sign: u8) -> Result<(), AllocError> {
+        match (self.place, sign) {
+            (Place::Plain, b'\\') => self.place = Place::Escape,
+            (Place::Plain, b'}') if self.times > 0 => return self.repeat(alloc),
+            (Place::Plain, _) => self.text.push(sign)?,
+            (Place::Escape, b'*') => self.place = Place::Number,
+            (Place::Escape, _) => {
+                self.place = Place::Plain;
+                self.text.push(b'\\')?;
+                self.text.push(sign)?;
+            }
+            (Place::Number, b'0'..=b'9') => {
+                let digit = usize::from(sign - b'0');
+                self.times = self.times.saturating_mul(10).saturating_add(digit);
+            }
+            (Place::Number, _) => {
+                self.place = Place::Plain;
+                self.start = self.text.len();
+            }
+        }
+        Ok(())
+    }
+
+    /// Repeats the text behind the `{`.
+    fn repeat(&mut self, alloc: Global) -> Result<(), AllocError> {
+        let piece = Vec::from_slice(alloc, self.text.get(self.start..).unwrap_or(b""))?;
+        for _ in 1..self.times {
+            self.text.extend_from_slice(&piece)?;
+        }
+        self.times = 0;
+        Ok(())
+    }
 }

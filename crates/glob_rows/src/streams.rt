@@ -6,9 +6,14 @@ use crate::fault::RowFault;
 use crate::question::Question;
 use gix_glob::search::Watched;
 use glob_attributes::{AttributeQuery, run_attributes};
-use glob_lists::{ListIndex, bases_are_folders};
-use glob_trees::{Answerer, RecordStream};
+use glob_lists::{IndexError, ListIndex, bases_are_folders};
+use glob_trees::{Answerer, RecordFault, RecordStream};
 use std::alloc::{AllocError, Global};
+
+/// Room for what most rows answer: so a refusal of memory is told by the call itself, and not as a failed write.
+pub(crate) fn room(alloc: Global) -> Result<Vec<u8>, AllocError> {
+    Vec::with_capacity(alloc, 4_096)
+}
 
 /// Answers a record by the record in brackets.
 #[derive(Drop)]
@@ -45,9 +50,10 @@ pub(crate) fn records(
         _ => return Err(RowFault::Field("an end")),
     };
     let mut reader = Watched::new(question.bytes(1)?);
-    let mut writer = Watched::new(Vec::new(alloc));
+    let mut writer = Watched::new(room(alloc)?);
     match (RecordStream { alloc, end }).run(&mut reader, &mut writer, &mut Brackets) {
         Ok(()) => Ok(answer.push(&writer.into_inner())?),
+        Err(RecordFault::Memory | RecordFault::Answer(_)) => Err(RowFault::Memory),
         Err(_fault) => Err(RowFault::Call("RecordStream::run")),
     }
 }
@@ -70,14 +76,17 @@ pub(crate) fn attribute_streams(
     if !bases_are_folders(lists) {
         return Err(RowFault::Field("bases of folders"));
     }
-    let Ok(index) = ListIndex::new(alloc, lists, case) else {
-        return Err(RowFault::Call("ListIndex::new"));
+    let index = match ListIndex::new(alloc, lists, case) {
+        Ok(index) => index,
+        Err(IndexError::Memory) => return Err(RowFault::Memory),
+        Err(IndexError::TooMany) => return Err(RowFault::Call("ListIndex::new")),
     };
     let query = AttributeQuery::new(&index, &sources.macros, &names);
     let mut reader = Watched::new(paths);
-    let mut writer = Watched::new(Vec::new(alloc));
+    let mut writer = Watched::new(room(alloc)?);
     match run_attributes(alloc, &query, &mut reader, &mut writer) {
         Ok(()) => Ok(answer.push(&writer.into_inner())?),
+        Err(RecordFault::Memory | RecordFault::Answer(_)) => Err(RowFault::Memory),
         Err(_fault) => Err(RowFault::Call("run_attributes")),
     }
 }

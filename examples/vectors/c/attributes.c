@@ -64,8 +64,9 @@ static void add_file(const struct field *bytes, const uint8_t *base, size_t base
     const size_t first = sources.line_count;
     struct reader reader = reader_of(bytes, base_len == 0);
     while (read_line(&reader, &sources.heads)) {
-        if (sources.line_count == MOST_LINES || sources.macro_count == MOST_MACROS || sources.list_count == MOST_LISTS)
-            abort();
+        lacks_room |= sources.line_count == MOST_LINES || sources.macro_count == MOST_MACROS || sources.list_count == MOST_LISTS;
+        if (lacks_room)
+            return;
         if (reader.kind == GIX_GLOB_LINE_PATTERN)
             sources.lines[sources.line_count++] = reader.line;
         if (reader.kind == GIX_GLOB_LINE_MACRO)

@@ -23,8 +23,10 @@ static void read_file(const struct field *base, const struct field *bytes, struc
     file->base = base;
     for (file->count = 0; gix_glob_parse_ignore_line(&lines, &pattern, &has_pattern);)
         if (has_pattern) {
-            if (file->count == MOST_RULES)
-                abort();
+            if (file->count == MOST_RULES) {
+                lacks_room = true;
+                break;
+            }
             file->numbers[file->count] = lines.number;
             file->patterns[file->count++] = pattern;
         }

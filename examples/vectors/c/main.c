@@ -1,7 +1,9 @@
 /* Answers rows by the C library: tools/vectors PROGRAM, where PROGRAM is built of the files of this folder. Of several calls that
- * answer a question all are asked: where they don't agree, the answer is `differs: ` and the name of one. What no call answers is
- * `?`. */
+ * answer a question all are asked: where they don't agree, the answer is `differs: ` and the name of one. What no call answers, and
+ * what is too large for the arrays of this program, is `?`. */
 #include "rows.h"
+
+bool lacks_room;
 
 static bool matching(const struct field *fields, struct answer *answer)
 {
@@ -88,10 +90,11 @@ int main(void)
         const char *subject = strsep(&rest, "\t");
         for (count = 0; rest && count < MOST_FIELDS; count++)
             fields[count] = read_field(strsep(&rest, "\t"));
+        lacks_room = false;
         answer.text.len = 0;
         answer.has_field = false;
         answer.differs = NULL;
-        if (!answer_row(subject, fields, count, &answer))
+        if (!answer_row(subject, fields, count, &answer) || lacks_room)
             puts("?");
         else if (answer.differs)
             printf("differs: %s\n", answer.differs);

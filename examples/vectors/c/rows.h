@@ -60,6 +60,9 @@ static inline struct gix_glob_path path_of(const struct field *field)
     return (struct gix_glob_path){field->bytes, field->len - is_dir, is_dir};
 }
 
+/* Whether the question or its answer is larger than what the arrays of this program hold. */
+extern bool lacks_room;
+
 /* Bytes that grow. */
 struct text {
     uint8_t bytes[MOST_BYTES];
@@ -68,8 +71,9 @@ struct text {
 
 static inline void add(struct text *text, const void *bytes, size_t len)
 {
-    if (len > sizeof text->bytes - text->len)
-        abort();
+    lacks_room |= len > sizeof text->bytes - text->len;
+    if (lacks_room)
+        return;
     memcpy(text->bytes + text->len, bytes, len);
     text->len += len;
 }

@@ -25,33 +25,48 @@ fn list_with(alloc: Global, pattern: &[u8]) -> Result<List<Whole>, AllocError> {
     List::from_bytes(alloc, pattern, source, None, Whole)
 }
 
-/// Compares what the file of this name comes to as a list of its own, and behind two lists, which are left as they were.
-fn check_name<F: Abort + AllocGlobal + Files>(
+/// Two lists, each of a pattern.
+fn two_lists(alloc: Global) -> Result<Vec<List<Whole>>, AllocError> {
+    let mut lists = Vec::new(alloc);
+    lists.push(list_with(alloc, b"a*")?)?;
+    lists.push(list_with(alloc, b"!b")?)?;
+    Ok(lists)
+}
+
+/// Whether the lists begin with those two, behind which there are none or empty ones.
+fn are_kept(alloc: Global, lists: &[List<Whole>]) -> Result<bool, AllocError> {
+    let (front, rest) = lists.split_at(lists.len().min(2));
+    let are_empty = rest.iter().all(|list| list.patterns.is_empty());
+    Ok(are_empty && front == two_lists(alloc)?.as_slice())
+}
+
+/// Compares what the file of this name comes to as a list of its own.
+fn check_list<F: Abort + AllocGlobal + Files>(
     rt: &F,
     name: &str,
     words: &str,
     row: usize,
 ) -> Result<(), Fail> {
     let (answer, buf) = list_of(rt, rt.alloc(), name)?;
-    same_words(rt, count_of(answer), words, row)?;
     same(rt, buf.is_empty(), "no bytes are left", row);
-    let mut lists = Vec::new(rt.alloc());
-    lists.push(list_with(rt.alloc(), b"a*")?)?;
-    lists.push(list_with(rt.alloc(), b"!b")?)?;
+    Ok(same_words(rt, count_of(answer), words, row)?)
+}
+
+/// Compares what it comes to behind two lists, which are left as they were.
+fn check_added<F: Abort + AllocGlobal + Files>(
+    rt: &F,
+    name: &str,
+    words: &str,
+    row: usize,
+) -> Result<(), Fail> {
+    let mut lists = two_lists(rt.alloc())?;
     let (answer, buf) = add_list(rt, rt.alloc(), &mut lists, name)?;
-    let added = lists.len() == 3;
-    let told = answer.map(|is_added| is_added.then_some(0));
-    same_words(rt, told, words, row)?;
     same(rt, buf.is_empty(), "no bytes are left", row);
-    same(rt, added == (words == "0 patterns"), "it is added", row);
-    let [first, second, rest @ ..] = lists.as_slice() else {
-        return Err(Fail::new("a list is lost"));
-    };
-    let is_kept = *first == list_with(rt.alloc(), b"a*")?
-        && *second == list_with(rt.alloc(), b"!b")?;
-    same(rt, is_kept, "the lists before are kept", row);
-    assert!(rt; rest.iter().all(|list| list.patterns.is_empty()));
-    Ok(())
+    let is_added = lists.len() == 3;
+    same(rt, is_added == (words == "0 patterns"), "it is added", row);
+    same(rt, are_kept(rt.alloc(), &lists)?, "the lists before", row);
+    let told = answer.map(|is_added| is_added.then_some(0));
+    Ok(same_words(rt, told, words, row)?)
 }
 
 /// Catches a call that always answers a fault, also for a file of no bytes, which is a list of no patterns.
@@ -70,9 +85,18 @@ fn file_always_fails(rt: HostRuntime) -> Result<(), Fail> {
         ),
     ];
     for (row, (name, words)) in rows.into_iter().enumerate() {
-        check_name(&rt, name, words, row)?;
+        check_list(&rt, name, words, row)?;
+        check_added(&rt, name, words, row)?;
     }
     Ok(())
+}
+
+/// Whether the list of the file of this name has this text as its pattern, and the buffer has it as it was read.
+fn is_read_whole<F: AllocGlobal + Files>(rt: &F, name: &str, text: &[u8]) -> Result<bool, Fail> {
+    let (answer, buf) = list_of(rt, rt.alloc(), name)?;
+    let list = answer?.ok_or("no list")?;
+    let mapping = list.patterns.first().ok_or("no mapping")?;
+    Ok(mapping.pattern.text() == text && buf.as_slice() == text && list.base.is_none())
 }
 
 /// Catches a call that always answers that there is no file: a file, a link to it, and one of more than 64 KiB are read whole.
@@ -80,22 +104,16 @@ fn file_always_fails(rt: HostRuntime) -> Result<(), Fail> {
 fn files_and_links_are_read_whole(rt: HostRuntime) -> Result<(), Fail> {
     let path = path_of(&rt, "linked")?;
     let link = path_of(&rt, "link")?;
+    symlink(&rt, path.as_str(), link.as_str())?;
     for (row, count) in [3, 70_003].into_iter().enumerate() {
         let text = "a".repeat(rt.alloc(), count)?;
         fs::write(&rt, path.as_str(), text.as_str())?;
-        symlink(&rt, path.as_str(), link.as_str())?;
-        let by_name = list_of(&rt, rt.alloc(), path.as_str())?;
-        let by_link = list_of(&rt, rt.alloc(), link.as_str())?;
-        fs::remove_file(&rt, link.as_str())?;
-        fs::remove_file(&rt, path.as_str())?;
-        for (answer, buf) in [by_name, by_link] {
-            let list = answer?.ok_or("no list")?;
-            let mapping = list.patterns.first().ok_or("no mapping")?;
-            let is_read = mapping.pattern.text() == text.as_bytes()
-                && buf.as_slice() == text.as_bytes();
-            same(&rt, is_read && list.base.is_none(), "the list", row);
-        }
+        let by_name = is_read_whole(&rt, path.as_str(), text.as_bytes())?;
+        let by_link = is_read_whole(&rt, link.as_str(), text.as_bytes())?;
+        same(&rt, by_name && by_link, "the list", row);
     }
+    fs::remove_file(&rt, link.as_str())?;
+    fs::remove_file(&rt, path.as_str())?;
     Ok(())
 }
 

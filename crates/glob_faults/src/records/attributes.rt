@@ -4,12 +4,13 @@ use super::{Told, Unanswered};
 use crate::compare::same;
 use crate::fakes::{Sink, Source};
 use gix_glob::pattern::Case;
-use gix_glob::search::Watched;
 use gix_glob::search::pattern::List;
+use gix_glob::search::{Pattern as _, Watched};
 use glob_attributes::{AttributeLines, AttributeQuery, MacroTable, run_attributes};
 use glob_lists::{ListIndex, bases_are_folders};
 use glob_trees::RecordFault;
-use std::alloc::AllocError;
+use std::alloc::{AllocError, Global};
+use std::io::ErrorKind;
 use std::process::Abort;
 use std::test::Fail;
 
@@ -36,6 +37,26 @@ fn told_of(run: Result<(), RecordFault<AllocError>>) -> Told {
     }
 }
 
+/// Runs over the paths, and tells what it came to.
+fn run(
+    alloc: Global,
+    lists: &[List<AttributeLines>],
+    source: Source<'_>,
+    sink: Sink,
+) -> Result<(Told, Sink), Fail> {
+    if !bases_are_folders(lists) {
+        return Err(Fail::new("bases of folders"));
+    }
+    let index = ListIndex::new(alloc, lists, Case::Sensitive)?;
+    let macros = MacroTable::new(alloc)?;
+    let names = [b"a".as_slice()];
+    let query = AttributeQuery::new(&index, &macros, &names);
+    let mut reader = Watched::new(source);
+    let mut writer = Watched::new(sink);
+    let told = told_of(run_attributes(alloc, &query, &mut reader, &mut writer));
+    Ok((told, writer.into_inner()))
+}
+
 /// Asks for `a` by the line `x a`, and compares what a run over the paths comes to with what is told and written.
 fn check_run(
     rt: &(impl Abort + AllocGlobal),
@@ -43,18 +64,9 @@ fn check_run(
     wanted: (Told, &[u8]),
     row: usize,
 ) -> Result<(), Fail> {
-    let alloc = rt.alloc();
-    let source = String::from_str(alloc, "f")?;
-    let lists = [List::from_bytes(alloc, b"x a\n", source, None, AttributeLines)?];
-    assert!(rt; bases_are_folders(&lists));
-    let index = ListIndex::new(alloc, &lists, Case::Sensitive)?;
-    let macros = MacroTable::new(alloc)?;
-    let names = [b"a".as_slice()];
-    let query = AttributeQuery::new(&index, &macros, &names);
-    let mut reader = Watched::new(devices.0);
-    let mut writer = Watched::new(devices.1);
-    let told = told_of(run_attributes(alloc, &query, &mut reader, &mut writer));
-    let sink = writer.into_inner();
+    let mut list = List::empty(rt.alloc());
+    list.patterns = AttributeLines.bytes_to_patterns(rt.alloc(), b"x a\n", "")?;
+    let (told, sink) = run(rt.alloc(), &[list], devices.0, devices.1)?;
     same(
         rt,
         (told, sink.taken()) == wanted,
@@ -64,34 +76,45 @@ fn check_run(
     Ok(())
 }
 
+/// Fails each read in turn.
+fn check_reads(rt: &(impl Abort + AllocGlobal), kind: ErrorKind) -> Result<(), Fail> {
+    // how many paths have been answered: there is a read for each byte, and one that finds the end
+    for (successes, count) in [0, 0, 1, 2, 2, 3].into_iter().enumerate() {
+        let source = Source::new(PATHS, 1, successes).failing_with(kind);
+        let sink = Sink::new(Vec::new(rt.alloc()), WHOLE, WHOLE);
+        let told = if successes < 5 {
+            Told::Read(kind)
+        } else {
+            Told::Nothing
+        };
+        let text = TEXTS.get(count).copied().ok_or("a text")?;
+        check_run(rt, (source, sink), (told, text), successes)?;
+    }
+    Ok(())
+}
+
+/// Fails each write in turn: there is one for each byte; the last fault is that of the last flush.
+fn check_writes(rt: &(impl Abort + AllocGlobal), kind: ErrorKind) -> Result<(), Fail> {
+    let [.., text] = TEXTS;
+    for successes in 0..text.len() + 2 {
+        let source = Source::new(PATHS, WHOLE, WHOLE);
+        let sink = Sink::new(Vec::new(rt.alloc()), 1, successes).failing_with(kind);
+        let told = if successes <= text.len() {
+            Told::Write(kind)
+        } else {
+            Told::Nothing
+        };
+        let written = text.get(..successes).unwrap_or(text);
+        check_run(rt, (source, sink), (told, written), successes)?;
+    }
+    Ok(())
+}
+
 #[test]
 fn each_failed_call_leaves_what_was_answered(rt: HostRuntime) -> Result<(), Fail> {
-    // how many paths have been answered: there is a read for each byte, and one that finds the end
-    let answered = [0, 0, 1, 2, 2, 3];
     for kind in KINDS {
-        for (successes, count) in answered.iter().enumerate() {
-            let source = Source::new(PATHS, 1, successes).failing_with(kind);
-            let sink = Sink::new(Vec::new(rt.alloc()), WHOLE, WHOLE);
-            let told = if successes < 5 {
-                Told::Read(kind)
-            } else {
-                Told::Nothing
-            };
-            check_run(&rt, (source, sink), (told, TEXTS[*count]), successes)?;
-        }
-        let text = TEXTS[3];
-        // a write for each byte; the last fault is that of the last flush
-        for successes in 0..text.len() + 2 {
-            let source = Source::new(PATHS, WHOLE, WHOLE);
-            let sink = Sink::new(Vec::new(rt.alloc()), 1, successes).failing_with(kind);
-            let told = if successes <= text.len() {
-                Told::Write(kind)
-            } else {
-                Told::Nothing
-            };
-            let wanted = (told, &text[..successes.min(text.len())]);
-            check_run(&rt, (source, sink), wanted, successes)?;
-        }
+        check_reads(&rt, kind)?;
+        check_writes(&rt, kind)?;
     }
     Ok(())
 }

@@ -1,7 +1,9 @@
 //! Reads, writes, flushes and answers of records that fail, each in turn; and long records, and many.
 use super::{Brackets, Told, Unanswered, check_run};
 use crate::fakes::{Sink, Source};
+use std::alloc::{AllocError, Global};
 use std::io::ErrorKind;
+use std::process::Abort;
 use std::test::Fail;
 
 const RECORDS: &[u8] = b"ab\n\nc";
@@ -15,36 +17,46 @@ pub(super) const WHOLE: usize = usize::MAX;
 /// What a failed call may say. One that was interrupted isn't tried again either.
 pub(super) const KINDS: [ErrorKind; 2] = [ErrorKind::Interrupted, ErrorKind::Other];
 
+/// Fails each read in turn.
+fn check_reads(rt: &(impl Abort + AllocGlobal), kind: ErrorKind) -> Result<(), Fail> {
+    // a read for each byte, and one that finds the end
+    for (successes, count) in [0, 0, 0, 4, 6, 6, 9].into_iter().enumerate() {
+        let source = Source::new(RECORDS, 1, successes).failing_with(kind);
+        let sink = Sink::new(Vec::new(rt.alloc()), WHOLE, WHOLE);
+        let told = if successes < 6 {
+            Told::Read(kind)
+        } else {
+            Told::Nothing
+        };
+        let text = TEXT.get(..count).ok_or("a beginning")?;
+        let mut answerer = Brackets::new(WHOLE);
+        check_run(rt, (source, sink), &mut answerer, (told, text), successes)?;
+    }
+    Ok(())
+}
+
+/// Fails each write in turn: there is one for each byte; the last fault is that of the last flush.
+fn check_writes(rt: &(impl Abort + AllocGlobal), kind: ErrorKind) -> Result<(), Fail> {
+    for successes in 0..TEXT.len() + 2 {
+        let source = Source::new(RECORDS, WHOLE, WHOLE);
+        let sink = Sink::new(Vec::new(rt.alloc()), 1, successes).failing_with(kind);
+        let told = if successes <= TEXT.len() {
+            Told::Write(kind)
+        } else {
+            Told::Nothing
+        };
+        let text = TEXT.get(..successes).unwrap_or(TEXT);
+        let mut answerer = Brackets::new(WHOLE);
+        check_run(rt, (source, sink), &mut answerer, (told, text), successes)?;
+    }
+    Ok(())
+}
+
 #[test]
 fn each_failed_read_and_write_leaves_a_beginning(rt: HostRuntime) -> Result<(), Fail> {
-    // a read for each byte, and one that finds the end
-    let written = [0, 0, 0, 4, 6, 6, 9];
     for kind in KINDS {
-        for (successes, count) in written.into_iter().enumerate() {
-            let source = Source::new(RECORDS, 1, successes).failing_with(kind);
-            let sink = Sink::new(Vec::new(rt.alloc()), WHOLE, WHOLE);
-            let told = if successes < 6 {
-                Told::Read(kind)
-            } else {
-                Told::Nothing
-            };
-            let mut answerer = Brackets::new(WHOLE);
-            let text = TEXT.get(..count).ok_or("a beginning")?;
-            check_run(&rt, (source, sink), &mut answerer, (told, text), successes)?;
-        }
-        // a write for each byte; the last fault is that of the last flush
-        for successes in 0..TEXT.len() + 2 {
-            let source = Source::new(RECORDS, WHOLE, WHOLE);
-            let sink = Sink::new(Vec::new(rt.alloc()), 1, successes).failing_with(kind);
-            let told = if successes <= TEXT.len() {
-                Told::Write(kind)
-            } else {
-                Told::Nothing
-            };
-            let mut answerer = Brackets::new(WHOLE);
-            let text = TEXT.get(..successes).unwrap_or(TEXT);
-            check_run(&rt, (source, sink), &mut answerer, (told, text), successes)?;
-        }
+        check_reads(&rt, kind)?;
+        check_writes(&rt, kind)?;
     }
     Ok(())
 }
@@ -76,6 +88,24 @@ fn each_failed_answer_leaves_those_before_it(rt: HostRuntime) -> Result<(), Fail
     Ok(())
 }
 
+/// A record of so many bytes and so many of one byte, and what is answered for them.
+fn long_records(
+    alloc: Global,
+    length: usize,
+    count: usize,
+) -> Result<(Vec<u8>, Vec<u8>), AllocError> {
+    let mut bytes = vec![in alloc; b'x'; length]?;
+    let mut wanted = vec![in alloc; b'<'; 1]?;
+    wanted.extend_from_slice(&bytes)?;
+    wanted.push(b'>')?;
+    for _ in 0..count {
+        bytes.extend_from_slice(b"\ny")?;
+        wanted.extend_from_slice(b"<y>")?;
+    }
+    bytes.push(b'\n')?;
+    Ok((bytes, wanted))
+}
+
 /// No contract says that memory is there for long records.
 #[test]
 fn long_records_and_many_are_answered(rt: HostRuntime) -> Result<(), Fail> {
@@ -90,15 +120,7 @@ fn long_records_and_many_are_answered(rt: HostRuntime) -> Result<(), Fail> {
         (1, 8_192),
     ];
     for (row, (length, count)) in rows.into_iter().enumerate() {
-        let mut bytes = vec![in rt.alloc(); b'x'; length]?;
-        let mut wanted = vec![in rt.alloc(); b'<'; 1]?;
-        wanted.extend_from_slice(&bytes)?;
-        wanted.extend_from_slice(b">")?;
-        for _ in 0..count {
-            bytes.extend_from_slice(b"\ny")?;
-            wanted.extend_from_slice(b"<y>")?;
-        }
-        bytes.push(b'\n')?;
+        let (bytes, wanted) = long_records(rt.alloc(), length, count)?;
         let source = Source::new(&bytes, WHOLE, WHOLE);
         let sink = Sink::new(Vec::new(rt.alloc()), WHOLE, WHOLE);
         let wanted = (Told::Nothing, wanted.as_slice());

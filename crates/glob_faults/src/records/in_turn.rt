@@ -3,6 +3,7 @@ use super::Brackets;
 use crate::compare::same;
 use gix_glob::search::Watched;
 use glob_trees::RecordStream;
+use std::alloc::Global;
 use std::cell::Cell;
 use std::io;
 use std::io::{Read, Write};
@@ -48,6 +49,26 @@ impl Write for Teller<'_> {
     }
 }
 
+/// How many bytes were flushed before each read of these pieces.
+fn seen_of(alloc: Global, pieces: &[&[u8]]) -> Result<Vec<usize>, Fail> {
+    let flushed = Cell::new(0);
+    let mut reader = Watched::new(Asker {
+        pieces,
+        flushed: &flushed,
+        seen: Vec::new(alloc),
+    });
+    let mut writer = Watched::new(Teller {
+        written: 0,
+        flushed: &flushed,
+    });
+    let stream = RecordStream { alloc, end: b'\n' };
+    let run = stream.run(&mut reader, &mut writer, &mut Brackets::new(usize::MAX));
+    if run.is_err() {
+        return Err(Fail::new("a fault"));
+    }
+    Ok(reader.into_inner().seen)
+}
+
 #[test]
 fn who_waits_for_an_answer_gets_it(rt: HostRuntime) -> Result<(), Fail> {
     let rows: [(&[&[u8]], &[usize]); 3] = [
@@ -56,25 +77,13 @@ fn who_waits_for_an_answer_gets_it(rt: HostRuntime) -> Result<(), Fail> {
         (&[b"a\nb\nc", b"d"], &[0, 6, 6]),
     ];
     for (row, (pieces, wanted)) in rows.into_iter().enumerate() {
-        let flushed = Cell::new(0);
-        let mut reader = Watched::new(Asker {
-            pieces,
-            flushed: &flushed,
-            seen: Vec::new(rt.alloc()),
-        });
-        let mut writer = Watched::new(Teller {
-            written: 0,
-            flushed: &flushed,
-        });
-        let stream = RecordStream {
-            alloc: rt.alloc(),
-            end: b'\n',
-        };
-        let run = stream.run(&mut reader, &mut writer, &mut Brackets::new(usize::MAX));
-        assert!(rt; run.is_ok());
-        let asker = reader.into_inner();
-        let is_flushed = asker.seen.as_slice() == wanted;
-        same(&rt, is_flushed, "flushed before each read", row);
+        let seen = seen_of(rt.alloc(), pieces)?;
+        same(
+            &rt,
+            seen.as_slice() == wanted,
+            "flushed before each read",
+            row,
+        );
     }
     Ok(())
 }

@@ -1,15 +1,12 @@
 //! Trees, which want memory for each folder.
-use crate::trees::{Failing, SourceFault, answer_of};
-use gix_glob::pattern::Case;
-use glob_trees::{Tree, TreeFault};
+use crate::trees::{SourceFault, answer_of, tree_of};
+use glob_trees::TreeFault;
 use std::alloc::AllocError;
 use std::test::Fail;
 
 #[test]
 fn trees_ask_for_folders(rt: HostRuntime) -> Result<(), Fail> {
-    let fronts = Vec::new(rt.alloc());
-    let source = Failing::at(rt.alloc(), 0);
-    let mut tree = Tree::new(rt.alloc(), source, fronts, Case::Sensitive).ok_or("a tree")?;
+    let mut tree = tree_of(rt.alloc(), 0, Vec::new(rt.alloc()))?;
     let first = answer_of(&mut tree, b"a/b/x");
     // the call after one that was refused memory answers
     let second = answer_of(&mut tree, b"a/b/x");

@@ -1,8 +1,8 @@
-//! How many patterns an index asks: those alone that can match by what a path shows. And the engines ask it.
+//! How many patterns an index asks: those alone that can match by what a path shows.
 use crate::compare::same;
-use crate::engines::{decided, list_of, listed};
+use crate::lists::list_of;
 use gix_glob::pattern::Case;
-use glob_lines::{IgnoreLines, PlainLines, bases_are_folders};
+use glob_lines::{PlainLines, bases_are_folders};
 use glob_lists::{CountedDecision, ListIndex, RepositoryPath};
 use std::alloc::AllocError;
 use std::test::Fail;
@@ -88,29 +88,27 @@ fn append_name(
     Ok(())
 }
 
-/// Appends a pattern line: a name, an ending of names, a folder, a rooted path, a part of a name, or a name that is kept.
+/// What a pattern line is: a sign, how many syllables follow it, the same once more, and what ends the line.
+type Shape = (&'static str, usize, &'static str, usize, &'static str);
+
+/// A name, an ending of names, each twice as often as the others; a folder, a rooted path, a part of a name, and a name that is kept.
+const SHAPES: [Shape; 8] = [
+    ("", 3, "", 0, "\n"),
+    ("", 3, "", 0, "\n"),
+    ("*.", 2, "", 0, "\n"),
+    ("*.", 2, "", 0, "\n"),
+    ("", 3, "", 0, "/\n"),
+    ("/", 3, "/", 3, "\n"),
+    ("*", 3, "", 0, "*\n"),
+    ("!", 3, ".", 1, "\n"),
+];
+
+/// Appends a pattern line.
 fn append_pattern(text: &mut String, seed: &mut u32) -> Result<(), AllocError> {
-    match next(seed) % 8 {
-        0 | 1 => append_name(text, seed, "", 3)?,
-        2 | 3 => append_name(text, seed, "*.", 2)?,
-        4 => {
-            append_name(text, seed, "", 3)?;
-            text.push('/')?;
-        }
-        5 => {
-            append_name(text, seed, "/", 3)?;
-            append_name(text, seed, "/", 3)?;
-        }
-        6 => {
-            append_name(text, seed, "*", 3)?;
-            text.push('*')?;
-        }
-        _ => {
-            append_name(text, seed, "!", 3)?;
-            append_name(text, seed, ".", 1)?;
-        }
-    }
-    text.push('\n')
+    let (sign, count, second, more, end) = SHAPES[next(seed) % 8];
+    append_name(text, seed, sign, count)?;
+    append_name(text, seed, second, more)?;
+    text.push_str(end)
 }
 
 #[test]
@@ -137,31 +135,5 @@ fn of_a_thousand_patterns_few_are_asked(rt: HostRuntime) -> Result<(), Fail> {
     // A path shows its own ending, one of 144, which some two patterns ask for, and few that ask for a part of its name. In
     // turn each of the 1,000 would be asked where none decides.
     assert!(rt; asked <= 1_500 && undecided >= 30);
-    Ok(())
-}
-
-/// So many letters `a`.
-fn append_letters(text: &mut Vec<u8>, count: usize) -> Result<(), AllocError> {
-    let long = text.len().saturating_add(count);
-    text.resize(long, b'a')
-}
-
-/// With the index an engine answers in a moment; without it each path takes seconds, and all of them minutes: the lines take long to
-/// test, and the index passes them over, since they have another end.
-#[test]
-fn the_engines_ask_the_index(rt: HostRuntime) -> Result<(), Fail> {
-    let (mut patterns, mut paths) = (Vec::new(rt.alloc()), Vec::new(rt.alloc()));
-    for _ in 0..30 {
-        patterns.push(b'*')?;
-        append_letters(&mut patterns, 8_000)?;
-        patterns.extend_from_slice(b"c*cccccccb\nd\nd\n")?;
-        append_letters(&mut paths, 16_000)?;
-        paths.extend_from_slice(b"b\n")?;
-    }
-    let output = listed(rt.alloc(), &patterns, &paths)?;
-    assert!(rt; output.as_slice() == [b'\n'; 30].as_slice());
-    let lists = [list_of(rt.alloc(), IgnoreLines, &patterns)?];
-    let output = decided(&rt, &lists, &paths)?;
-    assert!(rt; output.as_slice() == b"none\n".repeat(rt.alloc(), 30)?.as_slice());
     Ok(())
 }
