@@ -74,13 +74,21 @@ static void too_little_memory_is_refused(void)
 static void other_bases_say_nothing(void)
 {
     const struct gix_glob_attribute_line line = {parsed(TEXT("*")), TEXT("a")};
-    static const struct text bases[] = {{TEXT("d")}, {TEXT("d/e")}, {TEXT("/")}, {TEXT("d//")}};
-    static const struct question question = {{TEXT("d/e"), false}, {TEXT("a")}, 1, 0, STATE(GIX_GLOB_UNSPECIFIED)};
-    for (size_t row = 0; row < COUNT_OF(bases); row++) {
-        const struct gix_glob_attribute_list list = {&line, 1, bases[row].bytes, bases[row].len};
+    static const struct {
+        struct text base;
+        struct question question;
+    } rows[] = {
+        {{TEXT("d")}, {{TEXT("de"), false}, {TEXT("a")}, 1, 0, STATE(GIX_GLOB_UNSPECIFIED)}},
+        {{TEXT("d")}, {{TEXT("d/e"), false}, {TEXT("a")}, 1, 0, STATE(GIX_GLOB_UNSPECIFIED)}},
+        {{TEXT("d/e")}, {{TEXT("d/e"), false}, {TEXT("a")}, 1, 0, STATE(GIX_GLOB_UNSPECIFIED)}},
+        {{TEXT("/")}, {{TEXT("d/e"), false}, {TEXT("a")}, 1, 0, STATE(GIX_GLOB_UNSPECIFIED)}},
+        {{TEXT("d/")}, {{TEXT("d/e"), false}, {TEXT("a")}, 1, 0, STATE(GIX_GLOB_SET)}},
+    };
+    for (size_t row = 0; row < COUNT_OF(rows); row++) {
+        const struct gix_glob_attribute_list list = {&line, 1, rows[row].base.bytes, rows[row].base.len};
         const struct gix_glob_macro no_macro = GIX_GLOB_MACRO_INIT;
         const struct gix_glob_attributes all = {&list, 1, &no_macro, 0};
-        ask(&all, &question, row);
+        ask(&all, &rows[row].question, row);
     }
 }
 

@@ -41,11 +41,22 @@ static void each_argument_stands_for_itself(void)
 static void other_bases_say_nothing(void)
 {
     const struct gix_glob_pattern all[] = {parsed(TEXT("*"))};
-    static const struct text bases[] = {{TEXT("d")}, {TEXT("d/e")}, {TEXT("/")}, {TEXT("//")}, {TEXT("d//")}, {TEXT("d/e/f/g/")}};
-    for (size_t row = 0; row < COUNT_OF(bases); row++) {
-        const struct gix_glob_list list = {all, 1, bases[row].bytes, bases[row].len};
+    static const struct {
+        struct text base, path;
+    } rows[] = {
+        {{TEXT("d")}, {TEXT("de")}},
+        {{TEXT("d")}, {TEXT("d/e")}},
+        {{TEXT("d/e")}, {TEXT("d/e")}},
+        {{TEXT("d/e")}, {TEXT("d/ef")}},
+        {{TEXT("/")}, {TEXT("d/e")}},
+        {{TEXT("d//")}, {TEXT("d/e")}},
+        {{TEXT("d/e/f/")}, {TEXT("d/e")}},
+    };
+    for (size_t row = 0; row < COUNT_OF(rows); row++) {
+        const struct text base = rows[row].base, path = rows[row].path;
+        const struct gix_glob_list list = {all, 1, base.bytes, base.len};
         struct gix_glob_decision by = {KEPT_LIST, KEPT_PATTERN};
-        check(!gix_glob_decide_in_tree(&list, 1, TEXT("d/e"), false, false, &by), "nothing decides under the base", row);
+        check(!gix_glob_decide_in_tree(&list, 1, path.bytes, path.len, false, false, &by), "nothing decides under the base", row);
         check(by.list == KEPT_LIST && by.pattern == KEPT_PATTERN, "the decision stays", row);
     }
 }
