@@ -1,6 +1,7 @@
-/* What gix_glob.h takes of stdint.h. */
+/* What gix_glob.h and the checks take of stdint.h. */
 #pragma once
 typedef __UINT8_TYPE__ uint8_t;
 typedef __UINT32_TYPE__ uint32_t;
 typedef __UINT64_TYPE__ uint64_t;
+#define UINT32_MAX __UINT32_MAX__
 #define SIZE_MAX __SIZE_MAX__

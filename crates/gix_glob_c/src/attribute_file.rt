@@ -119,6 +119,3 @@ fn number_of(silence: Silence) -> u32
         Silence::Negative => 7,
     }
 }
-
-#[cfg(test)]
-mod tests;

@@ -184,6 +184,3 @@ fn push<'a>(texts: &mut [Text<'a>], count: usize, bytes: &'a [u8]) -> Option<usi
     texts[count] = Text { bytes };
     Some(count + 1)
 }
-
-#[cfg(test)]
-mod tests;

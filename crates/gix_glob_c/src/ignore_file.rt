@@ -64,6 +64,3 @@ fn read_text<'a>(text: Option<&'a [u8]>, out: &mut GlobPattern<'a>) -> bool
         None => false,
     }
 }
-
-#[cfg(test)]
-mod tests;

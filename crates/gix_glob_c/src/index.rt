@@ -90,6 +90,3 @@ fn last_by_index(index: &GlobIndex<'_>, path: &RepositoryPath<'_>, fold: bool) -
     }
     prepared::last_match(index.patterns, index.rows, index.heads, path, case_of(fold))
 }
-
-#[cfg(test)]
-mod tests;

@@ -97,6 +97,3 @@ fn case_of(fold: bool) -> Case
 {
     if fold { Case::Fold } else { Case::Sensitive }
 }
-
-#[cfg(test)]
-mod tests;

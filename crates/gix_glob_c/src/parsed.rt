@@ -160,6 +160,3 @@ pub(crate) fn is_matched(pattern: &GlobPattern<'_>, path: &RepositoryPath<'_>, f
 {
     path.is_matched_by(pattern.view(), case_of(fold))
 }
-
-#[cfg(test)]
-mod tests;

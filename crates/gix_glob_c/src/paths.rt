@@ -45,6 +45,3 @@ fn last_match_of(index: &GlobIndex<'_>, path: &GlobPath<'_>, fold: bool) -> usiz
 {
     gix_glob_index_last_match(index, path.bytes, path.is_dir, fold)
 }
-
-#[cfg(test)]
-mod tests;

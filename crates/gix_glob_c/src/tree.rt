@@ -171,6 +171,3 @@ pub(crate) fn is_folder(base: &[u8]) -> bool
 {
     matches!(base, [] | [.., b'/'])
 }
-
-#[cfg(test)]
-mod tests;

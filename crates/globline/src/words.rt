@@ -6,9 +6,6 @@ ghost use Rattle.glob_lines.specs.Transfers.{AppendsFront};
 ghost use Rattle.globline.specs.Words.{AnswersWords, AreWrong};
 ghost use Rattle.globline.specs.Private.Commands.{CanRun, CarriesOut};
 
-#[cfg(test)]
-mod tests;
-
 use crate::command::{Command, command_of};
 use crate::ignore_files::lists_of;
 use gix_glob::search::Watched;
