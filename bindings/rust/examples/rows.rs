@@ -284,12 +284,19 @@ fn answer(subject: &[u8], fields: &[Field]) -> Option<String> {
     }
 }
 
+/// The longest question that is answered: calls that ask each pattern in turn would take minutes for longer ones.
+const MOST_SIGNS: usize = 1 << 18;
+
 fn main() -> io::Result<()> {
     // (one call is meant to panic)
     panic::set_hook(Box::new(|_| ()));
     let mut output = io::stdout().lock();
     for line in io::stdin().lock().split(b'\n') {
         let line = line?;
+        if line.len() > MOST_SIGNS {
+            writeln!(output, "?")?;
+            continue;
+        }
         let mut parts = line.split(|byte| *byte == b'\t');
         let subject = parts.next().unwrap_or_default();
         let fields: Vec<Field> = parts.map(read).collect();

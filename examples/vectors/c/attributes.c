@@ -31,8 +31,9 @@ static struct reader reader_of(const struct field *bytes, bool is_top)
 static bool read_line(struct reader *reader, struct text *heads)
 {
     const size_t left = reader->left.rest_len;
-    if (left > sizeof heads->bytes - heads->len)
-        abort();
+    lacks_room |= left > sizeof heads->bytes - heads->len;
+    if (lacks_room)
+        return false;
     if (!gix_glob_parse_attribute_line(&reader->left, reader->is_top, heads->bytes + heads->len, left, &reader->line, &reader->macro,
                                        &reader->kind))
         return false;

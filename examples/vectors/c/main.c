@@ -1,6 +1,6 @@
 /* Answers rows by the C library: tools/vectors PROGRAM, where PROGRAM is built of the files of this folder. Of several calls that
- * answer a question all are asked: where they don't agree, the answer is `differs: ` and the name of one. What no call answers, and
- * what is too large for the arrays of this program, is `?`. */
+ * answer a question all are asked: where they don't agree, the answer is `differs: ` and the name of one. What no call answers is `?`,
+ * and so is what is too large for the arrays of this program, or so long that calls which ask each pattern in turn would take minutes. */
 #include "rows.h"
 
 bool lacks_room;
@@ -84,7 +84,11 @@ int main(void)
     static struct answer answer;
     char *line = NULL, *rest;
     size_t room = 0, count;
-    while (getline(&line, &room, stdin) > 0) {
+    for (ssize_t len; (len = getline(&line, &room, stdin)) > 0;) {
+        if (len > MOST_SIGNS) {
+            puts("?");
+            continue;
+        }
         line[strcspn(line, "\n")] = 0;
         rest = line;
         const char *subject = strsep(&rest, "\t");

@@ -7,7 +7,7 @@
 #include <stdlib.h>
 #include <string.h>
 
-enum { MOST_FIELDS = 64, MOST_BYTES = 1 << 16 };
+enum { MOST_FIELDS = 64, MOST_BYTES = 1 << 16, MOST_SIGNS = 1 << 18 };
 
 /* A field of a question: its bytes, and whether it stands for nothing. */
 struct field {
