@@ -1,6 +1,7 @@
 //! The checksum at the end of an index file.
 ghost use Rattle.std.specs.Prelude.{◌≡◌, ◌↔◌, ◌≤◌, IsTrue, length};
 
+use crate::fields::is_zero;
 use sha1::Sha1;
 use sha2::{Digest, Sha256};
 
@@ -31,7 +32,7 @@ impl ObjectFormat {
         requires { length checksum.now ≡ hash_len self }
         ensures { IsTrue result ↔ IsChecksum self content.now checksum.now }
     {
-        if checksum.iter().all(|byte| *byte == 0) {
+        if is_zero(checksum) {
             return true;
         }
         match self {

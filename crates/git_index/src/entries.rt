@@ -1,7 +1,7 @@
 //! The entries of an index file, read one after the other.
-ghost use Rattle.std.specs.Prelude.{◌≡◌, ◌≤◌, [], map, length};
+ghost use Rattle.std.specs.Prelude.{◌≡◌, ◌≤◌, [], IfOk, map, length};
 ghost use Rattle.git_index.specs.Entries.{tracked};
-ghost use Rattle.git_index.specs.Private.Reading.{Gives, entries_at, entry_at, is_set, kind_of, more_at};
+ghost use Rattle.git_index.specs.Private.Reading.{Gives, entries_at, entry_at, is_set, kind_of, more_at, path_before};
 
 use crate::entry::{Entry, Kind};
 use crate::fault::IndexFault;
@@ -58,7 +58,8 @@ fn entry_of<'a>(
     bytes: &'a [u8],
 ) -> Result<(Entry, &'a [u8]), IndexFault>
     requires { hash_len ≤ 32 }
-    ensures { Gives (λ x. (tracked x.0, x.1.now)) result (entry_at version hash_len previous.now room bytes.now) }
+    ensures gives { Gives (λ x. (tracked x.0, x.1.now)) result (entry_at version hash_len previous.now room bytes.now) }
+    ensures fits { IfOk result (λ x. length x.0.path.items ≤ room) }
 {
     let rest = skip(bytes, 24)?;
     let (mode, rest) = u32_at(rest)?;
@@ -81,6 +82,16 @@ fn entry_of<'a>(
     Ok((entry, rest))
 }
 
+/// The path of the last entry, or none of its bytes where there is no entry.
+fn last_path(entries: &[Entry]) -> &[u8]
+    ensures { result.now ≡ path_before (map tracked entries.now) }
+{
+    match entries {
+        [.., last] => &last.path,
+        [] => &[],
+    }
+}
+
 /// So many entries, and what follows them. Their paths may have together `room` bytes.
 pub fn entries_of(
     alloc: Global,
@@ -97,10 +108,7 @@ pub fn entries_of(
     let mut room = room;
     let mut rest = bytes;
     for _ in 0..count {
-        let previous: &[u8] = match entries.last() {
-            Some(entry) => &entry.path,
-            None => &[],
-        };
+        let previous = last_path(&entries);
         let (entry, behind) = entry_of(alloc, version, hash_len, previous, room, rest)?;
         room -= entry.path.len();
         entries.push(entry)?;

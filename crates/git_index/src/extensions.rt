@@ -1,5 +1,6 @@
 //! The extensions of an index file, each of which may be passed over or has to be understood.
-ghost use Rattle.std.specs.Prelude.{◌≡◌, OnErr, OnOk};
+ghost use Rattle.std.specs.Prelude.{◌≡◌, ◌⊎◌, IfErr, OnOk};
+ghost use Rattle.git_index.specs.declared.fault.IndexFault.TheVariants.{Memory};
 ghost use Rattle.git_index.specs.Format.{ArePassedOver};
 ghost use Rattle.git_index.specs.Private.Reading.{Gives, extension_at};
 
@@ -33,7 +34,7 @@ fn skip_extension(bytes: &[u8]) -> Result<&[u8], IndexFault>
 /// Passes over extensions, up to the end.
 pub fn skip_extensions(bytes: &[u8]) -> Result<(), IndexFault>
     ensures ok { OnOk result (ArePassedOver bytes.now) }
-    ensures err { OnErr result (¬ ArePassedOver bytes.now) }
+    ensures err { IfErr result (λ fault. (fault ≡ Memory) ⊎ (¬ ArePassedOver bytes.now)) }
 {
     let mut rest = bytes;
     while !rest.is_empty() {

@@ -1,6 +1,7 @@
 //! Fields of an index file: numbers of fixed width, the numbers of version 4, and texts that end in a zero byte.
-ghost use Rattle.std.specs.Prelude.{◌≡◌, ◌≤◌, length};
+ghost use Rattle.std.specs.Prelude.{◌≡◌, ◌==◌, ◌≤◌, IfOk};
 ghost use Rattle.std.specs.Int.{w16, w32};
+ghost use Rattle.std.specs.List.{list_all};
 ghost use Rattle.git_index.specs.Private.Reading.{Gives, number_at, shared_number_from, skipped, until_zero};
 
 use crate::fault::IndexFault;
@@ -39,6 +40,13 @@ pub fn u32_at(bytes: &[u8]) -> Result<(u32, &[u8]), IndexFault>
     Ok((number, rest))
 }
 
+/// Whether each byte is zero.
+pub fn is_zero(bytes: &[u8]) -> bool
+    ensures { result ≡ list_all (λ b. b == 0) bytes.now }
+{
+    bytes.iter().all(|byte| *byte == 0)
+}
+
 /// The bytes before the first zero, and those behind it.
 pub fn text_at(bytes: &[u8]) -> Result<(&[u8], &[u8]), IndexFault>
     ensures { Gives (λ x. (x.0.now, x.1.now)) result (until_zero bytes.now) }
@@ -52,13 +60,16 @@ pub fn text_at(bytes: &[u8]) -> Result<(&[u8], &[u8]), IndexFault>
 
 /// The number at the front in the form of version 4, and what follows it. A number above the limit is a fault.
 pub fn shared_number(bytes: &[u8], limit: usize) -> Result<(usize, &[u8]), IndexFault>
-    ensures { Gives (λ x. (x.0, x.1.now)) result (shared_number_from limit 0 bytes.now) }
+    ensures gives { Gives (λ x. (x.0, x.1.now)) result (shared_number_from limit 0 bytes.now) }
+    ensures within { IfOk result (λ x. x.0 ≤ limit) }
 {
     let mut high: usize = 0;
     let mut rest = bytes;
     while let [byte, others @ ..] = rest {
-        let low = usize::from(*byte % 128);
-        let Some(number) = high.checked_mul(128).and_then(|n| n.checked_add(low)) else {
+        let Some(shifted) = high.checked_mul(128) else {
+            return Err(IndexFault::Path);
+        };
+        let Some(number) = shifted.checked_add(usize::from(*byte % 128)) else {
             return Err(IndexFault::Path);
         };
         if number > limit {

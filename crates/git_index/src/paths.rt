@@ -1,9 +1,9 @@
 //! The paths of entries, whole as versions 2 and 3 have them, or told from the path before as in version 4.
-ghost use Rattle.std.specs.Prelude.{◌≡◌, ◌≤◌, length};
+ghost use Rattle.std.specs.Prelude.{◌≡◌, ◌≤◌, IfOk, length};
 ghost use Rattle.git_index.specs.Private.Reading.{Gives, joined_of, padded_at, parts_at, shared_at};
 
 use crate::fault::IndexFault;
-use crate::fields::{shared_number, skip, text_at};
+use crate::fields::{is_zero, shared_number, skip, text_at};
 use std::alloc::Global;
 
 /// Of the flags' length: it isn't told.
@@ -19,7 +19,7 @@ fn padded(front: usize, bytes: &[u8]) -> Result<(&[u8], &[u8]), IndexFault>
     let (path, behind) = text_at(bytes)?;
     let zeros = 7 - (front % 8 + path.len() % 8) % 8;
     let rest = skip(behind, zeros)?;
-    if !behind[..zeros].iter().all(|byte| *byte == 0) {
+    if !is_zero(&behind[..zeros]) {
         return Err(IndexFault::Path);
     }
     Ok((path, rest))
@@ -66,7 +66,8 @@ pub fn joined(
     told: u16,
     room: usize,
 ) -> Result<Vec<u8>, IndexFault>
-    ensures { Gives (λ x. x.items) result (joined_of kept.now added.now told room) }
+    ensures gives { Gives (λ x. x.items) result (joined_of kept.now added.now told room) }
+    ensures fits { IfOk result (λ x. length x.items ≤ room) }
 {
     if kept.len() > room || added.len() > room - kept.len() {
         return Err(IndexFault::TooLong);
