@@ -12,7 +12,9 @@ use crate::extensions::skip_extensions;
 use crate::fault::IndexFault;
 use crate::header::header_of;
 use crate::order::is_ordered;
+use crate::search;
 use std::alloc::Global;
+use std::marker::Model;
 
 /// Paths may have together so many bytes for each byte of the file. No index whose paths have up to 4,096 bytes comes near it.
 const PATH_BYTES_PER_BYTE: usize = 64;
@@ -44,4 +46,56 @@ fn read(alloc: Global, bytes: &[u8], format: ObjectFormat) -> Result<Vec<Entry>,
 #[derive(Debug, Drop)]
 pub struct Index {
     entries: Vec<Entry>,
+}
+
+impl Model for Index {
+    ghost use Rattle.std.specs.Prelude.{List, map};
+    ghost use Rattle.git_index.specs.Entries.{InOrder, Tracked, tracked};
+
+    ghost Value = { List Tracked };
+
+    ghost view = { λ index. map tracked index.entries.items };
+
+    ghost invariant = { λ index. InOrder (map tracked index.entries.items) };
+}
+
+impl Index {
+    /// The entries of an index file, which is all of the bytes. `format` tells how objects are named in the repository.
+    ///
+    /// The file has to be whole and in order. Extensions that may be passed over are; of the others none is known: a split or a sparse
+    /// index is told, not read.
+    pub fn from_bytes(
+        alloc: Global,
+        bytes: &[u8],
+        format: ObjectFormat,
+    ) -> Result<Index, IndexFault>
+        // What is read is spelled so.
+        ensures found { IfOk result (λ index. IsIndexFile format bytes.now index) }
+        // What is spelled so is read, unless memory is refused.
+        ensures only { (es : List Tracked) → IsIndexFile format bytes.now es → HasRoom bytes.now es → MatchResult result (λ index. index ≡ es) (λ fault. fault ≡ Memory) }
+    {
+        let entries = read(alloc, bytes, format)?;
+        Ok(Index { entries })
+    }
+
+    /// The entries, by path and stage.
+    pub fn entries(&self) -> &[Entry]
+        ensures { map tracked result.now ≡ self.now }
+    {
+        &self.entries
+    }
+
+    /// Whether an entry, at whichever stage, has this path.
+    pub fn is_tracked(&self, path: &[u8]) -> bool
+        ensures { IsTrue result ↔ IsTracked self.now path.now }
+    {
+        search::is_tracked(&self.entries, path)
+    }
+
+    /// Whether an entry's path goes on below this folder, which is told without a slash at its end.
+    pub fn has_below(&self, folder: &[u8]) -> bool
+        ensures { IsTrue result ↔ HasBelow self.now folder.now }
+    {
+        search::has_below(&self.entries, folder)
+    }
 }

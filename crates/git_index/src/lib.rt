@@ -11,6 +11,7 @@ mod header;
 mod index;
 mod order;
 mod paths;
+mod search;
 
 pub use checksum::ObjectFormat;
 pub use entry::{Entry, Kind};

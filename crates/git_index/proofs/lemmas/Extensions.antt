@@ -72,7 +72,7 @@ extension_again x rest fits is =
     let n = from_be_bytes w32 x.0 in
     let name : x.0 ≡ to_be_bytes w32 n = sym (wide32.back x.0 is.0 fits) in
     let regrouped : extension_text x ++ rest ≡ to_be_bytes w32 n ++ (to_be_bytes w32 (length x.1) ++ (x.1 ++ rest)) =
-        append_assoc x.0 (to_be_bytes w32 (length x.1) ++ x.1) rest ∙ ap (λ (w : List ℕ). w ++ ((to_be_bytes w32 (length x.1) ++ x.1) ++ rest)) name ∙ ap (λ (w : List ℕ). to_be_bytes w32 n ++ w) (append_assoc (to_be_bytes w32 (length x.1)) x.1 rest) in
+    append_assoc x.0 (to_be_bytes w32 (length x.1) ++ x.1) rest ∙ ap (λ (w : List ℕ). w ++ ((to_be_bytes w32 (length x.1) ++ x.1) ++ rest)) name ∙ ap (λ (w : List ℕ). to_be_bytes w32 n ++ w) (append_assoc (to_be_bytes w32 (length x.1)) x.1 rest) in
     let no_link : eqb n 0x6C696E6B ≡ false = neq n 0x6C696E6B (omega (arith, range.1)) in
     let no_sdir : eqb n 0x73646972 ≡ false = neq n 0x73646972 (omega (arith, range.1)) in
     let low : ltb n 0x41000000 ≡ false = le-ltb _ _ range.0 in

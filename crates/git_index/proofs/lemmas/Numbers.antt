@@ -74,12 +74,12 @@ number-takes limit high (b ∷ rest) x fits e =
     let n = high * 128 + b % 128 in
     elim (ways (ltb limit n) (ltb b 128) (ltb n limit) n rest (shared_number_from limit (n + 1) rest) x e) [
       | inl last ↦
-        let small = ltb-true _ _ last.1 in
-        let one : TakesNumber limit high (b ∷ rest) (n, rest) = record { text = b ∷ []; joined = refl; counted = (small, omega arith); within = ltb-false _ _ last.0 } in
-        subst (λ (y : ℕ × List ℕ). TakesNumber limit high (b ∷ rest) y) last.2 one
+          let small = ltb-true _ _ last.1 in
+          let one : TakesNumber limit high (b ∷ rest) (n, rest) = record { text = b ∷ []; joined = refl; counted = (small, omega arith); within = ltb-false _ _ last.0 } in
+          subst (λ (y : ℕ × List ℕ). TakesNumber limit high (b ∷ rest) y) last.2 one
       | inr more ↦
-        let t = number-takes limit (n + 1) rest x (IsBytes-tail b rest fits) more.3 in
-        longer limit high b rest x (fits 0) (ltb-false _ _ more.1) t.text t.joined t.counted t.within
+          let t = number-takes limit (n + 1) rest x (IsBytes-tail b rest fits) more.3 in
+          longer limit high b rest x (fits 0) (ltb-false _ _ more.1) t.text t.joined t.counted t.within
     ]
 
 number-grows : (high : ℕ) (text : List ℕ) (n : ℕ) → IsNumber high text n → high * 128 ≤ n

@@ -63,7 +63,7 @@ pub record TakesShared (previous bytes : List ℕ) (x : (List ℕ × List ℕ) �
 pub shared_takes : (previous bytes : List ℕ) (x : (List ℕ × List ℕ) × List ℕ) → IsBytes bytes → shared_at previous bytes ≡ Ok x → TakesShared previous bytes x
 unfolding shared_at
 shared_takes previous bytes x fits e =
-    let made = λ (n : ℕ × List ℕ) (added : List ℕ × List ℕ). ((take (length previous - n.0) previous, added.0), added.1) in
+    let made : ℕ × List ℕ → List ℕ × List ℕ → (List ℕ × List ℕ) × List ℕ = λ n added. ((take (length previous - n.0) previous, added.0), added.1) in
     let a = bind_ok (shared_number_from (length previous) 0 bytes) (λ n. until_zero n.1 >>= λ added. Ok (made n added)) x e in
     let b = bind_ok (until_zero a.0.1) (λ added. Ok (made a.0 added)) x a.2 in
     let t = number-takes (length previous) 0 bytes a.0 fits a.1 in
@@ -96,7 +96,7 @@ parts_by shares front previous bytes = cond shares (shared_at previous bytes) (p
 either_takes : (shares : Bool) (front : ℕ) (previous bytes : List ℕ) (x : (List ℕ × List ℕ) × List ℕ) → IsBytes bytes → parts_by shares front previous bytes ≡ Ok x → TakesParts shares front previous bytes x
 either_takes true front previous bytes x fits e = let t = shared_takes previous bytes x fits e in record { text = t.text; joined = t.joined; spelled = t.shared }
 either_takes false front previous bytes x fits e =
-    let made = λ (p : List ℕ × List ℕ). (([], p.0), p.1) in
+    let made : List ℕ × List ℕ → (List ℕ × List ℕ) × List ℕ = λ p. (([], p.0), p.1) in
     let a = bind_ok (padded_at front bytes) (λ p. Ok (made p)) x e in
     let t = padded_takes front bytes a.0 a.1 in
     let one : TakesParts false front previous bytes (made a.0) = record { text = t.text; joined = t.joined; spelled = t.padded } in
