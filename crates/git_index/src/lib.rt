@@ -17,3 +17,6 @@ pub use checksum::ObjectFormat;
 pub use entry::{Entry, Kind};
 pub use fault::IndexFault;
 pub use index::Index;
+
+#[cfg(test)]
+mod tests;
