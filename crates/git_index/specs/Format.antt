@@ -1,5 +1,5 @@
 -- The format of an index file, in versions 2 to 4: which bytes spell which entries. Numbers are big-endian.
-use Rattle.std.specs.Prelude.{◌≡◌, ◌≢◌, ◌⊎◌, ℕ, ◌+◌, ◌-◌, ◌*◌, ◌%◌, ◌^◌, ◌<◌, ◌≤◌, Bool, true, false, ◌==◌, MatchBool, if◌then◌else◌, List, [], ◌∷◌, ◌++◌, length, take, replicate, codes, slice_index, sum_by, min}
+use Rattle.std.specs.Prelude.{◌≡◌, ◌≢◌, ◌⊎◌, ℕ, ◌+◌, ◌-◌, ◌*◌, ◌%◌, ◌^◌, ◌<◌, ◌≤◌, Bool, false, ◌==◌, MatchBool, if◌then◌else◌, List, [], ◌∷◌, ◌++◌, length, take, replicate, codes, slice_index, sum_by, min}
 use Rattle.std.specs.List.{AllByRecursion, flat_map}
 use Rattle.std.specs.Int.{w16, w32, to_be_bytes}
 use Rattle.sha1.specs.Sha1.{sha1}

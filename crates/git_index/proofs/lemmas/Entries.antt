@@ -5,7 +5,7 @@ use Rattle.git_index.specs.declared.entry.Entry.{Entry}
 use Rattle.git_index.specs.declared.fault.IndexFault.{IndexFault}
 use Rattle.git_index.specs.declared.fault.IndexFault.TheVariants.{Memory}
 use Rattle.git_index.specs.Entries.{Tracked, tracked}
-use Rattle.git_index.specs.Private.Reading.{◌>>=◌, Gives, entry_at, entries_at, path_before}
+use Rattle.git_index.specs.Private.Reading.{◌>>=◌, entry_at, entries_at, path_before}
 
 -- the path of the last entry, by its place
 pub path_before-last : (entries : List Entry) (last : Entry) → 1 ≤ length entries → path_before (map tracked entries) ≡ (get_or entries (length entries - 1) last).path.items

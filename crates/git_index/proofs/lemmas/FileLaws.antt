@@ -1,11 +1,11 @@
 -- Index files: what is found at each stage of reading is a file's spelling, and the other way.
-use Rattle.std.proofs.Common.{◌≡◌, ◌⊎◌, ℕ, ◌+◌, ◌-◌, ◌*◌, ◌^◌, ◌<◌, ◌≤◌, Bool, true, false, cond, eqb, ltb, ◌||◌, List, [], ◌∷◌, ◌++◌, length, take, drop, Result, Ok, Err, refl, sym, ap, subst, ◌∙◌, append_assoc, arith, inl, inr, min}
+use Rattle.std.proofs.Common.{◌≡◌, ℕ, ◌+◌, ◌-◌, ◌^◌, ◌<◌, ◌≤◌, Bool, true, false, cond, ltb, ◌||◌, List, [], ◌++◌, length, take, drop, Result, Ok, Err, refl, sym, ap, subst, ◌∙◌, arith}
 use Rattle.std.specs.Prelude.{codes, nat_eq}
 use Rattle.std.specs.Int.{w32, to_be_bytes}
 use Rattle.std.specs.List.{starts_with}
 use Rattle.std.proofs.lemmas.Bool.{ltb-false, le-ltb}
 use Rattle.std.proofs.lemmas.Bool.Decides.{Decides-eqb}
-use Rattle.std.proofs.lemmas.List.{drop_at, length-append, length-take, length-drop, take_at, take-append-drop}
+use Rattle.std.proofs.lemmas.List.{drop_at, length-append, length-drop, take_at, take-append-drop}
 use Rattle.std.proofs.lemmas.Slice.Eq.{starts_is}
 use Rattle.git_index.specs.declared.checksum.ObjectFormat.{ObjectFormat}
 use Rattle.git_index.specs.declared.fault.IndexFault.{IndexFault}
@@ -14,7 +14,7 @@ use Rattle.git_index.specs.Entries.{InOrder, Tracked}
 use Rattle.git_index.specs.Format.{ArePassedOver, HasRoom, IsChecksum, IsIndexFile, hash_len}
 use Rattle.git_index.specs.Private.Reading.{◌>>=◌, Finds, entries_at, header_at, number_at, room_of, skipped}
 use Rattle.git_index.proofs.lemmas.EntryLaws.{entries_again, entries_take}
-use Rattle.git_index.proofs.lemmas.Fields.{IsBytes, IsBytes-behind, IsBytes-front, IsBytes-take, bind_ok, guard_ok, number_again, number_takes, ok_is, skipped_again, skipped_takes, wide32}
+use Rattle.git_index.proofs.lemmas.Fields.{IsBytes, IsBytes-behind, IsBytes-front, IsBytes-take, bind_ok, guard_ok, number_again, number_takes, ok_is, skipped_again, wide32}
 
 -- ---- the header
 

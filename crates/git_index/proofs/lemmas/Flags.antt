@@ -1,5 +1,5 @@
 -- Flags as bits, and the kinds of modes.
-use Rattle.std.proofs.Common.{◌≡◌, ℕ, zero, suc, ◌+◌, ◌*◌, ◌/◌, ◌%◌, ◌^◌, ◌<◌, ◌≤◌, Bool, true, false, cond, eqb, ltb, ◌&&◌, List, [], ◌++◌, Result, Ok, Err, refl, sym, ap, subst, ◌∙◌, arith, lit<}
+use Rattle.std.proofs.Common.{◌≡◌, ℕ, zero, suc, ◌+◌, ◌*◌, ◌/◌, ◌%◌, ◌^◌, ◌<◌, Bool, true, false, cond, eqb, ltb, ◌&&◌, List, [], ◌++◌, Result, Ok, Err, refl, sym, ap, subst, ◌∙◌, arith, lit<}
 use Rattle.std.specs.Int.{w16, to_be_bytes}
 use Rattle.std.proofs.lemmas.Bool.{eqb-true, eq-eqb, ltb-true, lt-ltb}
 use Rattle.git_index.specs.declared.entry.Kind.{Kind}
@@ -7,7 +7,7 @@ use Rattle.git_index.specs.declared.entry.Kind.TheVariants.{File, Executable, Li
 use Rattle.git_index.specs.declared.fault.IndexFault.{IndexFault}
 use Rattle.git_index.specs.declared.fault.IndexFault.TheVariants.{Flags, Mode, Sparse}
 use Rattle.git_index.specs.Format.{bit, mode_of}
-use Rattle.git_index.specs.Private.Reading.{◌>>=◌, is_set, kind_of, more_at, number_at}
+use Rattle.git_index.specs.Private.Reading.{is_set, kind_of, more_at, number_at}
 use Rattle.git_index.proofs.lemmas.Fields.{IsBytes, bind_ok, number_again, number_takes, ok_is, wide16}
 
 -- ---- kinds

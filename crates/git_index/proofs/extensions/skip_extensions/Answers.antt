@@ -1,4 +1,4 @@
-use Rattle.std.proofs.Common.{◌<◌, eqb, length, arith}
+use Rattle.std.proofs.Common.{◌<◌, length, arith}
 use Rattle.std.proofs.lemmas.Result.{err_from_is_err_and}
 use Rattle.git_index.proofs.lemmas.Extensions.{is_refused, is_shorter, passes_back, passes_on, rest_fits}
 use Rattle.git_index.proofs.extensions.skip_extensions.Goals as goal

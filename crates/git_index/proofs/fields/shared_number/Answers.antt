@@ -1,5 +1,4 @@
 use Rattle.std.proofs.Common.{◌≡◌, ◌+◌, ◌*◌, ◌%◌, get_or, sym, ◌∙◌, inr, arith}
-use Rattle.git_index.specs.Private.Reading.{shared_number_from}
 use Rattle.git_index.proofs.lemmas.Numbers.{number-above, number-full, number-last, number-more, number-none}
 use Rattle.git_index.proofs.fields.shared_number.Goals as goal
 

@@ -1,4 +1,4 @@
-use Rattle.std.proofs.Common.{◌≡◌, true, length, refl, sym, ap, ◌∙◌, inr}
+use Rattle.std.proofs.Common.{refl, sym, ap, ◌∙◌, inr}
 use Rattle.std.specs.Prelude.{replicate}
 use Rattle.git_index.proofs.lemmas.Zeros.{zeros_are}
 use Rattle.git_index.proofs.checksum.ObjectFormat.is_checksum.Goals as goal
