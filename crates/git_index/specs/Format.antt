@@ -19,16 +19,13 @@ IsNumber high [] n = ⊥
 IsNumber high (b ∷ []) n = (b < 128) × (n ≡ high * 128 + b)
 IsNumber high (b ∷ c ∷ bytes) n = (128 ≤ b) × IsNumber (high * 128 + (b - 128) + 1) (c ∷ bytes) n
 
-abbrev pub HasNoZero : List ℕ → Type 0
-HasNoZero bytes = AllByRecursion (λ b. b ≢ 0) bytes
-
 -- in versions 2 and 3: the path, and zero bytes, one at least, up to a length of the entry that 8 divides; `front` bytes of the
 -- entry come before
 pub record IsPadded (front : ℕ) (path text : List ℕ) : Type 0 where
   pub zeros : ℕ
   pub some : (0 < zeros) × (zeros ≤ 8)
   pub divided : (front + length path + zeros) % 8 ≡ 0
-  pub whole : HasNoZero path
+  pub whole : AllByRecursion (λ b. b ≢ 0) path
   pub joined : text ≡ path ++ replicate zeros 0
 
 -- in version 4: how many bytes of the previous path's end are taken off, what is put on, and a zero byte
@@ -38,7 +35,7 @@ pub record IsShared (previous path text : List ℕ) : Type 0 where
   pub counted : IsNumber 0 number taken
   pub within : taken ≤ length previous
   pub added : List ℕ
-  pub whole : HasNoZero added
+  pub whole : AllByRecursion (λ b. b ≢ 0) added
   pub is : path ≡ take (length previous - taken) previous ++ added
   pub joined : text ≡ number ++ (added ++ 0 ∷ [])
 
@@ -57,9 +54,8 @@ bit n b = if b then 2 ^ n else 0
 -- the flags' twelve lower bits 4095 tells no length.
 pub record IsEntry (version hash_len : ℕ) (previous : List ℕ) (entry : Tracked) (text : List ℕ) : Type 0 where
   pub times : List ℕ
-  pub times_len : length times ≡ 24
   pub owner : List ℕ
-  pub owner_len : length owner ≡ 12 + hash_len
+  pub lengths : (length times ≡ 24) × (length owner ≡ 12 + hash_len)
   pub extended : Bool
   pub stage : entry.stage < 4
   pub told : ℕ
@@ -83,8 +79,9 @@ AreEntries version hash_len previous (e ∷ entries) bytes =
 abbrev pub IsExtension : List ℕ × List ℕ → Type 0
 IsExtension x = (length x.0 ≡ 4) × (65 ≤ slice_index x.0 0) × (slice_index x.0 0 ≤ 90) × (length x.1 < 2 ^ 32)
 
+-- extensions, and at the end bytes that are too few for one, which git passes over too
 abbrev pub ArePassedOver : List ℕ → Type 0
-ArePassedOver bytes = (xs : List (List ℕ × List ℕ)) × AllByRecursion IsExtension xs × (bytes ≡ flat_map (λ x. x.0 ++ (to_be_bytes w32 (length x.1) ++ x.1)) xs)
+ArePassedOver bytes = (xs : List (List ℕ × List ℕ)) × (few : List ℕ) × AllByRecursion IsExtension xs × (length few < 8) × (bytes ≡ flat_map (λ x. x.0 ++ (to_be_bytes w32 (length x.1) ++ x.1)) xs ++ few)
 
 abbrev pub hash_len : ObjectFormat → ℕ
 hash_len Sha1 = 20
@@ -101,8 +98,7 @@ IsChecksum format content checksum = (checksum ≡ digest_of format content) ⊎
 -- An index file: `DIRC`, the version, the number of entries, the entries, extensions that may be passed over, and a checksum.
 pub record IsIndexFile (format : ObjectFormat) (bytes : List ℕ) (entries : List Tracked) : Type 0 where
   pub version : ℕ
-  pub known : (2 ≤ version) × (version ≤ 4)
-  pub few : length entries < 2 ^ 32
+  pub known : (2 ≤ version) × (version ≤ 4) × (length entries < 2 ^ 32)
   pub texts : List ℕ
   pub each : AreEntries version (hash_len format) [] entries texts
   pub extensions : List ℕ

@@ -28,7 +28,7 @@ impl ObjectFormat {
     }
 
     /// Whether this is the checksum behind such content.
-    pub fn is_checksum(self, content: &[u8], checksum: &[u8]) -> bool
+    pub(crate) fn is_checksum(self, content: &[u8], checksum: &[u8]) -> bool
         requires { length checksum.now ≡ hash_len self }
         ensures { IsTrue result ↔ IsChecksum self content.now checksum.now }
     {

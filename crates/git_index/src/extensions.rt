@@ -31,13 +31,16 @@ fn skip_extension(bytes: &[u8]) -> Result<&[u8], IndexFault>
     skip(rest, len as usize)
 }
 
+/// Fewer bytes than the head of an extension has may stand at the end.
+const HEAD_LEN: usize = 8;
+
 /// Passes over extensions, up to the end.
 pub fn skip_extensions(bytes: &[u8]) -> Result<(), IndexFault>
     ensures ok { OnOk result (ArePassedOver bytes.now) }
     ensures err { IfErr result (λ fault. (fault ≡ Memory) ⊎ (¬ ArePassedOver bytes.now)) }
 {
     let mut rest = bytes;
-    while !rest.is_empty() {
+    while rest.len() >= HEAD_LEN {
         rest = skip_extension(rest)?;
     }
     Ok(())

@@ -38,7 +38,7 @@ pub enum IndexFault {
     Path,
     /// The paths have together more than 64 bytes for each byte of the file.
     #[error("the paths of the index are too long")]
-    TooLong,
+    PathsTooLong,
     /// An entry doesn't come after the one before it.
     #[error("unordered stage entries in index")]
     Order,

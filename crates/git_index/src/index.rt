@@ -1,8 +1,8 @@
 //! An index: the entries of an index file, and which paths are among them.
-ghost use Rattle.std.specs.Prelude.{◌≡◌, ◌↔◌, ◌≤◌, List, map, IfOk, IsTrue, MatchResult};
+ghost use Rattle.std.specs.Prelude.{◌+◌, ◌<◌, Err, length, ◌≡◌, ◌↔◌, ◌≤◌, List, map, IfOk, IsTrue, MatchResult};
 ghost use Rattle.git_index.specs.declared.fault.IndexFault.TheVariants.{Memory};
 ghost use Rattle.git_index.specs.Entries.{HasBelow, IsTracked, Tracked, tracked};
-ghost use Rattle.git_index.specs.Format.{HasRoom, IsIndexFile};
+ghost use Rattle.git_index.specs.Format.{hash_len, HasRoom, IsIndexFile};
 ghost use Rattle.git_index.specs.Private.Reading.{Finds};
 
 use crate::checksum::ObjectFormat;
@@ -21,6 +21,7 @@ const PATH_BYTES_PER_BYTE: usize = 64;
 
 /// The entries of an index file.
 fn read(alloc: Global, bytes: &[u8], format: ObjectFormat) -> Result<Vec<Entry>, IndexFault>
+    ensures short { length bytes.now < 12 + hash_len format → result ≡ Err IndexFault.TooShort }
     ensures found { IfOk result (λ entries. Finds format bytes.now (map tracked entries.items)) }
     ensures only { (es : List Tracked) → Finds format bytes.now es → MatchResult result (λ entries. map tracked entries.items ≡ es) (λ fault. fault ≡ Memory) }
 {
@@ -49,7 +50,7 @@ pub struct Index {
 }
 
 impl Model for Index {
-    ghost use Rattle.std.specs.Prelude.{List, map};
+    ghost use Rattle.std.specs.Prelude.{◌+◌, ◌<◌, Err, length, List, map};
     ghost use Rattle.git_index.specs.Entries.{InOrder, Tracked, tracked};
 
     ghost Value = { List Tracked };
@@ -69,6 +70,8 @@ impl Index {
         bytes: &[u8],
         format: ObjectFormat,
     ) -> Result<Index, IndexFault>
+        // What is shorter than a header and a checksum is told as that.
+        ensures short { length bytes.now < 12 + hash_len format → result ≡ Err IndexFault.TooShort }
         // What is read is spelled so.
         ensures found { IfOk result (λ index. IsIndexFile format bytes.now index) }
         // What is spelled so is read, unless memory is refused.

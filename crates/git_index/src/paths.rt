@@ -70,7 +70,7 @@ pub fn joined(
     ensures fits { IfOk result (λ x. length x.items ≤ room) }
 {
     if kept.len() > room || added.len() > room - kept.len() {
-        return Err(IndexFault::TooLong);
+        return Err(IndexFault::PathsTooLong);
     }
     let len = kept.len() + added.len();
     if told != UNTOLD && usize::from(told) != len {

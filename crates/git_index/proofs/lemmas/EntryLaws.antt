@@ -132,9 +132,8 @@ entry_takes version hash previous room bytes x fits e =
       joined = joined;
       spelled = record {
         times = take 24 bytes;
-        times_len = t0.1;
         owner = take (12 + hash) mode.1;
-        owner_len = t2.1;
+        lengths = (t0.1, t2.1);
         extended = is_set 14 flags.0;
         stage = omega arith;
         told = flags.0 % 2 ^ 12;
@@ -179,12 +178,12 @@ entry_again version hash previous room e text rest fits is room_is =
     let s4 : from_kind version hash previous room (flags, more ++ (is.name ++ rest)) e.kind ≡ Ok (e, rest) = step (from_more version hash previous room flags e.kind) more_read s5 in
     let s3 : from_flags version hash previous room (mode_of e.kind) (flags, more ++ (is.name ++ rest)) ≡ Ok (e, rest) = step (from_kind version hash previous room (flags, more ++ (is.name ++ rest))) (kind_again e.kind) s4 in
     let s2 : from_owner version hash previous room (mode_of e.kind) (to_be_bytes w16 flags ++ (more ++ (is.name ++ rest))) ≡ Ok (e, rest) = step (from_flags version hash previous room (mode_of e.kind)) (number_again w16 (2 ^ 16) wide16 flags (more ++ (is.name ++ rest)) h.small) s3 in
-    let s1 : from_mode version hash previous room (mode_of e.kind, is.owner ++ (to_be_bytes w16 flags ++ (more ++ (is.name ++ rest)))) ≡ Ok (e, rest) = step (from_owner version hash previous room (mode_of e.kind)) (skipped_again is.owner (to_be_bytes w16 flags ++ (more ++ (is.name ++ rest))) (12 + hash) is.owner_len) s2 in
+    let s1 : from_mode version hash previous room (mode_of e.kind, is.owner ++ (to_be_bytes w16 flags ++ (more ++ (is.name ++ rest)))) ≡ Ok (e, rest) = step (from_owner version hash previous room (mode_of e.kind)) (skipped_again is.owner (to_be_bytes w16 flags ++ (more ++ (is.name ++ rest))) (12 + hash) is.lengths.1) s2 in
     let s0 : from_times version hash previous room (to_be_bytes w32 (mode_of e.kind) ++ (is.owner ++ (to_be_bytes w16 flags ++ (more ++ (is.name ++ rest))))) ≡ Ok (e, rest) =
     step (from_mode version hash previous room) (number_again w32 (2 ^ 32) wide32 (mode_of e.kind) (is.owner ++ (to_be_bytes w16 flags ++ (more ++ (is.name ++ rest)))) (mode_small e.kind)) s1 in
     ap (entry_at version hash previous room) regrouped
     ∙ entry_steps version hash previous room (is.times ++ (to_be_bytes w32 (mode_of e.kind) ++ (is.owner ++ (to_be_bytes w16 flags ++ (more ++ (is.name ++ rest))))))
-    ∙ step (from_times version hash previous room) (skipped_again is.times (to_be_bytes w32 (mode_of e.kind) ++ (is.owner ++ (to_be_bytes w16 flags ++ (more ++ (is.name ++ rest))))) 24 is.times_len) s0
+    ∙ step (from_times version hash previous room) (skipped_again is.times (to_be_bytes w32 (mode_of e.kind) ++ (is.owner ++ (to_be_bytes w16 flags ++ (more ++ (is.name ++ rest))))) 24 is.lengths.0) s0
 
 -- ---- entries after one another
 

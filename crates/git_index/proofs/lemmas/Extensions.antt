@@ -83,29 +83,30 @@ extension_again x rest fits is =
 pub passes_on : (bytes rest : List ℕ) → IsBytes bytes → extension_at bytes ≡ Ok rest → ArePassedOver rest → ArePassedOver bytes
 passes_on bytes rest fits e passed =
     let t = extension_takes bytes rest fits e in
-    (t.x ∷ passed.0, (t.passed, passed.1), t.joined ∙ ap (λ (w : List ℕ). extension_text t.x ++ w) passed.2 ∙ sym (flat_map-cons extension_text t.x passed.0))
+    (t.x ∷ passed.0, passed.1, (t.passed, passed.2), passed.3, t.joined ∙ ap (λ (w : List ℕ). extension_text t.x ++ w) passed.4 ∙ sym (append_assoc (extension_text t.x) (flat_map extension_text passed.0) passed.1))
 
 pub record BeginsWithOne (bytes : List ℕ) : Type 0 where
   pub rest : List ℕ
   pub read : extension_at bytes ≡ Ok rest
   pub passed : ArePassedOver rest
 
-begins_by : (xs : List (List ℕ × List ℕ)) (bytes : List ℕ) → IsBytes bytes → 0 < length bytes → AllByRecursion IsExtension xs → bytes ≡ flat_map extension_text xs → BeginsWithOne bytes
-begins_by [] bytes fits some all e = absurd (omega (arith, ap length e))
-begins_by (x ∷ xs) bytes fits some all e =
-    let rest = flat_map extension_text xs in
-    let name : bytes ≡ x.0 ++ ((to_be_bytes w32 (length x.1) ++ x.1) ++ rest) = e ∙ append_assoc x.0 (to_be_bytes w32 (length x.1) ++ x.1) rest in
+begins_by : (xs : List (List ℕ × List ℕ)) (few bytes : List ℕ) → IsBytes bytes → 8 ≤ length bytes → AllByRecursion IsExtension xs → length few < 8 → bytes ≡ flat_map extension_text xs ++ few → BeginsWithOne bytes
+begins_by [] few bytes fits some all short e = absurd (omega (arith, ap length e))
+begins_by (x ∷ xs) few bytes fits some all short e =
+    let rest = flat_map extension_text xs ++ few in
+    let whole : bytes ≡ extension_text x ++ rest = e ∙ append_assoc (extension_text x) (flat_map extension_text xs) few in
+    let name : bytes ≡ x.0 ++ ((to_be_bytes w32 (length x.1) ++ x.1) ++ rest) = whole ∙ append_assoc x.0 (to_be_bytes w32 (length x.1) ++ x.1) rest in
     record {
       rest = rest;
-      read = ap extension_at e ∙ extension_again x rest (IsBytes-front x.0 ((to_be_bytes w32 (length x.1) ++ x.1) ++ rest) bytes name fits) all.0;
-      passed = (xs, all.1, refl);
+      read = ap extension_at whole ∙ extension_again x rest (IsBytes-front x.0 ((to_be_bytes w32 (length x.1) ++ x.1) ++ rest) bytes name fits) all.0;
+      passed = (xs, few, all.1, short, refl);
     }
 
-pub begins_with_one : (bytes : List ℕ) → IsBytes bytes → 0 < length bytes → ArePassedOver bytes → BeginsWithOne bytes
-begins_with_one bytes fits some passed = begins_by passed.0 bytes fits some passed.1 passed.2
+pub begins_with_one : (bytes : List ℕ) → IsBytes bytes → 8 ≤ length bytes → ArePassedOver bytes → BeginsWithOne bytes
+begins_with_one bytes fits some passed = begins_by passed.0 passed.1 bytes fits some passed.2 passed.3 passed.4
 
 -- what is passed over begins with an extension that is read, and the rest is passed over too
-pub passes_back : (bytes rest : List ℕ) → IsBytes bytes → 0 < length bytes → extension_at bytes ≡ Ok rest → ArePassedOver bytes → ArePassedOver rest
+pub passes_back : (bytes rest : List ℕ) → IsBytes bytes → 8 ≤ length bytes → extension_at bytes ≡ Ok rest → ArePassedOver bytes → ArePassedOver rest
 passes_back bytes rest fits some e passed =
     let one = begins_with_one bytes fits some passed in
     let same : one.rest ≡ rest = ok_is one.rest rest (sym one.read ∙ e) in
@@ -119,7 +120,10 @@ is_shorter bytes rest fits e =
 pub rest_fits : (bytes rest : List ℕ) → IsBytes bytes → extension_at bytes ≡ Ok rest → IsBytes rest
 rest_fits bytes rest fits e = let t = extension_takes bytes rest fits e in IsBytes-behind (extension_text t.x) rest bytes t.joined fits
 
+pub few_are_passed : (bytes : List ℕ) → length bytes < 8 → ArePassedOver bytes
+few_are_passed bytes short = ([], bytes, tt, short, refl)
+
 -- where an extension is refused, nothing that ends in these bytes is passed over
-pub is_refused : (bytes whole : List ℕ) (fault : IndexFault) → IsBytes bytes → 0 < length bytes → (fault ≡ Memory) ⊎ (extension_at bytes ≡ Err fault) → (ArePassedOver whole → ArePassedOver bytes) → (fault ≡ Memory) ⊎ (¬ ArePassedOver whole)
+pub is_refused : (bytes whole : List ℕ) (fault : IndexFault) → IsBytes bytes → 8 ≤ length bytes → (fault ≡ Memory) ⊎ (extension_at bytes ≡ Err fault) → (ArePassedOver whole → ArePassedOver bytes) → (fault ≡ Memory) ⊎ (¬ ArePassedOver whole)
 is_refused bytes whole fault fits some (inl memory) back = inl memory
 is_refused bytes whole fault fits some (inr e) back = inr (λ passed. let one = begins_with_one bytes fits some (back passed) in let two : Ok one.rest ≡ Err fault = sym one.read ∙ e in absurd cc)

@@ -113,8 +113,7 @@ found_is_file format bytes es fits f =
     ∙ ap (λ (m : ℕ). codes "DIRC" ++ (to_be_bytes w32 version ++ (to_be_bytes w32 m ++ (t.texts ++ f.extensions)))) (sym t.count) in
     record {
       version = version;
-      known = head.known;
-      few = omega (arith, head.few, t.count);
+      known = (head.known.0, head.known.1, omega (arith, head.few, t.count));
       texts = t.texts;
       each = t.each;
       extensions = f.extensions;
@@ -149,7 +148,7 @@ file_is_found format bytes es fits f room =
     record {
       long = omega (arith, len, long);
       header = ((f.version, length es), rest);
-      header_is = ap header_at (content_is ∙ f.content_is) ∙ header_again f.version (length es) rest f.known.0 f.known.1 f.few;
+      header_is = ap header_at (content_is ∙ f.content_is) ∙ header_again f.version (length es) rest f.known.0 f.known.1 f.known.2;
       checked = rw (content_is, checksum_is) f.checked;
       extensions = f.extensions;
       entries_are = entries_again f.version h [] es (room_of bytes) f.texts f.extensions texts_fit f.each room;

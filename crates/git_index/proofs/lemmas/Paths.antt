@@ -5,7 +5,7 @@ use Rattle.std.specs.List.{list_all}
 use Rattle.std.proofs.lemmas.Bool.{eqb-true, eq-eqb, ltb-false, le-ltb}
 use Rattle.std.proofs.lemmas.List.{take_at, length-append, length-replicate}
 use Rattle.git_index.specs.declared.fault.IndexFault.{IndexFault}
-use Rattle.git_index.specs.declared.fault.IndexFault.TheVariants.{Path, TooLong}
+use Rattle.git_index.specs.declared.fault.IndexFault.TheVariants.{Path, PathsTooLong}
 use Rattle.git_index.specs.Format.{IsPadded, IsShared}
 use Rattle.git_index.specs.Private.Reading.{◌>>=◌, joined_of, padded_at, parts_at, shared_at, shared_number_from, skipped, until_zero}
 use Rattle.git_index.proofs.lemmas.Fields.{IsBytes, IsBytes-front, bind_ok, ok_is, skipped_again, skipped_takes}
@@ -143,7 +143,7 @@ pub record TakesPath (kept added : List ℕ) (told room : ℕ) (path : List ℕ)
   pub told_is : (told ≡ 4095) ⊎ (told ≡ length path)
   pub fits : length path ≤ room
 
-room_and_length : (p q : Bool) (path found : List ℕ) → cond p (Err TooLong) (cond q (Ok path) (Err Path)) ≡ Ok found → (p ≡ false) × (q ≡ true) × (path ≡ found)
+room_and_length : (p q : Bool) (path found : List ℕ) → cond p (Err PathsTooLong) (cond q (Ok path) (Err Path)) ≡ Ok found → (p ≡ false) × (q ≡ true) × (path ≡ found)
 room_and_length true q path found e = absurd cc
 room_and_length false true path found e = (refl, refl, ok_is path found e)
 room_and_length false false path found e = absurd cc

@@ -1,11 +1,10 @@
 -- Texts that end in a zero byte, and zero bytes alone.
 use Rattle.std.proofs.Common.{◌≡◌, ◌≢◌, ℕ, zero, suc, ◌+◌, ◌-◌, ◌<◌, true, false, eqb, List, [], ◌∷◌, ◌++◌, length, get_or, take, drop, Ok, Err, refl, ap, subst, ◌∙◌, arith}
 use Rattle.std.specs.Prelude.{replicate}
-use Rattle.std.specs.List.{list_all}
+use Rattle.std.specs.List.{AllByRecursion, list_all}
 use Rattle.std.proofs.lemmas.Bool.{false≢true}
 use Rattle.std.proofs.lemmas.List.{take_rest, drop-drop}
 use Rattle.git_index.specs.declared.fault.IndexFault.TheVariants.{Cut}
-use Rattle.git_index.specs.Format.{HasNoZero}
 use Rattle.git_index.specs.Private.Reading.{until_zero}
 use Rattle.git_index.proofs.lemmas.Fields.{bind_ok, ok_is}
 
@@ -32,18 +31,18 @@ until_zero-split bytes i front back lt here before f b =
     let behind : take (length back - 1) (drop 1 back) ≡ drop (suc i) bytes = take_rest back 1 ∙ one in
     until_zero-first bytes i lt here before ∙ rw (f, behind) refl
 
-pub until_zero-takes : (bytes : List ℕ) (x : List ℕ × List ℕ) → until_zero bytes ≡ Ok x → (bytes ≡ x.0 ++ 0 ∷ x.1) × HasNoZero x.0
+pub until_zero-takes : (bytes : List ℕ) (x : List ℕ × List ℕ) → until_zero bytes ≡ Ok x → (bytes ≡ x.0 ++ 0 ∷ x.1) × AllByRecursion (λ b. b ≢ 0) x.0
 unfolding until_zero
 until_zero-takes [] x e = absurd cc
-until_zero-takes (zero ∷ bytes) x e = subst (λ (y : List ℕ × List ℕ). (0 ∷ bytes ≡ y.0 ++ 0 ∷ y.1) × HasNoZero y.0) (ok_is ([], bytes) x e) (refl, tt)
+until_zero-takes (zero ∷ bytes) x e = subst (λ (y : List ℕ × List ℕ). (0 ∷ bytes ≡ y.0 ++ 0 ∷ y.1) × AllByRecursion (λ b. b ≢ 0) y.0) (ok_is ([], bytes) x e) (refl, tt)
 until_zero-takes (suc b ∷ bytes) x e =
     let a = bind_ok (until_zero bytes) (λ more. Ok (suc b ∷ more.0, more.1)) x e in
     let h = until_zero-takes bytes a.0 a.1 in
     let one : suc b ≢ 0 = λ is. absurd (omega arith) in
     let made : List ℕ × List ℕ = (suc b ∷ a.0.0, a.0.1) in
-    subst (λ (y : List ℕ × List ℕ). (suc b ∷ bytes ≡ y.0 ++ 0 ∷ y.1) × HasNoZero y.0) (ok_is made x a.2) (ap (λ (w : List ℕ). suc b ∷ w) h.0, (one, h.1))
+    subst (λ (y : List ℕ × List ℕ). (suc b ∷ bytes ≡ y.0 ++ 0 ∷ y.1) × AllByRecursion (λ b. b ≢ 0) y.0) (ok_is made x a.2) (ap (λ (w : List ℕ). suc b ∷ w) h.0, (one, h.1))
 
-pub until_zero-again : (text rest : List ℕ) → HasNoZero text → until_zero (text ++ 0 ∷ rest) ≡ Ok (text, rest)
+pub until_zero-again : (text rest : List ℕ) → AllByRecursion (λ b. b ≢ 0) text → until_zero (text ++ 0 ∷ rest) ≡ Ok (text, rest)
 unfolding until_zero
 until_zero-again [] rest none = refl
 until_zero-again (zero ∷ text) rest none = absurd (none.0 refl)

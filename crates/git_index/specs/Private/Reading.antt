@@ -6,7 +6,7 @@ use Rattle.git_index.specs.declared.checksum.ObjectFormat.{ObjectFormat}
 use Rattle.git_index.specs.declared.entry.Kind.{Kind}
 use Rattle.git_index.specs.declared.entry.Kind.TheVariants.{File, Executable, Link, Submodule}
 use Rattle.git_index.specs.declared.fault.IndexFault.{IndexFault}
-use Rattle.git_index.specs.declared.fault.IndexFault.TheVariants.{Memory, Signature, Version, Cut, Mode, Flags, Path, TooLong, Extension, Sparse, Split}
+use Rattle.git_index.specs.declared.fault.IndexFault.TheVariants.{Memory, Signature, Version, Cut, Mode, Flags, Path, PathsTooLong, Extension, Sparse, Split}
 use Rattle.git_index.specs.Entries.{Tracked, InOrder}
 use Rattle.git_index.specs.Format.{hash_len, IsChecksum, ArePassedOver}
 
@@ -67,7 +67,7 @@ parts_at version front previous bytes =
 -- the two parts joined, of the length that is told, in so much room
 unfoldable pub joined_of : List ℕ → List ℕ → ℕ → ℕ → Result (List ℕ) IndexFault
 joined_of kept added told room =
-    if nat_lt room (length kept + length added) then Err TooLong
+    if nat_lt room (length kept + length added) then Err PathsTooLong
     else if told == 4095 || told == length kept + length added then Ok (kept ++ added)
     else Err Path
 
