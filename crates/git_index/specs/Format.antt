@@ -32,8 +32,7 @@ pub record IsPadded (front : ℕ) (path text : List ℕ) : Type 0 where
 pub record IsShared (previous path text : List ℕ) : Type 0 where
   pub number : List ℕ
   pub taken : ℕ
-  pub counted : IsNumber 0 number taken
-  pub within : taken ≤ length previous
+  pub counted : IsNumber 0 number taken × (taken ≤ length previous)
   pub added : List ℕ
   pub whole : AllByRecursion (λ b. b ≢ 0) added
   pub is : path ≡ take (length previous - taken) previous ++ added
@@ -106,8 +105,7 @@ pub record IsIndexFile (format : ObjectFormat) (bytes : List ℕ) (entries : Lis
   pub content : List ℕ
   pub content_is : content ≡ codes "DIRC" ++ (to_be_bytes w32 version ++ (to_be_bytes w32 (length entries) ++ (texts ++ extensions)))
   pub checksum : List ℕ
-  pub checksum_len : length checksum ≡ hash_len format
-  pub checked : IsChecksum format content checksum
+  pub checked : (length checksum ≡ hash_len format) × IsChecksum format content checksum
   pub joined : bytes ≡ content ++ checksum
   pub ordered : InOrder entries
 

@@ -121,8 +121,7 @@ found_is_file format bytes es fits f =
       content = content;
       content_is = counted;
       checksum = drop n bytes;
-      checksum_len = omega (arith, length-drop n bytes, f.long);
-      checked = f.checked;
+      checked = (omega (arith, length-drop n bytes, f.long), f.checked);
       joined = sym (take-append-drop n bytes);
       ordered = f.ordered;
     }
@@ -134,7 +133,7 @@ content_len version count rest content e =
 pub file_is_found : (format : ObjectFormat) (bytes : List ℕ) (es : List Tracked) → IsBytes bytes → IsIndexFile format bytes es → HasRoom bytes es → Finds format bytes es
 file_is_found format bytes es fits f room =
     let h = hash_len format in
-    let len : length bytes ≡ length f.content + h = omega (arith, ap length f.joined, length-append f.content f.checksum, f.checksum_len) in
+    let len : length bytes ≡ length f.content + h = omega (arith, ap length f.joined, length-append f.content f.checksum, f.checked.0) in
     let n : length f.content ≡ length bytes - h = omega (arith, len) in
     let content_is : take (length bytes - h) bytes ≡ f.content = ap (take (length bytes - h)) f.joined ∙ take_at f.content f.checksum (length bytes - h) n in
     let checksum_is : drop (length bytes - h) bytes ≡ f.checksum = ap (drop (length bytes - h)) f.joined ∙ drop_at f.content f.checksum (length bytes - h) n in
@@ -149,7 +148,7 @@ file_is_found format bytes es fits f room =
       long = omega (arith, len, long);
       header = ((f.version, length es), rest);
       header_is = ap header_at (content_is ∙ f.content_is) ∙ header_again f.version (length es) rest f.known.0 f.known.1 f.known.2;
-      checked = rw (content_is, checksum_is) f.checked;
+      checked = rw (content_is, checksum_is) f.checked.1;
       extensions = f.extensions;
       entries_are = entries_again f.version h [] es (room_of bytes) f.texts f.extensions texts_fit f.each room;
       passed = f.passed;

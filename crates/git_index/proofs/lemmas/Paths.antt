@@ -72,7 +72,7 @@ shared_takes previous bytes x fits e =
     let one : TakesShared previous bytes (made a.0 b.0) = record {
       text = t.text ++ (b.0.0 ++ 0 ∷ []);
       joined = t.joined ∙ ap (λ (w : List ℕ). t.text ++ w) s.0 ∙ regrouped;
-      shared = record { number = t.text; taken = a.0.0; counted = t.counted; within = t.within; added = b.0.0; whole = s.1; is = refl; joined = refl };
+      shared = record { number = t.text; taken = a.0.0; counted = (t.counted, t.within); added = b.0.0; whole = s.1; is = refl; joined = refl };
     } in
     subst (λ (y : (List ℕ × List ℕ) × List ℕ). TakesShared previous bytes y) (ok_is (made a.0 b.0) x b.2) one
 
@@ -81,7 +81,7 @@ unfolding shared_at
 shared_again previous path text rest fits p =
     let regrouped : text ++ rest ≡ p.number ++ (p.added ++ 0 ∷ rest) = ap (λ (w : List ℕ). w ++ rest) p.joined ∙ append_assoc p.number (p.added ++ 0 ∷ []) rest ∙ ap (λ (w : List ℕ). p.number ++ w) (append_assoc p.added (0 ∷ []) rest) in
     let number_fits = IsBytes-front p.number (p.added ++ 0 ∷ []) text p.joined fits in
-    ap (shared_at previous) regrouped ∙ rw (number-again (length previous) 0 p.number (p.added ++ 0 ∷ rest) p.taken number_fits p.counted p.within, until_zero-again p.added rest p.whole) refl
+    ap (shared_at previous) regrouped ∙ rw (number-again (length previous) 0 p.number (p.added ++ 0 ∷ rest) p.taken number_fits p.counted.0 p.counted.1, until_zero-again p.added rest p.whole) refl
 
 -- ---- either
 
