@@ -109,6 +109,6 @@ pub record IsIndexFile (format : ObjectFormat) (bytes : List ℕ) (entries : Lis
   pub joined : bytes ≡ content ++ checksum
   pub ordered : InOrder entries
 
--- the paths have together at most 64 bytes for each byte of the file
+-- the paths have together at most 16 bytes for each byte of the file
 abbrev pub HasRoom : List ℕ → List Tracked → Type 0
-HasRoom bytes entries = sum_by (λ e. length e.path) entries ≤ min (64 * length bytes) (2 ^ 64 - 1)
+HasRoom bytes entries = sum_by (λ e. length e.path) entries ≤ min (16 * length bytes) (2 ^ 64 - 1)

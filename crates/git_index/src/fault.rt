@@ -36,7 +36,7 @@ pub enum IndexFault {
     /// before than that one has.
     #[error("malformed name field in the index")]
     Path,
-    /// The paths have together more than 64 bytes for each byte of the file.
+    /// The paths have together more than 16 bytes for each byte of the file.
     #[error("the paths of the index are too long")]
     PathsTooLong,
     /// An entry doesn't come after the one before it.

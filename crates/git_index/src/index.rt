@@ -16,8 +16,9 @@ use crate::search;
 use std::alloc::Global;
 use std::marker::Model;
 
-/// Paths may have together so many bytes for each byte of the file. No index whose paths have up to 4,096 bytes comes near it.
-const PATH_BYTES_PER_BYTE: usize = 64;
+/// Paths may have together so many bytes for each byte of the file. An entry takes 64 bytes at least, so an index whose paths have
+/// 1,024 bytes on average stays below it.
+const PATH_BYTES_PER_BYTE: usize = 16;
 
 /// The entries of an index file.
 fn read(alloc: Global, bytes: &[u8], format: ObjectFormat) -> Result<Vec<Entry>, IndexFault>

@@ -138,7 +138,7 @@ extension_at bytes = do
       else skipped len.0 len.1
 
 abbrev pub room_of : List ℕ → ℕ
-room_of bytes = min (64 * length bytes) (2 ^ 64 - 1)
+room_of bytes = min (16 * length bytes) (2 ^ 64 - 1)
 
 -- what is found at each stage where the entries are read
 pub record Finds (format : ObjectFormat) (bytes : List ℕ) (entries : List Tracked) : Type 0 where
