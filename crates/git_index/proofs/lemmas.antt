@@ -1,0 +1,11 @@
+pub mod Entries
+pub mod EntryLaws
+pub mod Extensions
+pub mod Fields
+pub mod FileLaws
+pub mod Flags
+pub mod Numbers
+pub mod Order
+pub mod Paths
+pub mod Search
+pub mod Zeros
