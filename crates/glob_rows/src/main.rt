@@ -8,6 +8,7 @@ mod attribute_files;
 mod attribute_states;
 mod bases;
 mod fault;
+mod index_files;
 mod lines;
 mod lists;
 mod matching;
@@ -26,7 +27,7 @@ use std::process::ExitCode;
 use std::rt::Files;
 
 /// The subjects of the rows. Each has a file of its name.
-const SUBJECTS: [&str; 37] = [
+const SUBJECTS: [&str; 39] = [
     "matching",
     "starts",
     "attempts",
@@ -64,6 +65,8 @@ const SUBJECTS: [&str; 37] = [
     "names_read",
     "all_states",
     "records",
+    "index_files",
+    "index_paths",
 ];
 
 /// Asks all rows. The status is 1 where an answer is another one, or a row can't be read.
