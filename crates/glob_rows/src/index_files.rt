@@ -69,7 +69,8 @@ fn push_line(text: &mut Vec<u8>, entry: &Entry) -> Result<(), AllocError> {
     ];
     text.extend_from_slice(&signs)?;
     text.extend_from_slice(&entry.path)?;
-    text.push(b'\n')
+    text.push(b'\n')?;
+    Ok(())
 }
 
 /// The mode of a kind, and a space.
