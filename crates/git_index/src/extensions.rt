@@ -7,9 +7,10 @@ ghost use Rattle.git_index.specs.Private.Reading.{Gives, extension_at};
 use crate::fault::IndexFault;
 use crate::fields::{skip, u32_at};
 
-/// The names of a split and of a sparse index's extension.
+/// `link`, the name of a split index's extension.
 const LINK: u32 = 0x6C69_6E6B;
 
+/// `sdir`, the name of a sparse index's extension.
 const SDIR: u32 = 0x7364_6972;
 
 /// What follows the extension at the front, which may be passed over.

@@ -1,8 +1,8 @@
 //! An index: the entries of an index file, and which paths are among them.
-ghost use Rattle.std.specs.Prelude.{◌+◌, ◌<◌, Err, length, ◌≡◌, ◌↔◌, ◌≤◌, List, map, IfOk, IsTrue, MatchResult};
+ghost use Rattle.std.specs.Prelude.{◌≡◌, ◌↔◌, ◌+◌, ◌<◌, Err, IfOk, IsTrue, List, MatchResult, length, map};
 ghost use Rattle.git_index.specs.declared.fault.IndexFault.TheVariants.{Memory};
 ghost use Rattle.git_index.specs.Entries.{HasBelow, IsTracked, Tracked, tracked};
-ghost use Rattle.git_index.specs.Format.{hash_len, HasRoom, IsIndexFile};
+ghost use Rattle.git_index.specs.Format.{HasRoom, IsIndexFile, hash_len};
 ghost use Rattle.git_index.specs.Private.Reading.{Finds};
 
 use crate::checksum::ObjectFormat;
@@ -51,7 +51,7 @@ pub struct Index {
 }
 
 impl Model for Index {
-    ghost use Rattle.std.specs.Prelude.{◌+◌, ◌<◌, Err, length, List, map};
+    ghost use Rattle.std.specs.Prelude.{List, map};
     ghost use Rattle.git_index.specs.Entries.{InOrder, Tracked, tracked};
 
     ghost Value = { List Tracked };

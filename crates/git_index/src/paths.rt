@@ -6,11 +6,11 @@ use crate::fault::IndexFault;
 use crate::fields::{is_zero, shared_number, skip, text_at};
 use std::alloc::Global;
 
-/// Of the flags' length: it isn't told.
+/// The length in an entry's flags that tells none.
 const UNTOLD: u16 = 4095;
 
-/// A path that is followed by zero bytes, one at least, up to a length of the entry that 8 divides; and what follows them. Of the
-/// entry so many bytes come before the path.
+/// A path that is followed by zero bytes, one at least, up to a length of the entry that 8 divides; and what follows them. `front`
+/// bytes of the entry come before the path.
 #[tactic(auto, unfolding(crate::specs::Private::Reading::padded_at))]
 fn padded(front: usize, bytes: &[u8]) -> Result<(&[u8], &[u8]), IndexFault>
     requires { front ≤ 76 }
