@@ -1,5 +1,5 @@
 #!/usr/bin/env python3
-"""Answers rows of work trees and of attributes by Git: tools/vectors examples/vectors/git.py [PROGRAM]
+"""Answers rows of work trees, of attributes and of configuration by Git: tools/vectors examples/vectors/git.py [PROGRAM]
 
 PROGRAM is another one that takes Git's words, as `globtree` does."""
 import os
@@ -105,4 +105,28 @@ def attribute_names(name):
     return rows.told(len(check_attributes(b"sensitive", [name], b"x", [])) > 1)
 
 
-rows.answer({it.__name__: it for it in (matching, trees, trees_told, attribute_states, all_states, attribute_streams, attribute_names)})
+def read_configuration(text, words):
+    """What Git tells of a file of configuration, and what it complains of."""
+    with rows.folder_of([(b"file", text)]) as top:
+        ran = subprocess.run(["git", "config", "--file", "file", *words], cwd=top, env=ALONE, capture_output=True, check=False)
+    return ran.stdout, ran.stderr
+
+
+def config_files(text):
+    if not IS_GIT:
+        return ()
+    listed, wrong = read_configuration(text, ["--list", "-z"])
+    line = re.search(rb"bad config line (\d+)", wrong)
+    return [b"bad " + line[1] if line else b"".join(entry.replace(b"\n", b"=", 1) + b"\n" for entry in listed.split(b"\0")[:-1])]
+
+
+def config_booleans(value):
+    if not IS_GIT:
+        return ()
+    quoted = b"" if value is None else b'="' + re.sub(rb'(["\\])', rb"\\\1", value) + b'"'
+    told, _ = read_configuration(b"[a]b" + quoted, ["--type=bool", "a.b"])
+    return [{b"true\n": "yes", b"false\n": "no"}.get(told)]
+
+
+OF_PATTERNS = (matching, trees, trees_told, attribute_states, all_states, attribute_streams, attribute_names)
+rows.answer({it.__name__: it for it in (*OF_PATTERNS, config_files, config_booleans)})

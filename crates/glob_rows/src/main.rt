@@ -7,6 +7,7 @@ mod attempts;
 mod attribute_files;
 mod attribute_states;
 mod bases;
+mod config_files;
 mod fault;
 mod index_files;
 mod lines;
@@ -27,7 +28,7 @@ use std::process::ExitCode;
 use std::rt::Files;
 
 /// The subjects of the rows. Each has a file of its name.
-const SUBJECTS: [&str; 39] = [
+const SUBJECTS: [&str; 41] = [
     "matching",
     "starts",
     "attempts",
@@ -67,6 +68,8 @@ const SUBJECTS: [&str; 39] = [
     "records",
     "index_files",
     "index_paths",
+    "config_files",
+    "config_booleans",
 ];
 
 /// Asks all rows. The status is 1 where an answer is another one, or a row can't be read.
