@@ -1,0 +1,5 @@
+pub mod FailLemmas
+pub mod FrontLemmas
+pub mod PartLemmas
+pub mod ReadLemmas
+pub mod TurnLemmas

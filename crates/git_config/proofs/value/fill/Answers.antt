@@ -1,0 +1,10 @@
+use Rattle.std.proofs.Common.{ℕ, ◌+◌, List, ap, ◌∙◌}
+use Rattle.git_config.specs.Grammar.{Part}
+use Rattle.git_config.proofs.lemmas.PartLemmas.{filled_up, part_with}
+use Rattle.git_config.proofs.value.fill.Goals as goal
+
+pub returns : goal.returns
+returns c =
+    let part = c.args.part.now in
+    part_with (λ (bytes : List ℕ). record { quoted = part.quoted; blanks = 0; bytes = bytes })
+    (filled_up part.bytes.items c.resize.new.self.items (c.len.result + part.blanks) part.blanks (ap (λ (n : ℕ). n + part.blanks) (c.len.ensures ∙ part.bytes.ok.0)) c.in_ok-resize.ensures.items)
