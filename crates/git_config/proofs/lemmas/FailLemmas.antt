@@ -78,3 +78,8 @@ before_all-none (first ∷ items) = ap (λ r. before first r) (before_all-none i
 pub before_all-fault : (items : List (Item (List ℕ))) (fault : ConfigFault) → before_all items (Err fault) ≡ Err fault
 before_all-fault [] fault = refl
 before_all-fault (first ∷ items) fault = ap (λ r. before first r) (before_all-fault items fault)
+
+-- a fault of what is left
+pub fault_of_rest : (items : List (Item (List ℕ))) (fault : ConfigFault) (whole rest : Read) → whole ≡ before_all items rest → Fails fault rest → Fails fault whole
+fault_of_rest items Memory whole rest is h = tt
+fault_of_rest items (Line at what) whole rest is h = is ∙ ap (λ r. before_all items r) h ∙ before_all-fault items (Line at what)

@@ -8,9 +8,10 @@ use Rattle.git_config.specs.Private.Taking.{IsAtEnd}
 use Rattle.git_config.proofs.lemmas.ReadLemmas.{at_end, read-end}
 
 -- what a longer length fills up with
-pub filled_up : (bytes new : List ℕ) (len blanks : ℕ) → len ≡ length bytes + blanks → new ≡ take len bytes ++ replicate (len - length bytes) 32 → new ≡ bytes ++ replicate blanks 32
-filled_up bytes new len blanks is made =
-    made ∙ ap (λ (front : List ℕ). front ++ replicate (len - length bytes) 32) (take_all len bytes (omega arith))
+pub filled_up : (bytes new : List ℕ) (count len blanks : ℕ) → count ≡ length bytes → len ≡ count + blanks → new ≡ take len bytes ++ replicate (len - count) 32
+    → new ≡ bytes ++ replicate blanks 32
+filled_up bytes new count len blanks counted is made =
+    made ∙ ap (λ (front : List ℕ). front ++ replicate (len - count) 32) (take_all len bytes (omega arith))
     ∙ ap (λ (n : ℕ). bytes ++ replicate n 32) (omega arith)
 
 -- a part with these bytes

@@ -85,8 +85,8 @@ begun {A} {x} {y} item rest e = ap (λ (z : A). before (item z) rest) e
 -- ---- a byte at the front of a text
 
 pub goes_here : (b : ℕ) (text : List ℕ) (line : ℕ) (place next : Place) → (b ≡ 10 → ⊥) → turn line place b ≡ goes next → read (b ∷ text) line place ≡ read text line next
-goes_here b text line place next no e =
-    read-cons b text line place ∙ ap (λ w. behind w text line b) e ∙ ap (λ (at : ℕ). read text at next) (if_false (eqb b 10) (line + 1) line (ne_eqb b 10 no))
+goes_here b text line place next other e =
+    read-cons b text line place ∙ ap (λ w. behind w text line b) e ∙ ap (λ (at : ℕ). read text at next) (if_false (eqb b 10) (line + 1) line (ne_eqb b 10 other))
 
 pub fails_here : (b : ℕ) (text : List ℕ) (line : ℕ) (place : Place) (what : Wrong) (at : ℕ) → turn line place b ≡ fails what at → read (b ∷ text) line place ≡ Err (Line at what)
 fails_here b text line place what at e = read-cons b text line place ∙ ap (λ w. behind w text line b) e

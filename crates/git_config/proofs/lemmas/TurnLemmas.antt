@@ -162,3 +162,12 @@ mark-no_blank b m =
     (λ (yes : (b == 35) ≡ true). ap (λ (x : ℕ). is_blank x) (eqb-true b 35 yes))
     (λ (no : (b == 35) ≡ false). let is : (b == 59) ≡ true = sym (ap (λ (t : Bool). t || b == 59) no) ∙ m in ap (λ (x : ℕ). is_blank x) (eqb-true b 59 is))
     (cases_Bool (b == 35))
+
+-- a name that goes on has not ended
+no_and : (x : Bool) → (x && false) ≡ true → ⊥
+no_and true h = false≢true h
+no_and false h = false≢true h
+
+pub not_ended : (x ended : Bool) → (x && not ended) ≡ true → ended ≡ false
+not_ended x false h = refl
+not_ended x true h = absurd (no_and x h)

@@ -5,7 +5,7 @@ use Rattle.std.proofs.lemmas.Result.{err_from_is_err_and}
 use Rattle.git_config.specs.declared.fault.Wrong.TheVariants.{Outside}
 use Rattle.git_config.specs.Grammar.{between, in_head, in_name, text_of}
 use Rattle.git_config.proofs.lemmas.ReadLemmas.{fails_here, goes_here}
-use Rattle.git_config.proofs.lemmas.TurnLemmas.{between-fails, between-head, between-name, blank-no_feed, head-no_feed}
+use Rattle.git_config.proofs.lemmas.TurnLemmas.{between-fails, between-head, between-name, blank-no_feed}
 use Rattle.git_config.proofs.file.read_item.Goals as goal
 
 pub returns-in_err-read_head-clause-reads : goal.returns-in_err-read_head-clause-reads

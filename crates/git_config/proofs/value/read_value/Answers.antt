@@ -45,7 +45,24 @@ returns-then-is_bare_mark-clause-reads c =
     ∙ ap (λ i. before i rest) (sym c.entry_of.ensures)
 
 pub bytes-preserved : goal.bytes-preserved
-bytes-preserved c = ?
+bytes-preserved c =
+    let name = c.args.name.items in let part = part_of c.bytes.part in let new = c.take_byte.new.self in let b = c.in-Some.byte in
+    record {
+      reads = c.bytes.invariant.reads
+          ∙ goes_byte (in_value name part) (place_behind name (filled part) b) c.in-Some.ensures
+          (value-byte c.bytes.text.line b name part c.if-byte-eq10.false (sym c.is_bare_blank.ensures ∙ c.if-is_bare_blank.false) (sym c.is_bare_mark.ensures ∙ c.if-is_bare_mark.false))
+          ∙ placed (text_of new.rest.now) new.line (λ (p : Part). place_behind name p b) (sym c.in_ok-fill.ensures)
+          ∙ c.in_ok-add_byte.ensures.reads name;
+      room = omega (arith, c.in_ok-add_byte.ensures.blanks, ap (λ (p : Part). p.blanks) c.in_ok-fill.ensures, c.in_ok-add_byte.ensures.fewer, c.in-Some.ensures.fewer, c.bytes.invariant.room);
+      fewer = omega (arith, c.in_ok-add_byte.ensures.fewer, c.in-Some.ensures.fewer, c.bytes.invariant.fewer);
+    }
 
 pub returns-in_err-add_byte-clause-reads : goal.returns-in_err-add_byte-clause-reads
-returns-in_err-add_byte-clause-reads c = ?
+returns-in_err-add_byte-clause-reads c =
+    let name = c.args.name.items in let part = part_of c.bytes.part in let new = c.take_byte.new.self in let b = c.in-Some.byte in
+    let is = c.bytes.invariant.reads
+    ∙ goes_byte (in_value name part) (place_behind name (filled part) b) c.in-Some.ensures
+    (value-byte c.bytes.text.line b name part c.if-byte-eq10.false (sym c.is_bare_blank.ensures ∙ c.if-is_bare_blank.false) (sym c.is_bare_mark.ensures ∙ c.if-is_bare_mark.false))
+    ∙ placed (text_of new.rest.now) new.line (λ (p : Part). place_behind name p b) (sym c.in_ok-fill.ensures) in
+    let p = err_from_is_err_and c.from_residual-in_err-add_byte.result c.from_residual-in_err-add_byte.ensures.1 in
+    rw (p.1, p.2) (rw is (c.in_err-add_byte.ensures.reads name))
