@@ -2,9 +2,9 @@
 ghost use Rattle.std.specs.Prelude.{◌≡◌, ◌<◌, ◌≤◌, ◌+◌, ◌∷◌, [], ℕ, false, length, nat_eq, option_map, IfOk, IsSome};
 ghost use Rattle.std.specs.List.{starts_with};
 ghost use Rattle.std.specs.Vec.{vec_items};
-ghost use Rattle.git_config.specs.Grammar.{Place, before, between, ended, front, is_blank, is_mark, items_of, read, text_of, turn, turn_mark};
+ghost use Rattle.git_config.specs.Grammar.{Place, before, between, ended, front, is_blank, is_mark, items_of, read, text_of, turn};
 ghost use Rattle.git_config.specs.Items.{item_with, seen_items};
-ghost use Rattle.git_config.specs.Private.Taking.{Reads, before_some};
+ghost use Rattle.git_config.specs.Private.Taking.{Reads, before_some, turn_mark};
 ghost use Rattle.git_config.specs.declared.fault.ConfigFault.TheVariants.{Line};
 ghost use Rattle.git_config.specs.declared.fault.Wrong.TheVariants.{Mark};
 

@@ -7,6 +7,8 @@ mod fault;
 mod file;
 mod head;
 mod item;
+#[cfg(test)]
+mod tests;
 mod text;
 mod value;
 

@@ -1,9 +1,10 @@
 -- What one call of the reader leaves to the next.
-use Rattle.std.specs.Prelude.{◌≡◌, ℕ, ◌<◌, List, ◌∷◌, [], length, Option, Some, None, Result, Ok, Err}
+use Rattle.std.specs.Prelude.{◌≡◌, ℕ, ◌<◌, List, ◌∷◌, [], ◌==◌, if◌then◌else◌, length, Option, Some, None, Result, Ok, Err}
 use Rattle.git_config.specs.declared.fault.ConfigFault.{ConfigFault}
 use Rattle.git_config.specs.declared.fault.ConfigFault.TheVariants.{Line, Memory}
+use Rattle.git_config.specs.declared.fault.Wrong.TheVariants.{Mark}
 use Rattle.git_config.specs.declared.item.Item.{Item}
-use Rattle.git_config.specs.Grammar.{before, line_behind, text_of}
+use Rattle.git_config.specs.Grammar.{Place, Turn, before, fails, goes, line_behind, text_of}
 
 -- one byte of the text is taken off, and the line is that of what follows
 pub record TakesByte (old new : List ℕ) (old_line new_line b : ℕ) : Type 0 where
@@ -31,3 +32,7 @@ Reads rest (Err fault) whole = Fails fault whole
 abbrev pub before_some : Option (Item (List ℕ)) → Result (List (Item (List ℕ))) ConfigFault → Result (List (Item (List ℕ))) ConfigFault
 before_some None rest = Ok []
 before_some (Some item) rest = before item rest
+
+-- what a byte does where this one of a byte order mark is wanted
+abbrev pub turn_mark : ℕ → ℕ → Place → ℕ → Turn
+turn_mark line wanted next b = if b == wanted then goes next else fails Mark (line_behind line b)
