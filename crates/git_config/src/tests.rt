@@ -112,3 +112,56 @@ fn files_are_read_as_git_reads_them(rt: HostRuntime) -> Result<(), Fail> {
     }
     Ok(())
 }
+
+/// Values, and what Git reads as the boolean of each: one of `true` and `false`, or a fault.
+const BOOLEANS: [(&[u8], Option<bool>); 20] = [
+    (b"TRUE", Some(true)),
+    (b"yEs", Some(true)),
+    (b"on", Some(true)),
+    (b"-1", Some(true)),
+    (b" 0x0K", Some(false)),
+    (b"010", Some(true)),
+    (b"2097151k", Some(true)),
+    (b"2147483647", Some(true)),
+    (b"", Some(false)),
+    (b"No", Some(false)),
+    (b"oFF", Some(false)),
+    (b"false", Some(false)),
+    (b"2147483648", None),
+    (b"-2147483648", None),
+    (b"2g", None),
+    (b"08", None),
+    (b"0x", None),
+    (b"1 ", None),
+    (b"k", None),
+    (b"tru", None),
+];
+
+#[test]
+fn values_are_read_as_git_reads_them(rt: HostRuntime) -> Result<(), Fail> {
+    for (value, said) in BOOLEANS {
+        let same = boolean(Some(value)) == said;
+        assert!(rt; same);
+    }
+    assert!(rt; boolean(None) == Some(true));
+    assert!(rt; integer(b"-0x1k") == Some(-1024));
+    let home = matches!(config_path(b"~/ig"), ConfigPath::Home(b"/ig"));
+    assert!(rt; home);
+    let text = quoted(rt.alloc(), b"v\"\\")?;
+    let same = text.as_slice() == b"\"v\\\"\\\\\"".as_slice();
+    assert!(rt; same);
+    Ok(())
+}
+
+#[test]
+fn the_last_value_of_a_key_counts(rt: HostRuntime) -> Result<(), Fail> {
+    let file = ConfigFile::from_bytes(rt.alloc(), b"[a \"S\"]\nb=yes\nB=off\n[a \"s\"]\nb=maybe")?;
+    let (told, value) = split_word(b"A.S.B=");
+    assert!(rt; value.is_some());
+    let key = canonical_key(rt.alloc(), told)?.ok_or("a key")?;
+    let entries = file.entries_of(rt.alloc(), &key)?;
+    assert!(rt; last_boolean(&entries) == Ok(Some(false)));
+    let entries = file.entries_of(rt.alloc(), b"a.s.b")?;
+    assert!(rt; last_boolean(&entries) == Err(5));
+    Ok(())
+}
