@@ -7,7 +7,6 @@ use Rattle.git_config.specs.declared.fault.ConfigFault.{ConfigFault}
 use Rattle.git_config.specs.declared.fault.ConfigFault.TheVariants.{Line}
 use Rattle.git_config.specs.declared.fault.Wrong.{Wrong}
 use Rattle.git_config.specs.declared.fault.Wrong.TheVariants.{Mark, Outside, Head, Subsection, Name, Quote, Escape}
-use Rattle.git_config.specs.declared.item.Entry.{Entry}
 use Rattle.git_config.specs.declared.item.Item.{Item}
 use Rattle.git_config.specs.declared.item.Item.TheVariants.{Section, Sets}
 

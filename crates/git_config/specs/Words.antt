@@ -1,7 +1,7 @@
 -- The words of a command line and of the environment: `KEY=VALUE`, or `KEY`.
-use Rattle.std.specs.Prelude.{ℕ, ◌-◌, Bool, true, false, not, ◌&&◌, ◌==◌, nat_eq, nat_lt, if◌then◌else◌, List, [], ◌∷◌, ◌++◌, length, take, drop, map, Option, Some, None, codes}
+use Rattle.std.specs.Prelude.{ℕ, ◌-◌, Bool, false, not, ◌&&◌, ◌==◌, nat_eq, nat_lt, if◌then◌else◌, List, [], ◌∷◌, ◌++◌, length, take, drop, map, Option, Some, None, codes}
 use Rattle.std.specs.Char.{is_ascii_alphabetic, to_ascii_lowercase}
-use Rattle.std.specs.List.{after_first, before_first, ends_with, list_any, prefix_len, starts_with, suffix_len}
+use Rattle.std.specs.List.{after_first, ends_with, list_any, prefix_len, starts_with, suffix_len}
 use Rattle.std.specs.Str.{byte}
 use Rattle.git_config.specs.Grammar.{is_name_byte}
 

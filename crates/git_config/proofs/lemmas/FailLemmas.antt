@@ -1,15 +1,14 @@
 -- What a call says of a whole reading.
-use Rattle.std.proofs.Common.{◌≡◌, ℕ, ◌+◌, Bool, true, false, cond, List, [], ◌∷◌, ◌++◌, Some, Result, Ok, Err, refl, sym, ap, subst, ◌∙◌}
+use Rattle.std.proofs.Common.{◌≡◌, ℕ, Bool, true, false, cond, List, [], ◌∷◌, ◌++◌, Some, Result, Ok, Err, refl, sym, ap, subst, ◌∙◌}
 use Rattle.std.specs.Prelude.{Vec}
 use Rattle.std.specs.declared.alloc.Global.{Global}
 use Rattle.git_config.specs.declared.fault.ConfigFault.{ConfigFault}
 use Rattle.git_config.specs.declared.fault.ConfigFault.TheVariants.{Line, Memory}
-use Rattle.git_config.specs.declared.fault.Wrong.{Wrong}
 use Rattle.git_config.specs.declared.fault.Wrong.TheVariants.{Quote}
 use Rattle.git_config.specs.declared.item.Entry.{Entry}
 use Rattle.git_config.specs.declared.item.Item.{Item}
 use Rattle.git_config.specs.declared.item.Item.TheVariants.{Sets}
-use Rattle.git_config.specs.Grammar.{Part, before, before_zero, between, entry_of, fails, gives, in_value, read, text_of, turn, value_ended}
+use Rattle.git_config.specs.Grammar.{Part, before, before_zero, between, entry_of, in_value, read, text_of, turn, value_ended}
 use Rattle.git_config.specs.Items.{seen_entry}
 use Rattle.git_config.specs.Private.Taking.{Fails, Reads, TakesByte}
 use Rattle.git_config.proofs.lemmas.ReadLemmas.{Read, fails_byte, gives_byte}

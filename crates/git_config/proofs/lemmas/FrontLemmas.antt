@@ -1,9 +1,9 @@
 -- The front of a file.
-use Rattle.std.proofs.Common.{◌≡◌, ◌⊎◌, ⊎_elim, ℕ, Bool, true, false, cond, eqb, List, [], ◌∷◌, Option, None, Some, refl, sym, ap, subst, ◌∙◌}
+use Rattle.std.proofs.Common.{◌≡◌, ⊎_elim, ℕ, Bool, true, false, eqb, List, [], ◌∷◌, Option, None, Some, refl, sym, ap, subst, ◌∙◌}
 use Rattle.std.specs.Prelude.{◌&&◌, ◌==◌, MatchOption, nat_eq}
 use Rattle.std.specs.List.{starts_with}
 use Rattle.std.proofs.lemmas.Bool.{cases_Bool, eqb-false, eqb-true, false≢true}
-use Rattle.git_config.specs.Grammar.{Place, between, front, read, text_of, turn}
+use Rattle.git_config.specs.Grammar.{between, front, read, text_of, turn}
 use Rattle.git_config.specs.Private.Taking.{IsAtEnd, TakesByte}
 use Rattle.git_config.proofs.lemmas.ReadLemmas.{behind, if_false, if_true, read-cons, read-end}
 use Rattle.git_config.proofs.lemmas.TurnLemmas.{front-between}

@@ -1,9 +1,9 @@
 -- The bytes of a value.
-use Rattle.std.proofs.Common.{◌≡◌, ◌≤◌, ⊎_elim, ℕ, ◌+◌, ◌-◌, List, [], ◌++◌, length, take, refl, sym, ap, ◌∙◌, le_refl, arith}
+use Rattle.std.proofs.Common.{◌≡◌, ◌≤◌, ⊎_elim, ℕ, ◌+◌, ◌-◌, List, ◌++◌, length, take, sym, ap, ◌∙◌, arith}
 use Rattle.std.specs.Prelude.{replicate, ◌==◌}
 use Rattle.std.proofs.lemmas.Bool.{cases_Bool}
 use Rattle.std.proofs.lemmas.List.{take_all}
-use Rattle.git_config.specs.Grammar.{Part, Place, ended, in_escape, in_value, read, text_of, value_ended, with_blank}
+use Rattle.git_config.specs.Grammar.{Part, in_escape, in_value, read, text_of, value_ended, with_blank}
 use Rattle.git_config.specs.Private.Taking.{IsAtEnd}
 use Rattle.git_config.proofs.lemmas.ReadLemmas.{at_end, read-end}
 

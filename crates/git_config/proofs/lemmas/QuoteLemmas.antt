@@ -1,11 +1,11 @@
 -- What is quoted reads back.
-use Rattle.std.proofs.Common.{◌≡◌, ⊎_elim, ℕ, ◌+◌, Bool, true, false, cond, not, List, [], ◌∷◌, ◌++◌, Option, Some, None, refl, sym, ap, ◌∙◌, append_assoc, append-nil}
+use Rattle.std.proofs.Common.{◌≡◌, ⊎_elim, ℕ, ◌+◌, Bool, true, false, not, List, [], ◌∷◌, ◌++◌, Some, refl, sym, ap, ◌∙◌, append_assoc, append-nil}
 use Rattle.std.specs.Prelude.{◌&&◌, ◌==◌}
 use Rattle.std.specs.List.{flat_map}
-use Rattle.std.proofs.lemmas.Bool.{cases_Bool, eqb-false, eqb-true, ne_eqb}
-use Rattle.git_config.specs.Grammar.{Part, Place, before, before_zero, between, entry_of, escaped, filled, gives, goes, in_escape, in_value, is_blank, is_mark, no_part, place_behind, read, turn, with_byte}
+use Rattle.std.proofs.lemmas.Bool.{cases_Bool, eqb-false, eqb-true}
+use Rattle.git_config.specs.Grammar.{Part, Place, before, before_zero, between, entry_of, escaped, filled, in_escape, in_value, is_blank, is_mark, no_part, place_behind, read, with_byte}
 use Rattle.git_config.specs.Quoting.{quoted_byte, quoted_of}
-use Rattle.git_config.proofs.lemmas.ReadLemmas.{behind, goes_here, if_false, placed, read-cons}
+use Rattle.git_config.proofs.lemmas.ReadLemmas.{goes_here, if_false, placed, read-cons}
 use Rattle.git_config.proofs.lemmas.TurnLemmas.{escape-byte, value-byte}
 
 and_false : (x : Bool) → (x && false) ≡ false

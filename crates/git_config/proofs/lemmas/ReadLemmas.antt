@@ -1,11 +1,11 @@
 -- One step of a reading.
-use Rattle.std.proofs.Common.{◌≡◌, ℕ, ◌+◌, Bool, true, false, cond, eqb, List, [], ◌∷◌, Result, Ok, Err, refl, sym, ap, ◌∙◌, subst}
+use Rattle.std.proofs.Common.{◌≡◌, ℕ, ◌+◌, Bool, true, false, cond, eqb, List, [], ◌∷◌, Result, Ok, Err, refl, sym, ap, ◌∙◌}
 use Rattle.std.proofs.lemmas.Bool.{ne_eqb}
 use Rattle.git_config.specs.declared.fault.ConfigFault.{ConfigFault}
 use Rattle.git_config.specs.declared.fault.ConfigFault.TheVariants.{Line}
 use Rattle.git_config.specs.declared.fault.Wrong.{Wrong}
 use Rattle.git_config.specs.declared.item.Item.{Item}
-use Rattle.git_config.specs.Grammar.{Place, Turn, front, between, in_comment, in_tail, goes, gives, fails, before, before_zero, ended, entry_of, line_behind, read, text_of, turn}
+use Rattle.git_config.specs.Grammar.{Place, Turn, between, goes, gives, fails, before, ended, line_behind, read, text_of, turn}
 use Rattle.git_config.specs.Private.Taking.{IsAtEnd, TakesByte}
 
 pub if_true : {A : Type 0} (t : Bool) (x y : A) → t ≡ true → cond t x y ≡ x

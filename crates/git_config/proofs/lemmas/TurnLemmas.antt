@@ -3,9 +3,9 @@ use Rattle.std.proofs.Common.{◌≡◌, ⊎_elim, ℕ, Bool, true, false, cond,
 use Rattle.std.specs.Prelude.{◌&&◌, ◌||◌, ◌==◌}
 use Rattle.std.specs.Char.{is_ascii_alphabetic, to_ascii_lowercase}
 use Rattle.std.proofs.lemmas.Bool.{cases_Bool, eqb-true, false≢true, ne_eqb}
-use Rattle.git_config.specs.declared.fault.Wrong.TheVariants.{Mark, Outside, Head, Subsection, Name, Quote, Escape}
+use Rattle.git_config.specs.declared.fault.Wrong.TheVariants.{Mark, Outside, Head, Subsection, Name, Escape}
 use Rattle.git_config.specs.declared.item.Item.TheVariants.{Section}
-use Rattle.git_config.specs.Grammar.{Part, Place, Turn, front, behind_mark, between, in_comment, in_head, in_gap, in_quotes, behind_quotes, in_name, in_value, in_escape, in_tail, goes, gives, fails, before_zero, entry_of, escaped, filled, is_blank, is_gap, is_head_byte, is_mark, is_name_byte, is_space, line_behind, no_part, place_behind, turn, turn_escaped, with_blank, with_byte}
+use Rattle.git_config.specs.Grammar.{Part, Place, front, behind_mark, between, in_comment, in_head, in_gap, in_quotes, behind_quotes, in_name, in_value, in_escape, in_tail, goes, gives, fails, before_zero, entry_of, escaped, filled, is_blank, is_gap, is_head_byte, is_mark, is_name_byte, is_space, line_behind, no_part, place_behind, turn, turn_escaped, with_blank, with_byte}
 use Rattle.git_config.specs.Private.Taking.{turn_mark}
 use Rattle.git_config.proofs.lemmas.ReadLemmas.{if_false, if_true}
 

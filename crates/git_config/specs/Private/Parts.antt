@@ -1,5 +1,4 @@
 -- A value of which a part is read.
-use Rattle.std.specs.Prelude.{ℕ, List}
 use Rattle.git_config.specs.declared.value.Part as code
 use Rattle.git_config.specs.Grammar.{Part}
 

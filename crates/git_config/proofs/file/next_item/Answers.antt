@@ -1,6 +1,6 @@
 -- Blanks and comments are passed over, up to the first byte of an item.
-use Rattle.std.proofs.Common.{arith, sym, ap, ◌∙◌}
-use Rattle.git_config.specs.Grammar.{between, in_comment, read, text_of}
+use Rattle.std.proofs.Common.{arith, sym, ◌∙◌}
+use Rattle.git_config.specs.Grammar.{between, in_comment}
 use Rattle.git_config.proofs.lemmas.ReadLemmas.{at_end, goes_byte}
 use Rattle.git_config.proofs.lemmas.TurnLemmas.{between-blank, between-mark, mark-no_blank}
 use Rattle.git_config.proofs.file.next_item.Goals as goal

@@ -1,5 +1,5 @@
 -- The byte begins the head of a section, or an entry.
-use Rattle.std.proofs.Common.{◌∷◌, [], false, sym, ap, ◌∙◌}
+use Rattle.std.proofs.Common.{◌∷◌, [], false, sym, ◌∙◌}
 use Rattle.std.specs.Char.{to_ascii_lowercase}
 use Rattle.std.proofs.lemmas.Result.{err_from_is_err_and}
 use Rattle.git_config.specs.declared.fault.Wrong.TheVariants.{Outside}

@@ -1,5 +1,5 @@
 -- The mark's first byte is taken, and then each other one.
-use Rattle.std.proofs.Common.{refl, sym, ap, ◌∙◌}
+use Rattle.std.proofs.Common.{refl, sym, ◌∙◌}
 use Rattle.std.proofs.lemmas.Result.{err_from_is_err_and}
 use Rattle.git_config.specs.Grammar.{behind_mark, between, front}
 use Rattle.std.specs.Prelude.{true, false}

@@ -1,6 +1,6 @@
-use Rattle.std.proofs.Common.{◌≡◌, ◌+◌, sym, ap, ◌∙◌}
+use Rattle.std.proofs.Common.{sym, ◌∙◌}
 use Rattle.git_config.specs.declared.fault.Wrong.TheVariants.{Mark}
-use Rattle.git_config.specs.Grammar.{line_behind, read, text_of}
+use Rattle.git_config.specs.Grammar.{line_behind}
 use Rattle.git_config.proofs.lemmas.ReadLemmas.{at_end, failed, fails_byte, goes_byte}
 use Rattle.git_config.proofs.lemmas.TurnLemmas.{mark-byte, mark-fails}
 use Rattle.git_config.proofs.file.skip_mark_byte.Goals as goal

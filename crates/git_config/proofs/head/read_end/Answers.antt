@@ -1,5 +1,4 @@
-use Rattle.std.proofs.Common.{arith, ◌∷◌, ◌++◌, [], sym, ap, ◌∙◌}
-use Rattle.git_config.specs.declared.fault.ConfigFault.TheVariants.{Line}
+use Rattle.std.proofs.Common.{◌∷◌, ◌++◌, [], sym, ap, ◌∙◌}
 use Rattle.git_config.specs.declared.fault.Wrong.TheVariants.{Head}
 use Rattle.git_config.specs.declared.item.Item.TheVariants.{Section}
 use Rattle.git_config.specs.Grammar.{before, behind_quotes, between, line_behind, read, text_of}

@@ -1,7 +1,7 @@
 -- Each blank is passed over, up to the quote.
-use Rattle.std.proofs.Common.{arith, ◌∷◌, ◌++◌, [], false, not, ap, sym, ◌∙◌}
+use Rattle.std.proofs.Common.{arith, ◌∷◌, ◌++◌, [], false, sym, ◌∙◌}
 use Rattle.git_config.specs.declared.fault.Wrong.TheVariants.{Head}
-use Rattle.git_config.specs.Grammar.{in_gap, in_quotes, is_space, read, text_of}
+use Rattle.git_config.specs.Grammar.{in_gap, in_quotes}
 use Rattle.git_config.proofs.lemmas.ReadLemmas.{at_end, failed, fails_byte, goes_byte}
 use Rattle.git_config.proofs.lemmas.TurnLemmas.{gap-fails, gap-quote, gap-space, same_line, space-no_feed}
 use Rattle.git_config.proofs.head.read_gap.Goals as goal

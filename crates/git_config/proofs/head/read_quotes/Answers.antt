@@ -1,7 +1,7 @@
 -- Each byte goes to the key, or is a backslash, or ends the quotes.
-use Rattle.std.proofs.Common.{arith, ◌≡◌, ◌∷◌, ◌++◌, [], false, true, Bool, ℕ, List, Err, sym, ap, ◌∙◌}
+use Rattle.std.proofs.Common.{arith, ◌∷◌, ◌++◌, [], false, true, Bool, sym, ◌∙◌}
 use Rattle.git_config.specs.declared.fault.Wrong.TheVariants.{Subsection}
-use Rattle.git_config.specs.Grammar.{behind_quotes, in_quotes, read, text_of}
+use Rattle.git_config.specs.Grammar.{behind_quotes, in_quotes, text_of}
 use Rattle.git_config.proofs.lemmas.ReadLemmas.{at_end, failed, fails_byte, goes_byte, placed}
 use Rattle.git_config.proofs.lemmas.TurnLemmas.{quotes-backslash, quotes-byte, quotes-end, quotes-escaped, quotes-feed, same_line}
 use Rattle.git_config.proofs.head.read_quotes.Goals as goal

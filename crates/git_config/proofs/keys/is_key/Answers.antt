@@ -1,5 +1,5 @@
 -- A byte 0 in the section cuts the key there; else the section is taken off the key.
-use Rattle.std.proofs.Common.{◌++◌, List, ℕ, drop, length, sym, ap, ◌∙◌}
+use Rattle.std.proofs.Common.{List, ℕ, sym, ap, ◌∙◌}
 use Rattle.std.specs.Str.{bytes_eq}
 use Rattle.git_config.specs.Grammar.{before_zero}
 use Rattle.git_config.proofs.lemmas.KeyLemmas.{eq-stripped, ne-stripped, with_zero, without_zero}

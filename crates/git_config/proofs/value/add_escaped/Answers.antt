@@ -1,9 +1,9 @@
 -- The byte behind a backslash.
-use Rattle.std.proofs.Common.{◌∷◌, ◌++◌, [], List, ℕ, sym, ap, ◌∙◌}
+use Rattle.std.proofs.Common.{List, ℕ, sym, ◌∙◌}
 use Rattle.git_config.specs.declared.fault.Wrong.TheVariants.{Escape}
-use Rattle.git_config.specs.Grammar.{Part, in_escape, in_value, read, text_of, with_byte}
+use Rattle.git_config.specs.Grammar.{in_escape, in_value, text_of, with_byte}
 use Rattle.git_config.specs.Private.Parts.{part_of}
-use Rattle.git_config.proofs.lemmas.ReadLemmas.{at_end, fails_byte, goes_byte, placed}
+use Rattle.git_config.proofs.lemmas.ReadLemmas.{fails_byte, goes_byte, placed}
 use Rattle.git_config.proofs.lemmas.PartLemmas.{escape_at_end}
 use Rattle.git_config.proofs.lemmas.TurnLemmas.{escape-byte, escape-fails, escape-feed}
 use Rattle.git_config.proofs.value.add_escaped.Goals as goal

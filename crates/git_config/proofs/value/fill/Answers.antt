@@ -1,5 +1,4 @@
-use Rattle.std.proofs.Common.{vec_len, ℕ, ◌+◌, List, ap, ◌∙◌}
-use Rattle.git_config.specs.Grammar.{Part}
+use Rattle.std.proofs.Common.{vec_len, ℕ, ◌+◌, List, ap}
 use Rattle.git_config.proofs.lemmas.PartLemmas.{filled_up, part_with}
 use Rattle.git_config.proofs.value.fill.Goals as goal
 

@@ -1,5 +1,5 @@
 -- Each byte goes to the part that is read, up to the end of the line.
-use Rattle.std.proofs.Common.{arith, ℕ, Some, ◌+◌, List, length, [], sym, ap, subst, ◌∙◌}
+use Rattle.std.proofs.Common.{arith, ℕ, Some, sym, ap, ◌∙◌}
 use Rattle.std.proofs.lemmas.Result.{err_from_is_err_and}
 use Rattle.git_config.specs.Grammar.{Part, before, before_zero, between, entry_of, filled, in_tail, in_value, place_behind, read, text_of, with_blank}
 use Rattle.git_config.specs.Private.Parts.{part_of}

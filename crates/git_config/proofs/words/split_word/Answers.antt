@@ -1,6 +1,6 @@
-use Rattle.std.proofs.Common.{◌+◌, List, ℕ, Some, None, sym, ap, ◌∙◌}
+use Rattle.std.proofs.Common.{◌+◌, List, ℕ, Some, sym, ap, ◌∙◌}
 use Rattle.std.proofs.lemmas.List.{take_rest}
-use Rattle.std.specs.List.{after_first, list_any}
+use Rattle.std.specs.List.{list_any}
 use Rattle.git_config.specs.Words.{is_equals}
 use Rattle.git_config.proofs.lemmas.PlaceLemmas.{after-found, any-found, any-none}
 use Rattle.git_config.proofs.lemmas.ReadLemmas.{if_false, if_true}

@@ -1,6 +1,5 @@
 use Rattle.std.proofs.Common.{◌≡◌, ◌++◌, [], length, map}
-use Rattle.std.specs.Vec.{vec_items}
-use Rattle.git_config.specs.Items.{item_with, seen_entry, seen_items}
+use Rattle.git_config.specs.Items.{seen_entry, seen_items}
 use Rattle.git_config.specs.Keys.{entries_of}
 use Rattle.git_config.proofs.file.ConfigFile.entries_of.Given as goal
 

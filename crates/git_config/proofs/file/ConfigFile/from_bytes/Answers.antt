@@ -1,9 +1,8 @@
 -- An item more is read.
-use Rattle.std.proofs.Common.{◌∷◌, ◌++◌, [], List, ℕ, Option, sym, ap, ◌∙◌, option_map}
+use Rattle.std.proofs.Common.{sym, ap, ◌∙◌, option_map}
 use Rattle.std.specs.Vec.{vec_items}
 use Rattle.std.proofs.lemmas.List.{map_push}
 use Rattle.std.proofs.lemmas.Result.{err_from_is_err_and}
-use Rattle.git_config.specs.declared.item.Item.{Item}
 use Rattle.git_config.specs.Grammar.{between, read, text_of}
 use Rattle.git_config.specs.Items.{item_with, seen_items}
 use Rattle.git_config.specs.Private.Taking.{before_some}

@@ -1,5 +1,5 @@
-use Rattle.std.proofs.Common.{◌≡◌, ◌≤◌, ℕ, List, length, Some}
-use Rattle.git_config.specs.Grammar.{before, before_zero, between, entry_of, in_comment, in_tail, read, text_of}
+use Rattle.std.proofs.Common.{◌≡◌, ◌≤◌, ℕ, List, length}
+use Rattle.git_config.specs.Grammar.{in_comment, in_tail, read, text_of}
 use Rattle.git_config.proofs.text.Text.skip_comment.Given as goal
 
 -- what is left is read as the whole was
