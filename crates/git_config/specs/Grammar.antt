@@ -156,8 +156,7 @@ turn line (in_tail name bytes) b = if b == 10 then gives (entry_of name (Some (b
 abbrev pub value_ended : ℕ → List ℕ → Part → Result (List (Item (List ℕ))) ConfigFault
 value_ended line name part = if part.quoted then Err (Line line Quote) else Ok (entry_of name (Some (before_zero part.bytes)) line ∷ [])
 
--- What the end of the file on this line leaves to say: as at a line feed, but that a fault of a mark, of a name or behind quotes is the
--- next line's.
+-- what the end of the file on this line leaves to say: as at a line feed, but that a fault in the name of a section is the next line's
 abbrev pub ended : ℕ → Place → Result (List (Item (List ℕ))) ConfigFault
 ended line (behind_mark _) = Err (Line (line + 1) Mark)
 ended line (in_head name) = Err (Line (line + 1) Head)

@@ -1,5 +1,5 @@
 //! A configuration file.
-ghost use Rattle.std.specs.Prelude.{◌≡◌, ◌<◌, ◌≤◌, ◌+◌, ◌∷◌, [], ℕ, false, length, nat_eq, option_map, IfOk, IsSome};
+ghost use Rattle.std.specs.Prelude.{◌≡◌, ◌⊎◌, ◌<◌, ◌≤◌, ◌+◌, ◌∷◌, [], ℕ, false, length, nat_eq, option_map, IfErr, IfOk, IsSome};
 ghost use Rattle.std.specs.List.{starts_with};
 ghost use Rattle.std.specs.Vec.{vec_items};
 ghost use Rattle.git_config.specs.Grammar.{Place, before, between, ended, front, is_blank, is_mark, items_of, read, text_of, turn};
@@ -29,16 +29,25 @@ impl ConfigFile {
     /// # Errors
     /// The first fault of the file, as Git tells it; [`ConfigFault::Memory`] where memory was refused.
     pub fn from_bytes(alloc: Global, bytes: &[u8]) -> Result<ConfigFile, ConfigFault>
-        ensures { Reads (λ file. Ok (seen_items file.items.items)) result (items_of bytes.now) }
+        ensures items { IfOk result (λ file. items_of bytes.now ≡ Ok (seen_items file.items.items)) }
+        ensures fault { IfErr result (λ fault. (fault ≡ ConfigFault.Memory) ⊎ (items_of bytes.now ≡ Err fault)) }
     {
-        let mut text = Text::new(bytes);
-        skip_mark(&mut text)?;
-        let mut items = Vec::new(alloc);
-        'items: while let Some(item) = next_item(alloc, &mut text)? {
-            items.push(item)?;
-        }
+        let items = read_items(alloc, bytes)?;
         Ok(ConfigFile { items })
     }
+}
+
+/// The items of a file, in order.
+fn read_items(alloc: Global, bytes: &[u8]) -> Result<Vec<Item<Vec<u8>>>, ConfigFault>
+    ensures { Reads (λ items. Ok (seen_items items.items)) result (items_of bytes.now) }
+{
+    let mut text = Text::new(bytes);
+    skip_mark(&mut text)?;
+    let mut items = Vec::new(alloc);
+    'items: while let Some(item) = next_item(alloc, &mut text)? {
+        items.push(item)?;
+    }
+    Ok(items)
 }
 
 /// Passes a byte order mark over, where one begins here.

@@ -8,6 +8,7 @@ ghost use Rattle.git_config.specs.Keys.{entries_of, last_boolean_of};
 ghost use Rattle.git_config.specs.Private.Values.{value_said};
 
 use crate::booleans::boolean;
+use crate::fault::WrongValue;
 use crate::file::ConfigFile;
 use crate::item::{Entry, Item};
 use std::alloc::{AllocError, Global};
@@ -42,14 +43,14 @@ impl ConfigFile {
 /// The boolean of the last of the entries of a key, as [`boolean`] reads it; `None` where there are none. Each is looked at.
 ///
 /// # Errors
-/// The line of the first entry that says no boolean, also where a later one does.
-pub fn last_boolean(entries: &[&Entry<Vec<u8>>]) -> Result<Option<bool>, usize>
+/// The first entry that says no boolean, also where a later one does.
+pub fn last_boolean(entries: &[&Entry<Vec<u8>>]) -> Result<Option<bool>, WrongValue>
     ensures { result ≡ last_boolean_of None (map (λ entry. seen_entry entry.now) entries.now) }
 {
     let mut last = None;
     for entry in entries {
         let Some(said) = boolean_said(entry) else {
-            return Err(entry.line);
+            return Err(WrongValue { line: entry.line });
         };
         last = Some(said);
     }

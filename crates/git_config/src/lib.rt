@@ -20,7 +20,7 @@ mod value;
 mod words;
 
 pub use booleans::boolean;
-pub use fault::{ConfigFault, Wrong};
+pub use fault::{ConfigFault, Wrong, WrongValue};
 pub use file::ConfigFile;
 pub use item::{Entry, Item};
 pub use keys::last_boolean;

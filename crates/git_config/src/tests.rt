@@ -162,6 +162,6 @@ fn the_last_value_of_a_key_counts(rt: HostRuntime) -> Result<(), Fail> {
     let entries = file.entries_of(rt.alloc(), &key)?;
     assert!(rt; last_boolean(&entries) == Ok(Some(false)));
     let entries = file.entries_of(rt.alloc(), b"a.s.b")?;
-    assert!(rt; last_boolean(&entries) == Err(5));
+    assert!(rt; last_boolean(&entries) == Err(WrongValue { line: 5 }));
     Ok(())
 }

@@ -1,5 +1,5 @@
 -- What a call says of a whole reading.
-use Rattle.std.proofs.Common.{◌≡◌, ℕ, Bool, true, false, cond, List, [], ◌∷◌, ◌++◌, Some, Result, Ok, Err, refl, sym, ap, subst, ◌∙◌}
+use Rattle.std.proofs.Common.{◌≡◌, ◌⊎◌, inl, inr, ℕ, Bool, true, false, cond, List, [], ◌∷◌, ◌++◌, Some, Result, Ok, Err, refl, sym, ap, subst, ◌∙◌}
 use Rattle.std.specs.Prelude.{Vec}
 use Rattle.std.specs.declared.alloc.Global.{Global}
 use Rattle.git_config.specs.declared.fault.ConfigFault.{ConfigFault}
@@ -82,3 +82,8 @@ before_all-fault (first ∷ items) fault = ap (λ r. before first r) (before_all
 pub fault_of_rest : (items : List (Item (List ℕ))) (fault : ConfigFault) (whole rest : Read) → whole ≡ before_all items rest → Fails fault rest → Fails fault whole
 fault_of_rest items Memory whole rest is h = tt
 fault_of_rest items (Line at what) whole rest is h = is ∙ ap (λ r. before_all items r) h ∙ before_all-fault items (Line at what)
+
+-- a fault is want of memory, or the whole's
+pub told_fault : (fault : ConfigFault) (whole : Read) → Fails fault whole → (fault ≡ Memory) ⊎ (whole ≡ Err fault)
+told_fault Memory whole h = inl refl
+told_fault (Line at what) whole h = inr h
