@@ -1,0 +1,13 @@
+use Rattle.std.proofs.Common.{◌≡◌, ◌≤◌, [], length}
+use Rattle.git_config.specs.Grammar.{in_head, read, text_of}
+use Rattle.git_config.proofs.head.read_head.Given as goal
+
+-- what is left is read as the whole was
+abbrev pub invariant-bytes : goal.invariant-bytes
+invariant-bytes l = record {
+  reads : read (text_of l.initial.text.rest.now) l.initial.text.line (in_head []) ≡ read (text_of l.text.rest.now) l.text.line (in_head l.name.items);
+  fewer : length l.text.rest.now ≤ length l.initial.text.rest.now;
+}
+
+abbrev pub decreases-bytes : goal.decreases-bytes
+decreases-bytes l = length l.text.rest.now

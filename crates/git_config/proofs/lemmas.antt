@@ -1,0 +1,9 @@
+pub mod FailLemmas
+pub mod FrontLemmas
+pub mod KeyLemmas
+pub mod NumberLemmas
+pub mod PartLemmas
+pub mod PlaceLemmas
+pub mod QuoteLemmas
+pub mod ReadLemmas
+pub mod TurnLemmas

@@ -1,0 +1,112 @@
+//! What a file says of a key.
+ghost use Rattle.std.specs.Prelude.{◌≡◌, ◌==◌, ◌++◌, [], map, position, IfOk, None};
+ghost use Rattle.std.specs.List.{list_any};
+ghost use Rattle.std.specs.Str.{bytes_eq};
+ghost use Rattle.git_config.specs.Grammar.{before_zero};
+ghost use Rattle.git_config.specs.Items.{seen_entry, seen_items};
+ghost use Rattle.git_config.specs.Keys.{entries_of, last_boolean_of};
+ghost use Rattle.git_config.specs.Private.Values.{value_said};
+
+use crate::booleans::boolean;
+use crate::fault::WrongValue;
+use crate::file::ConfigFile;
+use crate::item::{Entry, Item};
+use std::alloc::{AllocError, Global};
+
+impl ConfigFile {
+    /// The entries of a key, in order. A key is the name of a section in lower case, a full stop, the subsection and a full stop where
+    /// there is one, and the name of an entry in lower case.
+    ///
+    /// # Errors
+    /// Only where memory was refused.
+    pub fn entries_of(&self, alloc: Global, key: &[u8]) -> Result<Vec<&Entry<Vec<u8>>>, AllocError>
+        ensures { IfOk result (λ found. map (λ entry. seen_entry entry.now) found.items ≡ entries_of key.now [] (seen_items self.now.items.items)) }
+    {
+        let mut found = Vec::new(alloc);
+        let mut section: &[u8] = b"";
+        let mut rest = self.items.as_slice();
+        'items: while let Some((item, more)) = rest.split_first() {
+            rest = more;
+            match item {
+                Item::Section(next) => section = next.as_slice(),
+                Item::Sets(entry) => {
+                    if is_key(section, &entry.name, key) {
+                        found.push(entry)?;
+                    }
+                }
+            }
+        }
+        Ok(found)
+    }
+}
+
+/// The boolean of the last of the entries of a key, as [`boolean`] reads it; `None` where there are none. Each is looked at.
+///
+/// # Errors
+/// The first entry that says no boolean, also where a later one does.
+pub fn last_boolean(entries: &[&Entry<Vec<u8>>]) -> Result<Option<bool>, WrongValue>
+    ensures { result ≡ last_boolean_of None (map (λ entry. seen_entry entry.now) entries.now) }
+{
+    let mut last = None;
+    for entry in entries {
+        let Some(said) = boolean_said(entry) else {
+            return Err(WrongValue { line: entry.line });
+        };
+        last = Some(said);
+    }
+    Ok(last)
+}
+
+/// The boolean of an entry.
+fn boolean_said(entry: &Entry<Vec<u8>>) -> Option<bool>
+    ensures { result ≡ value_said (seen_entry entry.now) }
+{
+    match &entry.value {
+        Some(value) => boolean(Some(value)),
+        None => Some(true),
+    }
+}
+
+/// Whether an entry of this name has a key, in the section whose keys begin so.
+fn is_key(section: &[u8], name: &[u8], key: &[u8]) -> bool
+    ensures { result ≡ bytes_eq (before_zero (section.now ++ name.now)) key.now }
+{
+    if has_zero(section) {
+        return same_bytes(until_zero(section), key);
+    }
+    match key.strip_prefix(section) {
+        Some(rest) => same_bytes(until_zero(name), rest),
+        None => false,
+    }
+}
+
+/// Whether a byte 0 is among the bytes.
+fn has_zero(bytes: &[u8]) -> bool
+    ensures { result ≡ list_any (λ b. b == 0) bytes.now }
+{
+    bytes.contains(&0)
+}
+
+/// What stands before the first byte 0.
+fn until_zero(bytes: &[u8]) -> &[u8]
+    ensures { result.now ≡ before_zero bytes.now }
+{
+    match first_zero(bytes) {
+        Some(place) => &bytes[..place],
+        None => bytes,
+    }
+}
+
+/// The place of the first byte 0.
+fn first_zero(bytes: &[u8]) -> Option<usize>
+    ensures { result ≡ position (λ b. b == 0) bytes.now }
+{
+    bytes.iter().position(|b| *b == 0)
+}
+
+/// Whether these are the same bytes.
+fn same_bytes(a: &[u8], b: &[u8]) -> bool
+    ensures { result ≡ bytes_eq a.now b.now }
+{
+    a == b
+}
