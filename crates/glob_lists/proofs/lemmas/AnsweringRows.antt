@@ -5,12 +5,12 @@ use Rattle.std.proofs.lemmas.Bool.{cases_eq, cases_lt, cases_order}
 use Rattle.gix_glob.specs.declared.pattern.Case.{Case}
 use Rattle.glob_lists.specs.Deciding.{IsLastAnswer, PairAnswers}
 use Rattle.gix_glob.specs.EntryLists.{EntryList}
-use Rattle.glob_lists.specs.declared.probe.Probe.{Probe}
-use Rattle.glob_lists.specs.declared.row.Row.{Row}
+use Rattle.glob_lists.specs.declared.asks.probe.Probe.{Probe}
+use Rattle.glob_lists.specs.declared.asks.row.Row.{Row}
 use Rattle.glob_lists.specs.Index.{entry_count}
 use Rattle.glob_lists.specs.Private.Tables.{AreRows, HasEntryAt, IsEntryAt, place_at}
-use Rattle.glob_lists.specs.Private.Showing.{Shows}
-use Rattle.glob_lists.specs.Private.Walking.{NonePasses}
+use Rattle.glob_lists.specs.Private.Asks.Showing.{Shows}
+use Rattle.glob_lists.specs.Private.Lists.Walking.{NonePasses}
 use Rattle.glob_lists.proofs.lemmas.CountLemmas.{place_within}
 use Rattle.glob_lists.proofs.lemmas.Elements.{slice_get-inside}
 use Rattle.glob_lists.proofs.lemmas.PrefilterLemmas.{AnsweringPasses}

@@ -4,13 +4,13 @@ use Rattle.std.specs.Prelude.{slice_get}
 use Rattle.std.proofs.lemmas.Bool.{cases_eq, cases_lt}
 use Rattle.std.proofs.lemmas.List.{get_or-set_other, get_or-set_same, length-set}
 use Rattle.std.proofs.lemmas.Option.{none-some, slice_get_within}
-use Rattle.glob_lists.specs.declared.chains.Link.{Link}
-use Rattle.glob_lists.specs.declared.chains.TheConstants.Link.{NONE}
-use Rattle.glob_lists.specs.declared.ends.End.{End}
-use Rattle.glob_lists.specs.declared.row.Row.{Row}
-use Rattle.glob_lists.specs.declared.walk.Walk.{Walk}
-use Rattle.glob_lists.specs.Private.Ends.{AreChainedBy, HasAt, IsEndAt, IsFront, IsFrontAt, IsLastEndUpTo, IsLastWhere, IsSomeEnd, ends_of, whole_number}
-use Rattle.glob_lists.specs.Private.Walking.{AreNexts, IsLatest, IsWalk, next_of}
+use Rattle.glob_lists.specs.declared.link.Link.{Link}
+use Rattle.glob_lists.specs.declared.link.TheConstants.Link.{NONE}
+use Rattle.glob_lists.specs.declared.list.ends.End.{End}
+use Rattle.glob_lists.specs.declared.asks.row.Row.{Row}
+use Rattle.glob_lists.specs.declared.list.walk.Walk.{Walk}
+use Rattle.glob_lists.specs.Private.Lists.Ends.{AreChainedBy, HasAt, IsEndAt, IsFront, IsFrontAt, IsLastEndUpTo, IsLastWhere, IsSomeEnd, ends_of, whole_number}
+use Rattle.glob_lists.specs.Private.Lists.Walking.{AreNexts, IsLatest, IsWalk, next_of}
 use Rattle.glob_lists.proofs.lemmas.Elements.{slice_get-push_cases, slice_get-push_new, slice_get-push_old}
 use Rattle.glob_lists.proofs.lemmas.EndLemmas.{IsEndAt-same, IsFront-between, end_there, ordered, row_parts, shorter_front, whole_bytes, whole_number-front}
 

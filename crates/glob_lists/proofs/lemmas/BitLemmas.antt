@@ -7,8 +7,8 @@ use Rattle.std.proofs.lemmas.Nat.Bits.{bit_at-lt, bit_at-zero, bit_at_above, bit
 use Rattle.std.specs.Str.{byte}
 use Rattle.gix_glob.specs.Bytes.{backslash, is_special, is_wildcard, open_bracket, slash, star}
 use Rattle.gix_glob.specs.LiteralBytes.{IsUnescapedUpTo, is_joining}
-use Rattle.glob_lists.specs.Private.Literals.{AsksForBits, NeedsBits, bit_of, pair_of}
-use Rattle.glob_lists.specs.Private.Showing.{HasAll, HoldsBits, IsWithout}
+use Rattle.glob_lists.specs.Private.Asks.Literals.{AsksForBits, NeedsBits, bit_of, pair_of}
+use Rattle.glob_lists.specs.Private.Asks.Showing.{HasAll, HoldsBits, IsWithout}
 
 -- the two cases of a letter have one bit
 pub same_bit : (b : ℕ) → b % 32 ≡ bit_of b

@@ -4,15 +4,15 @@ use Rattle.std.proofs.lemmas.Option.{slice_get_within}
 use Rattle.gix_glob.specs.declared.pattern.Case.{Case}
 use Rattle.glob_lists.specs.Deciding.{IsLastAnswer, PairAnswers}
 use Rattle.gix_glob.specs.EntryLists.{EntryList}
-use Rattle.glob_lists.specs.declared.probe.Probe.{Probe}
+use Rattle.glob_lists.specs.declared.asks.probe.Probe.{Probe}
 use Rattle.glob_lists.specs.declared.reached.Reached.{Reached}
-use Rattle.glob_lists.specs.declared.row.Row.{Row}
+use Rattle.glob_lists.specs.declared.asks.row.Row.{Row}
 use Rattle.glob_lists.specs.Index.{ComesBefore, entry_count}
 use Rattle.glob_lists.specs.Paths.{Path}
 use Rattle.glob_lists.specs.Private.Reaching.{HasRest}
-use Rattle.glob_lists.specs.Private.Showing.{Shows}
+use Rattle.glob_lists.specs.Private.Asks.Showing.{Shows}
 use Rattle.glob_lists.specs.Private.Tables.{AreRows, HasEntryAt, place_at}
-use Rattle.glob_lists.specs.Private.Walking.{IsNextRow}
+use Rattle.glob_lists.specs.Private.Lists.Walking.{IsNextRow}
 use Rattle.glob_lists.proofs.lemmas.AnsweringRows.{NoneAnswers, NoneAnswers-here, NoneAnswers-passed, NonePasses-answers, decides_here}
 use Rattle.glob_lists.proofs.lemmas.FirstsLemmas.{lists_some}
 use Rattle.glob_lists.proofs.lemmas.FoundPairs.{AreFoundFrom, AreFoundFrom-here, AreFoundFrom-not, AreFoundFrom-skip}

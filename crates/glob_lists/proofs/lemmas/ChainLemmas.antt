@@ -6,18 +6,18 @@ use Rattle.std.proofs.Math.ListN.{get_or-append}
 use Rattle.std.proofs.lemmas.Bool.{cases_lt, cases_eq}
 use Rattle.std.proofs.lemmas.List.{get_or-set_same, get_or-set_other, get_or-map, get_or-replicate, length-map, map-append}
 use Rattle.std.proofs.lemmas.Option.{get_or_from_slice_get, slice_get_read, slice_get_within}
-use Rattle.glob_lists.specs.declared.chains.Class.{Class}
-use Rattle.glob_lists.specs.declared.chains.Class.TheVariants.{Always, EndsIn}
-use Rattle.glob_lists.specs.declared.chains.Link.{Link}
-use Rattle.glob_lists.specs.declared.chains.TheConstants.{CLASSES}
-use Rattle.glob_lists.specs.declared.chains.TheConstants.Link.{NONE}
-use Rattle.glob_lists.specs.declared.probe.Probe.{Probe}
-use Rattle.glob_lists.specs.declared.row.Row.{Row}
+use Rattle.glob_lists.specs.declared.asks.class.Class.{Class}
+use Rattle.glob_lists.specs.declared.asks.class.Class.TheVariants.{Always, EndsIn}
+use Rattle.glob_lists.specs.declared.link.Link.{Link}
+use Rattle.glob_lists.specs.declared.asks.class.TheConstants.{CLASSES}
+use Rattle.glob_lists.specs.declared.link.TheConstants.Link.{NONE}
+use Rattle.glob_lists.specs.declared.asks.probe.Probe.{Probe}
+use Rattle.glob_lists.specs.declared.asks.row.Row.{Row}
 use Rattle.glob_lists.specs.declared.prepared.Walk.{Walk}
 use Rattle.glob_lists.specs.Private.Chains.{IsChained, IsLastBelow, classes_of, links_of, place_of}
-use Rattle.glob_lists.specs.Private.Showing.{HasBytes, HasEnd, Passes, PassesBy}
+use Rattle.glob_lists.specs.Private.Asks.Showing.{HasBytes, HasEnd, Passes, PassesBy}
 use Rattle.glob_lists.specs.Private.Stored.{IsWalkDown}
-use Rattle.glob_lists.specs.Private.Walking.{NonePasses}
+use Rattle.glob_lists.specs.Private.Lists.Walking.{NonePasses}
 
 -- ---- building
 

@@ -5,13 +5,13 @@ use Rattle.std.proofs.Math.Seq.{map-set_same}
 use Rattle.std.proofs.lemmas.Bool.{cases_lt, cases_eq}
 use Rattle.std.proofs.lemmas.List.{get_or-set_same, get_or-set_other, length-set, map-set}
 use Rattle.std.proofs.lemmas.Option.{get_or_from_slice_get, none-some, same_Some, slice_get-get_or, slice_get_past, slice_get_within, some_pair_parts}
-use Rattle.glob_lists.specs.declared.chains.Class.TheVariants.{Always}
-use Rattle.glob_lists.specs.declared.chains.Link.{Link}
-use Rattle.glob_lists.specs.declared.ends.End.{End}
-use Rattle.glob_lists.specs.declared.part.Part.TheVariants.{Path}
-use Rattle.glob_lists.specs.declared.row.Row.{Row}
+use Rattle.glob_lists.specs.declared.asks.class.Class.TheVariants.{Always}
+use Rattle.glob_lists.specs.declared.link.Link.{Link}
+use Rattle.glob_lists.specs.declared.list.ends.End.{End}
+use Rattle.glob_lists.specs.declared.asks.part.Part.TheVariants.{Path}
+use Rattle.glob_lists.specs.declared.asks.row.Row.{Row}
 use Rattle.glob_lists.specs.Private.Chains.{links_of}
-use Rattle.glob_lists.specs.Private.Ends.{AreChainedBy, AreChainedSoFar, AreEnds, AreSameRows, HasAt, IsEndAt, IsFront, IsFrontAt, IsLastWhere, IsMetAt, IsSomeEnd, end_of, ends_of, whole_number}
+use Rattle.glob_lists.specs.Private.Lists.Ends.{AreChainedBy, AreChainedSoFar, AreEnds, AreSameRows, HasAt, IsEndAt, IsFront, IsFrontAt, IsLastWhere, IsMetAt, IsSomeEnd, end_of, ends_of, whole_number}
 use Rattle.glob_lists.proofs.lemmas.Elements.{slice_get-push_cases, slice_get-push_new, slice_get-push_old}
 use Rattle.glob_lists.proofs.lemmas.EndLemmas.{IsEndAt-same, IsEndAt-within, IsFront-between, last_inside, row_parts}
 

@@ -5,16 +5,16 @@ use Rattle.std.proofs.lemmas.Option.{same_Some, slice_get_cases, slice_get_withi
 use Rattle.gix_glob.specs.declared.pattern.Case.{Case}
 use Rattle.gix_glob.specs.Entries.{Entry}
 use Rattle.gix_glob.specs.EntryLists.{EntryList}
-use Rattle.glob_lists.specs.declared.literals.TheConstants.{LONGEST_END}
-use Rattle.glob_lists.specs.declared.prepared_list.Demands.{Demands}
-use Rattle.glob_lists.specs.declared.probe.Probe.{Probe}
-use Rattle.glob_lists.specs.declared.row.Row.{Row}
+use Rattle.glob_lists.specs.declared.asks.literals.TheConstants.{LONGEST_END}
+use Rattle.glob_lists.specs.declared.list.prepared_list.Demands.{Demands}
+use Rattle.glob_lists.specs.declared.asks.probe.Probe.{Probe}
+use Rattle.glob_lists.specs.declared.asks.row.Row.{Row}
 use Rattle.glob_lists.specs.Deciding.{AnswersAt}
-use Rattle.glob_lists.specs.Private.PreparedLists.{AreDemandsOf}
-use Rattle.glob_lists.specs.Private.Rows.{Asks, length_of}
-use Rattle.glob_lists.specs.Private.Showing.{Shows}
-use Rattle.glob_lists.specs.Private.Sights.{IsSeen}
-use Rattle.glob_lists.specs.Private.Walking.{NonePasses}
+use Rattle.glob_lists.specs.Private.Lists.Prepared.{AreDemandsOf}
+use Rattle.glob_lists.specs.Private.Asks.Rows.{Asks, length_of}
+use Rattle.glob_lists.specs.Private.Asks.Showing.{Shows}
+use Rattle.glob_lists.specs.Private.Asks.Sights.{IsSeen}
+use Rattle.glob_lists.specs.Private.Lists.Walking.{NonePasses}
 use Rattle.glob_lists.proofs.lemmas.Elements.{slice_get-push_cases}
 use Rattle.glob_lists.proofs.lemmas.LastNumbers.{NoneFrom}
 use Rattle.glob_lists.proofs.lemmas.PrefilterLemmas.{AnsweringPasses}

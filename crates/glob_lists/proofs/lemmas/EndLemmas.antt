@@ -5,11 +5,11 @@ use Rattle.std.proofs.lemmas.Bool.{cases_eq, cases_lt}
 use Rattle.std.proofs.lemmas.List.{length-map}
 use Rattle.std.proofs.lemmas.Nat.{div-mul-add, le-div, mod_below, mul-le, pow-add, pow_pos, shr_split}
 use Rattle.std.proofs.lemmas.Option.{none-some, same_Some, slice_get-get_or, slice_get-map, slice_get_within, some_pair_parts}
-use Rattle.glob_lists.specs.declared.chains.Class.{Class}
-use Rattle.glob_lists.specs.declared.chains.Class.TheVariants.{Always, EndsIn}
-use Rattle.glob_lists.specs.declared.ends.End.{End}
-use Rattle.glob_lists.specs.declared.row.Row.{Row}
-use Rattle.glob_lists.specs.Private.Ends.{AreEnds, HasAt, IsEndAt, IsEndsRange, IsFront, end_by, end_of, ends_of, whole_number}
+use Rattle.glob_lists.specs.declared.asks.class.Class.{Class}
+use Rattle.glob_lists.specs.declared.asks.class.Class.TheVariants.{Always, EndsIn}
+use Rattle.glob_lists.specs.declared.list.ends.End.{End}
+use Rattle.glob_lists.specs.declared.asks.row.Row.{Row}
+use Rattle.glob_lists.specs.Private.Lists.Ends.{AreEnds, HasAt, IsEndAt, IsEndsRange, IsFront, end_by, end_of, ends_of, whole_number}
 
 -- the row at a place has its end
 pub HasAt-row : (rows : List Row) (place : ℕ) (row : Row) → slice_get rows place ≡ Some row → HasAt (ends_of rows) (end_of row) place

@@ -4,9 +4,9 @@ use native.Mathlib.Nat.{div-div-eq-div-mul}
 use Rattle.std.specs.Char.{to_ascii_lowercase}
 use Rattle.std.proofs.lemmas.Bool.{cases_eq}
 use Rattle.std.proofs.lemmas.Nat.{and_block, and_le_r}
-use Rattle.glob_lists.specs.Private.Fronts.{AreBytes}
-use Rattle.glob_lists.specs.Private.Literals.{end_key, from_end, raw_end, without_bytes}
-use Rattle.glob_lists.specs.Private.Showing.{HasEndKeys}
+use Rattle.glob_lists.specs.Private.Asks.Literals.{AreBytes}
+use Rattle.glob_lists.specs.Private.Asks.Literals.{end_key, from_end, raw_end, without_bytes}
+use Rattle.glob_lists.specs.Private.Asks.Showing.{HasEndKeys}
 use Rattle.glob_lists.proofs.lemmas.FrontLemmas.{folded_at-short, room, room-le}
 use Rattle.glob_lists.proofs.lemmas.RawBytes.{no_capital, small_byte}
 

@@ -6,13 +6,14 @@ use Rattle.std.proofs.lemmas.Option.{get_or_from_slice_get, same_Some, slice_get
 use Rattle.std.proofs.lemmas.List.Sorted.{Contains-permutation, IsPermutation-sym, length_permutation}
 use Rattle.std.specs.List.Sorted.{IsPermutation}
 use Rattle.gix_glob.specs.EntryLists.{EntryList}
-use Rattle.glob_lists.specs.declared.chains.Link.{Link}
-use Rattle.glob_lists.specs.declared.folders.Folder.{Folder}
-use Rattle.glob_lists.specs.Private.Folders.{AllUpTo, AreFoldersUpTo, AreSameFolders, HasFoldersUpTo, IsChained, IsFolderOf, IsForest, IsLastBeginning, IsNarrow, IsSameFolder, SharesAround, base_at}
+use Rattle.glob_lists.specs.declared.link.Link.{Link}
+use Rattle.glob_lists.specs.declared.stack.folders.Folder.{Folder}
+use Rattle.glob_lists.specs.Private.Stack.Folders.{AllUpTo, AreFoldersUpTo, AreSameFolders, HasFoldersUpTo, IsChained, IsFolderOf, IsForest, IsLastBeginning, IsNarrow, IsSameFolder, SharesAround, base_at}
 use Rattle.glob_lists.specs.Private.Indexes.{AreFolderedBy}
-use Rattle.glob_lists.specs.Private.Fronts.{AreBytes, AreSameUpTo, Begins, IsUpTo, front_key}
+use Rattle.glob_lists.specs.Private.Stack.Order.{AreSameUpTo, Begins, IsUpTo, front_key}
+use Rattle.glob_lists.specs.Private.Asks.Literals.{AreBytes}
 use Rattle.glob_lists.specs.Index.{AreTooMany, entry_count}
-use Rattle.glob_lists.specs.declared.fronts.TheConstants.{FRONT}
+use Rattle.glob_lists.specs.declared.stack.order.TheConstants.{FRONT}
 use Rattle.glob_lists.proofs.lemmas.CountLemmas.{entry_count-more, few_entries}
 use Rattle.glob_lists.proofs.lemmas.Elements.{slice_get-push_cases, slice_get-push_new, slice_get-push_old}
 use Rattle.glob_lists.proofs.lemmas.FrontLemmas.{AreSameUpTo-less, Begins-between, Begins-refl, IsUpTo-begins, IsUpTo-trans}

@@ -3,7 +3,8 @@ use Rattle.std.proofs.Common.{◌≡◌, ◌≢◌, ◌⊎◌, ◌↔◌, inl, i
 use Rattle.std.specs.Char.{to_ascii_lowercase}
 use Rattle.std.proofs.lemmas.Bool.{cases_eq, cases_lt, cases_order}
 use Rattle.std.proofs.lemmas.List.{get_or_append_left, get_or_past}
-use Rattle.glob_lists.specs.Private.Fronts.{AgreeUpTo, AreBytes, AreSameUpTo, Begins, IsLessAt, IsUpTo, folded_at, front_key}
+use Rattle.glob_lists.specs.Private.Stack.Order.{AgreeUpTo, AreSameUpTo, Begins, IsLessAt, IsUpTo, folded_at, front_key}
+use Rattle.glob_lists.specs.Private.Asks.Literals.{AreBytes}
 
 -- ---- the order
 

@@ -6,13 +6,13 @@ use Rattle.std.proofs.lemmas.Option.{same_Some, slice_get-get_or, slice_get_with
 use Rattle.gix_glob.specs.declared.pattern.Case.{Case}
 use Rattle.gix_glob.specs.EntryLists.{EntryList}
 use Rattle.gix_glob.specs.Steps.{Counts, NeverFall}
-use Rattle.glob_lists.specs.declared.chains.Link.{Link}
-use Rattle.glob_lists.specs.declared.folders.Folder.{Folder}
+use Rattle.glob_lists.specs.declared.link.Link.{Link}
+use Rattle.glob_lists.specs.declared.stack.folders.Folder.{Folder}
 use Rattle.glob_lists.specs.Deciding.{Decides, PairAnswers}
 use Rattle.glob_lists.specs.DecisionLimits.{decision_look_limit, decision_step_limit, list_look_limit, list_step_limit}
 use Rattle.glob_lists.specs.Index.{entry_count}
-use Rattle.glob_lists.specs.Private.Folders.{HasFolders, IsFolderAt, IsForest, IsLastUpTo, base_at}
-use Rattle.glob_lists.specs.Private.Fronts.{Begins}
+use Rattle.glob_lists.specs.Private.Stack.Folders.{HasFolders, IsFolderAt, IsForest, IsLastUpTo, base_at}
+use Rattle.glob_lists.specs.Private.Stack.Order.{Begins}
 use Rattle.glob_lists.specs.Private.Ways.{IsLastOfList, IsOnWay, SpendsOn}
 use Rattle.glob_lists.proofs.lemmas.FolderLemmas.{above_up_to, between_begins}
 use Rattle.glob_lists.proofs.lemmas.FrontLemmas.{Begins-between, IsUpTo-begins}

@@ -4,12 +4,13 @@ use Rattle.std.specs.Prelude.{slice_get}
 use Rattle.std.proofs.lemmas.Option.{slice_get_within}
 use Rattle.gix_glob.specs.EntryLists.{EntryList}
 use Rattle.gix_glob.specs.Steps.{Counts}
-use Rattle.glob_lists.specs.declared.folders.Folder.{Folder}
-use Rattle.glob_lists.specs.declared.fronts.TheConstants.{FRONT}
+use Rattle.glob_lists.specs.declared.stack.folders.Folder.{Folder}
+use Rattle.glob_lists.specs.declared.stack.order.TheConstants.{FRONT}
 use Rattle.glob_lists.specs.declared.heads.Head.{Head}
 use Rattle.glob_lists.specs.declared.heads.Start.{Start}
-use Rattle.glob_lists.specs.Private.Folders.{IsForest, base_at}
-use Rattle.glob_lists.specs.Private.Fronts.{AreBytes, AreSameUpTo, IsUpTo, front_key}
+use Rattle.glob_lists.specs.Private.Stack.Folders.{IsForest, base_at}
+use Rattle.glob_lists.specs.Private.Stack.Order.{AreSameUpTo, IsUpTo, front_key}
+use Rattle.glob_lists.specs.Private.Asks.Literals.{AreBytes}
 use Rattle.glob_lists.specs.Private.Heads.{AreGreaterFrom, AreHeads, AreLessBefore, IsHead, IsHeadStart, IsStart, IsWholeStart, first_key}
 use Rattle.glob_lists.specs.Private.Looking.{LooksUpTo}
 use Rattle.glob_lists.proofs.lemmas.FrontLemmas.{AgreeUpTo-numbers, AreSameUpTo-agree, AreSameUpTo-none, front_key-le, long_text, numbers_less, numbers_more}

@@ -10,8 +10,8 @@ use Rattle.gix_glob.specs.RepositoryPaths.{IsBasenameStart, subject}
 use Rattle.glob_patterns.specs.Private.Insides.{HasInside}
 use Rattle.glob_patterns.proofs.lemmas.Insides.{inside_exact}
 use Rattle.glob_lists.specs.Deciding.{AnswersFor, path_mode}
-use Rattle.glob_lists.specs.Private.Parts.{IsFoundInside}
-use Rattle.glob_lists.specs.Private.Showing.{last_part}
+use Rattle.glob_lists.specs.Private.Asks.Parts.{IsFoundInside}
+use Rattle.glob_lists.specs.Private.Asks.Showing.{last_part}
 use Rattle.glob_lists.proofs.lemmas.Answering.{AnswersFor-tested}
 use Rattle.glob_lists.proofs.lemmas.PrefilterLemmas.{name_has_no_slash}
 use Rattle.glob_lists.proofs.lemmas.ToldLemmas.{has_no_slash}

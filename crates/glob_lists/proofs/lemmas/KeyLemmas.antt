@@ -5,8 +5,8 @@ use Rattle.std.proofs.lemmas.Bool.{cases_lt}
 use Rattle.std.proofs.lemmas.List.{drop-drop, get_or-drop, get_or-take}
 use Rattle.gix_glob.specs.Bytes.{HasByte, slash}
 use Rattle.gix_glob.specs.RepositoryPaths.{IsBasenameStart}
-use Rattle.glob_lists.specs.Private.Literals.{bit_of, pair_of}
-use Rattle.glob_lists.specs.Private.Showing.{HoldsBits, HoldsBytes, HoldsNameBits, front_part, last_part}
+use Rattle.glob_lists.specs.Private.Asks.Literals.{bit_of, pair_of}
+use Rattle.glob_lists.specs.Private.Asks.Showing.{HoldsBits, HoldsBytes, HoldsNameBits, front_part, last_part}
 use Rattle.glob_lists.proofs.lemmas.BitLemmas.{HoldsBits-drop, all_pairs_hold, bit_left, bit_right}
 
 -- an end of the path without slash is an end of its last part

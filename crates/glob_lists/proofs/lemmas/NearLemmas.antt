@@ -3,10 +3,10 @@ use Rattle.std.proofs.Common.{◌≡◌, ◌≢◌, ℕ, ◌+◌, List, Some, sy
 use Rattle.std.specs.Prelude.{slice_get}
 use Rattle.std.proofs.lemmas.Option.{same_Some, slice_get_within}
 use Rattle.gix_glob.specs.EntryLists.{EntryList}
-use Rattle.glob_lists.specs.declared.chains.Link.{Link}
-use Rattle.glob_lists.specs.declared.folders.Folder.{Folder}
-use Rattle.glob_lists.specs.Private.Folders.{AreAllAfter, IsBegunBy, IsForest, IsLastUpTo, base_at}
-use Rattle.glob_lists.specs.Private.Fronts.{AreSameUpTo, IsUpTo}
+use Rattle.glob_lists.specs.declared.link.Link.{Link}
+use Rattle.glob_lists.specs.declared.stack.folders.Folder.{Folder}
+use Rattle.glob_lists.specs.Private.Stack.Folders.{AreAllAfter, IsBegunBy, IsForest, IsLastUpTo, base_at}
+use Rattle.glob_lists.specs.Private.Stack.Order.{AreSameUpTo, IsUpTo}
 use Rattle.glob_lists.proofs.lemmas.FrontLemmas.{AreSameUpTo-third, Begins-between, IsUpTo-trans}
 
 module _ {V : Type 0} (lists : List (EntryList V)) (folders : List Folder) (path : List ℕ) where

@@ -17,15 +17,15 @@ use Rattle.gix_glob.specs.Patterns.{looks_at_name}
 use Rattle.gix_glob.specs.RepositoryPaths.{IsBasenameStart, subject, with_case}
 use Rattle.gix_glob.specs.Stripping.{RestOf}
 use Rattle.glob_lists.specs.Deciding.{AnswersFor, path_mode}
-use Rattle.glob_lists.specs.declared.chains.Class.{Class}
-use Rattle.glob_lists.specs.declared.chains.Class.TheVariants.{Always, EndsIn}
-use Rattle.glob_lists.specs.declared.literals.TheConstants.{LONGEST_END}
-use Rattle.glob_lists.specs.declared.probe.Probe.{Probe}
-use Rattle.glob_lists.specs.declared.row.Row.{Row}
-use Rattle.glob_lists.specs.Private.Literals.{AsksForBits, EndsLiterally, IsNeededAt, IsNeededPairAt, bit_of, end_key, from_end, pair_of}
-use Rattle.glob_lists.specs.Private.Parts.{is_name}
-use Rattle.glob_lists.specs.Private.Rows.{Asks, AsksFor, HasLiteralEnd, length_of}
-use Rattle.glob_lists.specs.Private.Showing.{HasBytes, HasEnd, HoldsBits, Passes, PassesBy, Shows}
+use Rattle.glob_lists.specs.declared.asks.class.Class.{Class}
+use Rattle.glob_lists.specs.declared.asks.class.Class.TheVariants.{Always, EndsIn}
+use Rattle.glob_lists.specs.declared.asks.literals.TheConstants.{LONGEST_END}
+use Rattle.glob_lists.specs.declared.asks.probe.Probe.{Probe}
+use Rattle.glob_lists.specs.declared.asks.row.Row.{Row}
+use Rattle.glob_lists.specs.Private.Asks.Literals.{AsksForBits, EndsLiterally, IsNeededAt, IsNeededPairAt, bit_of, end_key, from_end, pair_of}
+use Rattle.glob_lists.specs.Private.Asks.Parts.{is_name}
+use Rattle.glob_lists.specs.Private.Asks.Rows.{Asks, AsksFor, HasLiteralEnd, length_of}
+use Rattle.glob_lists.specs.Private.Asks.Showing.{HasBytes, HasEnd, HoldsBits, Passes, PassesBy, Shows}
 use Rattle.glob_lists.proofs.lemmas.BitLemmas.{HoldsBits-drop}
 use Rattle.glob_lists.proofs.lemmas.EndNumbers.{without_bytes-shift}
 

@@ -4,7 +4,8 @@ use Rattle.std.specs.Char.{to_ascii_lowercase}
 use Rattle.std.proofs.lemmas.Bool.{cond_both}
 use Rattle.std.proofs.lemmas.Nat.{and_block, and_le_r}
 use Rattle.std.proofs.lemmas.Nat.Bits.{and_pow}
-use Rattle.glob_lists.specs.Private.Fronts.{AreBytes, bytes_key, front_key}
+use Rattle.glob_lists.specs.Private.Stack.Order.{bytes_key, front_key}
+use Rattle.glob_lists.specs.Private.Asks.Literals.{AreBytes}
 
 -- the bit of each of n bytes
 abbrev pub no_capital : ℕ → ℕ

@@ -5,12 +5,12 @@ use Rattle.std.proofs.lemmas.Option.{same_Some, slice_get-get_or, slice_get_with
 use Rattle.gix_glob.specs.declared.pattern.Mode as pattern
 use Rattle.gix_glob.specs.Entries.{Entry}
 use Rattle.gix_glob.specs.EntryLists.{EntryList}
-use Rattle.glob_lists.specs.declared.chains.Link.{Link}
-use Rattle.glob_lists.specs.declared.row.Row.{Row}
+use Rattle.glob_lists.specs.declared.link.Link.{Link}
+use Rattle.glob_lists.specs.declared.asks.row.Row.{Row}
 use Rattle.glob_lists.specs.Index.{entry_count}
-use Rattle.glob_lists.specs.Private.Ends.{AreSameRows}
+use Rattle.glob_lists.specs.Private.Lists.Ends.{AreSameRows}
 use Rattle.glob_lists.specs.Private.Tables.{AreRows, AreRowsUpTo, IsEntryAt, place_at}
-use Rattle.glob_lists.specs.Private.Rows.{Asks}
+use Rattle.glob_lists.specs.Private.Asks.Rows.{Asks}
 use Rattle.glob_lists.proofs.lemmas.CountLemmas.{entry_count-more}
 use Rattle.glob_lists.proofs.lemmas.Elements.{slice_get-push_cases}
 use Rattle.glob_lists.proofs.lemmas.RowPlaces.{same_place}

@@ -5,9 +5,9 @@ use Rattle.std.specs.Prelude.{slice_get}
 use Rattle.gix_glob.specs.EntryLists.{EntryList}
 use Rattle.gix_glob.specs.Steps.{Counts}
 use Rattle.std.proofs.lemmas.Option.{slice_get-get_or}
-use Rattle.glob_lists.specs.declared.folders.Folder.{Folder}
-use Rattle.glob_lists.specs.Private.Folders.{IsForest, base_at}
-use Rattle.glob_lists.specs.Private.Fronts.{AreSameUpTo, IsUpTo}
+use Rattle.glob_lists.specs.declared.stack.folders.Folder.{Folder}
+use Rattle.glob_lists.specs.Private.Stack.Folders.{IsForest, base_at}
+use Rattle.glob_lists.specs.Private.Stack.Order.{AreSameUpTo, IsUpTo}
 use Rattle.glob_lists.specs.Private.Looking.{LooksUpTo}
 use Rattle.glob_lists.proofs.lemmas.FrontLemmas.{AreSameUpTo-between, AreSameUpTo-none, AreSameUpTo-sym, AreSameUpTo-third, IsUpTo-not, IsUpTo-trans}
 

@@ -6,19 +6,19 @@ use Rattle.std.proofs.lemmas.Bool.{cases_eq, cases_lt}
 use Rattle.std.proofs.lemmas.Nat.Bits.{bit_at-lt, bit_at-zero, bit_at_and, bit_at_or, bit_at_set_same}
 use Rattle.std.proofs.lemmas.Option.{same_Some, slice_get-get_or, slice_get_within}
 use Rattle.gix_glob.specs.EntryLists.{EntryList}
-use Rattle.glob_lists.specs.declared.chains.Class.{Class}
-use Rattle.glob_lists.specs.declared.chains.Class.TheVariants.{Always, EndsIn}
-use Rattle.glob_lists.specs.declared.folders.Folder.{Folder}
-use Rattle.glob_lists.specs.declared.probe.Probe.{Probe}
-use Rattle.glob_lists.specs.declared.row.Row.{Row}
-use Rattle.glob_lists.specs.declared.sight.Sight.{Sight}
-use Rattle.glob_lists.specs.declared.sight.TheConstants.{ENDS, NO_END}
+use Rattle.glob_lists.specs.declared.asks.class.Class.{Class}
+use Rattle.glob_lists.specs.declared.asks.class.Class.TheVariants.{Always, EndsIn}
+use Rattle.glob_lists.specs.declared.stack.folders.Folder.{Folder}
+use Rattle.glob_lists.specs.declared.asks.probe.Probe.{Probe}
+use Rattle.glob_lists.specs.declared.asks.row.Row.{Row}
+use Rattle.glob_lists.specs.declared.asks.sight.Sight.{Sight}
+use Rattle.glob_lists.specs.declared.asks.sight.TheConstants.{ENDS, NO_END}
 use Rattle.glob_lists.specs.Index.{entry_count}
-use Rattle.glob_lists.specs.Private.Literals.{without_bytes}
-use Rattle.glob_lists.specs.Private.Parts.{is_name}
-use Rattle.glob_lists.specs.Private.Rows.{length_of}
-use Rattle.glob_lists.specs.Private.Showing.{HasAll, HasEnd, Passes, PassesBy}
-use Rattle.glob_lists.specs.Private.Sights.{AreSights, HasEnding, IsSeen, Lacks, Sees, SeesBy, SeesEnd, SeesFrom, SeesList, end_bit, end_place, needs_of}
+use Rattle.glob_lists.specs.Private.Asks.Literals.{without_bytes}
+use Rattle.glob_lists.specs.Private.Asks.Parts.{is_name}
+use Rattle.glob_lists.specs.Private.Asks.Rows.{length_of}
+use Rattle.glob_lists.specs.Private.Asks.Showing.{HasAll, HasEnd, Passes, PassesBy}
+use Rattle.glob_lists.specs.Private.Asks.Sights.{AreSights, HasEnding, IsSeen, Lacks, Sees, SeesBy, SeesEnd, SeesFrom, SeesList, end_bit, end_place, needs_of}
 use Rattle.glob_lists.specs.Private.Tables.{AreRows}
 use Rattle.glob_lists.proofs.lemmas.CountLemmas.{entry_count-more_le}
 use Rattle.glob_lists.proofs.lemmas.Elements.{slice_get-push_cases}

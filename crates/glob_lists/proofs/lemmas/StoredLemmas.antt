@@ -8,22 +8,22 @@ use Rattle.gix_glob.specs.declared.pattern.Case.{Case}
 use Rattle.gix_glob.specs.declared.pattern.Mode as pattern
 use Rattle.gix_glob.specs.Entries.{Entry}
 use Rattle.gix_glob.specs.Patterns.{IsPattern}
-use Rattle.glob_lists.specs.declared.chains.Link.{Link}
-use Rattle.glob_lists.specs.declared.chains.TheConstants.{CLASSES}
-use Rattle.glob_lists.specs.declared.chains.TheConstants.Link.{NONE}
+use Rattle.glob_lists.specs.declared.link.Link.{Link}
+use Rattle.glob_lists.specs.declared.asks.class.TheConstants.{CLASSES}
+use Rattle.glob_lists.specs.declared.link.TheConstants.Link.{NONE}
 use Rattle.glob_lists.specs.declared.prepared.Heads.{Heads}
-use Rattle.glob_lists.specs.declared.probe.Probe.{Probe}
-use Rattle.glob_lists.specs.declared.row.Row.{Row}
+use Rattle.glob_lists.specs.declared.asks.probe.Probe.{Probe}
+use Rattle.glob_lists.specs.declared.asks.row.Row.{Row}
 use Rattle.glob_lists.specs.declared.stored.StoredRow.{StoredRow}
 use Rattle.glob_lists.specs.declared.stored.TheConstants.StoredRow.{BLANK}
 use Rattle.glob_lists.specs.declared.prepared.Walk.{Walk}
 use Rattle.glob_lists.specs.Deciding.{AnswersAt, AnswersUnder, Decides}
 use Rattle.glob_lists.specs.Prepared.{ArePrepared, IsLawfulEntry, list_without_base}
 use Rattle.glob_lists.specs.Private.Chains.{IsChained, classes_of, links_of, place_of}
-use Rattle.glob_lists.specs.Private.Rows.{Asks}
-use Rattle.glob_lists.specs.Private.Showing.{HasBytes, HasEnd, Shows}
+use Rattle.glob_lists.specs.Private.Asks.Rows.{Asks}
+use Rattle.glob_lists.specs.Private.Asks.Showing.{HasBytes, HasEnd, Shows}
 use Rattle.glob_lists.specs.Private.Stored.{AreLinked, HasCome, IsWalkDown, class_of, row_of, rows_of}
-use Rattle.glob_lists.specs.Private.Walking.{NonePasses}
+use Rattle.glob_lists.specs.Private.Lists.Walking.{NonePasses}
 use Rattle.glob_lists.proofs.lemmas.Answering.{AnswersAt-only, AnswersAt-yes}
 use Rattle.glob_lists.proofs.lemmas.ChainLemmas.{IsChained-push, NonePasses-above_chains, NonePasses-between, other_step, own_step, without_bytes, without_end}
 use Rattle.glob_lists.proofs.lemmas.Elements.{slice_get-push_cases}

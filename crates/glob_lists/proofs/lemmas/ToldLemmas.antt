@@ -22,20 +22,20 @@ use Rattle.gix_glob.specs.Stripping.{RestOf}
 use Rattle.gix_glob.proofs.lemmas.Places.{later_byte}
 use Rattle.glob_patterns.proofs.lemmas.LiteralLemmas.{AreAlike-from, star_literal_in}
 use Rattle.glob_lists.specs.Deciding.{AnswersFor, BasesAreFolders, HasFolder, path_mode}
-use Rattle.glob_lists.specs.declared.literals.TheConstants.{LONGEST_END}
-use Rattle.glob_lists.specs.declared.part.Part.{Part}
-use Rattle.glob_lists.specs.declared.part.Part.TheVariants as variants
-use Rattle.glob_lists.specs.declared.probe.Probe.{Probe}
-use Rattle.glob_lists.specs.declared.row.Row.{Row}
-use Rattle.glob_lists.specs.Private.Ends.{ends_of}
-use Rattle.glob_lists.specs.Private.Literals.{EndsLiterally, end_key, from_end}
-use Rattle.glob_lists.specs.Private.Parts.{IsPlainEnd, IsToldByEnd}
+use Rattle.glob_lists.specs.declared.asks.literals.TheConstants.{LONGEST_END}
+use Rattle.glob_lists.specs.declared.asks.part.Part.{Part}
+use Rattle.glob_lists.specs.declared.asks.part.Part.TheVariants as variants
+use Rattle.glob_lists.specs.declared.asks.probe.Probe.{Probe}
+use Rattle.glob_lists.specs.declared.asks.row.Row.{Row}
+use Rattle.glob_lists.specs.Private.Lists.Ends.{ends_of}
+use Rattle.glob_lists.specs.Private.Asks.Literals.{EndsLiterally, end_key, from_end}
+use Rattle.glob_lists.specs.Private.Asks.Parts.{IsPlainEnd, IsToldByEnd}
 use Rattle.glob_lists.specs.Paths.{Path}
 use Rattle.glob_lists.specs.Private.Reaching.{AnswersWhatIsLeft, IsRowAt}
-use Rattle.glob_lists.specs.Private.Rows.{Asks, length_of}
-use Rattle.glob_lists.specs.Private.Showing.{HasEnd, IsTold, IsToldBy, Shows}
+use Rattle.glob_lists.specs.Private.Asks.Rows.{Asks, length_of}
+use Rattle.glob_lists.specs.Private.Asks.Showing.{HasEnd, IsTold, IsToldBy, Shows}
 use Rattle.glob_lists.specs.Private.Tables.{AreRows, place_at}
-use Rattle.glob_lists.specs.Private.Walking.{IsNextRow}
+use Rattle.glob_lists.specs.Private.Lists.Walking.{IsNextRow}
 use Rattle.glob_lists.proofs.lemmas.EndNumbers.{same_lower, without_bytes-shift}
 use Rattle.glob_lists.proofs.lemmas.PrefilterLemmas.{end_of, name_has_no_slash}
 use Rattle.glob_lists.proofs.lemmas.StrippingLemmas.{empty_front, front_ends_in_slash}

@@ -5,19 +5,19 @@ use Rattle.gix_glob.specs.Steps.{Counts}
 use Rattle.std.proofs.lemmas.Bool.{cases_eq, cases_lt}
 use Rattle.std.proofs.lemmas.List.{get_or-set_other, get_or-set_same, length-map}
 use Rattle.std.proofs.lemmas.Option.{none-some, same_Some, slice_get-get_or, slice_get-map, slice_get_within}
-use Rattle.glob_lists.specs.declared.chains.Class.{Class}
-use Rattle.glob_lists.specs.declared.chains.Class.TheVariants.{Always, EndsIn}
-use Rattle.glob_lists.specs.declared.chains.Link.{Link}
-use Rattle.glob_lists.specs.declared.chains.TheConstants.Link.{NONE}
-use Rattle.glob_lists.specs.declared.literals.TheConstants.{LONGEST_END}
-use Rattle.glob_lists.specs.declared.probe.Probe.{Probe}
-use Rattle.glob_lists.specs.declared.row.Row.{Row}
-use Rattle.glob_lists.specs.declared.walk.Walk.{Walk}
+use Rattle.glob_lists.specs.declared.asks.class.Class.{Class}
+use Rattle.glob_lists.specs.declared.asks.class.Class.TheVariants.{Always, EndsIn}
+use Rattle.glob_lists.specs.declared.link.Link.{Link}
+use Rattle.glob_lists.specs.declared.link.TheConstants.Link.{NONE}
+use Rattle.glob_lists.specs.declared.asks.literals.TheConstants.{LONGEST_END}
+use Rattle.glob_lists.specs.declared.asks.probe.Probe.{Probe}
+use Rattle.glob_lists.specs.declared.asks.row.Row.{Row}
+use Rattle.glob_lists.specs.declared.list.walk.Walk.{Walk}
 use Rattle.glob_lists.specs.Private.Chains.{links_of}
-use Rattle.glob_lists.specs.Private.Ends.{AreLinkedBack, HasAt, IsLastWhere, end_by, end_of, ends_of}
+use Rattle.glob_lists.specs.Private.Lists.Ends.{AreLinkedBack, HasAt, IsLastWhere, end_by, end_of, ends_of}
 use Rattle.glob_lists.specs.Private.Looking.{LooksUpTo}
-use Rattle.glob_lists.specs.Private.Showing.{HasBytes, HasEnd, PassesBy}
-use Rattle.glob_lists.specs.Private.Walking.{IsLatest, IsWalk, NonePasses, next_of}
+use Rattle.glob_lists.specs.Private.Asks.Showing.{HasBytes, HasEnd, PassesBy}
+use Rattle.glob_lists.specs.Private.Lists.Walking.{IsLatest, IsWalk, NonePasses, next_of}
 use Rattle.glob_lists.proofs.lemmas.ChainLemmas.{NonePasses-place}
 use Rattle.glob_lists.proofs.lemmas.EndLemmas.{HasAt-row}
 use Rattle.glob_lists.proofs.lemmas.Looking.{looks_next}

@@ -14,18 +14,18 @@ use Rattle.gix_glob.specs.Stripping.{Rest, RestOf, folding_by}
 use Rattle.glob_lists.proofs.lemmas.CountLemmas.{entry_count-more_le, place_within}
 use Rattle.glob_lists.proofs.lemmas.Elements.{slice_get-inside}
 use Rattle.glob_lists.proofs.lemmas.RowLemmas.{rows_count}
-use Rattle.glob_lists.specs.declared.row.Row.{Row}
+use Rattle.glob_lists.specs.declared.asks.row.Row.{Row}
 use Rattle.glob_lists.specs.Deciding.{PairAnswers}
 use Rattle.glob_lists.specs.Index.{entry_count}
-use Rattle.glob_lists.specs.Private.Folders.{base_at, base_of, base_text}
-use Rattle.glob_lists.specs.Private.Fronts.{Begins, folded_at}
-use Rattle.glob_lists.specs.Private.Rows.{Asks}
-use Rattle.glob_lists.specs.Private.Showing.{Shows}
+use Rattle.glob_lists.specs.Private.Stack.Folders.{base_at, base_of, base_text}
+use Rattle.glob_lists.specs.Private.Stack.Order.{Begins, folded_at}
+use Rattle.glob_lists.specs.Private.Asks.Rows.{Asks}
+use Rattle.glob_lists.specs.Private.Asks.Showing.{Shows}
 use Rattle.glob_lists.specs.Private.Tables.{AreRows, IsEntryAt}
-use Rattle.glob_lists.specs.Private.Walking.{NonePasses}
+use Rattle.glob_lists.specs.Private.Lists.Walking.{NonePasses}
 use Rattle.glob_lists.specs.Private.Ways.{IsPastAnswers}
 use Rattle.glob_lists.proofs.lemmas.PrefilterLemmas.{AnsweringPasses}
-use Rattle.glob_lists.specs.declared.probe.Probe.{Probe}
+use Rattle.glob_lists.specs.declared.asks.probe.Probe.{Probe}
 
 -- ---- where a base leaves something of a path, it begins the path
 

@@ -1,5 +1,5 @@
 use Rattle.std.proofs.Common.{◌≤◌, List}
-use Rattle.glob_lists.specs.declared.chains.Link.{Link}
+use Rattle.glob_lists.specs.declared.link.Link.{Link}
 use Rattle.glob_lists.specs.Private.Stored.{AreLinked, IsWalkDown, rows_of}
 use Rattle.glob_lists.proofs.lemmas.StoredLemmas.{IsBelow}
 use Rattle.glob_lists.proofs.prepared.next.Given as goal
