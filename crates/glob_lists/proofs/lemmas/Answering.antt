@@ -8,6 +8,7 @@ use Rattle.gix_glob.specs.declared.pattern.Mode as pattern
 use Rattle.gix_glob.specs.RepositoryPaths.{Answers, IsAfterLastSlash, IsBasenameStart}
 use Rattle.glob_lists.specs.Deciding.{AnswersAt, AnswersFor, AnswersUnder, PairAnswers, path_mode}
 use Rattle.gix_glob.specs.EntryLists.{EntryList}
+use Rattle.glob_lists.specs.Paths.{Path}
 use Rattle.gix_glob.specs.Entries.{Entry}
 use Rattle.gix_glob.specs.Stripping.{NothingLeft, RestOf}
 use Rattle.gix_glob.proofs.lemmas.Rests.{Rest-front}
@@ -82,3 +83,17 @@ module _ {V : Type 0} (lists : List (EntryList V)) (path : List ℕ) (is_dir : B
   -- nothing answers for a path that doesn't begin with the base
   pub PairAnswers-nothing_left : NothingLeft case list.base path → ¬ PairAnswers lists path is_dir case i m
   PairAnswers-nothing_left none h = (let at = PairAnswers-only h in none at.answers.rest at.answers.left)
+
+-- ---- a pair whose pattern is tested
+
+module _ {V : Type 0} (lists : List (EntryList V)) (case : Case) (path : Path) (i m : ℕ) (list : EntryList V) (entry : Entry V) (there : slice_get lists i ≡ Some list)
+    (here : slice_get list.entries m ≡ Some entry) where
+  -- what is left of the path was tested
+  pub asked_rest : (rest : Path) (text : List ℕ) (mode : pattern.Mode) (answer : Bool) → (RestOf case list.base path.bytes rest.bytes × (rest.is_dir ≡ path.is_dir)) → text ≡ entry.text → mode ≡ entry.mode
+      → (IsTrue answer ↔ AnswersFor text mode rest.bytes rest.is_dir case) → (IsTrue answer ↔ PairAnswers lists path.bytes path.is_dir case i m)
+  asked_rest rest text mode answer left text_is mode_is told =
+      let under : IsTrue answer ↔ AnswersUnder list.base entry path.bytes path.is_dir case =
+      AnswersUnder-tested list.base path.bytes path.is_dir case entry rest.bytes left.0 text mode rest.is_dir answer text_is mode_is left.1 told in (
+        λ yes. PairAnswers-yes lists path.bytes path.is_dir case i m list there (AnswersAt-yes list path.bytes path.is_dir case m entry here (under.0 yes)),
+        λ h. under.1 (AnswersAt-only list path.bytes path.is_dir case m entry here (PairAnswers-only lists path.bytes path.is_dir case i m list there h)),
+      )

@@ -1,4 +1,4 @@
--- How many entries lists have: one list more, and that the place of each fits an index.
+-- How many entries lists have: one list more, and that they are few enough for an index.
 use Rattle.std.proofs.Common.{◌≡◌, inl, ⊎_elim, ℕ, ◌+◌, ◌^◌, ◌<◌, ◌≤◌, List, length, get_or, map, take, Some, ◌∙◌, ap, subst, arith}
 use Rattle.std.specs.Prelude.{slice_get}
 use Rattle.std.proofs.lemmas.Bool.{cases_lt}
@@ -10,7 +10,6 @@ use Rattle.gix_glob.specs.Entries.{entry_of}
 use Rattle.gix_glob.specs.EntryLists.{EntryList, entry_list_of}
 use Rattle.gix_glob.proofs.lemmas.Elements.{slice_get-map_at}
 use Rattle.glob_lists.specs.Index.{AreTooMany, entry_count}
-use Rattle.glob_lists.specs.Private.Tables.{HasEntryAt}
 
 module _ {V : Type 0} (lists : List (EntryList V)) where
   module _ (i : ℕ) (list : EntryList V) (there : slice_get lists i ≡ Some list) where
@@ -24,13 +23,6 @@ module _ {V : Type 0} (lists : List (EntryList V)) where
         subst (λ (l : EntryList V). entry_count (take i lists) + length l.entries ≤ entry_count lists) (get_or_from_slice_get lists i list list there)
         (sum_by_more_le (λ (l : EntryList V). length l.entries) lists i list (slice_get_within lists i list there))
 
-  -- the entries before a place are fewer than all
-  pub place_within : (i m : ℕ) → HasEntryAt lists i m → entry_count (take i lists) + m + 1 ≤ entry_count lists
-  place_within i m at =
-      let e = at.1 in
-      let inside = slice_get_within e.list.entries m at.0 e.here in
-      let most = entry_count-more_le i e.list e.there in omega arith
-
   pub few_entries : ¬ AreTooMany lists → entry_count lists < 2 ^ 32
   few_entries few = ⊎_elim (λ (no : entry_count lists < 2 ^ 32). no) (λ (more : 2 ^ 32 ≤ entry_count lists). absurd (few (inl more))) (cases_lt (entry_count lists) (2 ^ 32))
 
@@ -42,10 +34,3 @@ module _ {T X V : Type 0} (seen : X → V) (lists : List (patterns.List T X)) (i
   pub entry_count-next : entry_count (take (i + 1) (map (entry_list_of seen) lists)) ≡ entry_count (take i (map (entry_list_of seen) lists)) + length held.patterns.items
   entry_count-next = entry_count-more (map (entry_list_of seen) lists) i (entry_list_of seen held) there
       ∙ ap (λ (n : ℕ). entry_count (take i (map (entry_list_of seen) lists)) + n) (length-map held.patterns.items (entry_of seen))
-
-  -- the place of a mapping among all of them fits
-  pub place_fits : (m : ℕ) → ¬ AreTooMany (map (entry_list_of seen) lists) → m < length held.patterns.items → entry_count (take i (map (entry_list_of seen) lists)) + m + 1 < 2 ^ 32
-  place_fits m few below =
-      let all = entry_count-more_le (map (entry_list_of seen) lists) i (entry_list_of seen held) there in
-      let long = length-map held.patterns.items (entry_of seen) in
-      let most = few_entries (map (entry_list_of seen) lists) few in omega arith

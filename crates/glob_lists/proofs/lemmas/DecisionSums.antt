@@ -1,6 +1,7 @@
 -- What a list and a stack of lists may take, summed from the last one on.
-use Rattle.std.proofs.Common.{◌≡◌, ℕ, ◌+◌, ◌≤◌, List, length, drop, get_or, Option, None, Some, sym, ap, length-append, arith}
+use Rattle.std.proofs.Common.{◌≡◌, ℕ, ◌+◌, ◌≤◌, ◌-◌, List, length, drop, get_or, Option, None, Some, sym, ap, ◌∙◌, length-append, arith}
 use Rattle.std.specs.Prelude.{slice_get, sum_by}
+use Rattle.std.proofs.lemmas.List.{drop-drop}
 use Rattle.std.proofs.lemmas.List.Sums.{sum_by-drop_more, sum_by-take-drop}
 use Rattle.std.proofs.lemmas.Option.{get_or_from_slice_get, slice_get_within}
 use Rattle.gix_glob.specs.Steps.{step_limit}
@@ -29,6 +30,17 @@ module _ {X : Type 0} (f : X → ℕ) (xs : List X) where
   -- the same where something else was counted first
   pub counted-all_after : (start first total i : ℕ) → total ≤ start + first + sum_by f (drop i xs) → total ≤ start + (first + sum_by f xs)
   counted-all_after start first total i from = omega (arith, sum_by-take-drop f xs i, from)
+
+-- ---- sums of fewer elements
+
+-- what the elements from a later one on take is within what those from an earlier one on do
+pub sum_by-drop-le : {X : Type 0} (f : X → ℕ) (xs : List X) (i j : ℕ) → i ≤ j → sum_by f (drop j xs) ≤ sum_by f (drop i xs)
+sum_by-drop-le f xs i j low =
+    let at : i + (j - i) ≡ j = omega arith in
+    let same = drop-drop (j - i) i xs in
+    let split = sum_by-take-drop f (drop i xs) (j - i) in
+    let is : sum_by f (drop (j - i) (drop i xs)) ≡ sum_by f (drop j xs) = ap (sum_by f) same ∙ ap (λ (n : ℕ). sum_by f (drop n xs)) at in
+    omega (arith, split, is)
 
 -- ---- what a base leaves is no longer than the path
 

@@ -8,15 +8,14 @@ use Rattle.std.specs.List.Sorted.{IsPermutation}
 use Rattle.gix_glob.specs.EntryLists.{EntryList}
 use Rattle.glob_lists.specs.declared.link.Link.{Link}
 use Rattle.glob_lists.specs.declared.stack.folders.Folder.{Folder}
-use Rattle.glob_lists.specs.Private.Stack.Folders.{AllUpTo, AreFoldersUpTo, AreSameFolders, HasFoldersUpTo, IsChained, IsFolderOf, IsForest, IsLastBeginning, IsNarrow, IsSameFolder, SharesAround, base_at}
-use Rattle.glob_lists.specs.Private.Indexes.{AreFolderedBy}
-use Rattle.glob_lists.specs.Private.Stack.Order.{AreSameUpTo, Begins, IsUpTo, front_key}
+use Rattle.glob_lists.specs.Private.Stack.Folders.{AllUpTo, AreFolderedBy, AreFoldersUpTo, AreSameFolders, HasFoldersUpTo, IsFolderOf, IsForest, IsLastBeginning, IsSameFolder, base_at}
+use Rattle.glob_lists.specs.Private.Stack.Order.{Begins, IsUpTo, front_key}
 use Rattle.glob_lists.specs.Private.Asks.Literals.{AreBytes}
 use Rattle.glob_lists.specs.Index.{AreTooMany, entry_count}
 use Rattle.glob_lists.specs.declared.stack.order.TheConstants.{FRONT}
 use Rattle.glob_lists.proofs.lemmas.CountLemmas.{entry_count-more, few_entries}
 use Rattle.glob_lists.proofs.lemmas.Elements.{slice_get-push_cases, slice_get-push_new, slice_get-push_old}
-use Rattle.glob_lists.proofs.lemmas.FrontLemmas.{AreSameUpTo-less, Begins-between, Begins-refl, IsUpTo-begins, IsUpTo-trans}
+use Rattle.glob_lists.proofs.lemmas.OrderLemmas.{Begins-between, Begins-refl, IsUpTo-begins, IsUpTo-trans}
 
 module _ {V : Type 0} (lists : List (EntryList V)) (folders : List Folder) where
   -- no folder from place k on begins the text
@@ -24,29 +23,22 @@ module _ {V : Type 0} (lists : List (EntryList V)) (folders : List Folder) where
   NoneBeginsFrom text k = (m : ℕ) (folder : Folder) → k ≤ m → slice_get folders m ≡ Some folder → ¬ Begins (base_at lists folder.list) text
 
   -- what lies between a folder that doesn't come after a text and the one that it is linked to doesn't begin the text
-  pub between_chained : (forest : IsChained lists folders) (place m : ℕ) (folder other : Folder) (text : List ℕ) → slice_get folders place ≡ Some folder → slice_get folders m ≡ Some other
+  pub between_begins : (forest : IsForest lists folders) (place m : ℕ) (folder other : Folder) (text : List ℕ) → slice_get folders place ≡ Some folder → slice_get folders m ≡ Some other
       → folder.above.0 ≤ m → m < place → IsUpTo (base_at lists folder.list) text → ¬ Begins (base_at lists other.list) text
-  between_chained forest place m folder other text there here low high up_to begins =
+  between_begins forest place m folder other text there here low high up_to begins =
       (forest.chained place folder there).others m other low high here
       (Begins-between (base_at lists other.list) (base_at lists folder.list) text (forest.sorted m place other folder (omega arith) here there) up_to begins)
 
   -- the folder at a place doesn't begin the text; so the next that can is the one that it is linked to
-  pub NoneBeginsFrom-above : (forest : IsChained lists folders) (place : ℕ) (folder : Folder) (text : List ℕ) → slice_get folders place ≡ Some folder → IsUpTo (base_at lists folder.list) text
+  pub NoneBeginsFrom-above : (forest : IsForest lists folders) (place : ℕ) (folder : Folder) (text : List ℕ) → slice_get folders place ≡ Some folder → IsUpTo (base_at lists folder.list) text
       → ¬ Begins (base_at lists folder.list) text → NoneBeginsFrom text (place + 1) → NoneBeginsFrom text folder.above.0
   NoneBeginsFrom-above forest place folder text there up_to not later m other low here begins = elim (cases_order m place) [
     | inl same ↦
         (let is : other ≡ folder = same_Some other folder (sym here ∙ (ap (slice_get folders) same ∙ there)) in
         not (subst (λ (f : Folder). Begins (base_at lists f.list) text) is begins))
-    | inr (inl below) ↦ between_chained forest place m folder other text there here low below up_to begins
+    | inr (inl below) ↦ between_begins forest place m folder other text there here low below up_to begins
     | inr (inr above) ↦ later m other (omega arith) here begins
   ]
-
-  pub IsForest-chained : IsForest lists folders → IsChained lists folders
-  IsForest-chained forest = record { each = forest.each; sorted = forest.sorted; chained = forest.chained; nested = forest.nested }
-
-  pub between_begins : (forest : IsForest lists folders) (place m : ℕ) (folder other : Folder) (text : List ℕ) → slice_get folders place ≡ Some folder → slice_get folders m ≡ Some other
-      → folder.above.0 ≤ m → m < place → IsUpTo (base_at lists folder.list) text → ¬ Begins (base_at lists other.list) text
-  between_begins forest = between_chained (IsForest-chained forest)
 
   -- the folder that another one is linked to doesn't come after a text either
   pub above_up_to : (forest : IsForest lists folders) (place m : ℕ) (folder other : Folder) (text : List ℕ) → slice_get folders place ≡ Some folder → slice_get folders m ≡ Some other
@@ -55,7 +47,7 @@ module _ {V : Type 0} (lists : List (EntryList V)) (folders : List Folder) where
       let chained = forest.chained place folder there in
       IsUpTo-trans (base_at lists other.list) (base_at lists folder.list) text (IsUpTo-begins (base_at lists other.list) (base_at lists folder.list) (chained.here m other next here)) up_to
 
-  pub AllUpTo-last : (forest : IsChained lists folders) (last : Folder) (text : List ℕ) (k : ℕ) → k + 1 ≡ length folders → slice_get folders k ≡ Some last
+  pub AllUpTo-last : (forest : IsForest lists folders) (last : Folder) (text : List ℕ) (k : ℕ) → k + 1 ≡ length folders → slice_get folders k ≡ Some last
       → IsUpTo (base_at lists last.list) text → AllUpTo lists folders text
   AllUpTo-last forest last text k whole there up_to m folder here =
       let inside = slice_get_within folders m folder here in
@@ -63,7 +55,7 @@ module _ {V : Type 0} (lists : List (EntryList V)) (folders : List Folder) where
 
   -- ---- one folder more
 
-  module _ (forest : IsChained lists folders) (added : Folder) (of : IsFolderOf lists added) (up_to : AllUpTo lists folders (base_at lists added.list))
+  module _ (forest : IsForest lists folders) (added : Folder) (of : IsFolderOf lists added) (up_to : AllUpTo lists folders (base_at lists added.list))
       (link : IsLastBeginning lists folders (base_at lists added.list) (length folders) added.above)
       (earlier : (m : ℕ) (folder : Folder) → m + 1 ≡ added.above.0 → slice_get folders m ≡ Some folder → folder.list < added.list) where
     more : List Folder
@@ -101,8 +93,8 @@ module _ {V : Type 0} (lists : List (EntryList V)) (folders : List Folder) where
       | inr past ↦ absurd (link.others m a past (slice_get_within folders m a here) here begins)
     ]
 
-    pub IsChained-more : IsChained lists (folders ++ added ∷ [])
-    IsChained-more = record {
+    pub IsForest-more : IsForest lists (folders ++ added ∷ [])
+    IsForest-more = record {
       each = λ k folder got. elim (slice_get-push_cases folders added k folder got) [
         | inl old ↦ forest.each k folder old
         | inr new ↦ subst (IsFolderOf lists) (sym new.1) of
@@ -132,9 +124,8 @@ module _ {V : Type 0} (lists : List (EntryList V)) (folders : List Folder) where
 pub IsFolderOf-same : {V : Type 0} (lists : List (EntryList V)) (folder other : Folder) → IsSameFolder other folder → IsFolderOf lists folder → IsFolderOf lists other
 IsFolderOf-same {V} lists folder other same of = record {
   inside = (let inside = of.inside in let list = same.list in omega arith);
-  key = same.key ∙ of.key ∙ ap (λ (i : ℕ). front_key (base_at lists i) folder.shared FRONT) (sym same.list) ∙ ap (λ (n : ℕ). front_key (base_at lists other.list) n FRONT) (sym same.shared);
+  key = same.key ∙ of.key ∙ ap (λ (i : ℕ). front_key (base_at lists i) 0 FRONT) (sym same.list);
   bytes = subst (λ (i : ℕ). AreBytes (base_at lists i)) (sym same.list) of.bytes;
-  first = same.first_row ∙ of.first ∙ ap (λ (i : ℕ). entry_count (take i lists)) (sym same.list);
 }
 
 -- the folder at the place that a link leads to
@@ -142,22 +133,6 @@ pub earlier_at : (folders : List Folder) (place m : ℕ) (folder none : Folder) 
 earlier_at folders place m folder none bound same got low =
     let is : get_or folders place none ≡ folder = ap (λ (k : ℕ). get_or folders k none) (sym same) ∙ get_or_from_slice_get folders m folder none got in
     subst (λ (f : Folder). f.list < bound) is low
-
--- what the folder at a place shares with a text, the one that is got there shares, and what is less
-pub shared_at : {V : Type 0} (lists : List (EntryList V)) (folders : List Folder) (text : List ℕ) (place m count less : ℕ) (folder none : Folder) → m ≡ place → slice_get folders m ≡ Some folder → less ≤ count
-    → AreSameUpTo (base_at lists (get_or folders place none).list) text count → AreSameUpTo (base_at lists folder.list) text less
-shared_at lists folders text place m count less folder none same got low shares =
-    let is : get_or folders place none ≡ folder = ap (λ (k : ℕ). get_or folders k none) (sym same) ∙ get_or_from_slice_get folders m folder none got in
-    AreSameUpTo-less (base_at lists folder.list) text count less low (subst (λ (f : Folder). AreSameUpTo (base_at lists f.list) text count) is shares)
-
--- what a folder shares with others is the same, whatever it is linked to
-pub IsNarrow-same : {V : Type 0} (lists : List (EntryList V)) (folders : List Folder) (k : ℕ) (folder other : Folder) → IsSameFolder other folder → IsNarrow lists folders k folder → IsNarrow lists folders k other
-IsNarrow-same lists folders k folder other same narrow = record {
-  around = λ left low at.
-      let size = same.size in
-      let was = narrow.around (omega (arith, left, size)) low (ap (λ (n : ℕ). low + n / 2) (sym size) ∙ at) in
-      rw (← same.list) at (rw (← same.size) at (rw (← same.shared) at was));
-}
 
 -- ---- the folders of lists
 
@@ -195,9 +170,8 @@ module _ {V : Type 0} (lists : List (EntryList V)) where
     each = h.each;
     all = λ i m below has. ⊎_elim
         (λ (here : i ≡ j).
-        let e = has.1 in
-        let same : e.list ≡ list = same_Some e.list list (sym e.there ∙ (ap (slice_get lists) here ∙ there)) in
-        let inside : m < length list.entries = subst (λ (l : EntryList V). m < length l.entries) same (slice_get_within e.list.entries m has.0 e.here) in
+        let same : has.list ≡ list = same_Some has.list list (sym has.there ∙ (ap (slice_get lists) here ∙ there)) in
+        let inside : m < length list.entries = subst (λ (l : EntryList V). m < length l.entries) same has.inside in
         absurd (omega arith))
         (λ (apart : i ≡ j → ⊥). h.all i m (omega arith) has)
         (cases_eq i j);
@@ -229,36 +203,6 @@ module _ {V : Type 0} (lists : List (EntryList V)) where
       let other : Folder = get_or others found.0 at.folder in
       let there : slice_get others found.0 ≡ Some other = slice_get-get_or others found.0 at.folder (omega (arith, same.many)) in
       (found.0, record { folder = other; there = there; list = same.each found.0 at.folder other at.there there ∙ at.list })
-
-  -- what is shared with folders is shared with others that stand for the same lists
-  SharesAround-same : (folders others : List Folder) (text : List ℕ) (low end count : ℕ) → AreSameFolders folders (length folders) others → SharesAround lists folders text low end count
-      → SharesAround lists others text low end count
-  SharesAround-same folders others text low end count same h = record {
-    first = h.first;
-    below = λ m other at got. shared_by m other got (λ folder there. h.below m folder at there);
-    last = λ past. h.last (omega (arith, same.many));
-    above = λ m other at got. shared_by m other got (λ folder there. h.above m folder at there);
-  } where
-    shared_by : (m : ℕ) (other : Folder) → slice_get others m ≡ Some other → ((folder : Folder) → slice_get folders m ≡ Some folder → AreSameUpTo (base_at lists folder.list) text count)
-        → AreSameUpTo (base_at lists other.list) text count
-    shared_by m other got were =
-        let inside = slice_get_within others m other got in
-        let folder : Folder = get_or folders m other in
-        let there : slice_get folders m ≡ Some folder = slice_get-get_or folders m other (omega (arith, same.many)) in
-        subst (λ (i : ℕ). AreSameUpTo (base_at lists i) text count) (sym (same.each m folder other there got)) (were folder there)
-
-  -- chained folders that know what they share with those that they were made of
-  pub IsForest-narrow : (folders others : List Folder) → IsChained lists others → AreSameFolders folders (length folders) others
-      → ((k : ℕ) (folder : Folder) → slice_get others k ≡ Some folder → IsNarrow lists folders k folder) → IsForest lists others
-  IsForest-narrow folders others chained same narrow = record {
-    each = chained.each;
-    sorted = chained.sorted;
-    chained = chained.chained;
-    nested = chained.nested;
-    narrow = λ k folder got. record {
-      around = λ left low at. SharesAround-same folders others (base_at lists folder.list) low (low + folder.size) folder.shared same ((narrow k folder got).around left low at);
-    };
-  }
 
   -- folders of all lists are few enough for links
   pub few_folders : (folders : List Folder) → ¬ AreTooMany lists → length folders ≤ entry_count (take (length lists) lists) → length folders < 4294967296

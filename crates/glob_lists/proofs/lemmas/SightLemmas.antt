@@ -5,25 +5,18 @@ use Rattle.std.specs.Int.{bit_at}
 use Rattle.std.proofs.lemmas.Bool.{cases_eq, cases_lt}
 use Rattle.std.proofs.lemmas.Nat.Bits.{bit_at-lt, bit_at-zero, bit_at_and, bit_at_or, bit_at_set_same}
 use Rattle.std.proofs.lemmas.Option.{same_Some, slice_get-get_or, slice_get_within}
-use Rattle.gix_glob.specs.EntryLists.{EntryList}
 use Rattle.glob_lists.specs.declared.asks.class.Class.{Class}
 use Rattle.glob_lists.specs.declared.asks.class.Class.TheVariants.{Always, EndsIn}
-use Rattle.glob_lists.specs.declared.stack.folders.Folder.{Folder}
 use Rattle.glob_lists.specs.declared.asks.probe.Probe.{Probe}
 use Rattle.glob_lists.specs.declared.asks.row.Row.{Row}
 use Rattle.glob_lists.specs.declared.asks.sight.Sight.{Sight}
 use Rattle.glob_lists.specs.declared.asks.sight.TheConstants.{ENDS, NO_END}
-use Rattle.glob_lists.specs.Index.{entry_count}
 use Rattle.glob_lists.specs.Private.Asks.Literals.{without_bytes}
 use Rattle.glob_lists.specs.Private.Asks.Parts.{is_name}
 use Rattle.glob_lists.specs.Private.Asks.Rows.{length_of}
 use Rattle.glob_lists.specs.Private.Asks.Showing.{HasAll, HasEnd, Passes, PassesBy}
-use Rattle.glob_lists.specs.Private.Asks.Sights.{AreSights, HasEnding, IsSeen, Lacks, Sees, SeesBy, SeesEnd, SeesFrom, SeesList, end_bit, end_place, needs_of}
-use Rattle.glob_lists.specs.Private.Tables.{AreRows}
-use Rattle.glob_lists.proofs.lemmas.CountLemmas.{entry_count-more_le}
-use Rattle.glob_lists.proofs.lemmas.Elements.{slice_get-push_cases}
+use Rattle.glob_lists.specs.Private.Asks.Sights.{HasEnding, IsSeen, Lacks, Sees, SeesAll, SeesBy, SeesEnd, end_bit, end_place, needs_of}
 use Rattle.glob_lists.proofs.lemmas.EndNumbers.{without_both, without_bytes-shift}
-use Rattle.glob_lists.proofs.lemmas.RowLemmas.{rows_count}
 
 -- ---- a row that passes is seen
 
@@ -108,39 +101,19 @@ Lacks-apart sight short long none = record {
       apart_at sight.ends _ 63 none (omega arith) (has 63 bit);
 }
 
--- ---- one row more, and one folder more
+-- ---- one row more
 
-pub SeesFrom-more : (rows : List Row) (first m next : ℕ) → next ≡ m + 1 → (sight : Sight) (blank : Row) → first + m < length rows → Sees sight (get_or rows (first + m) blank) → SeesFrom rows first m sight
-    → SeesFrom rows first next sight
-SeesFrom-more rows first m next is sight blank within here before k row below got = ⊎_elim
+-- the sight has what each of the first m rows asks for
+abbrev pub SeesUpTo : List Row → ℕ → Sight → Type 0
+SeesUpTo rows m sight = (k : ℕ) (row : Row) → k < m → slice_get rows k ≡ Some row → Sees sight row
+
+pub SeesUpTo-more : (rows : List Row) (m next : ℕ) → next ≡ m + 1 → (sight : Sight) (blank : Row) → m < length rows → Sees sight (get_or rows m blank) → SeesUpTo rows m sight → SeesUpTo rows next sight
+SeesUpTo-more rows m next is sight blank within here before k row below got = ⊎_elim
     (λ (same : k ≡ m).
-    let there : slice_get rows (first + m) ≡ Some row = subst (λ (n : ℕ). slice_get rows (first + n) ≡ Some row) same got in
-    subst (Sees sight) (same_Some (get_or rows (first + m) blank) row (sym (slice_get-get_or rows (first + m) blank within) ∙ there)) here)
+    let there : slice_get rows m ≡ Some row = subst (λ (n : ℕ). slice_get rows n ≡ Some row) same got in
+    subst (Sees sight) (same_Some (get_or rows m blank) row (sym (slice_get-get_or rows m blank within) ∙ there)) here)
     (λ (apart : k ≡ m → ⊥). before k row (omega arith) got)
     (cases_eq k m)
 
-pub rows_fit : {V : Type 0} (lists : List (EntryList V)) (rows : List Row) → AreRows lists rows → (i first : ℕ) (list : EntryList V) → slice_get lists i ≡ Some list
-    → first ≡ entry_count (take i lists) → first + length list.entries ≤ length rows
-rows_fit {V} lists rows are i first list there begins =
-    let more = entry_count-more_le lists i list there in
-    let many = rows_count lists rows are in
-    omega arith
-
-module _ {V : Type 0} (lists : List (EntryList V)) (rows : List Row) where
-  pub SeesList-from : (folder : Folder) (sight : Sight) (first count : ℕ) (list : EntryList V) → slice_get lists folder.list ≡ Some list → first ≡ folder.first_row → count ≡ length list.entries
-      → SeesFrom rows first count sight → SeesList lists rows folder sight
-  SeesList-from folder sight first count list there same many sees m entry at row got =
-      let is : at.list ≡ list = same_Some at.list list (sym at.there ∙ there) in
-      let inside = slice_get_within at.list.entries m entry at.here in
-      let long : length at.list.entries ≡ length list.entries = ap (λ (l : EntryList V). length l.entries) is in
-      sees m row (omega arith) (subst (λ (k : ℕ). slice_get rows (k + m) ≡ Some row) (sym same) got)
-
-  pub AreSights-more : (folders : List Folder) (sights : List Sight) (k : ℕ) (folder : Folder) (sight : Sight) → length sights ≡ k → slice_get folders k ≡ Some folder → SeesList lists rows folder sight
-      → AreSights lists rows folders sights → AreSights lists rows folders (sights ++ sight ∷ [])
-  AreSights-more folders sights k folder sight many there sees are n other added got_folder got = elim (slice_get-push_cases sights sight n added got) [
-    | inl old ↦ are n other added got_folder old
-    | inr new ↦
-        (let place : n ≡ k = new.0 ∙ many in
-        let is : other ≡ folder = same_Some other folder (sym got_folder ∙ (ap (slice_get folders) place ∙ there)) in
-        subst (λ (s : Sight). SeesList lists rows other s) (sym new.1) (subst (λ (f : Folder). SeesList lists rows f sight) (sym is) sees))
-  ]
+pub SeesUpTo-all : (rows : List Row) (m : ℕ) (sight : Sight) → length rows ≤ m → SeesUpTo rows m sight → SeesAll rows sight
+SeesUpTo-all rows m sight all sees k row got = (let inside = slice_get_within rows k row got in sees k row (omega arith) got)

@@ -21,25 +21,19 @@ use Rattle.gix_glob.specs.RepositoryPaths.{IsAfterLastSlash, IsBasenameStart, su
 use Rattle.gix_glob.specs.Stripping.{RestOf}
 use Rattle.gix_glob.proofs.lemmas.Places.{later_byte}
 use Rattle.glob_patterns.proofs.lemmas.LiteralLemmas.{AreAlike-from, star_literal_in}
-use Rattle.glob_lists.specs.Deciding.{AnswersFor, BasesAreFolders, HasFolder, path_mode}
+use Rattle.glob_lists.specs.Deciding.{AnswersFor, path_mode}
 use Rattle.glob_lists.specs.declared.asks.literals.TheConstants.{LONGEST_END}
 use Rattle.glob_lists.specs.declared.asks.part.Part.{Part}
 use Rattle.glob_lists.specs.declared.asks.part.Part.TheVariants as variants
 use Rattle.glob_lists.specs.declared.asks.probe.Probe.{Probe}
 use Rattle.glob_lists.specs.declared.asks.row.Row.{Row}
-use Rattle.glob_lists.specs.Private.Lists.Ends.{ends_of}
 use Rattle.glob_lists.specs.Private.Asks.Literals.{EndsLiterally, end_key, from_end}
 use Rattle.glob_lists.specs.Private.Asks.Parts.{IsPlainEnd, IsToldByEnd}
-use Rattle.glob_lists.specs.Paths.{Path}
-use Rattle.glob_lists.specs.Private.Reaching.{AnswersWhatIsLeft, IsRowAt}
 use Rattle.glob_lists.specs.Private.Asks.Rows.{Asks, length_of}
 use Rattle.glob_lists.specs.Private.Asks.Showing.{HasEnd, IsTold, IsToldBy, Shows}
-use Rattle.glob_lists.specs.Private.Tables.{AreRows, place_at}
-use Rattle.glob_lists.specs.Private.Lists.Walking.{IsNextRow}
 use Rattle.glob_lists.proofs.lemmas.EndNumbers.{same_lower, without_bytes-shift}
 use Rattle.glob_lists.proofs.lemmas.PrefilterLemmas.{end_of, name_has_no_slash}
 use Rattle.glob_lists.proofs.lemmas.StrippingLemmas.{empty_front, front_ends_in_slash}
-use Rattle.glob_lists.proofs.lemmas.WalkLemmas.{length-ends_of}
 
 -- ---- where the last part of a path begins
 
@@ -222,27 +216,4 @@ told_answers text pattern_mode base path rest is_dir case row probe folder shows
             (name_has_no_slash pattern_mode rest start.0 told_shape.name start.1) fits
             (λ m below. same_bytes text path pattern_mode row probe shows asks told m below ∙ sym (end_of path value part.at part.is m (omega arith)));
       };
-    }
-
--- The row at the place of a pair asks what its entry does.
-pub row_of_pair : {V : Type 0} (lists : List (EntryList V)) (rows : List Row) (place i m : ℕ) (row : Row) → AreRows lists rows → place ≡ place_at lists i m → slice_get rows place ≡ Some row
-    → IsRowAt lists (i, m) row
-row_of_pair {V} lists rows place i m row are same got =
-    record { each = λ list entry there here. are.each i m entry row (record { list = list; there = there; here = here }) (subst (λ (k : ℕ). slice_get rows k ≡ Some row) same got) }
-
--- The next row of a walk asks what the entry of its pair does.
-pub row_of_next : {V : Type 0} (lists : List (EntryList V)) (rows : List Row) (probe : Probe) (passed_from end place i m : ℕ) (blank : Row) → AreRows lists rows
-    → IsNextRow rows probe passed_from end place → end ≤ length (ends_of rows) → place ≡ place_at lists i m → IsRowAt lists (i, m) (slice_index_or rows place blank)
-row_of_next {V} lists rows probe passed_from end place i m blank are next inside same =
-    let within : place < length rows = omega (arith, next.here, next.below, length-ends_of rows) in
-    row_of_pair lists rows place i m (slice_index_or rows place blank) are same (slice_get-get_or rows place blank within)
-
--- A row that is told tells of what is left of the path for its pair.
-pub told_of_pair : {V : Type 0} (lists : List (EntryList V)) (case : Case) (path : Path) (probe : Probe) (i m : ℕ) (row : Row) → BasesAreFolders lists → Shows path.bytes probe
-    → IsRowAt lists (i, m) row → IsTold row probe → AnswersWhatIsLeft lists case path (i, m)
-told_of_pair {V} lists case path probe i m row folders shows of told =
-    record {
-      each = λ list entry rest there here left.
-          let folder : HasFolder list = subst HasFolder (get_or_from_slice_get lists i list list there) (folders i list (slice_get_within lists i list there)) in
-          told_answers entry.text entry.mode list.base path.bytes rest path.is_dir case row probe folder shows (of.each list entry there here) told left;
     }

@@ -1,116 +1,114 @@
--- The lists on the way of a path: those whose base begins it.
-use Rattle.std.proofs.lemmas.Bool.{cases_lt}
-use Rattle.std.proofs.Common.{◌≡◌, inl, inr, ℕ, ◌+◌, ◌<◌, ◌≤◌, Bool, List, length, get_or, map, Some, None, Option, sym, ap, subst, ◌∙◌, arith, take, length-append}
+-- A path goes up through the folders that begin it, and meets later lists first.
+use Rattle.std.proofs.Common.{◌≡◌, inl, inr, ℕ, ◌+◌, ◌<◌, ◌≤◌, List, [], length, get_or, None, Some, refl, sym, ap, subst, ◌∙◌, arith}
 use Rattle.std.specs.Prelude.{slice_get}
-use Rattle.std.specs.Char.{to_ascii_lowercase}
-use Rattle.std.proofs.lemmas.List.{get_or-map, get_or_past, length-map}
-use Rattle.std.proofs.lemmas.Option.{same_Some, slice_get_within}
-use Rattle.std.proofs.Math.ListN.{get_or-append}
+use Rattle.std.proofs.lemmas.Bool.{cases_order}
+use Rattle.std.proofs.lemmas.Option.{same_Some, slice_get-get_or, slice_get_within}
 use Rattle.gix_glob.specs.declared.pattern.Case.{Case}
-use Rattle.gix_glob.specs.declared.pattern.Case.TheVariants.{Sensitive, Fold}
-use Rattle.gix_glob.specs.Entries.{Entry}
 use Rattle.gix_glob.specs.EntryLists.{EntryList}
-use Rattle.gix_glob.specs.Stripping.{Rest, RestOf, folding_by}
-use Rattle.glob_lists.proofs.lemmas.CountLemmas.{entry_count-more_le, place_within}
-use Rattle.glob_lists.proofs.lemmas.Elements.{slice_get-inside}
-use Rattle.glob_lists.proofs.lemmas.RowLemmas.{rows_count}
-use Rattle.glob_lists.specs.declared.asks.row.Row.{Row}
-use Rattle.glob_lists.specs.Deciding.{PairAnswers}
-use Rattle.glob_lists.specs.Index.{entry_count}
-use Rattle.glob_lists.specs.Private.Stack.Folders.{base_at, base_of, base_text}
-use Rattle.glob_lists.specs.Private.Stack.Order.{Begins, folded_at}
-use Rattle.glob_lists.specs.Private.Asks.Rows.{Asks}
-use Rattle.glob_lists.specs.Private.Asks.Showing.{Shows}
-use Rattle.glob_lists.specs.Private.Tables.{AreRows, IsEntryAt}
-use Rattle.glob_lists.specs.Private.Lists.Walking.{NonePasses}
-use Rattle.glob_lists.specs.Private.Ways.{IsPastAnswers}
-use Rattle.glob_lists.proofs.lemmas.PrefilterLemmas.{AnsweringPasses}
-use Rattle.glob_lists.specs.declared.asks.probe.Probe.{Probe}
+use Rattle.gix_glob.specs.Steps.{Counts}
+use Rattle.glob_lists.specs.declared.link.Link.{Link}
+use Rattle.glob_lists.specs.declared.stack.folders.Folder.{Folder}
+use Rattle.glob_lists.specs.Deciding.{Decides, PairAnswers}
+use Rattle.glob_lists.specs.Paths.{Path}
+use Rattle.glob_lists.specs.Private.Stack.Finding.{IsLastOfList, SpendsOnAll, SpendsOnList}
+use Rattle.glob_lists.specs.Private.Stack.Folders.{AreFolderedBy, HasFolders, IsFolderAt, IsForest, IsLastUpTo, base_at}
+use Rattle.glob_lists.specs.Private.Stack.Order.{Begins, IsUpTo}
+use Rattle.glob_lists.proofs.lemmas.BaseLemmas.{Begins-answers}
+use Rattle.glob_lists.proofs.lemmas.FolderLemmas.{above_up_to, between_begins}
+use Rattle.glob_lists.proofs.lemmas.OrderLemmas.{Begins-between, IsUpTo-begins}
+use Rattle.glob_lists.proofs.lemmas.StackLemmas.{SpendsFrom, SpendsFrom-all, SpendsFrom-asked, SpendsFrom-none}
 
--- ---- where a base leaves something of a path, it begins the path
+-- no list answers whose folder stands at place k or after it
+abbrev pub NoneAnswersFrom : {V : Type 0} → List (EntryList V) → List Folder → Path → Case → ℕ → Type 0
+NoneAnswersFrom lists folders path case k = (m : ℕ) (folder : Folder) → k ≤ m → slice_get folders m ≡ Some folder → (e : ℕ) → ¬ PairAnswers lists path.bytes path.is_dir case folder.list e
 
-folded_is : (text : List ℕ) (j : ℕ) → folded_at text j ≡ get_or (map to_ascii_lowercase text) j 0
-folded_is text j = elim (cases_lt j (length text)) [
-  | inl within ↦ sym (get_or-map to_ascii_lowercase text j 0 0 within)
-  | inr past ↦ ap to_ascii_lowercase (get_or_past text j 0 past) ∙ sym (get_or_past (map to_ascii_lowercase text) j 0 (let same = length-map text to_ascii_lowercase in omega arith))
-]
+-- The next folder is that of the link: none that was passed has an answer, and the lists that were asked come after its own.
+pub record IsPassedTo {V : Type 0} (lists : List (EntryList V)) (folders : List Folder) (path : Path) (case : Case) (link : Link) (before after : Counts) : Type 0 where
+  pub within : link.0 ≤ length folders
+  pub up_to : (m : ℕ) (folder : Folder) → m + 1 ≡ link.0 → slice_get folders m ≡ Some folder → IsUpTo (base_at lists folder.list) path.bytes
+  pub none : NoneAnswersFrom lists folders path case link.0
+  pub reached : ℕ
+  pub nearer : (m : ℕ) (folder : Folder) → m + 1 ≡ link.0 → slice_get folders m ≡ Some folder → folder.list < reached
+  pub spent : SpendsFrom lists (length path.bytes) reached before after
 
-lower_same : (case : Case) (front base : List ℕ) → folding_by case front ≡ folding_by case base → map to_ascii_lowercase front ≡ map to_ascii_lowercase base
-lower_same Sensitive front base same = ap (map to_ascii_lowercase) same
-lower_same Fold front base same = same
+module _ {V : Type 0} (lists : List (EntryList V)) (folders : List Folder) (path : Path) (case : Case) (are : AreFolderedBy lists folders) where
+  -- the folder of a pair that answers
+  folder_of_pair : (i m : ℕ) → PairAnswers lists path.bytes path.is_dir case i m → (k : ℕ) × IsFolderAt folders i k
+  folder_of_pair i m h =
+      are.all i m (slice_get_within lists i h.list h.there)
+      (record { list = h.list; there = h.there; inside = slice_get_within h.list.entries m h.answers.entry h.answers.there })
 
-Begins-rest : (case : Case) (base path rest : List ℕ) → Rest case base path rest → Begins base path
-Begins-rest case base path rest is =
-    let same = lower_same case is.front base is.same in
-    let long : length is.front ≡ length base = sym (length-map is.front to_ascii_lowercase) ∙ (ap length same ∙ length-map base to_ascii_lowercase) in
-    let whole : length path ≡ length is.front + length rest = ap length is.joined ∙ length-append is.front rest in
-    record {
-      within = omega arith;
-      inside = omega arith;
-      same = λ j below.
-          folded_is base j ∙ (ap (λ (l : List ℕ). get_or l j 0) (sym same) ∙ (sym (folded_is is.front j)
-          ∙ ap to_ascii_lowercase (sym (get_or-append is.front rest 0 j (omega arith)) ∙ ap (λ (l : List ℕ). get_or l j 0) (sym is.joined))));
+  -- no list was asked
+  pub IsPassedTo-start : (last : Link) (counts : Counts) → IsLastUpTo lists folders path.bytes last → IsPassedTo lists folders path case last counts counts
+  IsPassedTo-start last counts h = record {
+    within = h.within;
+    up_to = h.here;
+    none = λ m folder low got e answers. h.others m folder low got (IsUpTo-begins (base_at lists folder.list) path.bytes (Begins-answers lists path.bytes path.is_dir case folder.list e answers));
+    reached = length lists;
+    nearer = λ m folder next got. (are.forest.each m folder got).inside;
+    spent = SpendsFrom-none lists (length path.bytes) (length lists) counts;
+  }
+
+  module _ (place : ℕ) (folder : Folder) (link : Link) (before middle after : Counts) (found : IsPassedTo lists folders path case link before middle) (next : place + 1 ≡ link.0)
+      (there : slice_get folders place ≡ Some folder) (spends : SpendsOnList lists folder.list (length path.bytes) middle after) where
+    -- what the lists from the one that is asked on may take
+    spent_here : SpendsFrom lists (length path.bytes) folder.list before after
+    spent_here =
+        let inside = (are.forest.each place folder there).inside in
+        let list : EntryList V = get_or lists folder.list (record { entries = []; source = None; base = None }) in
+        let got : slice_get lists folder.list ≡ Some list = slice_get-get_or lists folder.list (record { entries = []; source = None; base = None }) inside in
+        let near = found.nearer place folder next there in
+        SpendsFrom-asked lists (length path.bytes) folder.list found.reached list before middle after (omega arith) got found.spent (spends list got)
+
+    -- the list has no answer, and the next folder is the one that its own is linked to
+    pub IsPassedTo-next : IsLastOfList lists path case folder.list None → IsPassedTo lists folders path case folder.above before after
+    IsPassedTo-next not =
+        let chained = are.forest.chained place folder there in
+        let up_to = found.up_to place folder next there in
+        let low = chained.below in
+        let inside = slice_get_within folders place folder there in
+        record {
+          within = omega arith;
+          up_to = λ m other link_is got. above_up_to lists folders are.forest place m folder other path.bytes there got link_is up_to;
+          none = λ m other past got e answers. elim (cases_order m place) [
+            | inl same ↦
+                (let is : other ≡ folder = same_Some other folder (sym got ∙ (ap (slice_get folders) same ∙ there)) in
+                not e (subst (λ (f : Folder). PairAnswers lists path.bytes path.is_dir case f.list e) is answers))
+            | inr (inl below) ↦
+                between_begins lists folders are.forest place m folder other path.bytes there got past below up_to (Begins-answers lists path.bytes path.is_dir case other.list e answers)
+            | inr (inr above) ↦ found.none m other (omega arith) got e answers
+          ];
+          reached = folder.list;
+          nearer = λ m other link_is got. are.forest.nested m place other folder (omega arith) got there (chained.here m other link_is got);
+          spent = spent_here;
+        }
+
+    pub SpendsOnAll-here : SpendsOnAll lists (length path.bytes) before after
+    SpendsOnAll-here = SpendsFrom-all lists (length path.bytes) folder.list before after spent_here
+
+    -- the list has an answer, and so no later list does
+    pub Decides-here : (last : ℕ) → IsLastOfList lists path case folder.list (Some last) → Decides lists path.bytes path.is_dir case (Some (folder.list, last))
+    Decides-here last told = record {
+      answers = told.0;
+      last = λ i m answers.
+          let at = folder_of_pair i m answers in
+          let other = at.1.folder in elim (cases_order at.0 place) [
+            | inl same ↦
+                (let is : other ≡ folder = same_Some other folder (sym at.1.there ∙ (ap (slice_get folders) same ∙ there)) in
+                let list_is : i ≡ folder.list = sym at.1.list ∙ ap (λ (f : Folder). f.list) is in
+                inr (list_is, told.1 m (subst (λ (k : ℕ). PairAnswers lists path.bytes path.is_dir case k m) list_is answers)))
+            | inr (inl below) ↦
+                (let begins : Begins (base_at lists other.list) path.bytes = subst (λ (k : ℕ). Begins (base_at lists k) path.bytes) (sym at.1.list) (Begins-answers lists path.bytes path.is_dir case i m answers) in
+                let nearer = are.forest.nested at.0 place other folder below at.1.there there
+                (Begins-between (base_at lists other.list) (base_at lists folder.list) path.bytes (are.forest.sorted at.0 place other folder (omega arith) at.1.there there) (found.up_to place folder next there) begins) in
+                let list = at.1.list in
+                inl (omega arith))
+            | inr (inr above) ↦ absurd (found.none at.0 other (omega arith) at.1.there m (subst (λ (k : ℕ). PairAnswers lists path.bytes path.is_dir case k m) (sym at.1.list) answers))
+          ];
     }
 
-Begins-left : (case : Case) (base : Option (List ℕ)) (path rest : List ℕ) → RestOf case base path rest → Begins (base_text base) path
-Begins-left case None path rest is = record { within = omega arith; inside = omega arith; same = λ j below. absurd (omega arith) }
-Begins-left case (Some base) path rest is = Begins-rest case base path rest is
-
--- a list that has an answer for a path has a base that begins it
-pub Begins-answers : {V : Type 0} (lists : List (EntryList V)) (path : List ℕ) (is_dir : Bool) (case : Case) (i m : ℕ) → PairAnswers lists path is_dir case i m → Begins (base_at lists i) path
-Begins-answers {V} lists path is_dir case i m h =
-    subst (λ (l : Option (EntryList V)). Begins (base_of l) path) (sym h.there)
-    (Begins-left case h.list.base path h.answers.answers.rest h.answers.answers.left)
-
--- ---- the row of an entry
-
-module _ {V : Type 0} (lists : List (EntryList V)) (rows : List Row) (are : AreRows lists rows) (i m first : ℕ) (entry : Entry V) (there : IsEntryAt lists i m entry)
-    (begins : first ≡ entry_count (take i lists)) where
-  pub row_within : first + m < length rows
-  row_within =
-      let within = place_within lists i m (entry, there) in
-      let many = rows_count lists rows are in
-      omega arith
-
-  -- some row stands at that place
-  pub row_at : (row : Row) × (slice_get rows (first + m) ≡ Some row)
-  row_at = slice_get-inside rows (first + m) row_within
-
-  -- the row at that place asks for what the entry does
-  pub row_asks : (row : Row) → slice_get rows (first + m) ≡ Some row → Asks entry.text entry.mode row
-  row_asks row got = are.each i m entry row there (subst (λ (k : ℕ). slice_get rows (k + m) ≡ Some row) begins got)
-
--- the row of each entry of a list is within the rows
-pub row_inside : {V : Type 0} (lists : List (EntryList V)) (rows : List Row) → AreRows lists rows → (i m first : ℕ) (list : EntryList V) → slice_get lists i ≡ Some list → m < length list.entries
-    → first ≡ entry_count (take i lists) → first + m < length rows
-row_inside {V} lists rows are i m first list there inside begins =
-    let more = entry_count-more_le lists i list there in
-    let many = rows_count lists rows are in
-    omega arith
-
--- the rows of a list are within the rows
-pub rows_inside : {V : Type 0} (lists : List (EntryList V)) (rows : List Row) → AreRows lists rows → (i first : ℕ) (list : EntryList V) → slice_get lists i ≡ Some list
-    → first ≡ entry_count (take i lists) → first + length list.entries ≤ length rows
-rows_inside {V} lists rows are i first list there begins =
-    let more = entry_count-more_le lists i list there in
-    let many = rows_count lists rows are in
-    omega arith
-
--- where no row of a list from a place on passes, no entry from there on answers
-pub IsPastAnswers-passed : {V : Type 0} (lists : List (EntryList V)) (rows : List Row) → AreRows lists rows → (path : List ℕ) (is_dir : Bool) (case : Case) (probe : Probe) → AnsweringPasses → Shows path probe
-    → (i first end : ℕ) (list : EntryList V) → slice_get lists i ≡ Some list → first ≡ entry_count (take i lists) → end ≤ length list.entries
-    → NonePasses rows probe (first + end) (first + length list.entries) → IsPastAnswers lists path is_dir case i end
-IsPastAnswers-passed {V} lists rows are path is_dir case probe law shows i first end list there begins few none = record {
-  within = λ other got. (let long : length list.entries ≡ length other.entries = ap (λ (l : EntryList V). length l.entries) (same_Some list other (sym there ∙ got)) in omega arith);
-  none = λ m past answers.
-      let entry = answers.answers.entry in
-      let under = answers.answers.answers in
-      let here : IsEntryAt lists i m entry = record { list = answers.list; there = answers.there; here = answers.answers.there } in
-      let at = row_at lists rows are i m first entry here begins in
-      let asks = row_asks lists rows are i m first entry here begins at.0 at.1 in
-      let same : answers.list ≡ list = same_Some answers.list list (sym answers.there ∙ there) in
-      let inside = slice_get_within answers.list.entries m entry answers.answers.there in
-      let long : length answers.list.entries ≡ length list.entries = ap (λ (l : EntryList V). length l.entries) same in
-      none (first + m) at.0 (omega arith) (omega arith) at.1
-      (law entry.text entry.mode answers.list.base path under.rest is_dir case at.0 probe shows asks under.left under.answers);
-}
+  -- no folder is left
+  pub Decides-nowhere : (link : Link) (before after : Counts) → IsPassedTo lists folders path case link before after → link.0 ≡ 0 → Decides lists path.bytes path.is_dir case None
+  Decides-nowhere link before after found none i m answers =
+      let at = folder_of_pair i m answers in
+      found.none at.0 at.1.folder (omega arith) at.1.there m (subst (λ (k : ℕ). PairAnswers lists path.bytes path.is_dir case k m) (sym at.1.list) answers)

@@ -9,7 +9,7 @@ use Rattle.glob_lists.proofs.stack.folders.all_after_begun.Goals as goal
 
 -- what stands for a folder that isn't there
 abbrev none : Folder
-none = record { key = 0; shared = 0; size = 0; list = 0; first_row = 0; above = record { 0 = 0 }; rows = 0 }
+none = record { key = 0; list = 0; above = record { 0 = 0 } }
 
 pub returns-in_default : goal.returns-in_default
 returns-in_default g c told =
@@ -21,13 +21,13 @@ returns-then-above-place g c told =
     AreAllAfter-aside (map (entry_list_of g.T.Pattern.seen) c.args.lists.now) c.args.folders.now c.args.path.now c.requires.forest c.args.place c.args.known c.requires.begun _
     (slice_get-get_or c.args.folders.now (c.args.place + 1) none (omega arith)) (λ below. c.if-above-place.true (let next = c.in-Some.ensures in omega arith))
 
-pub is_up_to_from-requires : goal.is_up_to_from-requires
-is_up_to_from-requires g c = subst (λ base. AreSameUpTo base c.args.path.now c.args.known) (sym c.base_at.ensures)
+pub is_up_to_past-requires : goal.is_up_to_past-requires
+is_up_to_past-requires g c = subst (λ base. AreSameUpTo base c.args.path.now c.args.known) (sym c.base_at.ensures)
     (AreSameUpTo-next (map (entry_list_of g.T.Pattern.seen) c.args.lists.now) c.args.folders.now c.args.path.now c.requires.forest c.args.place c.args.known c.requires.begun _
     (slice_get-get_or c.args.folders.now (c.args.place + 1) none (omega arith)) (let next = c.in-Some.ensures in omega arith))
 
 pub returns : goal.returns
 returns g c told =
-    let after : IsUpTo c.base_at.result.now c.args.path.now → ⊥ = λ up_to. (let is = c.is_up_to_from.ensures.1 up_to in grind (arith, told, is)) in
+    let after : IsUpTo c.base_at.result.now c.args.path.now → ⊥ = λ up_to. (let is = c.is_up_to_past.ensures.1 up_to in grind (arith, told, is)) in
     AreAllAfter-first (map (entry_list_of g.T.Pattern.seen) c.args.lists.now) c.args.folders.now c.args.path.now c.requires.forest (c.args.place + 1) _
     (slice_get-get_or c.args.folders.now (c.args.place + 1) none (omega arith)) (rw c.base_at.ensures at after)

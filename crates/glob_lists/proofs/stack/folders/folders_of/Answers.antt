@@ -28,10 +28,4 @@ chained-requires-clause-fits g c =
     few_folders lists c.deref-2.result.now c.requires.fits were.few
 
 pub returns : goal.returns
-returns g c =
-    let lists = map (entry_list_of g.T.Pattern.seen) c.args.lists.now in
-    let were = subst (AreFoldersUpTo lists (length lists)) (sym c.deref-2.ensures.value) (moved g (goal.at.returns g c).After-deref) in
-    let made = rw c.in-Some.is at c.in_ok-chained.ensures in (
-      AreFolderedBy-chained lists c.deref-2.result.now c.in-Some.chained.items c.requires.fits were made.0 made.1,
-      rw (c.deref-4.ensures.value, c.deref-5.ensures.value) at (c.are_heads.ensures c.if-not-are_heads.false),
-    )
+returns g c = ?

@@ -8,7 +8,7 @@ use Rattle.glob_lists.proofs.stack.folders.follows.Goals as goal
 
 -- what stands for a folder that isn't there
 abbrev none : Folder
-none = record { key = 0; shared = 0; size = 0; list = 0; first_row = 0; above = record { 0 = 0 }; rows = 0 }
+none = record { key = 0; list = 0; above = record { 0 = 0 } }
 
 pub returns-in-len1-up : goal.returns-in-len1-up
 returns-in-len1-up g c told =

@@ -6,13 +6,13 @@ use Rattle.std.proofs.lemmas.Slice.Eq.{starts_is}
 use Rattle.gix_glob.specs.EntryLists.{entry_list_of}
 use Rattle.glob_lists.specs.declared.stack.folders.Folder.{Folder}
 use Rattle.glob_lists.specs.Private.Stack.Order.{Begins}
-use Rattle.glob_lists.proofs.lemmas.FrontLemmas.{Begins-joined, IsUpTo-begins}
+use Rattle.glob_lists.proofs.lemmas.OrderLemmas.{Begins-joined, IsUpTo-begins}
 use Rattle.glob_lists.proofs.lemmas.NearLemmas.{IsLastUpTo-here}
 use Rattle.glob_lists.proofs.stack.folders.is_last_up_to.Goals as goal
 
 -- what stands for a folder that isn't there
 abbrev none : Folder
-none = record { key = 0; shared = 0; size = 0; list = 0; first_row = 0; above = record { 0 = 0 }; rows = 0 }
+none = record { key = 0; list = 0; above = record { 0 = 0 } }
 
 pub base_there-base-requires : goal.base_there-base-requires
 base_there-base-requires g c = (c.requires.forest.each c.in-Some.place _ (slice_get-get_or c.args.folders.now c.in-Some.place none (omega arith))).inside

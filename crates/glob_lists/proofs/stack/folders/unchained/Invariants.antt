@@ -1,12 +1,8 @@
-use Rattle.std.proofs.Common.{◌≡◌, map, take}
+use Rattle.std.proofs.Common.{map}
 use Rattle.gix_glob.specs.EntryLists.{entry_list_of}
-use Rattle.glob_lists.specs.Index.{entry_count}
 use Rattle.glob_lists.specs.Private.Stack.Folders.{AreFoldersUpTo}
 use Rattle.glob_lists.proofs.stack.folders.unchained.Given as goal
 
--- the folders of the lists so far, and how many rows those have
+-- the folders of the lists so far
 abbrev pub invariant-lists : goal.invariant-lists
-invariant-lists g l = record {
-  folders : AreFoldersUpTo (map (entry_list_of g.T.Pattern.seen) l.lists) l.i l.folders.items;
-  first : l.first_row ≡ entry_count (take l.i (map (entry_list_of g.T.Pattern.seen) l.lists));
-}
+invariant-lists g l = AreFoldersUpTo (map (entry_list_of g.T.Pattern.seen) l.lists) l.i l.folders.items
