@@ -1,5 +1,5 @@
 -- The entries of one list are asked from the last one on: which of them answers, and what that takes.
-use Rattle.std.proofs.Common.{◌≡◌, ◌↔◌, ℕ, ◌+◌, ◌<◌, ◌≤◌, IsTrue, List, drop, length, Option, None, Some, refl, sym, ap, subst, ◌∙◌, arith}
+use Rattle.std.proofs.Common.{◌≡◌, ◌↔◌, ℕ, ◌+◌, ◌-◌, ◌<◌, ◌≤◌, List, drop, length, Option, None, Some, refl, sym, ap, subst, ◌∙◌, arith}
 use Rattle.std.specs.Prelude.{slice_get, sum_by}
 use Rattle.std.proofs.lemmas.Bool.{cases_eq, cases_lt}
 use Rattle.std.proofs.Common.{⊎_elim}
@@ -53,13 +53,13 @@ module _ {V : Type 0} (list : EntryList V) (path : Path) (case : Case) where
   )
 
 -- what is said of a list is said of it in its stack
-pub IsLastOfList-at : {V : Type 0} (lists : List (EntryList V)) (path : Path) (case : Case) (i : ℕ) (list : EntryList V) → slice_get lists i ≡ Some list → (found : Option ℕ) → IsLastMatch list path case found
-    → IsLastOfList lists path case i found
-IsLastOfList-at {V} lists path case i list there None none m answers = none m (PairAnswers-only lists path.bytes path.is_dir case i m list there answers)
-IsLastOfList-at {V} lists path case i list there (Some last) h = (
-  PairAnswers-yes lists path.bytes path.is_dir case i last list there h.0,
-  λ m answers. h.1 m (PairAnswers-only lists path.bytes path.is_dir case i m list there answers),
-)
+module _ {V : Type 0} (lists : List (EntryList V)) (path : Path) (case : Case) (i : ℕ) (list : EntryList V) (there : slice_get lists i ≡ Some list) where
+  pub IsLastOfList-at : (found : Option ℕ) → IsLastMatch list path case found → IsLastOfList lists path case i found
+  IsLastOfList-at None none = λ m answers. none m (PairAnswers-only lists path.bytes path.is_dir case i m list there answers)
+  IsLastOfList-at (Some last) h = (
+    PairAnswers-yes lists path.bytes path.is_dir case i last list there h.0,
+    λ m answers. h.1 m (PairAnswers-only lists path.bytes path.is_dir case i m list there answers),
+  )
 
 -- ---- what that takes
 

@@ -1,5 +1,5 @@
 //! What the patterns of a list ask of a path: so most of them are passed over untested.
-ghost use Rattle.std.specs.Prelude.{◌≡◌, ◌-◌, ◌<◌, ◌≤◌, ℕ, IfOk, IfSome, IsTrue, MatchOption, OnOk, length, map};
+ghost use Rattle.std.specs.Prelude.{◌≡◌, ◌-◌, ◌<◌, ◌≤◌, ℕ, IfOk, IfSome, IsTrue, MatchOption, Some, length, map, slice_get};
 ghost use Rattle.gix_glob.specs.EntryLists.{entry_list_of};
 ghost use Rattle.gix_glob.specs.Stripping.{strip_looks};
 ghost use Rattle.glob_lists.specs.Deciding.{AnswersAt, HasFolder};

@@ -11,6 +11,9 @@ use Rattle.glob_lists.proofs.stack.folders.chained.Goals as goal
 abbrev none : Folder
 none = record { key = 0; list = 0; above = record { 0 = 0 } }
 
+pub chained_after-requires-clause-of : goal.chained_after-requires-clause-of
+chained_after-requires-clause-of g c = c.requires.each c.folders.k _ (slice_get-get_or c.args.folders.now c.folders.k none c.folders-test.true)
+
 pub folders-preserved : goal.folders-preserved
 folders-preserved g c =
     let lists = map (entry_list_of g.T.Pattern.seen) c.args.lists.now in

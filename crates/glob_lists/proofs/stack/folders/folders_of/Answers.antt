@@ -1,6 +1,8 @@
 -- The folders are sorted, and chained.
 use Rattle.std.proofs.Common.{length, map, sym, subst}
 use Rattle.std.proofs.lemmas.List.{length-map}
+use Rattle.std.proofs.lemmas.Option.{IfSome-weaker}
+use Rattle.std.proofs.lemmas.Result.{IfOk-weaker}
 use Rattle.gix_glob.specs.EntryLists.{entry_list_of}
 use Rattle.glob_lists.specs.Private.Stack.Folders.{AreFoldersUpTo}
 use Rattle.glob_lists.proofs.lemmas.FolderLemmas.{AreFolderedBy-chained, AreFoldersUpTo-moved, few_folders}
@@ -19,13 +21,18 @@ moved g c =
 pub chained-requires-clause-each : goal.chained-requires-clause-each
 chained-requires-clause-each g c =
     let lists = map (entry_list_of g.T.Pattern.seen) c.args.lists.now in
-    (subst (AreFoldersUpTo lists (length lists)) (sym c.deref-2.ensures.value) (moved g (goal.at.chained-requires-clause-each g c).After-deref)).each
+    (subst (AreFoldersUpTo lists (length lists)) (sym c.deref.ensures.value) (moved g (goal.at.chained-requires-clause-each g c).After-deref)).each
 
 pub chained-requires-clause-fits : goal.chained-requires-clause-fits
 chained-requires-clause-fits g c =
     let lists = map (entry_list_of g.T.Pattern.seen) c.args.lists.now in
-    let were = subst (AreFoldersUpTo lists (length lists)) (sym c.deref-2.ensures.value) (moved g (goal.at.chained-requires-clause-fits g c).After-deref) in
-    few_folders lists c.deref-2.result.now c.requires.fits were.few
+    let were = subst (AreFoldersUpTo lists (length lists)) (sym c.deref.ensures.value) (moved g (goal.at.chained-requires-clause-fits g c).After-deref) in
+    few_folders lists c.deref.result.now c.requires.fits were.few
 
 pub returns : goal.returns
-returns g c = ?
+returns g c =
+    let lists = map (entry_list_of g.T.Pattern.seen) c.args.lists.now in
+    let were = subst (AreFoldersUpTo lists (length lists)) (sym c.deref.ensures.value) (moved g (goal.at.returns g c).After-deref) in
+    IfOk-weaker c.chained.result _ _
+    (λ found. IfSome-weaker found _ _ (λ chained made. AreFolderedBy-chained lists c.deref.result.now chained.items c.requires.fits were made.0 made.1))
+    c.chained.ensures

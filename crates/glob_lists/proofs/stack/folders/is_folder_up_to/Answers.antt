@@ -1,5 +1,5 @@
 -- Where the numbers of the first bytes differ they tell.
-use Rattle.std.proofs.Common.{◌≡◌, ℕ, length, map, refl, ap, arith}
+use Rattle.std.proofs.Common.{◌≡◌, ℕ, List, length, map, refl, ap, arith}
 use Rattle.gix_glob.specs.EntryLists.{entry_list_of}
 use Rattle.glob_lists.specs.Private.Asks.Literals.{AreBytes}
 use Rattle.glob_lists.specs.Private.Stack.Folders.{base_at}
@@ -25,4 +25,5 @@ is_up_to_past-requires g c =
     let path = c.args.path.now in
     let bytes : AreBytes path = λ j. (let fits = c.type_inv.path j in omega arith) in
     let alike = AgreeUpTo-numbers base path 0 8 8 refl c.requires.of.bytes bytes (AreSameUpTo-none base path) (omega (arith, c.requires.of.key, c.requires.key, c.if-folder-key.false, c.if-folder-key-2.false)) in
-    rw c.base_there-base.ensures (AreSameUpTo-agree base path 8 _ alike (omega (arith, c.min-known.ensures)) (omega (arith, c.min-known.ensures, c.min-most.ensures, c.len.ensures, ap length c.base_there-base.ensures)) (omega (arith, c.min-known.ensures, c.min-most.ensures, c.len-2.ensures)))
+    let long = ap (λ (l : List ℕ). length l) c.base_there-base.ensures in
+    rw c.base_there-base.ensures (AreSameUpTo-agree base path 8 _ alike (omega (arith, c.min-known.ensures)) (omega (arith, c.min-known.ensures, c.min-most.ensures)) (omega (arith, c.min-known.ensures, c.min-most.ensures)))

@@ -12,8 +12,8 @@ abbrev none : Folder
 none = record { key = 0; list = 0; above = record { 0 = 0 } }
 
 pub halves-init : goal.halves-init
-halves-init g c = IsSearched-start (map (entry_list_of g.T.Pattern.seen) c.args.lists.now) c.args.folders.now c.args.path.now _ _ _ (omega (arith, c.len-size.ensures)) c.requires.fits
-    (record { steps = c.looks.ensures.steps; from = omega (arith, c.looks.ensures.looks); to = omega (arith, c.looks.ensures.looks, c.min.ensures, c.len.ensures) })
+halves-init g c = IsSearched-start (map (entry_list_of g.T.Pattern.seen) c.args.lists.now) c.args.folders.now c.args.path.now _ _ _ refl c.requires.fits
+    (record { steps = c.looks.ensures.steps; from = omega (arith, c.looks.ensures.looks); to = omega (arith, c.looks.ensures.looks, c.min.ensures) })
 
 pub is_folder_up_to-requires-clause-of : goal.is_folder_up_to-requires-clause-of
 is_folder_up_to-requires-clause-of g c =

@@ -1,0 +1,6 @@
+-- The rows are chained, which changes their links alone.
+use Rattle.glob_lists.proofs.lemmas.RowLemmas.{AreInOrder-same}
+use Rattle.glob_lists.proofs.list.rows.ListRows.of.Goals as goal
+
+pub returns : goal.returns
+returns g c = ?
