@@ -1,6 +1,6 @@
 -- The entries of one list are asked from the last one on: which of them answers, and what that takes.
 use Rattle.std.proofs.Common.{◌≡◌, ◌↔◌, ℕ, ◌+◌, ◌-◌, ◌<◌, ◌≤◌, List, drop, length, Option, None, Some, refl, sym, ap, subst, ◌∙◌, arith}
-use Rattle.std.specs.Prelude.{slice_get, sum_by}
+use Rattle.std.specs.Prelude.{MatchOption, slice_get, sum_by}
 use Rattle.std.proofs.lemmas.Bool.{cases_eq, cases_lt}
 use Rattle.std.proofs.Common.{⊎_elim}
 use Rattle.std.proofs.lemmas.List.Sums.{sum_by-take-drop}
@@ -51,6 +51,12 @@ module _ {V : Type 0} (list : EntryList V) (path : Path) (case : Case) where
         (λ (up_to : m ≤ place). up_to)
         (cases_lt place m),
   )
+
+  -- what the next match from the end on is
+  pub IsLastMatch-found : (passed_from end : ℕ) (found : Option ℕ) → length list.entries ≤ end → MatchOption found (NoneAnswers list path case 0 end) (IsNextMatch list path case passed_from end)
+      → IsLastMatch list path case found
+  IsLastMatch-found passed_from end None all none = NoneAnswers-all end all none
+  IsLastMatch-found passed_from end (Some place) all next = IsLastMatch-next passed_from end place all next
 
 -- what is said of a list is said of it in its stack
 module _ {V : Type 0} (lists : List (EntryList V)) (path : Path) (case : Case) (i : ℕ) (list : EntryList V) (there : slice_get lists i ≡ Some list) where

@@ -153,8 +153,8 @@ impl<'a, T: search::Pattern> PreparedLists<'a, T> {
         requires found { AreFoundFrom (map (entry_list_of T.seen) self.now) question.now.path.now question.now.case (i + 1) 0 pairs.old.items }
         ensures { OnOk result (AreFoundFrom (map (entry_list_of T.seen) self.now) question.now.path.now question.now.case i 0 pairs.new.items) }
     {
-        let list = &self.lists[i];
         let rows = &self.rows[i];
+        let list = &self.lists[i];
         let Some(mut visit) = rows.visit(list, question, counts) else {
             return Ok(());
         };

@@ -1,7 +1,7 @@
 -- The folders are sorted, and chained.
-use Rattle.std.proofs.Common.{length, map, sym, subst}
+use Rattle.std.proofs.Common.{length, map, None, Option, Some, sym, subst}
+use Rattle.std.specs.Prelude.{IfSome}
 use Rattle.std.proofs.lemmas.List.{length-map}
-use Rattle.std.proofs.lemmas.Option.{IfSome-weaker}
 use Rattle.std.proofs.lemmas.Result.{IfOk-weaker}
 use Rattle.gix_glob.specs.EntryLists.{entry_list_of}
 use Rattle.glob_lists.specs.Private.Stack.Folders.{AreFoldersUpTo}
@@ -9,6 +9,11 @@ use Rattle.glob_lists.proofs.lemmas.FolderLemmas.{AreFolderedBy-chained, AreFold
 use Rattle.glob_lists.proofs.stack.folders.folders_of.Given.{Over}
 use Rattle.glob_lists.proofs.stack.folders.folders_of.Goals as goal
 use Rattle.glob_lists.proofs.stack.folders.folders_of.Goals.{After-deref}
+
+-- what follows for what is there
+IfSome-weaker : {X : Type 0} (found : Option X) (P Q : X → Type 0) → ((x : X) → P x → Q x) → IfSome found P → IfSome found Q
+IfSome-weaker None P Q more h = tt
+IfSome-weaker (Some x) P Q more h = more x h
 
 -- the folders of all lists, sorted
 moved : (g : Over) (c : After-deref g) → AreFoldersUpTo (map (entry_list_of g.T.Pattern.seen) c.args.lists.now) (length (map (entry_list_of g.T.Pattern.seen) c.args.lists.now)) c.sort_by.new.self.items
