@@ -119,7 +119,7 @@ module _ {V : Type 0} (lists : List (EntryList V)) (path : Path) (case : Case) w
         let long = length-reverse found in
         h.falling (length found - 1 - y) (length found - 1 - x) b a (omega arith) (slice_get-reverse found y b got_b) (slice_get-reverse found x a got_a);
     all = λ i m answers.
-        let x = h.all i m answers (elim (cases_lt 0 i) [ | inl later ↦ inl later | inr first ↦ inr (omega arith, omega arith) ]) in
+        let x = h.all i m answers (elim (cases_lt 0 i) [ inl later ↦ inl later | inr first ↦ inr (omega arith, omega arith) ]) in
         (length found - 1 - x.0, slice_get-reverse_back found x.0 (i, m) x.1);
   }
 

@@ -57,8 +57,7 @@ impl ListRows {
     ) -> Result<ListRows, AllocError>
         ensures { IfOk result (AreRowsOf (entry_list_of T.seen list.now)) }
     {
-        let mut rows = rows_of(alloc, list)?;
-        let ends = ends_of(alloc, &mut rows)?;
+        let (rows, ends) = chained(alloc, rows_of(alloc, list)?)?;
         let sight = Sight::of_all(&rows);
         Ok(ListRows { rows, sight, ends })
     }
@@ -237,13 +236,14 @@ fn rows_of<T: search::Pattern>(alloc: Global, list: &List<T>) -> Result<Vec<Row>
     Ok(rows)
 }
 
-/// Chains rows, and finds their ends, where there are so many that it pays.
-fn ends_of(alloc: Global, rows: &mut [Row]) -> Result<Option<Ends>, AllocError>
-    ensures same { AreSameRows rows.old rows.new }
-    ensures chained { IfOk result (λ found. IfSome found (AreChainedRows rows.new)) }
+/// The rows, chained, and their ends, where there are so many that this pays.
+fn chained(alloc: Global, mut rows: Vec<Row>) -> Result<(Vec<Row>, Option<Ends>), AllocError>
+    ensures same { IfOk result (λ it. AreSameRows rows.items it.0.items) }
+    ensures chained { IfOk result (λ it. IfSome it.1 (AreChainedRows it.0.items)) }
 {
     if rows.len() < FEWEST_ROWS || rows.len() > u32::MAX as usize {
-        return Ok(None);
+        return Ok((rows, None));
     }
-    chain(alloc, rows)
+    let ends = chain(alloc, &mut rows)?;
+    Ok((rows, ends))
 }

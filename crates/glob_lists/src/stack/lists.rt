@@ -49,7 +49,8 @@ impl<'a, T: search::Pattern> PreparedLists<'a, T> {
     {
         let mut rows = Vec::with_capacity(alloc, lists.len())?;
         'lists: for i in 0..lists.len() {
-            rows.push(ListRows::of(alloc, &lists[i])?)?;
+            let its = ListRows::of(alloc, &lists[i])?;
+            rows.push(its)?;
         }
         Ok(PreparedLists { lists, rows })
     }

@@ -4,8 +4,4 @@ use Rattle.glob_lists.proofs.lemmas.RowLemmas.{AreInOrder-same}
 use Rattle.glob_lists.proofs.list.rows.ListRows.of.Goals as goal
 
 pub returns : goal.returns
-returns g c = record {
-  ordered = AreInOrder-same c.in_ok-rows.rows.items c.ends_of.new.rows (rw c.deref_mut.ensures.value at c.in_ok-ends.ensures.same) (entry_list_of g.T.Pattern.seen c.args.list.now) c.in_ok-rows.ensures;
-  seen = rw c.deref.ensures.value at c.of_all-sight.ensures;
-  chained = c.in_ok-ends.ensures.chained;
-}
+returns g c = ?
