@@ -4,4 +4,8 @@ use Rattle.glob_lists.proofs.lemmas.RowLemmas.{AreInOrder-same}
 use Rattle.glob_lists.proofs.list.rows.ListRows.of.Goals as goal
 
 pub returns : goal.returns
-returns g c = ?
+returns g c = record {
+  ordered = AreInOrder-same c.in_ok-rows_of.field-0.items c.in_ok-rows.rows.items c.in_ok-rows.ensures.same (entry_list_of g.T.Pattern.seen c.args.list.now) c.in_ok-rows_of.ensures;
+  seen = rw c.deref.ensures.value at c.of_all-sight.ensures;
+  chained = c.in_ok-rows.ensures.chained;
+}
