@@ -76,10 +76,6 @@ NeverFall-through before middle after one two = record {
 }
 
 module _ {V : Type 0} (list : EntryList V) (v : ℕ) where
-  -- nothing was asked yet
-  pub SpendsDown-none : (from : ℕ) (counts : Counts) → SpendsDown list v from from counts counts
-  SpendsDown-none from counts = record { steps = omega arith; looks = omega arith; grows = record { steps = omega arith; looks = omega arith } }
-
   -- so many rows more were passed, and the entry of the last of them may have been asked
   pub SpendsDown-passed : (from middle to : ℕ) (start before after : Counts) → to ≤ middle → SpendsDown list v from middle start before → LooksUpTo before after (middle - to) → SpendsDown list v from to start after
   SpendsDown-passed from middle to start before after low spent looked =
@@ -136,11 +132,3 @@ module _ {V : Type 0} (list : EntryList V) (v : ℕ) where
         looks = omega arith;
         grows = record { steps = (let a = old.steps in omega arith); looks = (let a = old.looks in omega arith) };
       }
-
-  -- the base alone was looked at
-  pub Spends-nothing : (start after : Counts) → LooksUpTo start after (strip_looks list.base v) → Spends list v start after
-  Spends-nothing start after looked =
-      let same = looked.steps in
-      let grown = looked.from in
-      let most = looked.to in
-      record { steps = omega arith; looks = omega arith; grows = record { steps = omega arith; looks = omega arith } }

@@ -67,9 +67,6 @@ Begins-between front middle text low high begins = ⊎_elim
 pub AreSameUpTo-none : (a b : List ℕ) → AreSameUpTo a b 0
 AreSameUpTo-none a b = record { within = omega arith; inside = omega arith; same = λ j below. absurd (omega arith) }
 
-pub AreSameUpTo-less : (a b : List ℕ) (n k : ℕ) → k ≤ n → AreSameUpTo a b n → AreSameUpTo a b k
-AreSameUpTo-less a b n k low h = (let within = h.within in let inside = h.inside in record { within = omega arith; inside = omega arith; same = λ j below. h.same j (omega arith) })
-
 module _ (a b c : List ℕ) (x : IsUpTo a b) (y : IsUpTo b c) where
   both : (n : ℕ) → n ≤ x.at → n ≤ y.at → AreSameUpTo a c n
   both n low high =
@@ -174,9 +171,6 @@ IsUpTo-total a b = elim (cases_lt (length a) (length b)) [
       | inr (inr more) ↦ inr (record { at = found.0; same = AreSameUpTo-sym a b found.0 found.1; parts = inr (record { within = (let below = found.2 in omega arith); inside = (let below = found.2 in omega arith); less = more }) })
     ]
   ]
-
-pub IsUpTo-not : (a b : List ℕ) → ¬ IsUpTo a b → IsUpTo b a
-IsUpTo-not a b not = ⊎_elim (λ (up : IsUpTo a b). absurd (not up)) (λ (down : IsUpTo b a). down) (IsUpTo-total a b)
 
 -- ---- the numbers of fronts
 
