@@ -1,6 +1,6 @@
 -- One byte more is one byte and one pair more.
 use Rattle.std.proofs.Common.{arith}
-use Rattle.glob_lists.proofs.lemmas.BitLemmas.{AreHeldUpTo-more, AreHeldUpTo-one, HoldsBits-both}
+use Rattle.glob_lists.proofs.lemmas.Asks.BitLemmas.{AreHeldUpTo-more, AreHeldUpTo-one, HoldsBits-both}
 use Rattle.glob_lists.proofs.asks.literals.bits_of.Goals as goal
 
 pub bytes-init : goal.bytes-init

@@ -1,4 +1,4 @@
-use Rattle.glob_lists.proofs.lemmas.BitLemmas.{AreHeldUpTo}
+use Rattle.glob_lists.proofs.lemmas.Asks.BitLemmas.{AreHeldUpTo}
 use Rattle.glob_lists.proofs.asks.literals.bits_of.Given as goal
 
 -- the sets have the bytes and the pairs so far

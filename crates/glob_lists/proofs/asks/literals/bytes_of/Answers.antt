@@ -1,6 +1,6 @@
 -- One byte more is one bit more.
 use Rattle.std.proofs.Common.{arith}
-use Rattle.glob_lists.proofs.lemmas.BitLemmas.{holds_more}
+use Rattle.glob_lists.proofs.lemmas.Asks.BitLemmas.{holds_more}
 use Rattle.glob_lists.proofs.asks.literals.bytes_of.Goals as goal
 
 pub loop-byte-preserved : goal.loop-byte-preserved

@@ -1,4 +1,4 @@
-use Rattle.glob_lists.proofs.lemmas.BitLemmas.{HoldsUpTo}
+use Rattle.glob_lists.proofs.lemmas.Asks.BitLemmas.{HoldsUpTo}
 use Rattle.glob_lists.proofs.asks.literals.bytes_of.Given as goal
 
 -- the set has the bytes so far

@@ -1,8 +1,8 @@
 -- Bytes of which none is a capital letter make the number as they are.
 use Rattle.std.proofs.Common.{bit_and, ap, sym, ◌∙◌, ℕ, arith}
 use Rattle.glob_lists.specs.Private.Asks.Literals.{AreBytes}
-use Rattle.glob_lists.proofs.lemmas.EndNumbers.{HasEndKeys-whole, raw_end-small}
-use Rattle.glob_lists.proofs.lemmas.RawBytes.{no_capital}
+use Rattle.glob_lists.proofs.lemmas.Asks.EndNumbers.{HasEndKeys-whole, raw_end-small}
+use Rattle.glob_lists.proofs.lemmas.Asks.RawBytes.{no_capital}
 use Rattle.glob_lists.proofs.asks.literals.end_number.Goals as goal
 
 pub returns-then-key-eq-NO_CAPITAL : goal.returns-then-key-eq-NO_CAPITAL

@@ -1,6 +1,6 @@
 -- Bit by bit: nothing is needed that isn't held.
 use Rattle.std.proofs.lemmas.Bool.{eq-eqb, eqb-true}
-use Rattle.glob_lists.proofs.lemmas.BitLemmas.{missing_bits-HasAll, HasAll-none_missing}
+use Rattle.glob_lists.proofs.lemmas.Asks.BitLemmas.{missing_bits-HasAll, HasAll-none_missing}
 use Rattle.glob_lists.proofs.asks.literals.has_all.Goals as goal
 
 pub returns : goal.returns

@@ -1,8 +1,8 @@
 -- Each byte has the bit that capital letters lack.
 use Rattle.std.proofs.Common.{ℕ, ap, arith, bit_and, eqb-true, sym, ◌∙◌}
 use Rattle.glob_lists.specs.Private.Asks.Literals.{AreBytes}
-use Rattle.glob_lists.proofs.lemmas.EndNumbers.{raw_end-plain}
-use Rattle.glob_lists.proofs.lemmas.RawBytes.{no_capital}
+use Rattle.glob_lists.proofs.lemmas.Asks.EndNumbers.{raw_end-plain}
+use Rattle.glob_lists.proofs.lemmas.Asks.RawBytes.{no_capital}
 use Rattle.glob_lists.proofs.asks.literals.has_plain_end.Goals as goal
 
 pub returns : goal.returns

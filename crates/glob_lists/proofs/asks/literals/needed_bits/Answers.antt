@@ -1,4 +1,4 @@
-use Rattle.glob_lists.proofs.lemmas.BitLemmas.{AsksForBits-free, NeedsBits-or}
+use Rattle.glob_lists.proofs.lemmas.Asks.BitLemmas.{AsksForBits-free, NeedsBits-or}
 use Rattle.glob_lists.proofs.asks.literals.needed_bits.Goals as goal
 
 pub returns : goal.returns

@@ -1,7 +1,7 @@
 -- Each byte that stands for itself adds its bit; no set and no escape began before.
 use Rattle.std.proofs.Common.{◌+◌, ◌∙◌, List, ℕ, get_or, sym}
 use Rattle.glob_lists.specs.Private.Asks.Literals.{bit_of}
-use Rattle.glob_lists.proofs.lemmas.BitLemmas.{IsReadUpTo, IsReadUpTo-more, IsReadUpTo-none, IsReadUpTo-past, with_bit}
+use Rattle.glob_lists.proofs.lemmas.Asks.BitLemmas.{IsReadUpTo, IsReadUpTo-more, IsReadUpTo-none, IsReadUpTo-past, with_bit}
 use Rattle.glob_lists.proofs.asks.literals.needed_bytes.Goals as goal
 use Rattle.glob_lists.proofs.asks.literals.needed_bytes.Goals.{then-not-is_joining, else-not-is_joining}
 

@@ -1,7 +1,7 @@
 -- Two bytes that stand for themselves add the bit of their pair; no set and no escape began before.
 use Rattle.std.proofs.Common.{◌+◌, ◌∙◌, List, ℕ, arith, get_or, sym}
 use Rattle.glob_lists.specs.Private.Asks.Literals.{pair_of}
-use Rattle.glob_lists.proofs.lemmas.BitLemmas.{IsReadUpTo, IsReadUpTo-none, IsReadUpTo-pair, IsReadUpTo-past, with_bit}
+use Rattle.glob_lists.proofs.lemmas.Asks.BitLemmas.{IsReadUpTo, IsReadUpTo-none, IsReadUpTo-pair, IsReadUpTo-past, with_bit}
 use Rattle.glob_lists.proofs.asks.literals.needed_pairs.Goals as goal
 use Rattle.glob_lists.proofs.asks.literals.needed_pairs.Goals.{then-not-is_joining+then-not-is_joining-2, else-not-is_joining}
 

@@ -1,4 +1,4 @@
-use Rattle.glob_lists.proofs.lemmas.BitLemmas.{IsReadUpTo}
+use Rattle.glob_lists.proofs.lemmas.Asks.BitLemmas.{IsReadUpTo}
 use Rattle.glob_lists.proofs.asks.literals.needed_pairs.Given as goal
 
 -- the text was read so far

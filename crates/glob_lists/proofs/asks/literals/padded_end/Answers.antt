@@ -1,6 +1,6 @@
 -- One byte more is one number more.
 use Rattle.std.proofs.Common.{arith}
-use Rattle.glob_lists.proofs.lemmas.EndNumbers.{IsPadded-more, IsPadded-none, IsPadded-whole}
+use Rattle.glob_lists.proofs.lemmas.Asks.EndNumbers.{IsPadded-more, IsPadded-none, IsPadded-whole}
 use Rattle.glob_lists.proofs.asks.literals.padded_end.Goals as goal
 
 pub bytes-init : goal.bytes-init

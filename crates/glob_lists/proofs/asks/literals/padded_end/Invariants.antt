@@ -1,4 +1,4 @@
-use Rattle.glob_lists.proofs.lemmas.EndNumbers.{IsPadded}
+use Rattle.glob_lists.proofs.lemmas.Asks.EndNumbers.{IsPadded}
 use Rattle.glob_lists.proofs.asks.literals.padded_end.Given as goal
 
 -- the number of the bytes so far

@@ -1,6 +1,6 @@
 -- A shift takes bytes off.
 use Rattle.std.proofs.Common.{◌*◌, sym, arith}
-use Rattle.glob_lists.proofs.lemmas.EndNumbers.{without_all, without_bytes-shift}
+use Rattle.glob_lists.proofs.lemmas.Asks.EndNumbers.{without_all, without_bytes-shift}
 use Rattle.glob_lists.proofs.asks.literals.without_bytes.Goals as goal
 
 pub returns-then-count-ge-LONGEST_END : goal.returns-then-count-ge-LONGEST_END

@@ -2,7 +2,7 @@
 use Rattle.std.proofs.Common.{map, arith}
 use Rattle.std.proofs.lemmas.List.{length-map}
 use Rattle.gix_glob.specs.EntryLists.{entry_list_of}
-use Rattle.glob_lists.proofs.lemmas.MatchesUpTo.{matches_all}
+use Rattle.glob_lists.proofs.lemmas.Deciding.MatchesUpTo.{matches_all}
 use Rattle.glob_lists.proofs.deciding.matching.matches_into.Goals as goal
 
 pub returns : goal.returns

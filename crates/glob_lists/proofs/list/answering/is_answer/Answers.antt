@@ -4,8 +4,8 @@ use Rattle.gix_glob.specs.declared.pattern.Case.{Case}
 use Rattle.glob_patterns.specs.Private.Insides.{HasInside}
 use Rattle.glob_lists.specs.Deciding.{AnswersFor, path_mode}
 use Rattle.glob_lists.specs.Private.Asks.Showing.{last_part}
-use Rattle.glob_lists.proofs.lemmas.InsideLemmas.{inside_answers, inside_looks, last_part_is_short}
-use Rattle.glob_lists.proofs.lemmas.ToldLemmas.{told_answers}
+use Rattle.glob_lists.proofs.lemmas.Asks.InsideLemmas.{inside_answers, inside_looks, last_part_is_short}
+use Rattle.glob_lists.proofs.lemmas.Asks.ToldLemmas.{told_answers}
 use Rattle.glob_lists.proofs.list.answering.is_answer.Given.{Over}
 use Rattle.glob_lists.proofs.list.answering.is_answer.Goals as goal
 use Rattle.glob_lists.proofs.list.answering.is_answer.Goals.{After-has_inside}

@@ -3,7 +3,7 @@ use Rattle.std.proofs.Common.{◌≡◌, ◌<◌, ℕ, Bool, List, length, Some,
 use Rattle.std.specs.Prelude.{slice_get}
 use Rattle.glob_lists.specs.Private.Chains.{links_of}
 use Rattle.glob_lists.specs.Private.Lists.Ends.{ends_of}
-use Rattle.glob_lists.proofs.lemmas.ChainingLemmas.{AreChainedBy-all, AreSameRows-both}
+use Rattle.glob_lists.proofs.lemmas.Lists.ChainingLemmas.{AreChainedBy-all, AreSameRows-both}
 use Rattle.glob_lists.proofs.list.chaining.chain.Goals as goal
 
 pub returns-in_err-add-clause-same : goal.returns-in_err-add-clause-same

@@ -6,7 +6,7 @@ use Rattle.gix_glob.specs.Entries.{entry_of}
 use Rattle.gix_glob.specs.PatternParts.{mode_of, text_of}
 use Rattle.gix_glob.proofs.lemmas.Elements.{slice_get-map_at}
 use Rattle.glob_lists.specs.Private.Asks.Rows.{Asks}
-use Rattle.glob_lists.proofs.lemmas.RowLemmas.{AskInOrder, AskInOrder-more}
+use Rattle.glob_lists.proofs.lemmas.Lists.RowLemmas.{AskInOrder, AskInOrder-more}
 use Rattle.glob_lists.proofs.list.rows.rows_of.Goals as goal
 
 pub mappings-preserved : goal.mappings-preserved

@@ -1,6 +1,6 @@
 use Rattle.std.proofs.Common.{◌≡◌, length, map}
 use Rattle.gix_glob.specs.Entries.{entry_of}
-use Rattle.glob_lists.proofs.lemmas.RowLemmas.{AskInOrder}
+use Rattle.glob_lists.proofs.lemmas.Lists.RowLemmas.{AskInOrder}
 use Rattle.glob_lists.proofs.list.rows.rows_of.Given as goal
 
 -- each mapping so far has its row

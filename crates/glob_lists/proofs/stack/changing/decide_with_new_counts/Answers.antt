@@ -4,7 +4,7 @@ use Rattle.std.specs.Prelude.{slice_get}
 use Rattle.gix_glob.specs.EntryLists.{entry_list_of}
 use Rattle.gix_glob.proofs.lemmas.Elements.{All-map_at, slice_get-map_at}
 use Rattle.glob_lists.specs.Deciding.{HasFolder}
-use Rattle.glob_lists.proofs.lemmas.DecidingLemmas.{Decides-found, Decides-none, NoListFrom-less}
+use Rattle.glob_lists.proofs.lemmas.Deciding.DecidingLemmas.{Decides-found, Decides-none, NoListFrom-less}
 use Rattle.glob_lists.proofs.stack.changing.decide_with_new_counts.Goals as goal
 use Rattle.glob_lists.proofs.stack.changing.decide_with_new_counts.Given.{Over}
 use Rattle.glob_lists.proofs.stack.changing.decide_with_new_counts.Goals.{After-last_match}

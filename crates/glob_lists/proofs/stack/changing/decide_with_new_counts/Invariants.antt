@@ -1,6 +1,6 @@
 use Rattle.std.proofs.Common.{map}
 use Rattle.gix_glob.specs.EntryLists.{entry_list_of}
-use Rattle.glob_lists.proofs.lemmas.DecidingLemmas.{NoListFrom}
+use Rattle.glob_lists.proofs.lemmas.Deciding.DecidingLemmas.{NoListFrom}
 use Rattle.glob_lists.proofs.stack.changing.decide_with_new_counts.Given as goal
 
 -- no list from here on has a mapping that answers

@@ -4,7 +4,7 @@ use Rattle.std.proofs.lemmas.Option.{slice_get-get_or}
 use Rattle.gix_glob.specs.EntryLists.{entry_list_of}
 use Rattle.glob_lists.specs.declared.stack.folders.Folder.{Folder}
 use Rattle.glob_lists.specs.Private.Stack.Order.{AreSameUpTo, IsUpTo}
-use Rattle.glob_lists.proofs.lemmas.NearLemmas.{AreAllAfter-aside, AreAllAfter-first, AreSameUpTo-next}
+use Rattle.glob_lists.proofs.lemmas.Stack.NearLemmas.{AreAllAfter-aside, AreAllAfter-first, AreSameUpTo-next}
 use Rattle.glob_lists.proofs.stack.folders.all_after_begun.Goals as goal
 
 -- what stands for a folder that isn't there

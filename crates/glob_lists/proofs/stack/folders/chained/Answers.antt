@@ -4,7 +4,7 @@ use Rattle.std.proofs.lemmas.Option.{slice_get-get_or}
 use Rattle.gix_glob.specs.EntryLists.{entry_list_of}
 use Rattle.glob_lists.specs.declared.stack.folders.Folder.{Folder}
 use Rattle.glob_lists.specs.Private.Stack.Folders.{AreSameFolders, IsForest}
-use Rattle.glob_lists.proofs.lemmas.FolderLemmas.{AreSameFolders-more}
+use Rattle.glob_lists.proofs.lemmas.Stack.FolderLemmas.{AreSameFolders-more}
 use Rattle.glob_lists.proofs.stack.folders.chained.Goals as goal
 
 -- what stands for a folder that isn't there

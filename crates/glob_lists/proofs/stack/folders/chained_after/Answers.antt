@@ -3,7 +3,7 @@ use Rattle.std.proofs.Common.{map, refl, arith}
 use Rattle.gix_glob.specs.EntryLists.{entry_list_of}
 use Rattle.glob_lists.specs.declared.stack.folders.Folder.{Folder}
 use Rattle.glob_lists.specs.Private.Stack.Folders.{IsSameFolder}
-use Rattle.glob_lists.proofs.lemmas.FolderLemmas.{IsFolderOf-same, IsForest-more, earlier_at}
+use Rattle.glob_lists.proofs.lemmas.Stack.FolderLemmas.{IsFolderOf-same, IsForest-more, earlier_at}
 use Rattle.glob_lists.proofs.stack.folders.chained_after.Goals as goal
 
 -- what stands for a folder that isn't there

@@ -5,7 +5,7 @@ use Rattle.std.proofs.lemmas.List.{length-map}
 use Rattle.std.proofs.lemmas.Result.{IfOk-weaker}
 use Rattle.gix_glob.specs.EntryLists.{entry_list_of}
 use Rattle.glob_lists.specs.Private.Stack.Folders.{AreFoldersUpTo}
-use Rattle.glob_lists.proofs.lemmas.FolderLemmas.{AreFolderedBy-chained, AreFoldersUpTo-moved, few_folders}
+use Rattle.glob_lists.proofs.lemmas.Stack.FolderLemmas.{AreFolderedBy-chained, AreFoldersUpTo-moved, few_folders}
 use Rattle.glob_lists.proofs.stack.folders.folders_of.Given.{Over}
 use Rattle.glob_lists.proofs.stack.folders.folders_of.Goals as goal
 use Rattle.glob_lists.proofs.stack.folders.folders_of.Goals.{After-deref}

@@ -3,7 +3,7 @@ use Rattle.std.proofs.Common.{◌-◌, length, map, arith}
 use Rattle.std.proofs.lemmas.Option.{slice_get-get_or}
 use Rattle.gix_glob.specs.EntryLists.{entry_list_of}
 use Rattle.glob_lists.specs.declared.stack.folders.Folder.{Folder}
-use Rattle.glob_lists.proofs.lemmas.FolderLemmas.{AllUpTo-last}
+use Rattle.glob_lists.proofs.lemmas.Stack.FolderLemmas.{AllUpTo-last}
 use Rattle.glob_lists.proofs.stack.folders.follows.Goals as goal
 
 -- what stands for a folder that isn't there

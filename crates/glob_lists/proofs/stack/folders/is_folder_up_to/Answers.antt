@@ -3,7 +3,7 @@ use Rattle.std.proofs.Common.{◌≡◌, ℕ, List, length, map, refl, ap, arith
 use Rattle.gix_glob.specs.EntryLists.{entry_list_of}
 use Rattle.glob_lists.specs.Private.Asks.Literals.{AreBytes}
 use Rattle.glob_lists.specs.Private.Stack.Folders.{base_at}
-use Rattle.glob_lists.proofs.lemmas.OrderLemmas.{AgreeUpTo-numbers, AreSameUpTo-agree, AreSameUpTo-none, numbers_less, numbers_more}
+use Rattle.glob_lists.proofs.lemmas.Stack.OrderLemmas.{AgreeUpTo-numbers, AreSameUpTo-agree, AreSameUpTo-none, numbers_less, numbers_more}
 use Rattle.glob_lists.proofs.stack.folders.is_folder_up_to.Goals as goal
 
 pub returns-then-folder-key-clause-order : goal.returns-then-folder-key-clause-order

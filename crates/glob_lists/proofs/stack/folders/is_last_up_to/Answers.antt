@@ -6,8 +6,8 @@ use Rattle.std.proofs.lemmas.Slice.Eq.{starts_is}
 use Rattle.gix_glob.specs.EntryLists.{entry_list_of}
 use Rattle.glob_lists.specs.declared.stack.folders.Folder.{Folder}
 use Rattle.glob_lists.specs.Private.Stack.Order.{Begins}
-use Rattle.glob_lists.proofs.lemmas.OrderLemmas.{Begins-joined, IsUpTo-begins}
-use Rattle.glob_lists.proofs.lemmas.NearLemmas.{IsLastUpTo-here}
+use Rattle.glob_lists.proofs.lemmas.Stack.OrderLemmas.{Begins-joined, IsUpTo-begins}
+use Rattle.glob_lists.proofs.lemmas.Stack.NearLemmas.{IsLastUpTo-here}
 use Rattle.glob_lists.proofs.stack.folders.is_last_up_to.Goals as goal
 
 -- what stands for a folder that isn't there

@@ -1,6 +1,6 @@
 use Rattle.std.proofs.Common.{◌≤◌, length, map}
 use Rattle.gix_glob.specs.EntryLists.{entry_list_of}
-use Rattle.glob_lists.proofs.lemmas.FolderLemmas.{NoneBeginsFrom}
+use Rattle.glob_lists.proofs.lemmas.Stack.FolderLemmas.{NoneBeginsFrom}
 use Rattle.glob_lists.proofs.stack.folders.last_beginning.Given as goal
 
 -- no folder that was passed begins the text

@@ -4,7 +4,7 @@ use Rattle.std.proofs.lemmas.Bool.{iff_false}
 use Rattle.std.proofs.lemmas.Option.{slice_get-get_or}
 use Rattle.gix_glob.specs.EntryLists.{entry_list_of}
 use Rattle.glob_lists.specs.declared.stack.folders.Folder.{Folder}
-use Rattle.glob_lists.proofs.lemmas.SearchLemmas.{IsSearched-down, IsSearched-start, IsSearched-up}
+use Rattle.glob_lists.proofs.lemmas.Stack.SearchLemmas.{IsSearched-down, IsSearched-start, IsSearched-up}
 use Rattle.glob_lists.proofs.stack.folders.last_up_to.Goals as goal
 
 -- what stands for a folder that isn't there

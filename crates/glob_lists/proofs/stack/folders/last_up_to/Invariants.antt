@@ -1,6 +1,6 @@
 use Rattle.std.proofs.Common.{map}
 use Rattle.gix_glob.specs.EntryLists.{entry_list_of}
-use Rattle.glob_lists.proofs.lemmas.SearchLemmas.{IsSearched}
+use Rattle.glob_lists.proofs.lemmas.Stack.SearchLemmas.{IsSearched}
 use Rattle.glob_lists.proofs.stack.folders.last_up_to.Given as goal
 
 -- the folder is among those that are left

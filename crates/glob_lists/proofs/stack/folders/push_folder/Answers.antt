@@ -6,8 +6,8 @@ use Rattle.gix_glob.specs.EntryLists.{entry_list_of}
 use Rattle.gix_glob.proofs.lemmas.Elements.{slice_get-map_at}
 use Rattle.glob_lists.specs.declared.stack.folders.Folder.{Folder}
 use Rattle.glob_lists.specs.Private.Stack.Folders.{AreFoldersUpTo, IsFolderOf}
-use Rattle.glob_lists.proofs.lemmas.CountLemmas.{entry_count-next}
-use Rattle.glob_lists.proofs.lemmas.FolderLemmas.{AreFoldersUpTo-empty, AreFoldersUpTo-more}
+use Rattle.glob_lists.proofs.lemmas.Stack.CountLemmas.{entry_count-next}
+use Rattle.glob_lists.proofs.lemmas.Stack.FolderLemmas.{AreFoldersUpTo-empty, AreFoldersUpTo-more}
 use Rattle.glob_lists.proofs.stack.folders.push_folder.Goals as goal
 
 pub returns-then-is_empty : goal.returns-then-is_empty

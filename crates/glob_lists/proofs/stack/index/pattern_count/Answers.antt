@@ -1,6 +1,6 @@
 -- A list more counts its mappings.
 use Rattle.std.proofs.Common.{arith}
-use Rattle.glob_lists.proofs.lemmas.CountLemmas.{entry_count-next}
+use Rattle.glob_lists.proofs.lemmas.Stack.CountLemmas.{entry_count-next}
 use Rattle.glob_lists.proofs.stack.index.pattern_count.Goals as goal
 
 pub loop-list-preserved : goal.loop-list-preserved

@@ -1,7 +1,7 @@
 -- The number of fewer than eight bytes leaves room for one more.
 use Rattle.std.proofs.Common.{arith}
 use Rattle.glob_lists.specs.Private.Asks.Literals.{AreBytes}
-use Rattle.glob_lists.proofs.lemmas.OrderLemmas.{front_key-fits}
+use Rattle.glob_lists.proofs.lemmas.Stack.OrderLemmas.{front_key-fits}
 use Rattle.glob_lists.proofs.stack.order.folded_key.Goals as goal
 
 pub overflow_mul-key : goal.overflow_mul-key

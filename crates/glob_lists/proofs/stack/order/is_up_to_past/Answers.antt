@@ -2,8 +2,8 @@
 use Rattle.std.proofs.Common.{◌≡◌, ◌≢◌, ◌+◌, refl, sym, ◌∙◌, arith}
 use Rattle.glob_lists.specs.Private.Stack.Order.{front_key}
 use Rattle.glob_lists.specs.Private.Asks.Literals.{AreBytes}
-use Rattle.glob_lists.proofs.lemmas.OrderLemmas.{AgreeUpTo-numbers, AreSameUpTo-agree, numbers_tell}
-use Rattle.glob_lists.proofs.lemmas.RawBytes.{small_front}
+use Rattle.glob_lists.proofs.lemmas.Stack.OrderLemmas.{AgreeUpTo-numbers, AreSameUpTo-agree, numbers_tell}
+use Rattle.glob_lists.proofs.lemmas.Asks.RawBytes.{small_front}
 use Rattle.glob_lists.proofs.stack.order.is_up_to_past.Goals as goal
 
 pub returns-then-key-other : goal.returns-then-key-other

@@ -1,7 +1,7 @@
 -- Bytes of which none is a capital letter make the number as they are.
 use Rattle.std.proofs.Common.{ℕ, bit_and, sym, ap, ◌∙◌, arith}
 use Rattle.glob_lists.specs.Private.Asks.Literals.{AreBytes}
-use Rattle.glob_lists.proofs.lemmas.RawBytes.{front_key-bytes, no_capital}
+use Rattle.glob_lists.proofs.lemmas.Asks.RawBytes.{front_key-bytes, no_capital}
 use Rattle.glob_lists.proofs.stack.order.whole_key.Goals as goal
 
 pub returns-then-key-eq-NO_CAPITAL-clause-number : goal.returns-then-key-eq-NO_CAPITAL-clause-number

@@ -8,8 +8,8 @@ use Rattle.glob_lists.specs.declared.link.Link.{Link}
 use Rattle.glob_lists.specs.declared.stack.folders.Folder.{Folder}
 use Rattle.glob_lists.specs.Deciding.{IsLastAnswer}
 use Rattle.glob_lists.specs.Private.Stack.Finding.{IsLastOfList, SpendsOnList}
-use Rattle.glob_lists.proofs.lemmas.StackLemmas.{SpendsFrom-all}
-use Rattle.glob_lists.proofs.lemmas.WayLemmas.{Decides-here, Decides-nowhere, IsPassedTo, IsPassedTo-next, IsPassedTo-start, SpendsOnAll-here}
+use Rattle.glob_lists.proofs.lemmas.Stack.StackLemmas.{SpendsFrom-all}
+use Rattle.glob_lists.proofs.lemmas.Stack.WayLemmas.{Decides-here, Decides-nowhere, IsPassedTo, IsPassedTo-next, IsPassedTo-start, SpendsOnAll-here}
 use Rattle.glob_lists.proofs.stack.way.decide_from.Given.{Over}
 use Rattle.glob_lists.proofs.stack.way.decide_from.Goals as goal
 use Rattle.glob_lists.proofs.stack.way.decide_from.Goals.{After-list-list}

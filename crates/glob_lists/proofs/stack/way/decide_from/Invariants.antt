@@ -1,6 +1,6 @@
 use Rattle.std.proofs.Common.{ℕ, length, map}
 use Rattle.gix_glob.specs.EntryLists.{entry_list_of}
-use Rattle.glob_lists.proofs.lemmas.WayLemmas.{IsPassedTo}
+use Rattle.glob_lists.proofs.lemmas.Stack.WayLemmas.{IsPassedTo}
 use Rattle.glob_lists.proofs.stack.way.decide_from.Given as goal
 
 -- no list that was passed answers, and what was counted is what those lists may take

@@ -1,6 +1,6 @@
 -- The set of all bytes and pairs has each of them.
 use Rattle.std.proofs.Common.{drop}
-use Rattle.glob_lists.proofs.lemmas.BitLemmas.{all_bits_hold}
+use Rattle.glob_lists.proofs.lemmas.Asks.BitLemmas.{all_bits_hold}
 use Rattle.glob_lists.proofs.asks.probe.Probe.of_end.Goals as goal
 
 pub returns-clause-shows : goal.returns-clause-shows

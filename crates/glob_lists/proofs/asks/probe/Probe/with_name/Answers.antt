@@ -1,7 +1,7 @@
 -- An end without slash is one of the last part.
 use Rattle.std.proofs.Common.{List, ℕ, subst}
 use Rattle.glob_lists.specs.Private.Asks.Showing.{HoldsBits}
-use Rattle.glob_lists.proofs.lemmas.KeyLemmas.{name_bits}
+use Rattle.glob_lists.proofs.lemmas.Asks.KeyLemmas.{name_bits}
 use Rattle.glob_lists.proofs.asks.probe.Probe.with_name.Goals as goal
 
 pub returns-clause-shows : goal.returns-clause-shows

@@ -1,7 +1,7 @@
 -- What else is shown stays.
 use Rattle.std.proofs.Common.{List, ℕ, subst}
 use Rattle.glob_lists.specs.Private.Asks.Showing.{HoldsBytes}
-use Rattle.glob_lists.proofs.lemmas.KeyLemmas.{path_bits}
+use Rattle.glob_lists.proofs.lemmas.Asks.KeyLemmas.{path_bits}
 use Rattle.glob_lists.proofs.asks.probe.Probe.with_path.Goals as goal
 
 pub returns-clause-shows : goal.returns-clause-shows

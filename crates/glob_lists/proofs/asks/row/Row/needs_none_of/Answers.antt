@@ -1,6 +1,6 @@
 use Rattle.std.proofs.Common.{◌<◌, ◌^◌, arith}
 use Rattle.std.proofs.lemmas.Bool.{eq-eqb, eqb-true}
-use Rattle.glob_lists.proofs.lemmas.BitLemmas.{none_lacked}
+use Rattle.glob_lists.proofs.lemmas.Asks.BitLemmas.{none_lacked}
 use Rattle.glob_lists.proofs.asks.row.Row.needs_none_of.Goals as goal
 
 pub returns : goal.returns

@@ -1,6 +1,6 @@
 -- One test of three bits tells.
 use Rattle.std.proofs.lemmas.Bool.{eqb-true}
-use Rattle.glob_lists.proofs.lemmas.SightLemmas.{Lacks-apart}
+use Rattle.glob_lists.proofs.lemmas.Asks.SightLemmas.{Lacks-apart}
 use Rattle.glob_lists.proofs.asks.sight.Sight.lacks.Goals as goal
 
 pub returns : goal.returns

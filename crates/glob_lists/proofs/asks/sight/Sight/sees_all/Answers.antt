@@ -1,6 +1,6 @@
 -- One row more is seen.
 use Rattle.std.proofs.Common.{arith, refl}
-use Rattle.glob_lists.proofs.lemmas.SightLemmas.{SeesUpTo-all, SeesUpTo-more}
+use Rattle.glob_lists.proofs.lemmas.Asks.SightLemmas.{SeesUpTo-all, SeesUpTo-more}
 use Rattle.glob_lists.proofs.asks.sight.Sight.sees_all.Goals as goal
 
 pub places-preserved : goal.places-preserved

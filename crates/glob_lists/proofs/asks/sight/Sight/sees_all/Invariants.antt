@@ -1,4 +1,4 @@
-use Rattle.glob_lists.proofs.lemmas.SightLemmas.{SeesUpTo}
+use Rattle.glob_lists.proofs.lemmas.Asks.SightLemmas.{SeesUpTo}
 use Rattle.glob_lists.proofs.asks.sight.Sight.sees_all.Given as goal
 
 -- the rows so far are seen

@@ -9,8 +9,8 @@ use Rattle.gix_glob.specs.EntryLists.{entry_list_of}
 use Rattle.gix_glob.specs.Stripping.{NothingLeft}
 use Rattle.gix_glob.proofs.lemmas.Elements.{All-map_at, slice_get-map_at}
 use Rattle.glob_lists.specs.Deciding.{HasFolder}
-use Rattle.glob_lists.proofs.lemmas.Answering.{PairAnswers-nothing_left, PairAnswers-only, asked_rest}
-use Rattle.glob_lists.proofs.lemmas.MatchesUpTo.{matches_more, matches_of_list, matches_skip}
+use Rattle.glob_lists.proofs.lemmas.Deciding.Answering.{PairAnswers-nothing_left, PairAnswers-only, asked_rest}
+use Rattle.glob_lists.proofs.lemmas.Deciding.MatchesUpTo.{matches_more, matches_of_list, matches_skip}
 use Rattle.glob_lists.proofs.deciding.matching.Asked.push_matches.Goals as goal
 use Rattle.glob_lists.proofs.deciding.matching.Asked.push_matches.Goals.{then-is_matched_by+in_ok-push, else-is_matched_by}
 

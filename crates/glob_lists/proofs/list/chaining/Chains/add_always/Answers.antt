@@ -3,7 +3,7 @@ use Rattle.std.proofs.Common.{slice_set, true, refl, arith}
 use Rattle.std.proofs.lemmas.Option.{slice_get-get_or}
 use Rattle.glob_lists.specs.Private.Chains.{links_of}
 use Rattle.glob_lists.specs.Private.Lists.Ends.{ends_of}
-use Rattle.glob_lists.proofs.lemmas.ChainingLemmas.{AreChainedSoFar-always, AreChainedSoFar-linked, no_row}
+use Rattle.glob_lists.proofs.lemmas.Lists.ChainingLemmas.{AreChainedSoFar-always, AreChainedSoFar-linked, no_row}
 use Rattle.glob_lists.proofs.list.chaining.Chains.add_always.Goals as goal
 
 pub returns-clause-chained : goal.returns-clause-chained

@@ -6,8 +6,8 @@ use Rattle.glob_lists.specs.declared.list.ends.End.{End}
 use Rattle.glob_lists.specs.declared.asks.row.Row.{Row}
 use Rattle.glob_lists.specs.Private.Chains.{links_of}
 use Rattle.glob_lists.specs.Private.Lists.Ends.{AreChainedSoFar, IsFrontAt, IsLastWhere, ends_of, whole_number}
-use Rattle.glob_lists.proofs.lemmas.ChainingLemmas.{AreChainedSoFar-end, AreChainedSoFar-linked, AreSameRows-linked, no_row}
-use Rattle.glob_lists.proofs.lemmas.EndLemmas.{HasAt-row}
+use Rattle.glob_lists.proofs.lemmas.Lists.ChainingLemmas.{AreChainedSoFar-end, AreChainedSoFar-linked, AreSameRows-linked, no_row}
+use Rattle.glob_lists.proofs.lemmas.Lists.EndLemmas.{HasAt-row}
 use Rattle.glob_lists.proofs.list.chaining.Chains.add_end.Goals as goal
 
 pub last_front-above-requires-clause-greater : goal.last_front-above-requires-clause-greater

@@ -4,8 +4,8 @@ use Rattle.std.proofs.lemmas.Option.{slice_get-get_or, slice_get_read}
 use Rattle.glob_lists.specs.declared.list.ends.End.{End}
 use Rattle.glob_lists.specs.Private.Chains.{links_of}
 use Rattle.glob_lists.specs.Private.Lists.Ends.{ends_of}
-use Rattle.glob_lists.proofs.lemmas.ChainingLemmas.{AreChainedSoFar-last, AreChainedSoFar-linked, last_there, no_row}
-use Rattle.glob_lists.proofs.lemmas.EndLemmas.{HasAt-row}
+use Rattle.glob_lists.proofs.lemmas.Lists.ChainingLemmas.{AreChainedSoFar-last, AreChainedSoFar-linked, last_there, no_row}
+use Rattle.glob_lists.proofs.lemmas.Lists.EndLemmas.{HasAt-row}
 use Rattle.glob_lists.proofs.list.chaining.Chains.add_to_last.Goals as goal
 
 pub returns-clause-chained : goal.returns-clause-chained

@@ -3,7 +3,7 @@ use Rattle.std.proofs.Common.{◌-◌, ◌<◌, ℕ, List, length, sym, subst, a
 use Rattle.std.proofs.lemmas.Bool.{ltb-true}
 use Rattle.glob_lists.specs.declared.list.ends.End.{End}
 use Rattle.glob_lists.specs.Private.Lists.Ends.{AreEnds, IsEndAt, ends_of}
-use Rattle.glob_lists.proofs.lemmas.ChainingLemmas.{IsEndAt-read, greater_than_last}
+use Rattle.glob_lists.proofs.lemmas.Lists.ChainingLemmas.{IsEndAt-read, greater_than_last}
 use Rattle.glob_lists.proofs.list.chaining.Chains.is_greater.Goals as goal
 
 pub returns-in-len1-up : goal.returns-in-len1-up

@@ -3,7 +3,7 @@ use Rattle.std.proofs.Common.{◌-◌, ◌≡◌, ℕ, List, ap, get_or, length,
 use Rattle.glob_lists.specs.declared.list.ends.End.{End}
 use Rattle.glob_lists.specs.declared.asks.row.Row.{Row}
 use Rattle.glob_lists.specs.Private.Lists.Ends.{AreEnds, IsEndAt, ends_of}
-use Rattle.glob_lists.proofs.lemmas.ChainingLemmas.{IsEndAt-read, no_end, no_row}
+use Rattle.glob_lists.proofs.lemmas.Lists.ChainingLemmas.{IsEndAt-read, no_end, no_row}
 use Rattle.glob_lists.proofs.list.chaining.Chains.is_last_end.Goals as goal
 
 pub returns-in-len1-up-clause-last : goal.returns-in-len1-up-clause-last

@@ -3,8 +3,8 @@ use Rattle.std.proofs.Common.{◌≡◌, ◌+◌, ◌<◌, ◌≤◌, ℕ, lengt
 use Rattle.std.proofs.lemmas.Bool.{iff_false}
 use Rattle.std.proofs.lemmas.Option.{slice_get-get_or, slice_get_read}
 use Rattle.glob_lists.specs.Private.Lists.Ends.{IsFrontAt, ends_of}
-use Rattle.glob_lists.proofs.lemmas.ChainingLemmas.{IsEndAt-row, NoFronts-above, above_before, no_row}
-use Rattle.glob_lists.proofs.lemmas.EndLemmas.{last_inside}
+use Rattle.glob_lists.proofs.lemmas.Lists.ChainingLemmas.{IsEndAt-row, NoFronts-above, above_before, no_row}
+use Rattle.glob_lists.proofs.lemmas.Lists.EndLemmas.{last_inside}
 use Rattle.glob_lists.proofs.list.chaining.Chains.last_front.Goals as goal
 
 pub bounds-rows-end : goal.bounds-rows-end

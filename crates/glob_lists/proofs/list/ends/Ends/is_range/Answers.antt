@@ -1,7 +1,7 @@
 -- The ends are in the order of their numbers, so the ones at the borders tell of all.
 use Rattle.std.proofs.Common.{ℕ, ◌-◌, ◌<◌, ◌≤◌, sym, arith, ltb-true}
 use Rattle.glob_lists.specs.Private.Lists.Ends.{IsEndAt, ends_of, whole_number}
-use Rattle.glob_lists.proofs.lemmas.EndLemmas.{IsEndAt-within, past_from_here, up_to_here}
+use Rattle.glob_lists.proofs.lemmas.Lists.EndLemmas.{IsEndAt-within, past_from_here, up_to_here}
 use Rattle.glob_lists.proofs.list.ends.Ends.is_range.Goals as goal
 use Rattle.glob_lists.proofs.list.ends.Ends.is_range.Goals.{After-len-2, else-low-gt0-via-then-low-gt0+else-number_at-number, else-low-gt0-via-else-low-gt0}
 

@@ -1,7 +1,7 @@
 -- Each test leaves half of the ends.
 use Rattle.std.proofs.Common.{◌/◌, sym, arith}
 use Rattle.glob_lists.specs.Private.Lists.Ends.{ends_of}
-use Rattle.glob_lists.proofs.lemmas.EndLemmas.{IsEndsRange-down, IsEndsRange-up}
+use Rattle.glob_lists.proofs.lemmas.Lists.EndLemmas.{IsEndsRange-down, IsEndsRange-up}
 use Rattle.glob_lists.proofs.list.ends.Ends.last_up_to.Goals as goal
 
 pub halves-preserved-then-number_at-number : goal.halves-preserved-then-number_at-number

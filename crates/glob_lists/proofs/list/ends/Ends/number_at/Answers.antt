@@ -1,7 +1,7 @@
 -- The last row that has an end tells its number.
 use Rattle.std.proofs.Common.{◌≡◌, slice_get, Some, refl, ◌∙◌}
 use Rattle.std.proofs.lemmas.Option.{slice_get_read}
-use Rattle.glob_lists.proofs.lemmas.EndLemmas.{last_inside, whole_number-row}
+use Rattle.glob_lists.proofs.lemmas.Lists.EndLemmas.{last_inside, whole_number-row}
 use Rattle.glob_lists.proofs.list.ends.Ends.number_at.Goals as goal
 use Rattle.glob_lists.proofs.list.ends.Ends.number_at.Goals.{After-index}
 

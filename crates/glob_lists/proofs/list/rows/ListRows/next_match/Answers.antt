@@ -12,10 +12,10 @@ use Rattle.gix_glob.proofs.lemmas.Elements.{slice_get-map_at}
 use Rattle.glob_lists.specs.Deciding.{AnswersAt, AnswersUnder}
 use Rattle.glob_lists.specs.Private.Asks.Rows.{Asks}
 use Rattle.glob_lists.specs.Private.Lists.Answering.{NoneAnswers, SpendsDown}
-use Rattle.glob_lists.proofs.lemmas.Answering.{AnswersAt-only, AnswersAt-yes, AnswersUnder-tested}
-use Rattle.glob_lists.proofs.lemmas.DecisionSums.{looks-under, steps-under}
-use Rattle.glob_lists.proofs.lemmas.ListLemmas.{NoneAnswers-joined, NoneAnswers-less, SpendsDown-asked, SpendsDown-passed}
-use Rattle.glob_lists.proofs.lemmas.RowLemmas.{NoneAnswers-passed}
+use Rattle.glob_lists.proofs.lemmas.Deciding.Answering.{AnswersAt-only, AnswersAt-yes, AnswersUnder-tested}
+use Rattle.glob_lists.proofs.lemmas.Deciding.DecisionSums.{looks-under, steps-under}
+use Rattle.glob_lists.proofs.lemmas.Lists.ListLemmas.{NoneAnswers-joined, NoneAnswers-less, SpendsDown-asked, SpendsDown-passed}
+use Rattle.glob_lists.proofs.lemmas.Lists.RowLemmas.{NoneAnswers-passed}
 use Rattle.glob_lists.proofs.list.rows.ListRows.next_match.Given.{Over}
 use Rattle.glob_lists.proofs.list.rows.ListRows.next_match.Goals as goal
 use Rattle.glob_lists.proofs.list.rows.ListRows.next_match.Goals.{After-is_answer, After-view-pattern}

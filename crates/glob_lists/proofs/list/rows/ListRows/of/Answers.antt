@@ -1,6 +1,6 @@
 -- The rows are chained, which changes their links alone.
 use Rattle.gix_glob.specs.EntryLists.{entry_list_of}
-use Rattle.glob_lists.proofs.lemmas.RowLemmas.{AreInOrder-same}
+use Rattle.glob_lists.proofs.lemmas.Lists.RowLemmas.{AreInOrder-same}
 use Rattle.glob_lists.proofs.list.rows.ListRows.of.Goals as goal
 
 pub returns : goal.returns

@@ -1,7 +1,7 @@
 -- Where the path shows nothing that the rows ask for together none answers.
 use Rattle.std.proofs.Common.{refl}
 use Rattle.gix_glob.specs.EntryLists.{entry_list_of}
-use Rattle.glob_lists.proofs.lemmas.RowLemmas.{unseen_answers}
+use Rattle.glob_lists.proofs.lemmas.Lists.RowLemmas.{unseen_answers}
 use Rattle.glob_lists.proofs.list.rows.ListRows.visit.Goals as goal
 
 pub returns-then-is_passed_over-clause-visit : goal.returns-then-is_passed_over-clause-visit

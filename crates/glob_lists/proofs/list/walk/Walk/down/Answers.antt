@@ -6,8 +6,8 @@ use Rattle.std.proofs.lemmas.Option.{slice_get_read}
 use Rattle.glob_lists.specs.declared.list.walk.Walk.{Walk}
 use Rattle.glob_lists.specs.Private.Chains.{links_of}
 use Rattle.glob_lists.specs.Private.Lists.Ends.{IsLastEndUpTo, end_of, ends_of}
-use Rattle.glob_lists.proofs.lemmas.BegunWalks.{IsBegun-none, IsBegun-other_row, IsBegun-row, IsLatest-one, IsWalk-begun, above_falls, room_here}
-use Rattle.glob_lists.proofs.lemmas.EndLemmas.{last_inside}
+use Rattle.glob_lists.proofs.lemmas.Lists.BegunWalks.{IsBegun-none, IsBegun-other_row, IsBegun-row, IsLatest-one, IsWalk-begun, above_falls, room_here}
+use Rattle.glob_lists.proofs.lemmas.Lists.EndLemmas.{last_inside}
 use Rattle.glob_lists.proofs.list.walk.Walk.down.Goals as goal
 use Rattle.glob_lists.proofs.list.walk.Walk.down.Goals.{After-end, After-index-end, then-has_end, else-has_end}
 

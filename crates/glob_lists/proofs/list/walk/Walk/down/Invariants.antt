@@ -1,5 +1,5 @@
 use Rattle.glob_lists.specs.Private.Lists.Ends.{ends_of}
-use Rattle.glob_lists.proofs.lemmas.BegunWalks.{IsBegun}
+use Rattle.glob_lists.proofs.lemmas.Lists.BegunWalks.{IsBegun}
 use Rattle.glob_lists.proofs.list.walk.Walk.down.Given as goal
 
 -- the ends from the link on were looked at

@@ -8,8 +8,8 @@ use Rattle.glob_lists.specs.declared.asks.part.Part.TheVariants.{Path}
 use Rattle.glob_lists.specs.declared.asks.row.Row.{Row}
 use Rattle.glob_lists.specs.declared.list.walk.Walk.{Walk}
 use Rattle.glob_lists.specs.Private.Lists.Ends.{ends_of}
-use Rattle.glob_lists.proofs.lemmas.Looking.{looks_next}
-use Rattle.glob_lists.proofs.lemmas.WalkLemmas.{HasPassedTo-more, HasPassedTo-start, IsWalk-end, latest_counts, none_above_other, none_above_own, none_at_end, other_below, other_passed, other_within, own_below, own_passed, own_within}
+use Rattle.glob_lists.proofs.lemmas.Lists.Looking.{looks_next}
+use Rattle.glob_lists.proofs.lemmas.Lists.WalkLemmas.{HasPassedTo-more, HasPassedTo-start, IsWalk-end, latest_counts, none_above_other, none_above_own, none_at_end, other_below, other_passed, other_within, own_below, own_passed, own_within}
 use Rattle.glob_lists.proofs.list.walk.Walk.next.Goals as goal
 
 -- what stands for a row that isn't there

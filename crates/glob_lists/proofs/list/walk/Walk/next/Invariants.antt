@@ -1,5 +1,5 @@
 use Rattle.std.proofs.Common.{◌≡◌}
-use Rattle.glob_lists.proofs.lemmas.WalkLemmas.{HasPassedTo}
+use Rattle.glob_lists.proofs.lemmas.Lists.WalkLemmas.{HasPassedTo}
 use Rattle.glob_lists.proofs.list.walk.Walk.next.Given as goal
 
 -- the rows without an end that come after all others were passed over

@@ -1,5 +1,5 @@
 -- The lists are those of the index.
-use Rattle.glob_lists.proofs.lemmas.StackLemmas.{Decides-asked}
+use Rattle.glob_lists.proofs.lemmas.Stack.StackLemmas.{Decides-asked}
 use Rattle.glob_lists.proofs.stack.index.ListIndex.decide_near_with_new_counts.Goals as goal
 
 pub returns-in-Some : goal.returns-in-Some

@@ -1,5 +1,5 @@
 -- The lists are those of the index.
-use Rattle.glob_lists.proofs.lemmas.StackLemmas.{Decides-asked}
+use Rattle.glob_lists.proofs.lemmas.Stack.StackLemmas.{Decides-asked}
 use Rattle.glob_lists.proofs.stack.index.ListIndex.decide_with_counts.Goals as goal
 
 pub returns-in-Some-clause-exact : goal.returns-in-Some-clause-exact

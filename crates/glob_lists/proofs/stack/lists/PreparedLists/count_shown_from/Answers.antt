@@ -8,10 +8,10 @@ use Rattle.std.proofs.lemmas.Option.{slice_get_read, slice_get_within}
 use Rattle.gix_glob.specs.EntryLists.{EntryList, entry_list_of}
 use Rattle.glob_lists.specs.Deciding.{PairAnswers}
 use Rattle.glob_lists.specs.Private.Lists.Prepared.{AreRowsOf}
-use Rattle.glob_lists.proofs.lemmas.Answering.{PairAnswers-only}
-use Rattle.glob_lists.proofs.lemmas.CountLemmas.{entry_count-more}
+use Rattle.glob_lists.proofs.lemmas.Deciding.Answering.{PairAnswers-only}
+use Rattle.glob_lists.proofs.lemmas.Stack.CountLemmas.{entry_count-more}
 use Rattle.glob_lists.proofs.lemmas.Elements.{slice_get-inside}
-use Rattle.glob_lists.proofs.lemmas.RowLemmas.{row_passes}
+use Rattle.glob_lists.proofs.lemmas.Lists.RowLemmas.{row_passes}
 use Rattle.glob_lists.proofs.stack.lists.PreparedLists.count_shown_from.Goals as goal
 use Rattle.glob_lists.proofs.stack.lists.PreparedLists.count_shown_from.Goals.{then-k-i, else-k-i}
 

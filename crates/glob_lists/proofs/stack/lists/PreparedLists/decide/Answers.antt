@@ -2,9 +2,9 @@
 use Rattle.std.proofs.Common.{◌≡◌, ◌+◌, ◌-◌, ◌<◌, List, ap, length, map, arith}
 use Rattle.std.proofs.lemmas.List.{length-map}
 use Rattle.gix_glob.specs.EntryLists.{entry_list_of}
-use Rattle.glob_lists.proofs.lemmas.DecidingLemmas.{Decides-none}
+use Rattle.glob_lists.proofs.lemmas.Deciding.DecidingLemmas.{Decides-none}
 use Rattle.glob_lists.proofs.lemmas.Elements.{slice_get-inside}
-use Rattle.glob_lists.proofs.lemmas.StackLemmas.{Decides-last, NoListFrom-last, SpendsFrom, SpendsFrom-all, SpendsFrom-asked}
+use Rattle.glob_lists.proofs.lemmas.Stack.StackLemmas.{Decides-last, NoListFrom-last, SpendsFrom, SpendsFrom-all, SpendsFrom-asked}
 use Rattle.glob_lists.proofs.stack.lists.PreparedLists.decide.Given.{Over}
 use Rattle.glob_lists.proofs.stack.lists.PreparedLists.decide.Goals as goal
 use Rattle.glob_lists.proofs.stack.lists.PreparedLists.decide.Goals.{After-last_match}

@@ -1,8 +1,8 @@
 use Rattle.std.proofs.Common.{◌+◌, ◌≤◌, drop, length, map}
 use Rattle.std.specs.Prelude.{sum_by}
 use Rattle.gix_glob.specs.EntryLists.{entry_list_of}
-use Rattle.glob_lists.proofs.lemmas.DecidingLemmas.{NoListFrom}
-use Rattle.glob_lists.proofs.lemmas.StackLemmas.{SpendsFrom}
+use Rattle.glob_lists.proofs.lemmas.Deciding.DecidingLemmas.{NoListFrom}
+use Rattle.glob_lists.proofs.lemmas.Stack.StackLemmas.{SpendsFrom}
 use Rattle.glob_lists.proofs.stack.lists.PreparedLists.decide.Given as goal
 
 -- no list from here on has a mapping that answers, and what was counted is what those lists may take

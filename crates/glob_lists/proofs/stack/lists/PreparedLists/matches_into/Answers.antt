@@ -4,7 +4,7 @@ use Rattle.std.proofs.lemmas.List.{length-map}
 use Rattle.gix_glob.specs.EntryLists.{entry_list_of}
 use Rattle.glob_lists.specs.Index.{AreMatches}
 use Rattle.glob_lists.specs.Private.Stack.Finding.{AreFoundFrom}
-use Rattle.glob_lists.proofs.lemmas.FoundPairs.{AreFoundFrom-all}
+use Rattle.glob_lists.proofs.lemmas.Stack.FoundPairs.{AreFoundFrom-all}
 use Rattle.glob_lists.proofs.stack.lists.PreparedLists.matches_into.Goals as goal
 
 pub returns : goal.returns

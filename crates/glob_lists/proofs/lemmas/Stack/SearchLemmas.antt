@@ -8,7 +8,7 @@ use Rattle.glob_lists.specs.declared.stack.folders.Folder.{Folder}
 use Rattle.glob_lists.specs.Private.Stack.Folders.{IsForest, base_at}
 use Rattle.glob_lists.specs.Private.Stack.Order.{IsUpTo}
 use Rattle.glob_lists.specs.Private.Looking.{LooksUpTo}
-use Rattle.glob_lists.proofs.lemmas.OrderLemmas.{IsUpTo-trans}
+use Rattle.glob_lists.proofs.lemmas.Stack.OrderLemmas.{IsUpTo-trans}
 
 -- n tests of so many looks each
 abbrev pub tests : ℕ → ℕ → ℕ

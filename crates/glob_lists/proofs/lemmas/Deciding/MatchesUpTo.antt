@@ -8,7 +8,7 @@ use Rattle.glob_lists.specs.Deciding.{PairAnswers}
 use Rattle.glob_lists.specs.Index.{AreMatches, ComesBefore}
 use Rattle.glob_lists.specs.Private.Matching.{AreMatchesUpTo}
 use Rattle.glob_lists.proofs.lemmas.Elements.{slice_get-push_cases, slice_get-push_new, slice_get-push_old}
-use Rattle.glob_lists.proofs.lemmas.PlaceOrder.{before_later, before_next, before_next_list}
+use Rattle.glob_lists.proofs.lemmas.Deciding.PlaceOrder.{before_later, before_next, before_next_list}
 
 module _ {V : Type 0} (lists : List (EntryList V)) (path : List ℕ) (is_dir : Bool) (case : Case) where
   -- the pair at the next place doesn't answer

@@ -26,8 +26,8 @@ use Rattle.glob_lists.specs.Private.Asks.Literals.{AsksForBits, EndsLiterally, I
 use Rattle.glob_lists.specs.Private.Asks.Parts.{is_name}
 use Rattle.glob_lists.specs.Private.Asks.Rows.{Asks, AsksFor, HasLiteralEnd, length_of}
 use Rattle.glob_lists.specs.Private.Asks.Showing.{HasBytes, HasEnd, HoldsBits, Passes, PassesBy, Shows}
-use Rattle.glob_lists.proofs.lemmas.BitLemmas.{HoldsBits-drop}
-use Rattle.glob_lists.proofs.lemmas.EndNumbers.{without_bytes-shift}
+use Rattle.glob_lists.proofs.lemmas.Asks.BitLemmas.{HoldsBits-drop}
+use Rattle.glob_lists.proofs.lemmas.Asks.EndNumbers.{without_bytes-shift}
 
 -- The laws `matched_values_end_as_the_text`, `matched_values_have_the_literal_bytes` and `matched_values_have_the_literal_pairs`,
 -- restated: a lemma can't cite a clause.

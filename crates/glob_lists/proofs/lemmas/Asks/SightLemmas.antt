@@ -16,7 +16,7 @@ use Rattle.glob_lists.specs.Private.Asks.Parts.{is_name}
 use Rattle.glob_lists.specs.Private.Asks.Rows.{length_of}
 use Rattle.glob_lists.specs.Private.Asks.Showing.{HasAll, HasEnd, Passes, PassesBy}
 use Rattle.glob_lists.specs.Private.Asks.Sights.{HasEnding, IsSeen, Lacks, Sees, SeesAll, SeesBy, SeesEnd, end_bit, end_place, needs_of}
-use Rattle.glob_lists.proofs.lemmas.EndNumbers.{without_both, without_bytes-shift}
+use Rattle.glob_lists.proofs.lemmas.Asks.EndNumbers.{without_both, without_bytes-shift}
 
 -- ---- a row that passes is seen
 

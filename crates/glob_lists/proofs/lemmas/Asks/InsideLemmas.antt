@@ -12,9 +12,9 @@ use Rattle.glob_patterns.proofs.lemmas.Insides.{inside_exact}
 use Rattle.glob_lists.specs.Deciding.{AnswersFor, path_mode}
 use Rattle.glob_lists.specs.Private.Asks.Parts.{IsFoundInside}
 use Rattle.glob_lists.specs.Private.Asks.Showing.{last_part}
-use Rattle.glob_lists.proofs.lemmas.Answering.{AnswersFor-tested}
-use Rattle.glob_lists.proofs.lemmas.PrefilterLemmas.{name_has_no_slash}
-use Rattle.glob_lists.proofs.lemmas.ToldLemmas.{has_no_slash}
+use Rattle.glob_lists.proofs.lemmas.Deciding.Answering.{AnswersFor-tested}
+use Rattle.glob_lists.proofs.lemmas.Asks.PrefilterLemmas.{name_has_no_slash}
+use Rattle.glob_lists.proofs.lemmas.Asks.ToldLemmas.{has_no_slash}
 
 subject_is_name : (mode : pattern.Mode) (path : List ℕ) (start : Option ℕ) → looks_at_name mode ≡ true → last_part start path ≡ subject mode path start
 subject_is_name mode path None name = refl

@@ -18,9 +18,9 @@ use Rattle.glob_lists.specs.Private.Lists.Ends.{AreLinkedBack, HasAt, IsLastWher
 use Rattle.glob_lists.specs.Private.Looking.{LooksUpTo}
 use Rattle.glob_lists.specs.Private.Asks.Showing.{HasBytes, HasEnd, PassesBy}
 use Rattle.glob_lists.specs.Private.Lists.Walking.{IsLatest, IsWalk, NonePasses, next_of}
-use Rattle.glob_lists.proofs.lemmas.ChainLemmas.{NonePasses-place}
-use Rattle.glob_lists.proofs.lemmas.EndLemmas.{HasAt-row}
-use Rattle.glob_lists.proofs.lemmas.Looking.{looks_next}
+use Rattle.glob_lists.proofs.lemmas.Stored.ChainLemmas.{NonePasses-place}
+use Rattle.glob_lists.proofs.lemmas.Lists.EndLemmas.{HasAt-row}
+use Rattle.glob_lists.proofs.lemmas.Lists.Looking.{looks_next}
 
 -- a place that lies below a nearer end stays the last one
 pub IsLastWhere-nearer : (P : ℕ → Type 0) (end nearer : ℕ) (link : Link) → nearer ≤ end → link.0 ≤ nearer → IsLastWhere P end link → IsLastWhere P nearer link

@@ -13,7 +13,7 @@ use Rattle.glob_lists.specs.declared.asks.row.Row.{Row}
 use Rattle.glob_lists.specs.Private.Chains.{links_of}
 use Rattle.glob_lists.specs.Private.Lists.Ends.{AreChainedBy, AreChainedSoFar, AreEnds, AreSameRows, HasAt, IsEndAt, IsFront, IsFrontAt, IsLastWhere, IsMetAt, IsSomeEnd, end_of, ends_of, whole_number}
 use Rattle.glob_lists.proofs.lemmas.Elements.{slice_get-push_cases, slice_get-push_new, slice_get-push_old}
-use Rattle.glob_lists.proofs.lemmas.EndLemmas.{IsEndAt-same, IsEndAt-within, IsFront-between, last_inside, row_parts}
+use Rattle.glob_lists.proofs.lemmas.Lists.EndLemmas.{IsEndAt-same, IsEndAt-within, IsFront-between, last_inside, row_parts}
 
 -- ---- an element that is replaced
 

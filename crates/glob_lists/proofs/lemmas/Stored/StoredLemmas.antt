@@ -24,12 +24,12 @@ use Rattle.glob_lists.specs.Private.Asks.Rows.{Asks}
 use Rattle.glob_lists.specs.Private.Asks.Showing.{HasBytes, HasEnd, Shows}
 use Rattle.glob_lists.specs.Private.Stored.{AreLinked, HasCome, IsWalkDown, class_of, row_of, rows_of}
 use Rattle.glob_lists.specs.Private.Lists.Walking.{NonePasses}
-use Rattle.glob_lists.proofs.lemmas.Answering.{AnswersAt-only, AnswersAt-yes}
-use Rattle.glob_lists.proofs.lemmas.ChainLemmas.{IsChained-push, NonePasses-above_chains, NonePasses-between, other_step, own_step, without_bytes, without_end}
+use Rattle.glob_lists.proofs.lemmas.Deciding.Answering.{AnswersAt-only, AnswersAt-yes}
+use Rattle.glob_lists.proofs.lemmas.Stored.ChainLemmas.{IsChained-push, NonePasses-above_chains, NonePasses-between, other_step, own_step, without_bytes, without_end}
 use Rattle.glob_lists.proofs.lemmas.Elements.{slice_get-push_cases}
-use Rattle.glob_lists.proofs.lemmas.LastNumbers.{NoneFrom, NoneFrom-last, NoneFrom-less}
-use Rattle.glob_lists.proofs.lemmas.OneList.{Decides-one_list}
-use Rattle.glob_lists.proofs.lemmas.PrefilterLemmas.{AnsweringPasses}
+use Rattle.glob_lists.proofs.lemmas.Deciding.LastNumbers.{NoneFrom, NoneFrom-last, NoneFrom-less}
+use Rattle.glob_lists.proofs.lemmas.Stored.OneList.{Decides-one_list}
+use Rattle.glob_lists.proofs.lemmas.Asks.PrefilterLemmas.{AnsweringPasses}
 
 -- ---- preparing
 

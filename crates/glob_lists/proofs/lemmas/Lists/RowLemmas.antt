@@ -22,8 +22,8 @@ use Rattle.glob_lists.specs.Private.Lists.Ends.{AreSameRows}
 use Rattle.glob_lists.specs.Private.Lists.Prepared.{AreInOrder, AreRowsOf}
 use Rattle.glob_lists.specs.Private.Lists.Walking.{NonePasses}
 use Rattle.glob_lists.proofs.lemmas.Elements.{slice_get-inside, slice_get-push_cases}
-use Rattle.glob_lists.proofs.lemmas.PrefilterLemmas.{AnsweringPasses}
-use Rattle.glob_lists.proofs.lemmas.SightLemmas.{Passes-seen}
+use Rattle.glob_lists.proofs.lemmas.Asks.PrefilterLemmas.{AnsweringPasses}
+use Rattle.glob_lists.proofs.lemmas.Asks.SightLemmas.{Passes-seen}
 
 -- a row asks for the same, whatever it is chained to
 pub Asks-linked : (text : List ℕ) (mode : pattern.Mode) (row : Row) (before : Link) → Asks text mode row → Asks text mode (record row { before = before })

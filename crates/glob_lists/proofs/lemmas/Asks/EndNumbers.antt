@@ -7,8 +7,8 @@ use Rattle.std.proofs.lemmas.Nat.{and_block, and_le_r}
 use Rattle.glob_lists.specs.Private.Asks.Literals.{AreBytes}
 use Rattle.glob_lists.specs.Private.Asks.Literals.{end_key, from_end, raw_end, without_bytes}
 use Rattle.glob_lists.specs.Private.Asks.Showing.{HasEndKeys}
-use Rattle.glob_lists.proofs.lemmas.OrderLemmas.{folded_at-short, room, room-le}
-use Rattle.glob_lists.proofs.lemmas.RawBytes.{no_capital, small_byte}
+use Rattle.glob_lists.proofs.lemmas.Stack.OrderLemmas.{folded_at-short, room, room-le}
+use Rattle.glob_lists.proofs.lemmas.Asks.RawBytes.{no_capital, small_byte}
 
 -- ---- numbers without their last bytes
 

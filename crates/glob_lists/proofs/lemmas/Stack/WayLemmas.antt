@@ -13,10 +13,10 @@ use Rattle.glob_lists.specs.Paths.{Path}
 use Rattle.glob_lists.specs.Private.Stack.Finding.{IsLastOfList, SpendsOnAll, SpendsOnList}
 use Rattle.glob_lists.specs.Private.Stack.Folders.{AreFolderedBy, HasFolders, IsFolderAt, IsForest, IsLastUpTo, base_at}
 use Rattle.glob_lists.specs.Private.Stack.Order.{Begins, IsUpTo}
-use Rattle.glob_lists.proofs.lemmas.BaseLemmas.{Begins-answers}
-use Rattle.glob_lists.proofs.lemmas.FolderLemmas.{above_up_to, between_begins}
-use Rattle.glob_lists.proofs.lemmas.OrderLemmas.{Begins-between, IsUpTo-begins}
-use Rattle.glob_lists.proofs.lemmas.StackLemmas.{SpendsFrom, SpendsFrom-all, SpendsFrom-asked, SpendsFrom-none}
+use Rattle.glob_lists.proofs.lemmas.Stack.BaseLemmas.{Begins-answers}
+use Rattle.glob_lists.proofs.lemmas.Stack.FolderLemmas.{above_up_to, between_begins}
+use Rattle.glob_lists.proofs.lemmas.Stack.OrderLemmas.{Begins-between, IsUpTo-begins}
+use Rattle.glob_lists.proofs.lemmas.Stack.StackLemmas.{SpendsFrom, SpendsFrom-all, SpendsFrom-asked, SpendsFrom-none}
 
 -- no list answers whose folder stands at place k or after it
 abbrev pub NoneAnswersFrom : {V : Type 0} → List (EntryList V) → List Folder → Path → Case → ℕ → Type 0

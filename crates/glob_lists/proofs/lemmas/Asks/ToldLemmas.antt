@@ -31,9 +31,9 @@ use Rattle.glob_lists.specs.Private.Asks.Literals.{EndsLiterally, end_key, from_
 use Rattle.glob_lists.specs.Private.Asks.Parts.{IsPlainEnd, IsToldByEnd}
 use Rattle.glob_lists.specs.Private.Asks.Rows.{Asks, length_of}
 use Rattle.glob_lists.specs.Private.Asks.Showing.{HasEnd, IsTold, IsToldBy, Shows}
-use Rattle.glob_lists.proofs.lemmas.EndNumbers.{same_lower, without_bytes-shift}
-use Rattle.glob_lists.proofs.lemmas.PrefilterLemmas.{end_of, name_has_no_slash}
-use Rattle.glob_lists.proofs.lemmas.StrippingLemmas.{empty_front, front_ends_in_slash}
+use Rattle.glob_lists.proofs.lemmas.Asks.EndNumbers.{same_lower, without_bytes-shift}
+use Rattle.glob_lists.proofs.lemmas.Asks.PrefilterLemmas.{end_of, name_has_no_slash}
+use Rattle.glob_lists.proofs.lemmas.Deciding.StrippingLemmas.{empty_front, front_ends_in_slash}
 
 -- ---- where the last part of a path begins
 

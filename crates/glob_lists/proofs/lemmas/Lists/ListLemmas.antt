@@ -16,8 +16,8 @@ use Rattle.glob_lists.specs.Paths.{Path}
 use Rattle.glob_lists.specs.Private.Looking.{LooksUpTo}
 use Rattle.glob_lists.specs.Private.Lists.Answering.{IsLastMatch, IsNextMatch, NoneAnswers, Spends, SpendsDown, looks_from, steps_from}
 use Rattle.glob_lists.specs.Private.Stack.Finding.{IsLastOfList}
-use Rattle.glob_lists.proofs.lemmas.Answering.{PairAnswers-only, PairAnswers-yes}
-use Rattle.glob_lists.proofs.lemmas.DecisionSums.{looks-under, steps-under, sum_by-drop-le, sum_by-from}
+use Rattle.glob_lists.proofs.lemmas.Deciding.Answering.{PairAnswers-only, PairAnswers-yes}
+use Rattle.glob_lists.proofs.lemmas.Deciding.DecisionSums.{looks-under, steps-under, sum_by-drop-le, sum_by-from}
 
 -- ---- which entry answers
 

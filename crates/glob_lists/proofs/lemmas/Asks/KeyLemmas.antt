@@ -7,7 +7,7 @@ use Rattle.gix_glob.specs.Bytes.{HasByte, slash}
 use Rattle.gix_glob.specs.RepositoryPaths.{IsBasenameStart}
 use Rattle.glob_lists.specs.Private.Asks.Literals.{bit_of, pair_of}
 use Rattle.glob_lists.specs.Private.Asks.Showing.{HoldsBits, HoldsBytes, HoldsNameBits, front_part, last_part}
-use Rattle.glob_lists.proofs.lemmas.BitLemmas.{HoldsBits-drop, all_pairs_hold, bit_left, bit_right}
+use Rattle.glob_lists.proofs.lemmas.Asks.BitLemmas.{HoldsBits-drop, all_pairs_hold, bit_left, bit_right}
 
 -- an end of the path without slash is an end of its last part
 pub name_bits : (path : List ℕ) (basename_start : Option ℕ) (set : ℕ) → IsBasenameStart path basename_start → HoldsBits (last_part basename_start path) set → HoldsNameBits path set

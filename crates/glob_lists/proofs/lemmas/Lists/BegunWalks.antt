@@ -12,7 +12,7 @@ use Rattle.glob_lists.specs.declared.list.walk.Walk.{Walk}
 use Rattle.glob_lists.specs.Private.Lists.Ends.{AreChainedBy, HasAt, IsEndAt, IsFront, IsFrontAt, IsLastEndUpTo, IsLastWhere, IsSomeEnd, ends_of, whole_number}
 use Rattle.glob_lists.specs.Private.Lists.Walking.{AreNexts, IsLatest, IsWalk, next_of}
 use Rattle.glob_lists.proofs.lemmas.Elements.{slice_get-push_cases, slice_get-push_new, slice_get-push_old}
-use Rattle.glob_lists.proofs.lemmas.EndLemmas.{IsEndAt-same, IsFront-between, end_there, ordered, row_parts, shorter_front, whole_bytes, whole_number-front}
+use Rattle.glob_lists.proofs.lemmas.Lists.EndLemmas.{IsEndAt-same, IsFront-between, end_there, ordered, row_parts, shorter_front, whole_bytes, whole_number-front}
 
 -- What a walk that begins has found of the ends from `link` on that the number begins with, and that there is room for the others.
 pub record IsBegun (has : List (Option (ℕ × ℕ))) (ends : List End) (number : ℕ) (link : Link) (walk : Walk) : Type 0 where

@@ -13,9 +13,9 @@ use Rattle.glob_lists.specs.Private.Stack.Order.{Begins, IsUpTo, front_key}
 use Rattle.glob_lists.specs.Private.Asks.Literals.{AreBytes}
 use Rattle.glob_lists.specs.Index.{AreTooMany, entry_count}
 use Rattle.glob_lists.specs.declared.stack.order.TheConstants.{FRONT}
-use Rattle.glob_lists.proofs.lemmas.CountLemmas.{entry_count-more, few_entries}
+use Rattle.glob_lists.proofs.lemmas.Stack.CountLemmas.{entry_count-more, few_entries}
 use Rattle.glob_lists.proofs.lemmas.Elements.{slice_get-push_cases, slice_get-push_new, slice_get-push_old}
-use Rattle.glob_lists.proofs.lemmas.OrderLemmas.{Begins-between, Begins-refl, IsUpTo-begins, IsUpTo-trans}
+use Rattle.glob_lists.proofs.lemmas.Stack.OrderLemmas.{Begins-between, Begins-refl, IsUpTo-begins, IsUpTo-trans}
 
 module _ {V : Type 0} (lists : List (EntryList V)) (folders : List Folder) where
   -- no folder from place k on begins the text

@@ -5,7 +5,7 @@ use Rattle.std.proofs.lemmas.Option.{slice_get_within}
 use Rattle.gix_glob.specs.declared.pattern.Case.{Case}
 use Rattle.gix_glob.specs.EntryLists.{EntryList}
 use Rattle.glob_lists.specs.Deciding.{AnswersAt, Decides, PairAnswers}
-use Rattle.glob_lists.proofs.lemmas.Answering.{PairAnswers-only, PairAnswers-yes}
+use Rattle.glob_lists.proofs.lemmas.Deciding.Answering.{PairAnswers-only, PairAnswers-yes}
 
 module _ {V : Type 0} (list : EntryList V) (path : List ℕ) (is_dir : Bool) (case : Case) where
   -- the only list is the first

@@ -11,7 +11,7 @@ use Rattle.glob_lists.specs.Index.{AreMatches, ComesBefore}
 use Rattle.glob_lists.specs.Paths.{Path}
 use Rattle.glob_lists.specs.Private.Lists.Answering.{IsNextMatch, NoneAnswers}
 use Rattle.glob_lists.specs.Private.Stack.Finding.{AreFoundFrom, IsFrom}
-use Rattle.glob_lists.proofs.lemmas.Answering.{PairAnswers-only, PairAnswers-yes}
+use Rattle.glob_lists.proofs.lemmas.Deciding.Answering.{PairAnswers-only, PairAnswers-yes}
 use Rattle.glob_lists.proofs.lemmas.Elements.{slice_get-push_cases, slice_get-push_new, slice_get-push_old, slice_get-reverse, slice_get-reverse_back}
 
 module _ {V : Type 0} (lists : List (EntryList V)) (path : Path) (case : Case) where

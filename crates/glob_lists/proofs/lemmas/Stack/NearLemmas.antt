@@ -7,7 +7,7 @@ use Rattle.glob_lists.specs.declared.link.Link.{Link}
 use Rattle.glob_lists.specs.declared.stack.folders.Folder.{Folder}
 use Rattle.glob_lists.specs.Private.Stack.Folders.{AreAllAfter, IsBegunBy, IsForest, IsLastUpTo, base_at}
 use Rattle.glob_lists.specs.Private.Stack.Order.{AreSameUpTo, IsUpTo}
-use Rattle.glob_lists.proofs.lemmas.OrderLemmas.{AreSameUpTo-third, Begins-between, IsUpTo-trans}
+use Rattle.glob_lists.proofs.lemmas.Stack.OrderLemmas.{AreSameUpTo-third, Begins-between, IsUpTo-trans}
 
 module _ {V : Type 0} (lists : List (EntryList V)) (folders : List Folder) (path : List ℕ) where
   pub IsLastUpTo-here : (link : Link) (place : ℕ) (folder : Folder) → place + 1 ≡ link.0 → slice_get folders place ≡ Some folder → IsUpTo (base_at lists folder.list) path

@@ -5,8 +5,8 @@ use Rattle.std.proofs.lemmas.Bool.{cases_eq}
 use Rattle.gix_glob.specs.declared.pattern.Case.{Case}
 use Rattle.glob_lists.specs.Deciding.{AnswersAt, Decides, PairAnswers}
 use Rattle.gix_glob.specs.EntryLists.{EntryList}
-use Rattle.glob_lists.proofs.lemmas.Answering.{PairAnswers-only}
-use Rattle.glob_lists.proofs.lemmas.LastNumbers.{NoneFrom, NoneFrom-all, NoneFrom-last, NoneFrom-less}
+use Rattle.glob_lists.proofs.lemmas.Deciding.Answering.{PairAnswers-only}
+use Rattle.glob_lists.proofs.lemmas.Deciding.LastNumbers.{NoneFrom, NoneFrom-all, NoneFrom-last, NoneFrom-less}
 
 -- ---- one list, from its end
 

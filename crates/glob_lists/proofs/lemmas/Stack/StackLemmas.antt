@@ -18,10 +18,10 @@ use Rattle.glob_lists.specs.Paths.{Path}
 use Rattle.glob_lists.specs.Private.Lists.Answering.{Spends}
 use Rattle.glob_lists.specs.Private.Lists.Prepared.{AreAllPrepared, AreRowsOf}
 use Rattle.glob_lists.specs.Private.Stack.Finding.{IsLastOfList, SpendsOnAll}
-use Rattle.glob_lists.proofs.lemmas.DecidingLemmas.{NoListFrom}
-use Rattle.glob_lists.proofs.lemmas.DecisionSums.{sum_by-drop-le, sum_by-from}
-use Rattle.glob_lists.proofs.lemmas.ListLemmas.{NeverFall-through}
-use Rattle.glob_lists.proofs.lemmas.LastNumbers.{NoneFrom-last, NoneFrom-less}
+use Rattle.glob_lists.proofs.lemmas.Deciding.DecidingLemmas.{NoListFrom}
+use Rattle.glob_lists.proofs.lemmas.Deciding.DecisionSums.{sum_by-drop-le, sum_by-from}
+use Rattle.glob_lists.proofs.lemmas.Lists.ListLemmas.{NeverFall-through}
+use Rattle.glob_lists.proofs.lemmas.Deciding.LastNumbers.{NoneFrom-last, NoneFrom-less}
 
 -- The counts rose by at most what the lists from place i on may take, and a look for each of their rows.
 pub record SpendsFrom {V : Type 0} (lists : List (EntryList V)) (v i : ℕ) (before after : Counts) : Type 0 where
