@@ -15,7 +15,7 @@ use crate::list::question::Question;
 use crate::path::RepositoryPath;
 use crate::stack::folders::{Folder, folders_of, last_near, last_up_to};
 use crate::stack::lists::PreparedLists;
-use crate::stack::way::decide_from;
+use crate::stack::way::{decide_from, matches_from};
 use gix_glob::pattern::Case;
 use gix_glob::search;
 use gix_glob::search::pattern::List;
@@ -312,7 +312,14 @@ impl<'a, T: search::Pattern> ListIndex<'a, T> {
     {
         let mut counts = Counts::<S, L>::new(steps, looks);
         let question = self.question(path, &mut counts);
-        self.lists.matches_into(&question, pairs, &mut counts)
+        match &self.folders {
+            Some(folders) => {
+                let lists = self.lists.lists();
+                let last = last_up_to(folders, lists, path.bytes(), &mut counts);
+                matches_from(&self.lists, folders, last, &question, pairs, &mut counts)
+            }
+            None => self.lists.matches_into(&question, pairs, &mut counts),
+        }
     }
 }
 

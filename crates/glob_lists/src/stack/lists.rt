@@ -142,7 +142,7 @@ impl<'a, T: search::Pattern> PreparedLists<'a, T> {
     }
 
     /// Adds the pairs of the list at place `i` after those of the lists behind it, from the last one to the first.
-    fn push_matches<S: Ledger, L: Ledger>(
+    pub(crate) fn push_matches<S: Ledger, L: Ledger>(
         &self,
         i: usize,
         question: &Question<'_, '_>,

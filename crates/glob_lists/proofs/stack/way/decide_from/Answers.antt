@@ -24,7 +24,7 @@ folders-init g c =
 
 -- the folder of the link
 folder_at : (g : Over) (c : After-list-list g) → slice_get c.args.folders.now c.in-Some.place ≡ Some (get_or c.args.folders.now c.in-Some.place none)
-folder_at g c = slice_get-get_or c.args.folders.now c.in-Some.place none (omega (arith, c.in-Some.ensures, c.folders.invariant.within))
+folder_at g c = slice_get-get_or c.args.folders.now c.in-Some.place none (omega (arith, c.in-Some.ensures, c.folders.invariant.way.within))
 
 pub last_match-requires-clause-inside : goal.last_match-requires-clause-inside
 last_match-requires-clause-inside g c =
