@@ -1,23 +1,23 @@
 -- The entries of one list are asked from the last one on: which of them answers, and what that takes.
-use Rattle.std.proofs.Common.{◌≡◌, ◌↔◌, ℕ, ◌+◌, ◌-◌, ◌<◌, ◌≤◌, List, drop, length, Option, None, Some, refl, sym, ap, subst, ◌∙◌, arith}
-use Rattle.std.specs.Prelude.{MatchOption, slice_get, sum_by}
+use Rattle.std.proofs.Common.{◌≡◌, ℕ, ◌+◌, ◌-◌, ◌<◌, ◌≤◌, List, length, Option, None, Some, refl, subst, arith}
+use Rattle.std.specs.Prelude.{MatchOption, slice_get}
 use Rattle.std.proofs.lemmas.Bool.{cases_eq, cases_lt}
 use Rattle.std.proofs.Common.{⊎_elim}
 use Rattle.std.proofs.lemmas.List.Sums.{sum_by-take-drop}
-use Rattle.std.proofs.lemmas.Option.{same_Some, slice_get_within}
+use Rattle.std.proofs.lemmas.Option.{slice_get_within}
 use Rattle.gix_glob.specs.declared.pattern.Case.{Case}
 use Rattle.gix_glob.specs.Entries.{Entry}
 use Rattle.gix_glob.specs.EntryLists.{EntryList}
 use Rattle.gix_glob.specs.PatternLimits.{pattern_look_limit}
 use Rattle.gix_glob.specs.Steps.{Counts, NeverFall, step_limit}
-use Rattle.gix_glob.specs.Stripping.{RestOf, strip_looks}
-use Rattle.glob_lists.specs.Deciding.{AnswersAt, PairAnswers}
+use Rattle.gix_glob.specs.Stripping.{strip_looks}
+use Rattle.glob_lists.specs.Deciding.{AnswersAt}
 use Rattle.glob_lists.specs.Paths.{Path}
 use Rattle.glob_lists.specs.Private.Looking.{LooksUpTo}
-use Rattle.glob_lists.specs.Private.Lists.Answering.{IsLastMatch, IsNextMatch, NoneAnswers, Spends, SpendsDown, looks_from, steps_from}
+use Rattle.glob_lists.specs.Private.Lists.Answering.{IsLastMatch, IsNextMatch, NoneAnswers, Spends, SpendsDown}
 use Rattle.glob_lists.specs.Private.Stack.Finding.{IsLastOfList}
 use Rattle.glob_lists.proofs.lemmas.Deciding.Answering.{PairAnswers-only, PairAnswers-yes}
-use Rattle.glob_lists.proofs.lemmas.Deciding.DecisionSums.{looks-under, steps-under, sum_by-drop-le, sum_by-from}
+use Rattle.glob_lists.proofs.lemmas.Deciding.DecisionSums.{sum_by-drop-le, sum_by-from}
 
 -- ---- which entry answers
 

@@ -1,5 +1,5 @@
 -- What the rows of a list ask for together.
-use Rattle.std.specs.Prelude.{◌≡◌, ◌⊎◌, ℕ, ◌+◌, ◌-◌, ◌*◌, ◌/◌, ◌%◌, ◌^◌, ◌<◌, ◌≤◌, Bool, List, Option, None, Some, slice_get, if◌then◌else◌}
+use Rattle.std.specs.Prelude.{◌≡◌, ◌⊎◌, ℕ, ◌-◌, ◌*◌, ◌/◌, ◌%◌, ◌^◌, ◌<◌, ◌≤◌, Bool, List, Option, None, Some, slice_get, if◌then◌else◌}
 use Rattle.glob_lists.specs.declared.asks.class.Class.{Class}
 use Rattle.glob_lists.specs.declared.asks.class.Class.TheVariants.{Always, EndsIn}
 use Rattle.glob_lists.specs.declared.asks.literals.TheConstants.{LONGEST_END}

@@ -5,7 +5,7 @@ use Rattle.glob_lists.specs.declared.link.Link.{Link}
 use Rattle.glob_lists.specs.declared.stack.folders.Folder.{Folder}
 use Rattle.glob_lists.specs.declared.stack.order.TheConstants.{FRONT}
 use Rattle.glob_lists.specs.Index.{entry_count}
-use Rattle.glob_lists.specs.Private.Stack.Order.{AreSameUpTo, Begins, IsUpTo, front_key}
+use Rattle.glob_lists.specs.Private.Stack.Order.{Begins, IsUpTo, front_key}
 use Rattle.glob_lists.specs.Private.Asks.Literals.{AreBytes}
 
 -- a base that may be missing, as a text

@@ -1,5 +1,5 @@
 -- A row more is counted where it passes.
-use Rattle.std.proofs.Common.{◌≡◌, ◌<◌, ℕ, ⊎_elim, Some, sym, subst, arith}
+use Rattle.std.proofs.Common.{◌≡◌, ℕ, ⊎_elim, Some, sym, subst, arith}
 use Rattle.std.specs.Prelude.{slice_get}
 use Rattle.std.proofs.lemmas.Bool.{cases_eq, iff_false}
 use Rattle.std.proofs.lemmas.Option.{get_or_from_slice_get, slice_get_within}

@@ -1,5 +1,5 @@
 -- Where the numbers of the first bytes differ they tell.
-use Rattle.std.proofs.Common.{◌≡◌, ℕ, List, length, map, refl, ap, arith}
+use Rattle.std.proofs.Common.{ℕ, List, length, map, refl, ap, arith}
 use Rattle.gix_glob.specs.EntryLists.{entry_list_of}
 use Rattle.glob_lists.specs.Private.Asks.Literals.{AreBytes}
 use Rattle.glob_lists.specs.Private.Stack.Folders.{base_at}

@@ -1,5 +1,5 @@
 -- Each test leaves half of the folders.
-use Rattle.std.proofs.Common.{◌+◌, ◌/◌, length, map, refl, arith}
+use Rattle.std.proofs.Common.{◌+◌, ◌/◌, map, refl, arith}
 use Rattle.std.proofs.lemmas.Bool.{iff_false}
 use Rattle.std.proofs.lemmas.Option.{slice_get-get_or}
 use Rattle.gix_glob.specs.EntryLists.{entry_list_of}

@@ -1,5 +1,5 @@
 -- A list on the way has no answer, and leads to the next one.
-use Rattle.std.proofs.Common.{◌≡◌, ◌<◌, ◌≤◌, ◌∙◌, ℕ, Some, ap, get_or, length, map, sym, subst, arith}
+use Rattle.std.proofs.Common.{◌≡◌, ℕ, Some, ap, get_or, length, map, sym, subst, arith}
 use Rattle.std.specs.Prelude.{slice_get}
 use Rattle.std.proofs.lemmas.List.{length-map}
 use Rattle.std.proofs.lemmas.Option.{slice_get-get_or}
@@ -7,7 +7,6 @@ use Rattle.gix_glob.specs.EntryLists.{entry_list_of}
 use Rattle.glob_lists.specs.declared.link.Link.{Link}
 use Rattle.glob_lists.specs.declared.stack.folders.Folder.{Folder}
 use Rattle.glob_lists.specs.Deciding.{IsLastAnswer}
-use Rattle.glob_lists.specs.Private.Stack.Finding.{IsLastOfList, SpendsOnList}
 use Rattle.glob_lists.proofs.lemmas.Stack.StackLemmas.{SpendsFrom-all}
 use Rattle.glob_lists.proofs.lemmas.Stack.WayLemmas.{Decides-here, Decides-nowhere, IsPassedTo, IsPassedTo-next, IsPassedTo-start, SpendsOnAll-here}
 use Rattle.glob_lists.proofs.stack.way.decide_from.Given.{Over}

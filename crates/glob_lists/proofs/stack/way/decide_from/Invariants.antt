@@ -1,4 +1,4 @@
-use Rattle.std.proofs.Common.{ℕ, length, map}
+use Rattle.std.proofs.Common.{map}
 use Rattle.gix_glob.specs.EntryLists.{entry_list_of}
 use Rattle.glob_lists.proofs.lemmas.Stack.WayLemmas.{IsPassedTo}
 use Rattle.glob_lists.proofs.stack.way.decide_from.Given as goal

@@ -1,5 +1,4 @@
 -- The list is the one that is prepared.
-use Rattle.gix_glob.specs.EntryLists.{entry_list_of}
 use Rattle.glob_lists.proofs.list.prepared_list.PreparedList.last_match.Goals as goal
 
 pub returns-in-Some : goal.returns-in-Some

@@ -1,5 +1,5 @@
 -- The next match from the end on is the last one.
-use Rattle.std.proofs.Common.{◌≡◌, length, arith}
+use Rattle.std.proofs.Common.{length, arith}
 use Rattle.gix_glob.specs.EntryLists.{entry_list_of}
 use Rattle.glob_lists.proofs.lemmas.Lists.ListLemmas.{IsLastMatch-found, Spends-down}
 use Rattle.glob_lists.proofs.list.rows.ListRows.last_match.Goals as goal

@@ -1,5 +1,5 @@
 -- A candidate is tested; those that were passed over don't pass.
-use Rattle.std.proofs.Common.{◌≡◌, ◌↔◌, ◌+◌, ◌<◌, ℕ, IsTrue, List, length, map, option_map, Some, refl, sym, subst, ap, arith}
+use Rattle.std.proofs.Common.{◌≡◌, ◌↔◌, ◌+◌, ◌<◌, ℕ, IsTrue, List, length, map, option_map, Some, refl, sym, subst, arith}
 use Rattle.std.specs.Prelude.{slice_get}
 use Rattle.std.specs.Vec.{vec_items}
 use Rattle.std.proofs.lemmas.Bool.{iff_false}

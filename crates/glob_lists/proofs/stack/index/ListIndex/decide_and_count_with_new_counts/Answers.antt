@@ -1,5 +1,4 @@
 -- The lists are those of the index.
-use Rattle.std.proofs.Common.{ap}
 use Rattle.glob_lists.proofs.lemmas.Stack.StackLemmas.{Decides-asked}
 use Rattle.glob_lists.proofs.stack.index.ListIndex.decide_and_count_with_new_counts.Goals as goal
 

@@ -1,13 +1,11 @@
 -- A list more is counted.
-use Rattle.std.proofs.Common.{◌≡◌, ◌<◌, ◌+◌, ℕ, ⊎_elim, List, Some, ap, length, map, refl, sym, subst, arith}
+use Rattle.std.proofs.Common.{◌≡◌, ℕ, ⊎_elim, List, Some, ap, length, map, refl, sym, subst, arith}
 use Rattle.std.specs.Prelude.{slice_get}
 use Rattle.std.proofs.lemmas.Bool.{cases_eq}
-use Rattle.std.proofs.lemmas.List.{length-map}
 use Rattle.std.proofs.lemmas.List.Sums.{sum_by-take-drop}
 use Rattle.std.proofs.lemmas.Option.{slice_get_read, slice_get_within}
 use Rattle.gix_glob.specs.EntryLists.{EntryList, entry_list_of}
 use Rattle.glob_lists.specs.Deciding.{PairAnswers}
-use Rattle.glob_lists.specs.Private.Lists.Prepared.{AreRowsOf}
 use Rattle.glob_lists.proofs.lemmas.Deciding.Answering.{PairAnswers-only}
 use Rattle.glob_lists.proofs.lemmas.Stack.CountLemmas.{entry_count-more}
 use Rattle.glob_lists.proofs.lemmas.Elements.{slice_get-inside}

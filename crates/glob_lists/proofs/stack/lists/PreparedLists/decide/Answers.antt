@@ -1,5 +1,5 @@
 -- The lists are gone through from the last one on.
-use Rattle.std.proofs.Common.{◌≡◌, ◌+◌, ◌-◌, ◌<◌, List, ap, length, map, arith}
+use Rattle.std.proofs.Common.{◌-◌, List, ap, length, map, arith}
 use Rattle.std.proofs.lemmas.List.{length-map}
 use Rattle.gix_glob.specs.EntryLists.{entry_list_of}
 use Rattle.glob_lists.proofs.lemmas.Deciding.DecidingLemmas.{Decides-none}

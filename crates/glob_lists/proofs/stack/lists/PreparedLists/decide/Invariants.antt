@@ -1,5 +1,4 @@
-use Rattle.std.proofs.Common.{◌+◌, ◌≤◌, drop, length, map}
-use Rattle.std.specs.Prelude.{sum_by}
+use Rattle.std.proofs.Common.{length, map}
 use Rattle.gix_glob.specs.EntryLists.{entry_list_of}
 use Rattle.glob_lists.proofs.lemmas.Deciding.DecidingLemmas.{NoListFrom}
 use Rattle.glob_lists.proofs.lemmas.Stack.StackLemmas.{SpendsFrom}

@@ -1,10 +1,9 @@
 -- The rows are those of the list at its place.
-use Rattle.std.proofs.Common.{◌≡◌, ◌<◌, ◌∙◌, List, Some, ap, get_or, length, map, sym, subst, arith}
-use Rattle.std.specs.Prelude.{slice_get}
+use Rattle.std.proofs.Common.{◌<◌, ◌∙◌, List, ap, get_or, length, map, sym, subst, arith}
 use Rattle.std.proofs.lemmas.Option.{same_Some}
 use Rattle.gix_glob.specs.EntryLists.{EntryList, entry_list_of}
 use Rattle.glob_lists.specs.Private.Lists.Answering.{Spends}
-use Rattle.glob_lists.specs.Private.Stack.Finding.{IsLastOfList, SpendsOnList}
+use Rattle.glob_lists.specs.Private.Stack.Finding.{SpendsOnList}
 use Rattle.glob_lists.proofs.lemmas.Lists.ListLemmas.{IsLastOfList-at}
 use Rattle.glob_lists.proofs.lemmas.Stack.StackLemmas.{held_folder, held_rows, held_there}
 use Rattle.glob_lists.proofs.stack.lists.PreparedLists.last_match.Given.{Over}

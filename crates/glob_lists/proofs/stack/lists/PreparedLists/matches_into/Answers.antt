@@ -1,6 +1,5 @@
 -- All lists were gone through, from the last one on.
-use Rattle.std.proofs.Common.{◌≡◌, ℕ, List, map, sym, subst, ap, length, arith}
-use Rattle.std.proofs.lemmas.List.{length-map}
+use Rattle.std.proofs.Common.{◌≡◌, ℕ, map, sym, subst, arith}
 use Rattle.gix_glob.specs.EntryLists.{entry_list_of}
 use Rattle.glob_lists.specs.Index.{AreMatches}
 use Rattle.glob_lists.specs.Private.Stack.Finding.{AreFoundFrom}

@@ -1,4 +1,4 @@
-use Rattle.std.proofs.Common.{map, get_or}
+use Rattle.std.proofs.Common.{map}
 use Rattle.gix_glob.specs.EntryLists.{entry_list_of}
 use Rattle.glob_lists.specs.Private.Lists.Answering.{IsVisit}
 use Rattle.glob_lists.specs.Private.Stack.Finding.{AreFoundFrom}
