@@ -22,7 +22,7 @@ pub(crate) fn chain(alloc: Global, rows: &mut [Row]) -> Result<Option<Ends>, All
         always: Link::NONE,
         met: Vec::from_elem(alloc, false, rows.len())?,
     };
-    'entries: for entry in order.entries.as_slice() {
+    'entries: for entry in order.as_slice() {
         if !chains.add(rows, entry.place)? {
             return Ok(None);
         }
@@ -30,11 +30,10 @@ pub(crate) fn chain(alloc: Global, rows: &mut [Row]) -> Result<Option<Ends>, All
     if !are_all(&chains.met) {
         return Ok(None);
     }
-    let starts = starts_of(rows, &chains.ends);
+    let starts = starts_of(alloc, rows, &chains.ends)?;
     Ok(Some(Ends {
         all: chains.ends,
         starts,
-        most: order.most,
         always: chains.always,
     }))
 }
@@ -48,31 +47,19 @@ struct Entry {
     place: usize,
 }
 
-/// Rows that were put in order.
-#[derive(Debug, Drop)]
-struct Order {
-    entries: Vec<Entry>,
-    /// The most rows that have one end.
-    most: usize,
-}
-
 /// The rows in the order of their ends, first those without one; rows with the same end stay as they stand.
-fn sorted(alloc: Global, rows: &[Row]) -> Result<Order, AllocError> {
+fn sorted(alloc: Global, rows: &[Row]) -> Result<Vec<Entry>, AllocError> {
     let mut entries = entries_of(alloc, rows)?;
     entries.sort_unstable_by_key(|entry: &Entry| entry.number);
-    let mut most: usize = 1;
     let mut from: usize = 0;
     'runs: while from < entries.len() {
         let to = run_end(&entries, from);
         if to > from + 1 {
             entries[from..to].sort_unstable_by_key(|entry: &Entry| entry.place);
-            if entries[from].number > 0 {
-                most = most.max(to - from);
-            }
         }
         from = to;
     }
-    Ok(Order { entries, most })
+    Ok(entries)
 }
 
 /// The rows as they stand.
@@ -110,20 +97,20 @@ fn run_end(order: &[Entry], from: usize) -> usize
 }
 
 /// Where the ends of each last byte begin.
-fn starts_of(rows: &[Row], ends: &[End]) -> [u32; STARTS]
+fn starts_of(alloc: Global, rows: &[Row], ends: &[End]) -> Result<Vec<u32>, AllocError>
     requires ends { AreEnds (ends_of rows.now) ends.now }
     requires few { length ends.now < 2 ^ 32 }
 {
-    let mut starts = [ends.len() as u32; STARTS];
+    let mut starts = Vec::from_elem(alloc, ends.len() as u32, STARTS)?;
     let mut next: usize = 0;
     'ends: for k in 0..ends.len() {
         let last = (rows[ends[k].last as usize].whole_number() >> 56) as usize;
-        'bytes: while next <= last && next < STARTS {
+        'bytes: while next <= last && next < starts.len() {
             starts[next] = k as u32;
             next += 1;
         }
     }
-    starts
+    Ok(starts)
 }
 
 /// Whether all are true.

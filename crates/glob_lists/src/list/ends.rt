@@ -24,9 +24,7 @@ pub(crate) struct Ends {
     /// All ends, in the order of their numbers.
     pub(crate) all: Vec<End>,
     /// Where those begin whose last byte is at least this one. It isn't believed.
-    pub(crate) starts: [u32; STARTS],
-    /// The most rows that have one end. It isn't believed.
-    pub(crate) most: usize,
+    pub(crate) starts: Vec<u32>,
     /// The last row without an end.
     pub(crate) always: Link,
 }
@@ -70,13 +68,15 @@ impl Ends {
         ensures { IsEndsRange (ends_of rows.now) self.now.all.items number result.low (result.low + result.size) }
     {
         let byte = (number >> 56) as usize;
-        let low = self.starts[byte] as usize;
-        let end = self.starts[byte + 1] as usize;
-        if self.is_range(rows, number, low, end) {
-            return Range {
-                low,
-                size: end - low,
-            };
+        if byte + 1 < self.starts.len() {
+            let low = self.starts[byte] as usize;
+            let end = self.starts[byte + 1] as usize;
+            if self.is_range(rows, number, low, end) {
+                return Range {
+                    low,
+                    size: end - low,
+                };
+            }
         }
         Range {
             low: 0,
