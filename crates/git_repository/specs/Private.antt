@@ -1,0 +1,3 @@
+pub mod Ceilings
+pub mod Giving
+pub mod Searching
