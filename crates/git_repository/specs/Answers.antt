@@ -19,3 +19,8 @@ found_with see found = record { by = found.by; top = see found.top; git_folder =
 abbrev pub Answers : {X Y : Type 0} → Type 0 → (X → Y) → Result X (FindFault (Vec ℕ Global)) → (Result Y (FindFault (List ℕ)) → Type 0) → Type 0
 Answers known see (Ok x) Holds = known → Holds (Ok (see x))
 Answers known see (Err fault) Holds = known → (fault ≡ Memory) ⊎ Holds (Err (fault_with vec_items fault))
+
+-- of a source that is known, a call returned this, seen, unless memory was refused
+abbrev pub Gives : {X Y : Type 0} → Type 0 → (X → Y) → Result X (FindFault (Vec ℕ Global)) → Result Y (FindFault (List ℕ)) → Type 0
+Gives known see (Ok x) answer = known → answer ≡ Ok (see x)
+Gives known see (Err fault) answer = known → (fault ≡ Memory) ⊎ (answer ≡ Err (fault_with vec_items fault))

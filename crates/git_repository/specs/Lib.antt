@@ -1,6 +1,8 @@
 pub mod Answers
 pub mod Environments
 pub mod FileTree
+pub mod Folders
+pub mod Formats
 pub mod GitFolders
 pub mod Private
 pub mod Safety

@@ -1,3 +1,2 @@
 pub mod Ceilings
-pub mod Giving
 pub mod Searching

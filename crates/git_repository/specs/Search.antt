@@ -1,7 +1,6 @@
 -- The search upward for a repository.
-use Rattle.std.specs.Prelude.{◌≡◌, ◌⊎◌, ℕ, ◌<◌, Bool, true, false, not, ◌&&◌, ◌||◌, ◌==◌, if◌then◌else◌, List, [], ◌∷◌, ◌++◌, length, codes, Option, Some, None, Result, Ok, Err, map, option_map, option_to_list}
-use Rattle.std.specs.List.{AllByRecursion, slice_split}
-use Rattle.std.specs.Str.{bytes_eq}
+use Rattle.std.specs.Prelude.{◌≡◌, ◌⊎◌, ℕ, ◌-◌, ◌<◌, nat_eq, Bool, true, false, not, ◌&&◌, ◌||◌, ◌==◌, if◌then◌else◌, List, [], ◌∷◌, ◌++◌, length, take, codes, Option, Some, None, Result, Ok, Err, map, option_map, option_to_list}
+use Rattle.std.specs.List.{AllByRecursion, ends_with, slice_split}
 use Rattle.std.specs.Vec.{vec_items}
 use Rattle.git_repository.specs.FileTree.{FileTree}
 use Rattle.git_repository.specs.GitFolders.{◌>>=◌, gitfile_leads, is_absolute, is_git_folder}
@@ -27,7 +26,7 @@ Fault = FindFault (List ℕ)
 
 -- The search names folders without a slash at their ends, so the root has no bytes; as a path it is a slash.
 abbrev pub folder_of : List ℕ → List ℕ
-folder_of path = if bytes_eq path (codes "/") then [] else path
+folder_of path = if ends_with nat_eq path (codes "/") then take (length path - 1) path else path
 
 abbrev pub path_of : List ℕ → List ℕ
 path_of folder = if length folder == 0 then codes "/" else folder

@@ -2,8 +2,8 @@
 ghost use Rattle.std.specs.Prelude.{◌≡◌, ◌==◌, ◌≤◌, ◌∷◌, [], ◌↔◌, IsTrue, length, map, option_map, Ok};
 ghost use Rattle.std.specs.List.{position_or_len};
 ghost use Rattle.std.specs.Vec.{vec_items};
+ghost use Rattle.git_repository.specs.Answers.{Gives};
 ghost use Rattle.git_repository.specs.Search.{IsAbove, ceilings_of, ceiling_told, folder_of};
-ghost use Rattle.git_repository.specs.Private.Giving.{Gives};
 ghost use Rattle.git_repository.specs.Private.Ceilings.{Cuts, IsFloor};
 
 use crate::fault::FindFault;
@@ -14,7 +14,11 @@ use std::alloc::Global;
 pub fn folder_of(path: &[u8]) -> &[u8]
     ensures { result.now ≡ folder_of path.now }
 {
-    if path == b"/".as_slice() { &[] } else { path }
+    if path.ends_with(b"/") {
+        &path[..path.len() - 1]
+    } else {
+        path
+    }
 }
 
 /// The ceilings that a list of paths tells.

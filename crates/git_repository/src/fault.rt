@@ -4,7 +4,6 @@ ghost use Rattle.git_repository.specs.declared.fault.FindFault.TheVariants.{Memo
 
 use bstr::BStr;
 use std::alloc::{AllocError, AllocFailed};
-use std::convert::AsSlice;
 use std::error::Error;
 use std::fmt;
 
@@ -59,5 +58,48 @@ impl<B, T: Drop> From<AllocFailed<T>> for FindFault<B> {
 
     fn from(_refused: AllocFailed<T>) -> FindFault<B> {
         FindFault::Memory
+    }
+}
+
+/// The words of Git.
+impl fmt::Display for FindFault<Vec<u8>> {
+    fn fmt<W: fmt::Write>(&self, f: &mut fmt::Formatter<W>) -> fmt::Result {
+        match self {
+            FindFault::Memory => write!(f, "no memory"),
+            FindFault::NotFound => write!(
+                f,
+                "not a git repository (or any of the parent directories): .git"
+            ),
+            FindFault::At(wrong, path) => {
+                let (front, back) = words_of(*wrong);
+                let path = BStr::new(path);
+                write!(f, "{front}{path}{back}")
+            }
+        }
+    }
+}
+
+impl Error for FindFault<Vec<u8>> {}
+
+/// What is said before a path and behind it.
+fn words_of(wrong: Wrong) -> (&'static str, &'static str) {
+    match wrong {
+        Wrong::Unreadable => ("error reading ", ""),
+        Wrong::TooLarge => ("too large to be a .git file: '", "'"),
+        Wrong::Format => ("invalid gitfile format: ", ""),
+        Wrong::NoPath => ("no path in gitfile: ", ""),
+        Wrong::NoGitFolder => ("not a git repository: ", ""),
+        Wrong::NotNamed => ("not a git repository: '", "'"),
+        Wrong::CommonFolder => ("failed to read ", ""),
+        Wrong::LeadsNowhere => ("Invalid path '", "'"),
+        Wrong::Border => (
+            "not a git repository (or any parent up to mount point ",
+            ")",
+        ),
+        Wrong::Owner => ("detected dubious ownership in repository at '", "'"),
+        Wrong::Bare => (
+            "cannot use bare repository '",
+            "' (safe.bareRepository is 'explicit')",
+        ),
     }
 }

@@ -1,9 +1,9 @@
 //! Whether a folder is a git folder, and which is its common folder.
 ghost use Rattle.std.specs.Prelude.{◌≡◌, Ok, option_map};
 ghost use Rattle.std.specs.Vec.{vec_items};
+ghost use Rattle.git_repository.specs.Answers.{Gives};
 ghost use Rattle.git_repository.specs.Environments.{environment_with};
 ghost use Rattle.git_repository.specs.GitFolders.{common_folder_by, common_told, has_stores, is_git_folder, own_common_folder, real_path_of};
-ghost use Rattle.git_repository.specs.Private.Giving.{Gives};
 
 use crate::environment::Environment;
 use crate::fault::{FindFault, Wrong};

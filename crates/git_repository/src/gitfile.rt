@@ -1,9 +1,9 @@
 //! A file `.git`, which leads to a git folder.
 ghost use Rattle.std.specs.Prelude.{option_map};
 ghost use Rattle.std.specs.Vec.{vec_items};
+ghost use Rattle.git_repository.specs.Answers.{Gives};
 ghost use Rattle.git_repository.specs.Environments.{environment_with};
 ghost use Rattle.git_repository.specs.GitFolders.{gitfile_leads, gitfile_told, path_told};
-ghost use Rattle.git_repository.specs.Private.Giving.{Gives};
 
 use crate::environment::Environment;
 use crate::fault::{FindFault, Wrong};

@@ -2,8 +2,8 @@
 ghost use Rattle.std.specs.Prelude.{◌≡◌, ◌≤◌, ◌||◌, None, Ok, length};
 ghost use Rattle.std.specs.Char.{is_ascii_hexdigit};
 ghost use Rattle.std.specs.List.{prefix_len};
+ghost use Rattle.git_repository.specs.Answers.{Gives};
 ghost use Rattle.git_repository.specs.GitFolders.{head_counts, is_blank, is_head, names_commit, names_reference};
-ghost use Rattle.git_repository.specs.Private.Giving.{Gives};
 
 use crate::fault::FindFault;
 use crate::file_system::FileSystem;

@@ -1,10 +1,9 @@
 //! What one folder shows: a repository, or nothing.
 ghost use Rattle.std.specs.Prelude.{◌≡◌, ◌&&◌, Ok, option_map};
 ghost use Rattle.std.specs.Vec.{vec_items};
-ghost use Rattle.git_repository.specs.Answers.{found_with};
+ghost use Rattle.git_repository.specs.Answers.{Gives, found_with};
 ghost use Rattle.git_repository.specs.Environments.{environment_with};
 ghost use Rattle.git_repository.specs.Search.{is_beyond, is_ours_if_any, judged, path_of, shows, shows_from, shows_git_folder, shows_gitfile, shows_itself, trust_of};
-ghost use Rattle.git_repository.specs.Private.Giving.{Gives};
 
 use crate::environment::Environment;
 use crate::fault::{FindFault, Wrong};

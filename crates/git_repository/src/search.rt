@@ -1,10 +1,9 @@
 //! The search for the repository of a current folder.
 ghost use Rattle.std.specs.Prelude.{MatchOption};
 ghost use Rattle.std.specs.Vec.{vec_items};
-ghost use Rattle.git_repository.specs.Answers.{Answers, found_with};
+ghost use Rattle.git_repository.specs.Answers.{Answers, Gives, found_with};
 ghost use Rattle.git_repository.specs.Environments.{environment_with};
 ghost use Rattle.git_repository.specs.Search.{Finds, Searches, named, shows_from, trust_of};
-ghost use Rattle.git_repository.specs.Private.Giving.{Gives};
 ghost use Rattle.git_repository.specs.Private.Searching.{HasNoUpper, IsOpenFrom, IsUpperLen};
 
 use crate::ceilings::{ceilings_of, floor_of, folder_of};

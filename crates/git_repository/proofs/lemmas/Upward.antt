@@ -4,9 +4,12 @@ use Rattle.std.specs.Prelude.{◌⊎◌}
 use Rattle.std.proofs.Math.Seq.{take-append_seam, get_or-append_seam, drop-cons}
 use Rattle.std.proofs.lemmas.Bool.{cases_lt}
 use Rattle.std.proofs.lemmas.List.{get_or-take, length-take-le, take_all, take-append-drop}
-use Rattle.git_repository.specs.Search.{Fault, IsAbove, IsNearest, IsOpen, Searches, some_of}
+use Rattle.git_repository.specs.FileTree.{FileTree}
+use Rattle.git_repository.specs.Search.{Fault, FindsIn, IsAbove, IsNearest, IsOpen, Searches, Trust, ceilings_of, folder_of, shows_from, some_of}
+use Rattle.git_repository.specs.declared.environment.Environment.{Environment}
 use Rattle.git_repository.specs.declared.found.Found.{Found}
 use Rattle.git_repository.specs.declared.fault.FindFault.TheVariants.{NotFound}
+use Rattle.git_repository.specs.Private.Ceilings.{AreShorter, IsFloor}
 use Rattle.git_repository.specs.Private.Searching.{HasNoUpper, IsOpenFrom, IsUpperLen}
 
 abbrev Shown : Type 0
@@ -32,16 +35,14 @@ has_slash : (folder current : List ℕ) → IsAbove folder current → get_or cu
 has_slash folder current above = ap (λ (bytes : List ℕ). get_or bytes (length folder) 0) above.1 ∙ get_or-append_seam folder 47 above.0 0
 
 is_long_enough : (floor : ℕ) (folder current : List ℕ) → IsOpenFrom floor current folder → length folder < length current → floor ≤ length folder
-is_long_enough floor folder current (way, inl same) short = absurd (omega (arith, ap length same))
-is_long_enough floor folder current (way, inr long) short = long
+is_long_enough floor folder current is short = elim is.1 [ inl same ↦ absurd (omega (arith, ap length same)) | inr long ↦ long ]
 
 is_above : (floor : ℕ) (folder current : List ℕ) → IsOpenFrom floor current folder → length folder < length current → IsAbove folder current
-is_above floor folder current (inl same, long) short = absurd (omega (arith, ap length same))
-is_above floor folder current (inr above, long) short = above
+is_above floor folder current is short = elim is.0 [ inl same ↦ absurd (omega (arith, ap length same)) | inr above ↦ above ]
 
 is_within : (floor : ℕ) (folder current : List ℕ) → IsOpenFrom floor current folder → length folder ≤ length current
-is_within floor folder current (inl same, long) = omega (arith, ap length same)
-is_within floor folder current (inr above, long) = omega (arith, is_short folder current above)
+is_within floor folder current is =
+    elim is.0 [ inl same ↦ omega (arith, ap length same) | inr above ↦ omega (arith, is_short folder current above) ]
 
 -- ---- the start, a step, and the ends
 
@@ -83,11 +84,11 @@ module _ (known : Type 0) (floor : ℕ) (current : List ℕ) (shown : Shown) (le
       get_or-take len current (length other) 0 short ∙ has_slash other current (is_above floor other current is (omega (arith, climbed.within)))
 
   pub ends : known → shown (take len current) ≡ Ok None → HasNoUpper floor (take len current) → Searches (IsOpenFrom floor current) shown (Err NotFound)
-  ends k none no = inr (
+  ends k none nothing = inr (
     λ other is.
     elim (cases_lt (length other) len) [
       | inl short ↦
-        absurd (no.none (length other) (is_long_enough floor other current is (omega (arith, climbed.within))) (omega (arith, here)) (slash_at other is short))
+        absurd (nothing.none (length other) (is_long_enough floor other current is (omega (arith, climbed.within))) (omega (arith, here)) (slash_at other is short))
       | inr long ↦ not_shorter k none other is long
     ],
     refl,
@@ -109,3 +110,35 @@ module _ (known : Type 0) (floor : ℕ) (current : List ℕ) (shown : Shown) (le
             | inr long ↦ not_shorter k (none k) other is long
           ];
       }
+
+-- ---- the folders below each ceiling
+
+all_are_shorter : (ceilings : List (List ℕ)) (current : List ℕ) → AreShorter ceilings current (length current)
+all_are_shorter [] current = tt
+all_are_shorter (ceiling ∷ ceilings) current = (λ above. is_short ceiling current above, all_are_shorter ceilings current)
+
+is_open : (ceilings : List (List ℕ)) (current : List ℕ) (floor : ℕ) → IsFloor ceilings current floor → (folder : List ℕ) → IsOpenFrom floor current folder → IsOpen ceilings current folder
+is_open ceilings current floor is folder way =
+    let enough : floor ≤ length current = is.least (length current) (all_are_shorter ceilings current) in
+    let long : floor ≤ length folder = elim way.1 [ inl same ↦ omega (arith, ap length same) | inr long ↦ long ] in
+    (way.0, is.covers (length folder) long)
+
+is_open_from : (ceilings : List (List ℕ)) (current : List ℕ) (floor : ℕ) → IsFloor ceilings current floor → (folder : List ℕ) → IsOpen ceilings current folder → IsOpenFrom floor current folder
+is_open_from ceilings current floor is folder way = (way.0, inr (is.least (length folder) way.1))
+
+-- the same search by other words for the folders that may be looked at
+Searches-by : (Open Other : List ℕ → Type 0) (shown : Shown) (answer : Result (Found (List ℕ)) Fault) → ((folder : List ℕ) → Open folder → Other folder) → ((folder : List ℕ) → Other folder → Open folder) → Searches Open shown answer → Searches Other shown answer
+Searches-by Open Other shown answer to back (inl near) = inl (near.0, record {
+  «open» = to near.0 near.1.«open»;
+  nearer = λ other is longer. near.1.nearer other (back other is) longer;
+  says = near.1.says;
+})
+Searches-by Open Other shown answer to back (inr none) = inr (λ folder is. none.0 folder (back folder is), none.1)
+
+pub finds_by_search : (tree : FileTree) (words : Environment (List ℕ)) (trust : Trust) (current start : List ℕ) (ceilings : List (List ℕ)) (floor : ℕ) (told : Option (List ℕ)) → told ≡ None → start ≡ folder_of current → ceilings_of tree words.ceiling_directories ≡ ceilings → IsFloor ceilings start floor → (answer : Result (Found (List ℕ)) Fault) → Searches (IsOpenFrom floor start) (shows_from tree words trust start) answer → FindsIn tree words trust told current answer
+finds_by_search tree words trust current start ceilings floor told none starts told_are is answer found =
+    let at_start : Searches (IsOpen (ceilings_of tree words.ceiling_directories) start) (shows_from tree words trust start) answer =
+      rw told_are (Searches-by (IsOpenFrom floor start) (IsOpen ceilings start) (shows_from tree words trust start) answer (is_open ceilings start floor is) (is_open_from ceilings start floor is) found) in
+    let Is : List ℕ → Type 0 = λ folder. Searches (IsOpen (ceilings_of tree words.ceiling_directories) folder) (shows_from tree words trust folder) answer in
+    let Told : Option (List ℕ) → Type 0 = λ t. FindsIn tree words trust t current answer in
+    subst Told (sym none) (subst Is starts at_start)
