@@ -130,6 +130,9 @@ def config_booleans(value):
     return [{b"true\n": "yes", b"false\n": "no"}.get(told)]
 
 
+COMMON = ["rev-parse", "--path-format=absolute", "--git-common-dir"]
+
+
 @contextlib.contextmanager
 def files_of(fields, words):
     """The top of a folder with the files of a row of repositories, and the words of Git that ask there; the first fields' paths and
@@ -160,10 +163,10 @@ def put(top, name, text):
             it.write(text)
 
 
-def ask_repository(current, words, fields, asked):
+def ask_repository(current, words, fields, *asked):
     """What Git tells of the repository of a folder, with paths from the top, or the first words of its fault."""
     with files_of(fields, words) as (top, options, variables):
-        command = ["git", *options, "rev-parse", *asked]
+        command = ["git", *options, *asked]
         folder = os.path.join(top, current.decode().lstrip("/"))
         ran = subprocess.run(command, cwd=folder, env={**ALONE, **variables}, capture_output=True, check=False)
     told, wrong = (text.decode().replace(top, "") for text in (ran.stdout, ran.stderr))
@@ -174,17 +177,26 @@ def ask_repository(current, words, fields, asked):
 def repositories(current, words, *fields):
     if not IS_GIT or b"device=" in words:
         return ()
-    told, fault = ask_repository(current, words, fields, ["--absolute-git-dir"])
+    told, fault = ask_repository(current, words, fields, "rev-parse", "--absolute-git-dir")
     return [fault or told]
 
 
 def work_trees(current, words, *fields):
     if not IS_GIT:
         return ()
-    common, fault = ask_repository(current, words, fields, ["--path-format=absolute", "--git-common-dir"])
-    top, none = ask_repository(current, words, fields, ["--show-toplevel"])
+    common, fault = ask_repository(current, words, fields, *COMMON)
+    top, none = ask_repository(current, words, fields, "rev-parse", "--show-toplevel")
     return [fault or common, None if none else top]
 
 
+def exclude_names(current, words, *fields):
+    if not IS_GIT:
+        return ()
+    common, fault = ask_repository(current, words, fields, *COMMON)
+    every = [] if fault else [common.encode() + b"/info/exclude", b"*"]
+    told, fault = ask_repository(current, words, [*fields, *every], "check-ignore", "-v", "-n", "x")
+    return [fault or told.split(":")[0]]
+
+
 OF_PATTERNS = (matching, trees, trees_told, attribute_states, all_states, attribute_streams, attribute_names)
-rows.answer({it.__name__: it for it in (*OF_PATTERNS, config_files, config_booleans, repositories, work_trees)})
+rows.answer({it.__name__: it for it in (*OF_PATTERNS, config_files, config_booleans, repositories, work_trees, exclude_names)})

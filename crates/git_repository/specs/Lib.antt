@@ -4,6 +4,7 @@ pub mod FileTree
 pub mod Folders
 pub mod Formats
 pub mod GitFolders
+pub mod Naming
 pub mod Private
 pub mod Safety
 pub mod Search

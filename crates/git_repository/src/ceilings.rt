@@ -1,5 +1,5 @@
 //! The ceilings of the search: folders at which it ends.
-ghost use Rattle.std.specs.Prelude.{◌≡◌, ◌==◌, ◌≤◌, ◌∷◌, [], ◌↔◌, IsTrue, length, map, option_map, Ok};
+ghost use Rattle.std.specs.Prelude.{◌≡◌, ◌==◌, ◌≤◌, ◌∷◌, [], ◌↔◌, ℕ, IsTrue, length, map, option_map, Ok};
 ghost use Rattle.std.specs.List.{position_or_len};
 ghost use Rattle.std.specs.Vec.{vec_items};
 ghost use Rattle.git_repository.specs.Answers.{Gives};
@@ -98,13 +98,22 @@ pub fn floor_of(ceilings: &[Vec<u8>], current: &[u8]) -> usize
     let mut floor = 0;
     let mut rest = ceilings;
     'ceilings: while let [first, others @ ..] = rest {
-        floor = floor.max(reach(first, current));
+        floor = larger(floor, reach(first, current));
         rest = others;
     }
     floor
 }
 
-/// The same for one ceiling.
+/// The larger one of two numbers.
+fn larger(first: usize, second: usize) -> usize
+    ensures first { first ≤ result }
+    ensures second { second ≤ result }
+    ensures least { (n : ℕ) → first ≤ n → second ≤ n → result ≤ n }
+{
+    if first < second { second } else { first }
+}
+
+/// The same as [`floor_of`] for one ceiling.
 fn reach(ceiling: &[u8], current: &[u8]) -> usize
     ensures { IsFloor (ceiling.now ∷ []) current.now result }
 {

@@ -61,7 +61,7 @@ fn is_own<S: FileSystem>(
 
 /// Whether `core.bare` and `core.worktree` count: only with a version, and only where the git folder is its own common folder or
 /// `extensions.worktreeConfig` is true.
-fn counts<S: FileSystem>(
+pub fn counts<S: FileSystem>(
     alloc: Global,
     source: &S,
     words: &Environment<&[u8]>,

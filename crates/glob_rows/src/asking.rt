@@ -39,6 +39,7 @@ pub(crate) fn ask(alloc: Global, subject: &str, question: &Question) -> Result<A
         "index_files" => index_files::index_files(alloc, question, &mut answer)?,
         "index_paths" => index_files::index_paths(alloc, question, &mut answer)?,
         "repositories" => repositories::repositories(alloc, question, &mut answer)?,
+        "exclude_names" => repositories::exclude_names(alloc, question, &mut answer)?,
         "safe_directories" => repositories::safe_directories(alloc, question, &mut answer)?,
         "work_trees" => repositories::work_trees(alloc, question, &mut answer)?,
         _ => ask_attributes(alloc, subject, question, &mut answer)?,

@@ -30,7 +30,7 @@ use std::process::ExitCode;
 use std::rt::Files;
 
 /// The subjects of the rows. Each has a file of its name.
-const SUBJECTS: [&str; 44] = [
+const SUBJECTS: [&str; 45] = [
     "matching",
     "starts",
     "attempts",
@@ -74,6 +74,7 @@ const SUBJECTS: [&str; 44] = [
     "config_booleans",
     "repositories",
     "work_trees",
+    "exclude_names",
     "safe_directories",
 ];
 

@@ -7,7 +7,7 @@ use crate::question::Question;
 use git_config::{ConfigFile, Entry, Item, boolean, integer, last_boolean, split_word};
 use git_repository::{
     Environment, FileSystem, FindFault, Folders, Found, RepositoryFile, Safety, Settings,
-    check_format, file_path, find, folders_of, trusts, work_tree_of,
+    check_format, exclude_name, file_path, find, folders_of, trusts, work_tree_of,
 };
 use std::alloc::{AllocError, Global};
 
@@ -45,9 +45,9 @@ pub(crate) fn work_trees(
 ) -> Result<(), RowFault> {
     let row = Row::new(alloc, question)?;
     match row.folders(alloc) {
-        Ok((common_folder, work_tree)) => {
-            answer.push_option(row.table.real_path(&common_folder)?.as_deref())?;
-            Ok(answer.push_option(work_tree.as_deref())?)
+        Ok(folders) => {
+            answer.push_option(row.table.real_path(&folders.common)?.as_deref())?;
+            Ok(answer.push_option(folders.top.as_deref())?)
         }
         Err(Told::Found(fault)) => {
             push_fault(alloc, fault, answer)?;
@@ -57,6 +57,19 @@ pub(crate) fn work_trees(
             answer.push(text.as_bytes())?;
             Ok(answer.push_option(None)?)
         }
+    }
+}
+
+/// How Git names the file `info/exclude` of a repository; or the fault.
+pub(crate) fn exclude_names(
+    alloc: Global,
+    question: &Question,
+    answer: &mut Answer,
+) -> Result<(), RowFault> {
+    match Row::new(alloc, question)?.folders(alloc) {
+        Ok(folders) => Ok(answer.push_option(folders.exclude.as_deref())?),
+        Err(Told::Found(fault)) => push_fault(alloc, fault, answer),
+        Err(Told::Text(text)) => Ok(answer.push(text.as_bytes())?),
     }
 }
 
@@ -70,6 +83,14 @@ fn push_fault(
         FindFault::Memory => Err(RowFault::Memory),
         other => Ok(answer.push(format!(in alloc; "{other}")?.as_bytes())?),
     }
+}
+
+/// What a repository's configuration tells: its common folder, the top of its work tree, and with that the name of `info/exclude`.
+#[derive(Drop)]
+struct Tops {
+    common: Vec<u8>,
+    top: Option<Vec<u8>>,
+    exclude: Option<Vec<u8>>,
 }
 
 /// Why a repository's folders aren't told.
@@ -161,8 +182,8 @@ impl<'a> Row<'a> {
         find(alloc, &self.table, &self.words, &safety, self.current)
     }
 
-    /// Its common folder and its work tree.
-    fn folders(&self, alloc: Global) -> Result<(Vec<u8>, Option<Vec<u8>>), Told> {
+    /// Its folders, by its configuration.
+    fn folders(&self, alloc: Global) -> Result<Tops, Told> {
         let found = self.find(alloc)?;
         let folders = folders_of(alloc, &self.table, &self.words, &found)?;
         let config = self.config(alloc, &folders, RepositoryFile::Config)?;
@@ -187,8 +208,25 @@ impl<'a> Row<'a> {
             is_bare: last_boolean(&bare).unwrap_or(None).unwrap_or(false),
             work_tree: last_value(&work_tree),
         };
-        let top = work_tree_of(alloc, &self.table, &self.words, &settings, &found)?;
-        Ok((folders.common_folder, top))
+        let (table, words) = (&self.table, &self.words);
+        let top = work_tree_of(alloc, table, words, &settings, &found)?;
+        let exclude = match &top {
+            Some(top) => Some(exclude_name(
+                alloc,
+                table,
+                words,
+                &settings,
+                &found,
+                self.current,
+                top,
+            )?),
+            None => None,
+        };
+        Ok(Tops {
+            common: folders.common_folder,
+            top,
+            exclude,
+        })
     }
 
     /// A file of configuration; one that isn't there has no entries.
