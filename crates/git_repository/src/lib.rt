@@ -11,6 +11,7 @@ mod found;
 mod git_folder;
 mod gitfile;
 mod head;
+pub mod laws;
 mod look;
 mod naming;
 mod paths;

@@ -1,5 +1,5 @@
 //! How Git names the file `info/exclude` where it tells that a line of it decides.
-ghost use Rattle.std.specs.Prelude.{◌≡◌, IfOk, Ok};
+ghost use Rattle.std.specs.Prelude.{◌≡◌, ◌++◌, IfOk, Ok, codes};
 ghost use Rattle.std.specs.Vec.{vec_items};
 ghost use Rattle.git_repository.specs.Answers.{Gives, found_with};
 ghost use Rattle.git_repository.specs.Environments.{environment_with};
@@ -164,6 +164,14 @@ fn without_dot(path: &[u8]) -> &[u8]
     }
 }
 
+/// The name of `info/exclude` in a folder that is named so.
+fn exclude_in(alloc: Global, folder: &[u8]) -> Result<Vec<u8>, AllocError>
+    ensures { IfOk result (λ path. path.items ≡ without_dot (folder.now ++ codes "/info/exclude")) }
+{
+    let path = joined(alloc, folder, b"/info/exclude")?;
+    Vec::from_slice(alloc, without_dot(&path))
+}
+
 /// How Git names the file `info/exclude` where it tells that a line of it decides about a path of the work tree with this top: as
 /// `.git/info/exclude` where the git folder was found as the folder `.git` of the top, as `GIT_DIR` tells it in the top, and else by
 /// a path from the root.
@@ -183,6 +191,5 @@ pub fn exclude_name<S: FileSystem>(
     ensures { Gives (S.is_known source.now) vec_items result (exclude_name (S.tree source.now) (environment_with (λ b. b.now) words.now) (settings_with (λ b. b.now) settings.now) (found_with vec_items found.now) current.now top.now) }
 {
     let name = common_name(alloc, source, words, settings, found, current, top)?;
-    let path = joined(alloc, &name, b"/info/exclude")?;
-    Ok(Vec::from_slice(alloc, without_dot(&path))?)
+    Ok(exclude_in(alloc, &name)?)
 }

@@ -142,3 +142,38 @@ finds_by_search tree words trust current start ceilings floor told none starts t
     let Is : List ℕ → Type 0 = λ folder. Searches (IsOpen (ceilings_of tree words.ceiling_directories) folder) (shows_from tree words trust folder) answer in
     let Told : Option (List ℕ) → Type 0 = λ t. FindsIn tree words trust t current answer in
     subst Told (sym none) (subst Is starts at_start)
+
+-- ---- a search has one answer
+
+shows_something : (answer : Result (Found (List ℕ)) Fault) → some_of answer ≡ Ok None → ⊥
+shows_something (Ok found) e = cc
+shows_something (Err fault) e = cc
+
+some_of_one : (a b : Result (Found (List ℕ)) Fault) → some_of a ≡ some_of b → a ≡ b
+some_of_one (Ok found) (Ok other) e = cc
+some_of_one (Ok found) (Err fault) e = cc
+some_of_one (Err fault) (Ok found) e = cc
+some_of_one (Err fault) (Err other) e = cc
+
+module _ (ceilings : List (List ℕ)) (current : List ℕ) (shown : Shown) where
+  -- the nearest folder is no longer than that of another answer
+  no_longer : (one other : List ℕ) (a b : Result (Found (List ℕ)) Fault) → IsNearest (IsOpen ceilings current) shown one a → IsNearest (IsOpen ceilings current) shown other b → length one ≤ length other
+  no_longer one other a b near far =
+      elim (cases_lt (length other) (length one)) [
+        | inl longer ↦ absurd (shows_something a (sym near.says ∙ far.nearer one near.«open» longer))
+        | inr short ↦ short
+      ]
+
+  pub one_answer_in : (a b : Result (Found (List ℕ)) Fault) → Searches (IsOpen ceilings current) shown a → Searches (IsOpen ceilings current) shown b → a ≡ b
+  one_answer_in a b (inl one) (inl other) =
+      let short : length one.0 ≤ length other.0 = no_longer one.0 other.0 a b one.1 other.1 in
+      let long : length other.0 ≤ length one.0 = no_longer other.0 one.0 b a other.1 one.1 in
+      let equal : length one.0 ≡ length other.0 = omega arith in
+      let same : one.0 ≡ other.0 = is_front one.0 current one.1.«open».0 ∙ ap (λ n. take n current) equal ∙ sym (is_front other.0 current other.1.«open».0) in
+      some_of_one a b (sym one.1.says ∙ ap shown same ∙ other.1.says)
+  one_answer_in a b (inl one) (inr none) = absurd (shows_something a (sym one.1.says ∙ none.0 one.0 one.1.«open»))
+  one_answer_in a b (inr none) (inl other) = absurd (shows_something b (sym other.1.says ∙ none.0 other.0 other.1.«open»))
+  one_answer_in a b (inr none) (inr other) = none.1 ∙ sym other.1
+
+pub one_answer : (ceilings : List (List ℕ)) (current : List ℕ) (shown : Shown) (a b : Result (Found (List ℕ)) Fault) → Searches (IsOpen ceilings current) shown a → Searches (IsOpen ceilings current) shown b → a ≡ b
+one_answer ceilings current shown a b one other = one_answer_in ceilings current shown a b one other
