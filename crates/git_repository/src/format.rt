@@ -43,10 +43,7 @@ impl fmt::Display for FormatFault<&[u8]> {
 /// # Errors
 /// A version above 1; else the first extension that isn't known, with version 1, or that is of version 1, with version 0. Without a
 /// version there is none.
-pub fn check_format(
-    version: Option<u32>,
-    extensions: &[Vec<u8>],
-) -> Result<(), FormatFault<&[u8]>>
+pub fn check_format(version: Option<u32>, extensions: &[Vec<u8>]) -> Result<(), FormatFault<&[u8]>>
     ensures { seen_fault (λ b. b.now) result ≡ format_fault version (map vec_items extensions.now) }
 {
     let Some(version) = version else {

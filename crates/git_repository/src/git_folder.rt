@@ -26,7 +26,11 @@ pub fn real_path_of<S: FileSystem>(source: &S, path: Vec<u8>) -> Result<Vec<u8>,
 }
 
 /// The path that the bytes of a file `commondir` tell.
-fn common_told(alloc: Global, file: &[u8], bytes: Option<Vec<u8>>) -> Result<Vec<u8>, FindFault<Vec<u8>>>
+fn common_told(
+    alloc: Global,
+    file: &[u8],
+    bytes: Option<Vec<u8>>,
+) -> Result<Vec<u8>, FindFault<Vec<u8>>>
     ensures { Gives (Unit {0}) vec_items result (common_told file.now (option_map vec_items bytes)) }
 {
     let Some(bytes) = bytes else {

@@ -7,5 +7,4 @@ ghost use Rattle.git_repository.specs.declared.found.Found.{Found};
 pub fn search_has_one_answer()
     ensures { (ceilings : List (List ℕ)) (current : List ℕ) (shown : List ℕ → Result (Option (Found (List ℕ))) Fault) (one other : Result (Found (List ℕ)) Fault)
         → Searches (IsOpen ceilings current) shown one → Searches (IsOpen ceilings current) shown other → one ≡ other }
-{
-}
+{}

@@ -26,12 +26,12 @@ is_colon b = b == 58
 pub Cuts-first : (text : List ℕ) → position_or_len is_colon text < length text → Cuts text (take (position_or_len is_colon text) text) (Some (take (length text - (position_or_len is_colon text + 1)) (drop (position_or_len is_colon text + 1) text)))
 Cuts-first text less =
     let tail : take (length text - (position_or_len is_colon text + 1)) (drop (position_or_len is_colon text + 1) text) ≡ drop (position_or_len is_colon text + 1) text =
-      take_all _ _ (omega (arith, length-drop (position_or_len is_colon text + 1) text)) in
+    take_all _ _ (omega (arith, length-drop (position_or_len is_colon text + 1) text)) in
     record {
       joined = slice_split_first is_colon text 0 less ∙ ap (λ (rest : List ℕ). take (position_or_len is_colon text) text ∷ slice_split is_colon rest) (sym tail);
       shorter = λ rest is.
-        let same : take (length text - (position_or_len is_colon text + 1)) (drop (position_or_len is_colon text + 1) text) ≡ rest = cc in
-        omega (arith, ap length (sym tail ∙ same), length-drop (position_or_len is_colon text + 1) text);
+          let same : take (length text - (position_or_len is_colon text + 1)) (drop (position_or_len is_colon text + 1) text) ≡ rest = cc in
+          omega (arith, ap length (sym tail ∙ same), length-drop (position_or_len is_colon text + 1) text);
     }
 
 is_one_entry : (text : List ℕ) → length text ≤ position_or_len is_colon text → slice_split is_colon text ≡ text ∷ []
@@ -40,8 +40,8 @@ is_one_entry (b ∷ text) long =
     elim (cases_Bool (is_colon b)) [
       | inl colon ↦ let first : position_or_len is_colon (b ∷ text) ≡ 0 = ap (λ t. cond (not t) (1 + position_or_len is_colon text) 0) colon in absurd (omega (arith, first, long))
       | inr none ↦
-        let later : position_or_len is_colon (b ∷ text) ≡ 1 + position_or_len is_colon text = ap (λ t. cond (not t) (1 + position_or_len is_colon text) 0) none in
-        slice_split-cons_no is_colon b text none ∙ ap (onto_first b) (is_one_entry text (omega (arith, later, long)))
+          let later : position_or_len is_colon (b ∷ text) ≡ 1 + position_or_len is_colon text = ap (λ t. cond (not t) (1 + position_or_len is_colon text) 0) none in
+          slice_split-cons_no is_colon b text none ∙ ap (onto_first b) (is_one_entry text (omega (arith, later, long)))
     ]
 
 pub Cuts-whole : (text : List ℕ) → length text ≤ position_or_len is_colon text → Cuts text text None

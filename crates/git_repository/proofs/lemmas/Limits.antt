@@ -30,9 +30,9 @@ pub path_told-take : (file bytes : List ℕ) → path_told file (take (2 ^ 20 + 
 path_told-take file bytes =
     elim (cases_lt (2 ^ 20) (length bytes)) [
       | inl long ↦
-        let whole : ltb (2 ^ 20) (length bytes) ≡ true = lt-ltb _ _ long in
-        let front : ltb (2 ^ 20) (length (take (2 ^ 20 + 1) bytes)) ≡ true = lt-ltb _ _ (omega (arith, front_is_long (2 ^ 20) bytes long)) in
-        path_told-long file (take (2 ^ 20 + 1) bytes) front ∙ sym (path_told-long file bytes whole)
+          let whole : ltb (2 ^ 20) (length bytes) ≡ true = lt-ltb _ _ long in
+          let front : ltb (2 ^ 20) (length (take (2 ^ 20 + 1) bytes)) ≡ true = lt-ltb _ _ (omega (arith, front_is_long (2 ^ 20) bytes long)) in
+          path_told-long file (take (2 ^ 20 + 1) bytes) front ∙ sym (path_told-long file bytes whole)
       | inr short ↦ ap (path_told file) (front_is_whole (2 ^ 20) bytes short)
     ]
 
@@ -49,8 +49,8 @@ common_told-take file None = refl
 common_told-take file (Some bytes) =
     elim (cases_lt (2 ^ 20) (length bytes)) [
       | inl long ↦
-        let whole : ltb (2 ^ 20) (length bytes) ≡ true = lt-ltb _ _ long in
-        let front : ltb (2 ^ 20) (length (take (2 ^ 20 + 1) bytes)) ≡ true = lt-ltb _ _ (omega (arith, front_is_long (2 ^ 20) bytes long)) in
-        common_told-long file (take (2 ^ 20 + 1) bytes) front ∙ sym (common_told-long file bytes whole)
+          let whole : ltb (2 ^ 20) (length bytes) ≡ true = lt-ltb _ _ long in
+          let front : ltb (2 ^ 20) (length (take (2 ^ 20 + 1) bytes)) ≡ true = lt-ltb _ _ (omega (arith, front_is_long (2 ^ 20) bytes long)) in
+          common_told-long file (take (2 ^ 20 + 1) bytes) front ∙ sym (common_told-long file bytes whole)
       | inr short ↦ ap (λ (text : List ℕ). common_told file (Some text)) (front_is_whole (2 ^ 20) bytes short)
     ]

@@ -61,11 +61,14 @@ module _ (known : Type 0) (floor : ℕ) (current : List ℕ) (shown : Shown) (le
 
   -- what the folder shows is the answer, unless it is passed over
   pub finds : known → (answer : Result (Found (List ℕ)) Fault) → shown (take len current) ≡ some_of answer → Searches (IsOpenFrom floor current) shown answer
-  finds k answer says = inl (take len current, record {
-    «open» = climbed.way;
-    nearer = λ other is longer. climbed.passed k other is (omega (arith, here));
-    says = says;
-  })
+  finds k answer says = inl (
+    take len current,
+    record {
+      «open» = climbed.way;
+      nearer = λ other is longer. climbed.passed k other is (omega (arith, here));
+      says = says;
+    },
+  )
 
   -- a folder that is no shorter was passed over, where this one is
   not_shorter : known → shown (take len current) ≡ Ok None → (other : List ℕ) → IsOpenFrom floor current other → len ≤ length other → shown other ≡ Ok None
@@ -73,9 +76,9 @@ module _ (known : Type 0) (floor : ℕ) (current : List ℕ) (shown : Shown) (le
       elim (cases_lt len (length other)) [
         | inl longer ↦ climbed.passed k other is longer
         | inr short ↦
-          let equal : length other ≡ len = omega arith in
-          let same : other ≡ take len current = is_front other current is.0 ∙ ap (λ n. take n current) equal in
-          ap shown same ∙ none
+            let equal : length other ≡ len = omega arith in
+            let same : other ≡ take len current = is_front other current is.0 ∙ ap (λ n. take n current) equal in
+            ap shown same ∙ none
       ]
 
   -- a shorter one ends at a slash
@@ -86,11 +89,11 @@ module _ (known : Type 0) (floor : ℕ) (current : List ℕ) (shown : Shown) (le
   pub ends : known → shown (take len current) ≡ Ok None → HasNoUpper floor (take len current) → Searches (IsOpenFrom floor current) shown (Err NotFound)
   ends k none nothing = inr (
     λ other is.
-    elim (cases_lt (length other) len) [
-      | inl short ↦
-        absurd (nothing.none (length other) (is_long_enough floor other current is (omega (arith, climbed.within))) (omega (arith, here)) (slash_at other is short))
-      | inr long ↦ not_shorter k none other is long
-    ],
+        elim (cases_lt (length other) len) [
+          | inl short ↦
+              absurd (nothing.none (length other) (is_long_enough floor other current is (omega (arith, climbed.within))) (omega (arith, here)) (slash_at other is short))
+          | inr long ↦ not_shorter k none other is long
+        ],
     refl,
   )
 
@@ -100,15 +103,15 @@ module _ (known : Type 0) (floor : ℕ) (current : List ℕ) (shown : Shown) (le
       let inside : upper < length current = omega (arith, climbed.within) in
       let slash : get_or current upper 0 ≡ 47 = sym (get_or-take len current upper 0 less) ∙ is_upper.slash in
       let joined : current ≡ take upper current ++ 47 ∷ drop (suc upper) current =
-        sym (take-append-drop upper current) ∙ ap (λ (rest : List ℕ). take upper current ++ rest) (drop-cons current upper 0 inside ∙ ap (λ b. b ∷ drop (suc upper) current) slash) in
+      sym (take-append-drop upper current) ∙ ap (λ (rest : List ℕ). take upper current ++ rest) (drop-cons current upper 0 inside ∙ ap (λ b. b ∷ drop (suc upper) current) slash) in
       record {
         within = omega arith;
         way = (inr (drop (suc upper) current, joined), inr (omega (arith, length-take-le upper current (omega arith), is_upper.enough)));
         passed = λ k other is longer.
-          elim (cases_lt (length other) len) [
-            | inl short ↦ absurd (is_upper.last (length other) longer (omega (arith, here)) (slash_at other is short))
-            | inr long ↦ not_shorter k (none k) other is long
-          ];
+            elim (cases_lt (length other) len) [
+              | inl short ↦ absurd (is_upper.last (length other) longer (omega (arith, here)) (slash_at other is short))
+              | inr long ↦ not_shorter k (none k) other is long
+            ];
       }
 
 -- ---- the folders below each ceiling
@@ -128,17 +131,20 @@ is_open_from ceilings current floor is folder way = (way.0, inr (is.least (lengt
 
 -- the same search by other words for the folders that may be looked at
 Searches-by : (Open Other : List ℕ → Type 0) (shown : Shown) (answer : Result (Found (List ℕ)) Fault) → ((folder : List ℕ) → Open folder → Other folder) → ((folder : List ℕ) → Other folder → Open folder) → Searches Open shown answer → Searches Other shown answer
-Searches-by Open Other shown answer to back (inl near) = inl (near.0, record {
-  «open» = to near.0 near.1.«open»;
-  nearer = λ other is longer. near.1.nearer other (back other is) longer;
-  says = near.1.says;
-})
+Searches-by Open Other shown answer to back (inl near) = inl (
+  near.0,
+  record {
+    «open» = to near.0 near.1.«open»;
+    nearer = λ other is longer. near.1.nearer other (back other is) longer;
+    says = near.1.says;
+  },
+)
 Searches-by Open Other shown answer to back (inr none) = inr (λ folder is. none.0 folder (back folder is), none.1)
 
 pub finds_by_search : (tree : FileTree) (words : Environment (List ℕ)) (trust : Trust) (current start : List ℕ) (ceilings : List (List ℕ)) (floor : ℕ) (told : Option (List ℕ)) → told ≡ None → start ≡ folder_of current → ceilings_of tree words.ceiling_directories ≡ ceilings → IsFloor ceilings start floor → (answer : Result (Found (List ℕ)) Fault) → Searches (IsOpenFrom floor start) (shows_from tree words trust start) answer → FindsIn tree words trust told current answer
 finds_by_search tree words trust current start ceilings floor told none starts told_are is answer found =
     let at_start : Searches (IsOpen (ceilings_of tree words.ceiling_directories) start) (shows_from tree words trust start) answer =
-      rw told_are (Searches-by (IsOpenFrom floor start) (IsOpen ceilings start) (shows_from tree words trust start) answer (is_open ceilings start floor is) (is_open_from ceilings start floor is) found) in
+    rw told_are (Searches-by (IsOpenFrom floor start) (IsOpen ceilings start) (shows_from tree words trust start) answer (is_open ceilings start floor is) (is_open_from ceilings start floor is) found) in
     let Is : List ℕ → Type 0 = λ folder. Searches (IsOpen (ceilings_of tree words.ceiling_directories) folder) (shows_from tree words trust folder) answer in
     let Told : Option (List ℕ) → Type 0 = λ t. FindsIn tree words trust t current answer in
     subst Told (sym none) (subst Is starts at_start)
