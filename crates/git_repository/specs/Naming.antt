@@ -57,7 +57,7 @@ common_name tree words settings found current top None =
     if tree.is_there (found.git_folder ++ codes "/commondir") then own_common_folder tree found.git_folder else git_name tree words settings found current top
 
 -- a path without the current folder in front
-abbrev pub without_dot : List ℕ → List ℕ
+unfoldable pub without_dot : List ℕ → List ℕ
 without_dot path = if starts_with nat_eq path (codes "./") then drop 2 path else path
 
 unfoldable pub exclude_name : FileTree → Environment (List ℕ) → Settings (List ℕ) → Found (List ℕ) → List ℕ → List ℕ → Result (List ℕ) (FindFault (List ℕ))

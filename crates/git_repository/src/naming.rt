@@ -155,6 +155,7 @@ fn common_name<S: FileSystem>(
 }
 
 /// A path without the current folder in front.
+#[tactic(auto, unfolding(crate::specs::Naming::without_dot))]
 fn without_dot(path: &[u8]) -> &[u8]
     ensures { result.now ≡ without_dot path.now }
 {

@@ -181,10 +181,7 @@ impl<'a> FileSystem for FileTable<'a> {
     ghost is_known = { λ _. ⊥ };
 
     fn is_file(&self, path: &[u8]) -> Result<bool, AllocError> {
-        Ok(matches!(
-            self.standing(path, true)?,
-            Some(Standing::File(_))
-        ))
+        Ok(matches!(self.standing(path, true)?, Some(Standing::File(_))))
     }
 
     fn is_there(&self, path: &[u8]) -> Result<bool, AllocError> {
