@@ -35,7 +35,7 @@ abbrev pub name_from : FileTree → List ℕ → List ℕ → List ℕ → Resul
 name_from tree current top told =
     if bytes_eq current top then Ok told
     else (if lies_below top current then real_path_of tree told
-    else (if is_absolute told then Ok told else Ok (name_below top (current ++ (codes "/" ++ told)))))
+    else (if is_absolute told then Ok told else Ok (name_below top (folder_of current ++ (codes "/" ++ told)))))
 
 -- the work tree is told, and not only found
 abbrev pub is_told : FileTree → Environment (List ℕ) → Settings (List ℕ) → Found (List ℕ) → Bool

@@ -76,7 +76,7 @@ fn name_from<S: FileSystem>(
     if told.starts_with(b"/") {
         return Ok(Vec::from_slice(alloc, told)?);
     }
-    let mut path = joined(alloc, current, b"/")?;
+    let mut path = joined(alloc, folder_of(current), b"/")?;
     path.extend_from_slice(told)?;
     Ok(name_below(alloc, top, &path)?)
 }
