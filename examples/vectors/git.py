@@ -1,11 +1,13 @@
 #!/usr/bin/env python3
-"""Answers rows of work trees, of attributes and of configuration by Git: tools/vectors examples/vectors/git.py [PROGRAM]
+"""Answers rows of work trees, of attributes, of configuration and of repositories by Git: tools/vectors examples/vectors/git.py [PROGRAM]
 
 PROGRAM is another one that takes Git's words, as `globtree` does."""
+import contextlib
 import os
 import re
 import subprocess
 import sys
+import tempfile
 
 import rows
 
@@ -128,5 +130,73 @@ def config_booleans(value):
     return [{b"true\n": "yes", b"false\n": "no"}.get(told)]
 
 
+COMMON = ["rev-parse", "--path-format=absolute", "--git-common-dir"]
+
+
+@contextlib.contextmanager
+def files_of(fields, words):
+    """The top of a folder with the files of a row of repositories, and the words of Git that ask there; the first fields' paths and
+    those in files begin at the top."""
+    with tempfile.TemporaryDirectory() as top:
+        top = os.path.realpath(top)
+        placed = lambda text: re.sub(rb"(^|[ =:\n])/", rb"\1" + os.fsencode(top) + b"/", text)
+        for name, text in rows.pairs(fields):
+            put(top, name.decode(), None if text is None else placed(text))
+        lines = [line.partition("=") for line in placed(words).decode().split("\n") if line]
+        options = [it for key, _, value in lines if key.startswith("safe.") for it in ("-c", f"{key}={value}")]
+        variables = {key: value for key, _, value in lines if key.startswith("GIT_")}
+        yield top, options, variables
+
+
+def put(top, name, text):
+    """Makes what a name says: a git folder, a folder, a link or a file."""
+    path = os.path.join(top, name.rstrip("/@").lstrip("/"))
+    os.makedirs(path if name.endswith("/") else os.path.dirname(path), exist_ok=True)
+    if name.endswith("//"):
+        put(top, name[:-1] + "objects/", None)
+        put(top, name[:-1] + "refs/", None)
+        put(top, name[:-1] + "HEAD", b"ref: refs/heads/main")
+    elif name.endswith("@"):
+        os.symlink(text, path)
+    elif not name.endswith("/"):
+        with open(path, "wb") as it:
+            it.write(text)
+
+
+def ask_repository(current, words, fields, *asked):
+    """What Git tells of the repository of a folder, with paths from the top, or the first words of its fault."""
+    with files_of(fields, words) as (top, options, variables):
+        command = ["git", *options, *asked]
+        folder = os.path.join(top, current.decode().lstrip("/"))
+        ran = subprocess.run(command, cwd=folder, env={**ALONE, **variables}, capture_output=True, check=False)
+    told, wrong = (text.decode().replace(top, "") for text in (ran.stdout, ran.stderr))
+    fault = re.search(r"^fatal: (.*(\n\t.*)*)", wrong, re.M)
+    return told.rstrip("\n"), fault and re.sub(r": (Success|No such file or directory)$", "", fault[1].replace("\n\t", " "))
+
+
+def repositories(current, words, *fields):
+    if not IS_GIT or b"device=" in words:
+        return ()
+    told, fault = ask_repository(current, words, fields, "rev-parse", "--absolute-git-dir")
+    return [fault or told]
+
+
+def work_trees(current, words, *fields):
+    if not IS_GIT:
+        return ()
+    common, fault = ask_repository(current, words, fields, *COMMON)
+    top, none = ask_repository(current, words, fields, "rev-parse", "--show-toplevel")
+    return [fault or common, None if none else top]
+
+
+def exclude_names(current, words, *fields):
+    if not IS_GIT:
+        return ()
+    common, fault = ask_repository(current, words, fields, *COMMON)
+    every = [] if fault else [common.encode() + b"/info/exclude", b"*"]
+    told, fault = ask_repository(current, words, [*fields, *every], "check-ignore", "-v", "-n", "x")
+    return [fault or told.split(":")[0]]
+
+
 OF_PATTERNS = (matching, trees, trees_told, attribute_states, all_states, attribute_streams, attribute_names)
-rows.answer({it.__name__: it for it in (*OF_PATTERNS, config_files, config_booleans)})
+rows.answer({it.__name__: it for it in (*OF_PATTERNS, config_files, config_booleans, repositories, work_trees, exclude_names)})

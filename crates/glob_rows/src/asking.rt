@@ -5,7 +5,7 @@ use crate::fault::RowFault;
 use crate::question::Question;
 use crate::{
     attempts, attribute_files, attribute_states, bases, config_files, index_files, lines, lists,
-    matching, patterns, streams, trees,
+    matching, patterns, repositories, streams, trees,
 };
 use std::alloc::Global;
 
@@ -38,6 +38,10 @@ pub(crate) fn ask(alloc: Global, subject: &str, question: &Question) -> Result<A
         "config_booleans" => config_files::config_booleans(question, &mut answer)?,
         "index_files" => index_files::index_files(alloc, question, &mut answer)?,
         "index_paths" => index_files::index_paths(alloc, question, &mut answer)?,
+        "repositories" => repositories::repositories(alloc, question, &mut answer)?,
+        "exclude_names" => repositories::exclude_names(alloc, question, &mut answer)?,
+        "safe_directories" => repositories::safe_directories(alloc, question, &mut answer)?,
+        "work_trees" => repositories::work_trees(alloc, question, &mut answer)?,
         _ => ask_attributes(alloc, subject, question, &mut answer)?,
     }
     Ok(answer)

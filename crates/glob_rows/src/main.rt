@@ -9,12 +9,14 @@ mod attribute_states;
 mod bases;
 mod config_files;
 mod fault;
+mod file_table;
 mod index_files;
 mod lines;
 mod lists;
 mod matching;
 mod patterns;
 mod question;
+mod repositories;
 mod row;
 mod streams;
 mod trees;
@@ -28,7 +30,7 @@ use std::process::ExitCode;
 use std::rt::Files;
 
 /// The subjects of the rows. Each has a file of its name.
-const SUBJECTS: [&str; 41] = [
+const SUBJECTS: [&str; 45] = [
     "matching",
     "starts",
     "attempts",
@@ -70,6 +72,10 @@ const SUBJECTS: [&str; 41] = [
     "index_paths",
     "config_files",
     "config_booleans",
+    "repositories",
+    "work_trees",
+    "exclude_names",
+    "safe_directories",
 ];
 
 /// Asks all rows. The status is 1 where an answer is another one, or a row can't be read.

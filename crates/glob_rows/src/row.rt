@@ -41,7 +41,13 @@ fn without_git(line: &[u8]) -> &[u8] {
 fn answer_count(subject: &str) -> usize {
     match subject {
         "reading" => 3,
-        "wildcards" | "stripping" | "ignore_lines" | "labels" | "trees_asked" | "index_paths" => 2,
+        "wildcards"
+        | "stripping"
+        | "ignore_lines"
+        | "labels"
+        | "trees_asked"
+        | "index_paths"
+        | "work_trees" => 2,
         _ => 1,
     }
 }

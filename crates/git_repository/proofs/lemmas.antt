@@ -1,0 +1,4 @@
+pub mod Ceilings
+pub mod Giving
+pub mod Limits
+pub mod Upward

@@ -1,0 +1,66 @@
+-- How Git names the file `info/exclude` where it tells that a line of it decides.
+use Rattle.std.specs.Prelude.{ℕ, Bool, true, false, not, ◌&&◌, ◌||◌, nat_eq, if◌then◌else◌, List, ◌++◌, length, drop, codes, Option, Some, None, is_some, Result, Ok}
+use Rattle.std.specs.List.{starts_with}
+use Rattle.std.specs.Str.{bytes_eq}
+use Rattle.git_repository.specs.FileTree.{FileTree}
+use Rattle.git_repository.specs.Folders.{counts}
+use Rattle.git_repository.specs.GitFolders.{◌>>=◌, is_absolute, own_common_folder, real_path_of}
+use Rattle.git_repository.specs.Search.{folder_of}
+use Rattle.git_repository.specs.declared.environment.Environment.{Environment}
+use Rattle.git_repository.specs.declared.fault.FindFault.{FindFault}
+use Rattle.git_repository.specs.declared.found.Found.{Found}
+use Rattle.git_repository.specs.declared.found.FoundBy.{FoundBy}
+use Rattle.git_repository.specs.declared.found.FoundBy.TheVariants as by
+use Rattle.git_repository.specs.declared.settings.Settings.{Settings}
+
+-- a path lies below a folder, and what is left of it then
+abbrev pub lies_below : List ℕ → List ℕ → Bool
+lies_below folder path = starts_with nat_eq path (folder_of folder ++ codes "/")
+
+abbrev pub name_below : List ℕ → List ℕ → List ℕ
+name_below folder path = if lies_below folder path then drop (length (folder_of folder ++ codes "/")) path else path
+
+-- the git folder, as it is told in the folder where it was found
+abbrev pub told_there : FoundBy → List ℕ → List ℕ
+told_there by.Folder git_folder = codes ".git"
+told_there by.Bare git_folder = codes "."
+told_there _ git_folder = git_folder
+
+-- as it is told in the current folder
+abbrev pub told_folder : List ℕ → Found (List ℕ) → List ℕ
+told_folder current found = if bytes_eq found.top current then told_there found.by found.git_folder else found.git_folder
+
+-- told from the top of the work tree: as in the current folder, if this is the top; without links, if this lies below it
+abbrev pub name_from : FileTree → List ℕ → List ℕ → List ℕ → Result (List ℕ) (FindFault (List ℕ))
+name_from tree current top told =
+    if bytes_eq current top then Ok told
+    else (if lies_below top current then real_path_of tree told
+    else (if is_absolute told then Ok told else Ok (name_below top (folder_of current ++ (codes "/" ++ told)))))
+
+-- the work tree is told, and not only found
+abbrev pub is_told : FileTree → Environment (List ℕ) → Settings (List ℕ) → Found (List ℕ) → Bool
+is_told tree words settings found = is_some words.work_tree || (is_some settings.work_tree && counts tree words settings found.git_folder)
+
+abbrev pub is_folder : FoundBy → Bool
+is_folder by.Folder = true
+is_folder _ = false
+
+-- the name of the git folder
+unfoldable pub git_name : FileTree → Environment (List ℕ) → Settings (List ℕ) → Found (List ℕ) → List ℕ → List ℕ → Result (List ℕ) (FindFault (List ℕ))
+git_name tree words settings found current top =
+    if is_folder found.by && not (is_told tree words settings found) then Ok (codes ".git") else name_from tree current top (told_folder current found)
+
+-- the name of the common folder: as `GIT_COMMON_DIR` tells it, its path without links, or the git folder's name
+abbrev pub common_name : FileTree → Environment (List ℕ) → Settings (List ℕ) → Found (List ℕ) → List ℕ → List ℕ → Option (List ℕ) → Result (List ℕ) (FindFault (List ℕ))
+common_name tree words settings found current top (Some told) = Ok told
+common_name tree words settings found current top None =
+    if tree.is_there (found.git_folder ++ codes "/commondir") then own_common_folder tree found.git_folder else git_name tree words settings found current top
+
+-- a path without the current folder in front
+unfoldable pub without_dot : List ℕ → List ℕ
+without_dot path = if starts_with nat_eq path (codes "./") then drop 2 path else path
+
+unfoldable pub exclude_name : FileTree → Environment (List ℕ) → Settings (List ℕ) → Found (List ℕ) → List ℕ → List ℕ → Result (List ℕ) (FindFault (List ℕ))
+exclude_name tree words settings found current top = do
+  name ← common_name tree words settings found current top words.common_dir
+  Ok (without_dot (name ++ codes "/info/exclude"))

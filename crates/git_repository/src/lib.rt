@@ -1,0 +1,31 @@
+//! Where a Git repository is: the search upward from a folder, and the folders and files of what it finds.
+#![tactic(auto)]
+
+mod ceilings;
+mod environment;
+mod fault;
+mod file_system;
+mod folders;
+mod format;
+mod found;
+mod git_folder;
+mod gitfile;
+mod head;
+pub mod laws;
+mod look;
+mod naming;
+mod paths;
+mod safety;
+mod search;
+mod settings;
+
+pub use environment::Environment;
+pub use fault::{FindFault, Wrong};
+pub use file_system::FileSystem;
+pub use folders::{Folders, RepositoryFile, file_path, folders_of, work_tree_of};
+pub use format::{FormatFault, check_format};
+pub use found::{Found, FoundBy};
+pub use naming::exclude_name;
+pub use safety::{Safety, trusts};
+pub use search::find;
+pub use settings::Settings;

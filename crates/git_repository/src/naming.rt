@@ -1,0 +1,196 @@
+//! How Git names the file `info/exclude` where it tells that a line of it decides.
+ghost use Rattle.std.specs.Prelude.{◌≡◌, ◌++◌, IfOk, Ok, codes};
+ghost use Rattle.std.specs.Vec.{vec_items};
+ghost use Rattle.git_repository.specs.Answers.{Gives, found_with};
+ghost use Rattle.git_repository.specs.Environments.{environment_with};
+ghost use Rattle.git_repository.specs.Folders.{settings_with};
+ghost use Rattle.git_repository.specs.Naming.{common_name, exclude_name, git_name, is_folder, is_told, lies_below, name_below, name_from, told_folder, told_there, without_dot};
+
+use crate::ceilings::folder_of;
+use crate::environment::Environment;
+use crate::fault::FindFault;
+use crate::file_system::FileSystem;
+use crate::folders::counts;
+use crate::found::{Found, FoundBy};
+use crate::git_folder::{own_common_folder, real_path_of};
+use crate::paths::joined;
+use crate::settings::Settings;
+use std::alloc::{AllocError, Global};
+
+/// Whether a path lies below a folder.
+fn lies_below(alloc: Global, folder: &[u8], path: &[u8]) -> Result<bool, AllocError>
+    ensures { IfOk result (λ answer. answer ≡ lies_below folder.now path.now) }
+{
+    let front = joined(alloc, folder_of(folder), b"/")?;
+    Ok(path.starts_with(&front))
+}
+
+/// A path without the folder that it lies below.
+fn name_below(alloc: Global, folder: &[u8], path: &[u8]) -> Result<Vec<u8>, AllocError>
+    ensures { IfOk result (λ name. name.items ≡ name_below folder.now path.now) }
+{
+    let front = joined(alloc, folder_of(folder), b"/")?;
+    if path.starts_with(&front) {
+        return Vec::from_slice(alloc, &path[front.len()..]);
+    }
+    Vec::from_slice(alloc, path)
+}
+
+/// The git folder, as it is told in the folder where it was found.
+fn told_there(by: FoundBy, git_folder: &[u8]) -> &[u8]
+    ensures { result.now ≡ told_there by git_folder.now }
+{
+    match by {
+        FoundBy::Folder => b".git",
+        FoundBy::Bare => b".",
+        FoundBy::Gitfile | FoundBy::Named => git_folder,
+    }
+}
+
+/// The git folder, as it is told in the current folder.
+fn told_folder<'a>(current: &[u8], found: &'a Found<Vec<u8>>) -> &'a [u8]
+    ensures { result.now ≡ told_folder current.now (found_with vec_items found.now) }
+{
+    if found.top.as_slice() == current {
+        return told_there(found.by, &found.git_folder);
+    }
+    &found.git_folder
+}
+
+/// The name of a git folder that is told in the current folder, from the top of the work tree.
+fn name_from<S: FileSystem>(
+    alloc: Global,
+    source: &S,
+    current: &[u8],
+    top: &[u8],
+    told: &[u8],
+) -> Result<Vec<u8>, FindFault<Vec<u8>>>
+    ensures { Gives (S.is_known source.now) vec_items result (name_from (S.tree source.now) current.now top.now told.now) }
+{
+    if current == top {
+        return Ok(Vec::from_slice(alloc, told)?);
+    }
+    if lies_below(alloc, top, current)? {
+        return real_path_of(source, Vec::from_slice(alloc, told)?);
+    }
+    if told.starts_with(b"/") {
+        return Ok(Vec::from_slice(alloc, told)?);
+    }
+    let mut path = joined(alloc, folder_of(current), b"/")?;
+    path.extend_from_slice(told)?;
+    Ok(name_below(alloc, top, &path)?)
+}
+
+/// Whether the work tree is told, and not only found.
+fn is_told<S: FileSystem>(
+    alloc: Global,
+    source: &S,
+    words: &Environment<&[u8]>,
+    settings: &Settings<&[u8]>,
+    found: &Found<Vec<u8>>,
+) -> Result<bool, FindFault<Vec<u8>>>
+    ensures { Gives (S.is_known source.now) (λ answer. answer) result (Ok (is_told (S.tree source.now) (environment_with (λ b. b.now) words.now) (settings_with (λ b. b.now) settings.now) (found_with vec_items found.now))) }
+{
+    if words.work_tree.is_some() {
+        return Ok(true);
+    }
+    if settings.work_tree.is_none() {
+        return Ok(false);
+    }
+    counts(alloc, source, words, settings, &found.git_folder)
+}
+
+/// Whether a repository was found by a folder `.git`.
+fn is_folder(by: FoundBy) -> bool
+    ensures { result ≡ is_folder by }
+{
+    match by {
+        FoundBy::Folder => true,
+        FoundBy::Gitfile | FoundBy::Bare | FoundBy::Named => false,
+    }
+}
+
+/// The name of the git folder.
+#[tactic(auto, unfolding(crate::specs::Naming::git_name))]
+fn git_name<S: FileSystem>(
+    alloc: Global,
+    source: &S,
+    words: &Environment<&[u8]>,
+    settings: &Settings<&[u8]>,
+    found: &Found<Vec<u8>>,
+    current: &[u8],
+    top: &[u8],
+) -> Result<Vec<u8>, FindFault<Vec<u8>>>
+    ensures { Gives (S.is_known source.now) vec_items result (git_name (S.tree source.now) (environment_with (λ b. b.now) words.now) (settings_with (λ b. b.now) settings.now) (found_with vec_items found.now) current.now top.now) }
+{
+    if !is_folder(found.by) {
+        return name_from(alloc, source, current, top, told_folder(current, found));
+    }
+    if !is_told(alloc, source, words, settings, found)? {
+        return Ok(Vec::from_slice(alloc, b".git")?);
+    }
+    name_from(alloc, source, current, top, told_folder(current, found))
+}
+
+/// The name of the common folder.
+fn common_name<S: FileSystem>(
+    alloc: Global,
+    source: &S,
+    words: &Environment<&[u8]>,
+    settings: &Settings<&[u8]>,
+    found: &Found<Vec<u8>>,
+    current: &[u8],
+    top: &[u8],
+) -> Result<Vec<u8>, FindFault<Vec<u8>>>
+    ensures { Gives (S.is_known source.now) vec_items result (common_name (S.tree source.now) (environment_with (λ b. b.now) words.now) (settings_with (λ b. b.now) settings.now) (found_with vec_items found.now) current.now top.now (environment_with (λ b. b.now) words.now).common_dir) }
+{
+    if let Some(told) = words.common_dir {
+        return Ok(Vec::from_slice(alloc, told)?);
+    }
+    let file = joined(alloc, &found.git_folder, b"/commondir")?;
+    if source.is_there(&file)? {
+        return own_common_folder(alloc, source, &found.git_folder);
+    }
+    git_name(alloc, source, words, settings, found, current, top)
+}
+
+/// A path without the current folder in front.
+#[tactic(auto, unfolding(crate::specs::Naming::without_dot))]
+fn without_dot(path: &[u8]) -> &[u8]
+    ensures { result.now ≡ without_dot path.now }
+{
+    match path.strip_prefix(b"./") {
+        Some(rest) => rest,
+        None => path,
+    }
+}
+
+/// The name of `info/exclude` in a folder that is named so.
+fn exclude_in(alloc: Global, folder: &[u8]) -> Result<Vec<u8>, AllocError>
+    ensures { IfOk result (λ path. path.items ≡ without_dot (folder.now ++ codes "/info/exclude")) }
+{
+    let path = joined(alloc, folder, b"/info/exclude")?;
+    Vec::from_slice(alloc, without_dot(&path))
+}
+
+/// How Git names the file `info/exclude` where it tells that a line of it decides about a path of the work tree with this top: as
+/// `.git/info/exclude` where the git folder was found as the folder `.git` of the top, as `GIT_DIR` tells it in the top, and else by
+/// a path from the root.
+///
+/// # Errors
+/// [`FindFault::At`] where a path leads nowhere or `commondir` can't be read, and [`FindFault::Memory`].
+#[tactic(auto, unfolding(crate::specs::Naming::exclude_name))]
+pub fn exclude_name<S: FileSystem>(
+    alloc: Global,
+    source: &S,
+    words: &Environment<&[u8]>,
+    settings: &Settings<&[u8]>,
+    found: &Found<Vec<u8>>,
+    current: &[u8],
+    top: &[u8],
+) -> Result<Vec<u8>, FindFault<Vec<u8>>>
+    ensures { Gives (S.is_known source.now) vec_items result (exclude_name (S.tree source.now) (environment_with (λ b. b.now) words.now) (settings_with (λ b. b.now) settings.now) (found_with vec_items found.now) current.now top.now) }
+{
+    let name = common_name(alloc, source, words, settings, found, current, top)?;
+    Ok(exclude_in(alloc, &name)?)
+}

@@ -1,0 +1,300 @@
+//! Rows of repositories: where the one of a current folder is, and which are its folders.
+
+use crate::answer::Answer;
+use crate::fault::RowFault;
+use crate::file_table::FileTable;
+use crate::question::Question;
+use git_config::{ConfigFile, Entry, Item, boolean, integer, last_boolean, split_word};
+use git_repository::{
+    Environment, FileSystem, FindFault, Folders, Found, RepositoryFile, Safety, Settings,
+    check_format, exclude_name, file_path, find, folders_of, trusts, work_tree_of,
+};
+use std::alloc::{AllocError, Global};
+
+/// The git folder of the repository of a current folder, or the fault.
+pub(crate) fn repositories(
+    alloc: Global,
+    question: &Question,
+    answer: &mut Answer,
+) -> Result<(), RowFault> {
+    let row = Row::new(alloc, question)?;
+    match row.find(alloc) {
+        Ok(found) => Ok(answer.push_option(row.table.real_path(&found.git_folder)?.as_deref())?),
+        Err(fault) => push_fault(alloc, fault, answer),
+    }
+}
+
+/// Whether values of `safe.directory`, a line each, name a path.
+pub(crate) fn safe_directories(
+    alloc: Global,
+    question: &Question,
+    answer: &mut Answer,
+) -> Result<(), RowFault> {
+    let mut values = Vec::new(alloc);
+    for line in question.bytes(1)?.split(|byte| *byte == b'\n') {
+        values.push(Vec::from_slice(alloc, line)?)?;
+    }
+    Ok(answer.push_bool(trusts(&values, question.bytes(0)?))?)
+}
+
+/// The common folder of a repository and its work tree, with what its configuration says; or the fault.
+pub(crate) fn work_trees(
+    alloc: Global,
+    question: &Question,
+    answer: &mut Answer,
+) -> Result<(), RowFault> {
+    let row = Row::new(alloc, question)?;
+    match row.folders(alloc) {
+        Ok(folders) => {
+            answer.push_option(row.table.real_path(&folders.common)?.as_deref())?;
+            Ok(answer.push_option(folders.top.as_deref())?)
+        }
+        Err(Told::Found(fault)) => {
+            push_fault(alloc, fault, answer)?;
+            Ok(answer.push_option(None)?)
+        }
+        Err(Told::Text(text)) => {
+            answer.push(text.as_bytes())?;
+            Ok(answer.push_option(None)?)
+        }
+    }
+}
+
+/// How Git names the file `info/exclude` of a repository; or the fault.
+pub(crate) fn exclude_names(
+    alloc: Global,
+    question: &Question,
+    answer: &mut Answer,
+) -> Result<(), RowFault> {
+    match Row::new(alloc, question)?.folders(alloc) {
+        Ok(folders) => Ok(answer.push_option(folders.exclude.as_deref())?),
+        Err(Told::Found(fault)) => push_fault(alloc, fault, answer),
+        Err(Told::Text(text)) => Ok(answer.push(text.as_bytes())?),
+    }
+}
+
+/// Adds a fault, but want of memory.
+fn push_fault(
+    alloc: Global,
+    fault: FindFault<Vec<u8>>,
+    answer: &mut Answer,
+) -> Result<(), RowFault> {
+    match fault {
+        FindFault::Memory => Err(RowFault::Memory),
+        other => Ok(answer.push(format!(in alloc; "{other}")?.as_bytes())?),
+    }
+}
+
+/// What a repository's configuration tells: its common folder, the top of its work tree, and with that the name of `info/exclude`.
+#[derive(Drop)]
+struct Tops {
+    common: Vec<u8>,
+    top: Option<Vec<u8>>,
+    exclude: Option<Vec<u8>>,
+}
+
+/// Why a repository's folders aren't told.
+#[derive(Drop)]
+enum Told {
+    Found(FindFault<Vec<u8>>),
+    Text(String),
+}
+
+impl From<AllocError> for Told {
+    fn from(_refused: AllocError) -> Told {
+        Told::Found(FindFault::Memory)
+    }
+}
+
+impl From<FindFault<Vec<u8>>> for Told {
+    fn from(fault: FindFault<Vec<u8>>) -> Told {
+        Told::Found(fault)
+    }
+}
+
+/// What a row says: the current folder, the variables and settings, and the files.
+#[derive(Drop)]
+struct Row<'a> {
+    current: &'a [u8],
+    words: Environment<&'a [u8]>,
+    directories: Vec<Vec<u8>>,
+    bare_is_refused: bool,
+    table: FileTable<'a>,
+}
+
+impl<'a> Row<'a> {
+    /// The row of a question.
+    fn new(alloc: Global, question: &'a Question) -> Result<Row<'a>, RowFault> {
+        let current = question.bytes(0)?;
+        let mut row = Row {
+            current,
+            words: Environment {
+                git_dir: None,
+                work_tree: None,
+                common_dir: None,
+                index_file: None,
+                object_directory: None,
+                ceiling_directories: None,
+                across_file_systems: false,
+            },
+            directories: Vec::new(alloc),
+            bare_is_refused: false,
+            table: FileTable::new(alloc, current, question.rest(2))?,
+        };
+        for line in question.bytes(1)?.split(|byte| *byte == b'\n') {
+            row.take(alloc, line)?;
+        }
+        Ok(row)
+    }
+
+    /// Takes a line of the second field.
+    fn take(&mut self, alloc: Global, line: &'a [u8]) -> Result<(), RowFault> {
+        let (key, value) = split_word(line);
+        match key {
+            b"GIT_DIR" => self.words.git_dir = value,
+            b"GIT_WORK_TREE" => self.words.work_tree = value,
+            b"GIT_COMMON_DIR" => self.words.common_dir = value,
+            b"GIT_INDEX_FILE" => self.words.index_file = value,
+            b"GIT_OBJECT_DIRECTORY" => self.words.object_directory = value,
+            b"GIT_CEILING_DIRECTORIES" => self.words.ceiling_directories = value,
+            b"GIT_DISCOVERY_ACROSS_FILESYSTEM" => {
+                self.words.across_file_systems = boolean(value).unwrap_or(false);
+            }
+            b"GIT_TEST_ASSUME_DIFFERENT_OWNER" => self.table.is_ours = false,
+            b"device" => self.table.device = value,
+            b"safe.bareRepository" => self.bare_is_refused = value == Some(b"explicit"),
+            b"safe.directory" => {
+                let path = Vec::from_slice(alloc, value.unwrap_or(b""))?;
+                self.directories.push(path)?;
+            }
+            b"" => {}
+            _ => return Err(RowFault::Field("a variable")),
+        }
+        Ok(())
+    }
+
+    /// The repository that is found.
+    fn find(&self, alloc: Global) -> Result<Found<Vec<u8>>, FindFault<Vec<u8>>> {
+        let safety = Safety {
+            directories: &self.directories,
+            bare_is_refused: self.bare_is_refused,
+        };
+        find(alloc, &self.table, &self.words, &safety, self.current)
+    }
+
+    /// Its folders, by its configuration.
+    fn folders(&self, alloc: Global) -> Result<Tops, Told> {
+        let found = self.find(alloc)?;
+        let folders = folders_of(alloc, &self.table, &self.words, &found)?;
+        let config = self.config(alloc, &folders, RepositoryFile::Config)?;
+        let version = version_of(alloc, &config)?;
+        if let Err(fault) = check_format(version, &extensions_of(alloc, &config)?) {
+            return Err(Told::Text(format!(in alloc; "{fault}")?));
+        }
+        let shared = config.entries_of(alloc, b"extensions.worktreeconfig")?;
+        let has_worktree_config = last_boolean(&shared).unwrap_or(None).unwrap_or(false);
+        let local = if has_worktree_config {
+            self.config(alloc, &folders, RepositoryFile::WorktreeConfig)?
+        } else {
+            ConfigFile {
+                items: Vec::new(alloc),
+            }
+        };
+        let bare = both(alloc, &config, &local, b"core.bare")?;
+        let work_tree = both(alloc, &config, &local, b"core.worktree")?;
+        let settings = Settings {
+            has_version: version.is_some(),
+            has_worktree_config,
+            is_bare: last_boolean(&bare).unwrap_or(None).unwrap_or(false),
+            work_tree: last_value(&work_tree),
+        };
+        let (table, words) = (&self.table, &self.words);
+        let top = work_tree_of(alloc, table, words, &settings, &found)?;
+        let exclude = match &top {
+            Some(top) => Some(exclude_name(
+                alloc,
+                table,
+                words,
+                &settings,
+                &found,
+                self.current,
+                top,
+            )?),
+            None => None,
+        };
+        Ok(Tops {
+            common: folders.common_folder,
+            top,
+            exclude,
+        })
+    }
+
+    /// A file of configuration; one that isn't there has no entries.
+    fn config(
+        &self,
+        alloc: Global,
+        folders: &Folders<Vec<u8>>,
+        file: RepositoryFile,
+    ) -> Result<ConfigFile, Told> {
+        let path = file_path(alloc, &self.words, folders, file)?;
+        let bytes = self.table.bytes(&path, usize::MAX)?;
+        match ConfigFile::from_bytes(alloc, bytes.as_deref().unwrap_or(b"")) {
+            Ok(config) => Ok(config),
+            Err(_fault) => Err(Told::Text(format!(in alloc; "bad config line")?)),
+        }
+    }
+}
+
+/// The entries of a key in two files, one behind the other.
+fn both<'b>(
+    alloc: Global,
+    first: &'b ConfigFile,
+    second: &'b ConfigFile,
+    key: &[u8],
+) -> Result<Vec<&'b Entry<Vec<u8>>>, AllocError> {
+    let mut entries = first.entries_of(alloc, key)?;
+    for entry in second.entries_of(alloc, key)? {
+        entries.push(entry)?;
+    }
+    Ok(entries)
+}
+
+/// The value of the last entry.
+fn last_value<'b>(entries: &[&'b Entry<Vec<u8>>]) -> Option<&'b [u8]> {
+    let mut last = None;
+    for entry in entries {
+        last = entry.value.as_deref();
+    }
+    last
+}
+
+/// The version that a file says, unless it is negative.
+fn version_of(alloc: Global, config: &ConfigFile) -> Result<Option<u32>, AllocError> {
+    let entries = config.entries_of(alloc, b"core.repositoryformatversion")?;
+    let Some(value) = last_value(&entries) else {
+        return Ok(None);
+    };
+    Ok(match integer(value).map(u32::try_from) {
+        Some(Ok(version)) => Some(version),
+        _ => None,
+    })
+}
+
+/// The names of the extensions of a file.
+fn extensions_of(alloc: Global, config: &ConfigFile) -> Result<Vec<Vec<u8>>, AllocError> {
+    let mut names = Vec::new(alloc);
+    let mut section: &[u8] = b"";
+    for item in &config.items {
+        match item {
+            Item::Section(next) => section = next,
+            Item::Sets(entry) => {
+                if let Some(front) = section.strip_prefix(b"extensions.") {
+                    let mut name = Vec::from_slice(alloc, front)?;
+                    name.extend_from_slice(&entry.name)?;
+                    names.push(name)?;
+                }
+            }
+        }
+    }
+    Ok(names)
+}
