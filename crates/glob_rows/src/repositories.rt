@@ -4,7 +4,9 @@ use crate::answer::Answer;
 use crate::fault::RowFault;
 use crate::file_table::FileTable;
 use crate::question::Question;
-use git_config::{ConfigFile, Entry, Item, boolean, integer, last_boolean, split_word};
+use git_config::{
+    ConfigFault, ConfigFile, Entry, Item, boolean, integer, last_boolean, split_word,
+};
 use git_repository::{
     Environment, FileSystem, FindFault, Folders, Found, RepositoryFile, Safety, Settings,
     check_format, exclude_name, file_path, find, folders_of, trusts, work_tree_of,
@@ -240,7 +242,8 @@ impl<'a> Row<'a> {
         let bytes = self.table.bytes(&path, usize::MAX)?;
         match ConfigFile::from_bytes(alloc, bytes.as_deref().unwrap_or(b"")) {
             Ok(config) => Ok(config),
-            Err(_fault) => Err(Told::Text(format!(in alloc; "bad config line")?)),
+            Err(ConfigFault::Memory) => Err(Told::Found(FindFault::Memory)),
+            Err(fault) => Err(Told::Text(format!(in alloc; "{fault}")?)),
         }
     }
 }
