@@ -5,7 +5,7 @@ use Rattle.gix_glob.specs.EntryLists.{EntryList}
 use Rattle.gix_glob.specs.Patterns.{IsPattern}
 use Rattle.glob_lists.specs.declared.prepared.Heads.{Heads}
 use Rattle.glob_lists.specs.declared.stored.StoredRow.{StoredRow}
-use Rattle.glob_lists.specs.Private.Rows.{Asks}
+use Rattle.glob_lists.specs.Private.Asks.Rows.{Asks}
 use Rattle.glob_lists.specs.Private.Stored.{AreLinked, row_of}
 
 -- the parts of the entry make a pattern

@@ -7,6 +7,8 @@ ghost use Rattle.gix_glob.specs.Steps.{IsBlankOf, NeverFall};
 ghost use Rattle.glob_lists.specs.Deciding.{AnswersAt, BasesAreFolders, Decides, HasFolder};
 ghost use Rattle.glob_lists.specs.DecisionLimits.{decision_look_limit, decision_step_limit, list_look_limit, list_step_limit};
 
+pub(crate) mod matching;
+
 use crate::path::RepositoryPath;
 use gix_glob::pattern::Case;
 use gix_glob::search;

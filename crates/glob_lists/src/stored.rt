@@ -1,12 +1,13 @@
 //! Rows in memory that a caller keeps: plain numbers, so that whatever stands there is some row.
 ghost use Rattle.std.specs.Prelude.{◌≡◌};
-ghost use Rattle.glob_lists.specs.Private.Rows.{Asks};
+ghost use Rattle.glob_lists.specs.Private.Asks.Rows.{Asks};
 ghost use Rattle.glob_lists.specs.Private.Stored.{row_of};
 
-use crate::chains::{Class, Link};
-use crate::literals::spare_bits;
-use crate::part::Part;
-use crate::row::Row;
+use crate::asks::class::Class;
+use crate::asks::literals::spare_bits;
+use crate::asks::part::Part;
+use crate::asks::row::Row;
+use crate::link::Link;
 use gix_glob::pattern::PatternView;
 
 /// What a pattern asks of a path, in 16 bytes that a caller keeps.

@@ -5,8 +5,8 @@ use Rattle.std.proofs.lemmas.Option.{get_or_from_slice_get, slice_get-get_or, sl
 use Rattle.gix_glob.specs.declared.pattern.Case.{Case}
 use Rattle.gix_glob.specs.Stripping.{NothingLeft, Rest}
 use Rattle.glob_lists.specs.Deciding.{AnswersAt, AnswersFor, Decides}
-use Rattle.glob_lists.proofs.lemmas.Answering.{AnswersUnder-only, PairAnswers-only, PairAnswers-yes}
-use Rattle.glob_lists.proofs.lemmas.DecidingLemmas.{LastOf}
+use Rattle.glob_lists.proofs.lemmas.Deciding.Answering.{AnswersUnder-only, PairAnswers-only, PairAnswers-yes}
+use Rattle.glob_lists.proofs.lemmas.Deciding.DecidingLemmas.{LastOf}
 use Rattle.gix_glob_c.specs.declared.tree.GlobList.{GlobList}
 use Rattle.gix_glob_c.specs.Lists.{HasPatternAt, entry_list}
 use Rattle.gix_glob_c.specs.Parsed.{list_of}

@@ -1,11 +1,11 @@
 -- Chains: through the rows of each class, from the last one to the first.
 use Rattle.std.specs.Prelude.{◌≡◌, ◌≢◌, ℕ, ◌+◌, ◌-◌, ◌<◌, ◌≤◌, List, length, map, slice_index, slice_index_or}
-use Rattle.glob_lists.specs.declared.chains.Class.{Class}
-use Rattle.glob_lists.specs.declared.chains.Class.TheVariants.{Always, EndsIn}
-use Rattle.glob_lists.specs.declared.chains.Link.{Link}
-use Rattle.glob_lists.specs.declared.chains.TheConstants.{CLASSES}
-use Rattle.glob_lists.specs.declared.chains.TheConstants.Link.{NONE}
-use Rattle.glob_lists.specs.declared.row.Row.{Row}
+use Rattle.glob_lists.specs.declared.asks.class.Class.{Class}
+use Rattle.glob_lists.specs.declared.asks.class.Class.TheVariants.{Always, EndsIn}
+use Rattle.glob_lists.specs.declared.link.Link.{Link}
+use Rattle.glob_lists.specs.declared.asks.class.TheConstants.{CLASSES}
+use Rattle.glob_lists.specs.declared.link.TheConstants.Link.{NONE}
+use Rattle.glob_lists.specs.declared.asks.row.Row.{Row}
 
 -- the place of a class among all: the one that is always looked at, and then one for each byte
 abbrev pub place_of : Class → ℕ

@@ -1,16 +1,16 @@
 -- Rows in memory that a caller keeps, as the rows that they stand for.
 use Rattle.std.specs.Prelude.{ℕ, ◌==◌, ◌≤◌, if◌then◌else◌, List, Option, MatchOption, ◌+◌, length, map}
-use Rattle.glob_lists.specs.declared.chains.Class.{Class}
-use Rattle.glob_lists.specs.declared.chains.Class.TheVariants.{Always, EndsIn}
-use Rattle.glob_lists.specs.declared.chains.Link.{Link}
-use Rattle.glob_lists.specs.declared.part.Part.TheVariants.{Path, Name}
-use Rattle.glob_lists.specs.declared.probe.Probe.{Probe}
-use Rattle.glob_lists.specs.declared.row.Row.{Row}
+use Rattle.glob_lists.specs.declared.asks.class.Class.{Class}
+use Rattle.glob_lists.specs.declared.asks.class.Class.TheVariants.{Always, EndsIn}
+use Rattle.glob_lists.specs.declared.link.Link.{Link}
+use Rattle.glob_lists.specs.declared.asks.part.Part.TheVariants.{Path, Name}
+use Rattle.glob_lists.specs.declared.asks.probe.Probe.{Probe}
+use Rattle.glob_lists.specs.declared.asks.row.Row.{Row}
 use Rattle.glob_lists.specs.declared.stored.StoredRow.{StoredRow}
 use Rattle.glob_lists.specs.declared.prepared.Walk.{Walk}
 use Rattle.glob_lists.specs.Private.Chains.{IsChained, IsLastBelow, classes_of, links_of, place_of}
-use Rattle.glob_lists.specs.Private.Literals.{spare_bits}
-use Rattle.glob_lists.specs.Private.Walking.{NonePasses}
+use Rattle.glob_lists.specs.Private.Asks.Literals.{spare_bits}
+use Rattle.glob_lists.specs.Private.Lists.Walking.{NonePasses}
 
 -- the class of a row: one without a literal end is always looked at
 abbrev pub class_of : StoredRow → Class

@@ -1,7 +1,7 @@
 -- The lists are gone through from the last one on.
 use Rattle.std.proofs.Common.{◌≡◌, ◌+◌, ◌-◌, ◌<◌, length, map, slice_index_or, arith}
 use Rattle.std.proofs.lemmas.List.Elements.{All-get_or}
-use Rattle.glob_lists.proofs.lemmas.DecidingLemmas.{Decides-found, Decides-none, NoListFrom-less}
+use Rattle.glob_lists.proofs.lemmas.Deciding.DecidingLemmas.{Decides-found, Decides-none, NoListFrom-less}
 use Rattle.gix_glob_c.specs.Lists.{IsLawfulList, entry_list}
 use Rattle.gix_glob_c.specs.Parts.{case_of}
 use Rattle.gix_glob_c.proofs.lemmas.ListsLemmas.{blank_list, entry_list_at}

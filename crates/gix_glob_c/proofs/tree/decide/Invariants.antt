@@ -1,5 +1,5 @@
 use Rattle.std.specs.Prelude.{All, map}
-use Rattle.glob_lists.proofs.lemmas.DecidingLemmas.{NoListFrom}
+use Rattle.glob_lists.proofs.lemmas.Deciding.DecidingLemmas.{NoListFrom}
 use Rattle.gix_glob_c.specs.Lists.{IsLawfulList, entry_list}
 use Rattle.gix_glob_c.specs.Parts.{case_of}
 use Rattle.gix_glob_c.proofs.tree.decide.Given as goal

@@ -4,9 +4,9 @@ use Rattle.std.specs.Prelude.{slice_get, sum_by}
 use Rattle.glob_lists.specs.Deciding.{HasFolder}
 use Rattle.glob_lists.specs.DecisionLimits.{list_look_limit, list_step_limit}
 use Rattle.gix_glob.specs.EntryLists.{entry_list_of}
-use Rattle.glob_lists.proofs.lemmas.DecisionSums.{counted-all, counted-from}
+use Rattle.glob_lists.proofs.lemmas.Deciding.DecisionSums.{counted-all, counted-from}
 use Rattle.gix_glob.proofs.lemmas.Elements.{All-map_at, slice_get-map_at}
-use Rattle.glob_lists.proofs.lemmas.DecidingLemmas.{Decides-found, Decides-none, NoListFrom-less}
+use Rattle.glob_lists.proofs.lemmas.Deciding.DecidingLemmas.{Decides-found, Decides-none, NoListFrom-less}
 use Rattle.glob_lists.proofs.deciding.decide_with_counts.Given.{Over}
 use Rattle.glob_lists.proofs.deciding.decide_with_counts.Goals as goal
 use Rattle.glob_lists.proofs.deciding.decide_with_counts.Goals.{After-last_match}

@@ -3,7 +3,7 @@ use Rattle.std.specs.Prelude.{sum_by}
 use Rattle.glob_lists.specs.DecisionLimits.{list_look_limit, list_step_limit}
 use Rattle.gix_glob.specs.EntryLists.{entry_list_of}
 use Rattle.gix_glob.specs.Steps.{NeverFall}
-use Rattle.glob_lists.proofs.lemmas.DecidingLemmas.{NoListFrom}
+use Rattle.glob_lists.proofs.lemmas.Deciding.DecidingLemmas.{NoListFrom}
 use Rattle.glob_lists.proofs.deciding.decide_with_counts.Given as goal
 
 -- no list from here on has a mapping that answers, and what was counted is what those lists may take

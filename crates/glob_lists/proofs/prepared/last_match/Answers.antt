@@ -10,10 +10,10 @@ use Rattle.glob_lists.specs.declared.stored.StoredRow.{StoredRow}
 use Rattle.glob_lists.specs.Deciding.{AnswersUnder}
 use Rattle.glob_lists.specs.Prepared.{IsLawfulEntry, list_without_base}
 use Rattle.glob_lists.specs.Private.Stored.{IsWalkDown, rows_of}
-use Rattle.glob_lists.specs.Private.Walking.{NonePasses}
-use Rattle.glob_lists.proofs.lemmas.Answering.{AnswersUnder-tested}
-use Rattle.glob_lists.proofs.lemmas.OneList.{Decides-no_list}
-use Rattle.glob_lists.proofs.lemmas.StoredLemmas.{Decides-here, NoneFrom-here, NoneFrom-passed, lawful_view}
+use Rattle.glob_lists.specs.Private.Lists.Walking.{NonePasses}
+use Rattle.glob_lists.proofs.lemmas.Deciding.Answering.{AnswersUnder-tested}
+use Rattle.glob_lists.proofs.lemmas.Stored.OneList.{Decides-no_list}
+use Rattle.glob_lists.proofs.lemmas.Stored.StoredLemmas.{Decides-here, NoneFrom-here, NoneFrom-passed, lawful_view}
 use Rattle.glob_lists.proofs.prepared.last_match.Goals as goal
 
 pub candidates-init : goal.candidates-init

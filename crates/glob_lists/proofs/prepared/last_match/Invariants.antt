@@ -4,7 +4,7 @@ use Rattle.glob_lists.specs.Prepared.{ArePrepared, list_without_base}
 use Rattle.std.specs.Prelude.{All}
 use Rattle.glob_lists.specs.Prepared.{IsLawfulEntry}
 use Rattle.glob_lists.specs.Private.Stored.{IsWalkDown, rows_of}
-use Rattle.glob_lists.proofs.lemmas.LastNumbers.{NoneFrom}
+use Rattle.glob_lists.proofs.lemmas.Deciding.LastNumbers.{NoneFrom}
 use Rattle.glob_lists.proofs.prepared.last_match.Given as goal
 
 -- the counts are kept in the ledgers that the blank ones become

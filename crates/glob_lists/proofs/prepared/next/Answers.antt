@@ -1,7 +1,7 @@
 -- The nearer of the two next places is met, and its link followed.
 use Rattle.std.proofs.Common.{◌≡◌, ◌<◌, ◌≤◌, length, None, arith}
 use Rattle.std.proofs.lemmas.Bool.{iff_false}
-use Rattle.glob_lists.proofs.lemmas.StoredLemmas.{IsBelow-end, other_fails, other_passes, own_fails, own_passes, row_read}
+use Rattle.glob_lists.proofs.lemmas.Stored.StoredLemmas.{IsBelow-end, other_fails, other_passes, own_fails, own_passes, row_read}
 use Rattle.glob_lists.proofs.prepared.next.Goals as goal
 
 pub returns-then-has_end-clause-come : goal.returns-then-has_end-clause-come

@@ -1,7 +1,7 @@
 use Rattle.std.proofs.Common.{◌≤◌, List}
-use Rattle.glob_lists.specs.declared.chains.Link.{Link}
+use Rattle.glob_lists.specs.declared.link.Link.{Link}
 use Rattle.glob_lists.specs.Private.Stored.{AreLinked, IsWalkDown, rows_of}
-use Rattle.glob_lists.proofs.lemmas.StoredLemmas.{IsBelow}
+use Rattle.glob_lists.proofs.lemmas.Stored.StoredLemmas.{IsBelow}
 use Rattle.glob_lists.proofs.prepared.next.Given as goal
 
 -- where the rows are chained, what lies between where the walk is and where it began doesn't pass

@@ -5,10 +5,10 @@ use Rattle.std.proofs.lemmas.Option.{slice_get_within}
 use Rattle.gix_glob.specs.Entries.{Entry}
 use Rattle.glob_lists.specs.declared.stored.StoredRow.{StoredRow}
 use Rattle.glob_lists.specs.Prepared.{ArePrepared}
-use Rattle.glob_lists.specs.Private.Rows.{Asks}
+use Rattle.glob_lists.specs.Private.Asks.Rows.{Asks}
 use Rattle.glob_lists.specs.Private.Stored.{row_of}
-use Rattle.glob_lists.proofs.lemmas.RowLemmas.{Asks-linked}
-use Rattle.glob_lists.proofs.lemmas.StoredLemmas.{ArePrepared-more}
+use Rattle.glob_lists.proofs.lemmas.Lists.RowLemmas.{Asks-linked}
+use Rattle.glob_lists.proofs.lemmas.Stored.StoredLemmas.{ArePrepared-more}
 use Rattle.glob_lists.proofs.prepared.prepare.Goals as goal
 
 pub patterns-init : goal.patterns-init

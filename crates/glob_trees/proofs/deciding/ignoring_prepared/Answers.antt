@@ -5,7 +5,7 @@ use Rattle.gix_glob.specs.Entries.{entry_of}
 use Rattle.gix_glob.specs.EntryLists.{entry_list_of}
 use Rattle.gix_glob.proofs.lemmas.Elements.{slice_get-map_at, slice_get-map_within}
 use Rattle.glob_lists.specs.Deciding.{Decides}
-use Rattle.glob_lists.proofs.lemmas.Answering.{PairAnswers-only}
+use Rattle.glob_lists.proofs.lemmas.Deciding.Answering.{PairAnswers-only}
 use Rattle.glob_trees.proofs.lemmas.Ignoring.{negative_keeps, none_ignores, positive_ignores}
 use Rattle.glob_trees.proofs.deciding.ignoring_prepared.Given.{Over}
 use Rattle.glob_trees.proofs.deciding.ignoring_prepared.Goals as goal

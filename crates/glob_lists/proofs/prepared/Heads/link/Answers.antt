@@ -1,8 +1,8 @@
 -- The row is the last of its class, and is linked to what was the last before.
 use Rattle.std.proofs.Common.{◌∙◌, ap, arith}
-use Rattle.glob_lists.specs.declared.row.Row.{Row}
+use Rattle.glob_lists.specs.declared.asks.row.Row.{Row}
 use Rattle.glob_lists.specs.Private.Chains.{place_of}
-use Rattle.glob_lists.proofs.lemmas.StoredLemmas.{AreLinked-push}
+use Rattle.glob_lists.proofs.lemmas.Stored.StoredLemmas.{AreLinked-push}
 use Rattle.glob_lists.proofs.prepared.Heads.link.Goals as goal
 
 pub returns-clause-linked : goal.returns-clause-linked
