@@ -3,4 +3,3 @@ pub mod Deciding
 pub mod Elements
 pub mod Lists
 pub mod Stack
-pub mod Stored

@@ -1,9 +1,7 @@
 -- Words that only private clauses cite: what the functions of the crate say to one another.
 pub mod Asks
-pub mod Chains
 pub mod Keeping
 pub mod Lists
 pub mod Looking
 pub mod Matching
 pub mod Stack
-pub mod Stored

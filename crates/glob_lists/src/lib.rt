@@ -11,8 +11,8 @@ mod list;
 mod path;
 pub mod prepared;
 mod stack;
-pub mod stored;
 
+pub use asks::row::Row;
 pub use deciding::matching::matches_into;
 pub use deciding::{bases_are_folders, decide, decide_with_counts};
 pub use fault::IndexError;

@@ -1,5 +1,5 @@
 //! Links: where a row, an end or a folder stands, in four bytes.
-ghost use Rattle.std.specs.Prelude.{◌≡◌, ◌↔◌, ◌+◌, ◌^◌, ◌<◌, IsTrue, MatchOption};
+ghost use Rattle.std.specs.Prelude.{◌≡◌, ◌↔◌, ◌+◌, ◌^◌, ◌<◌, ◌≤◌, IsTrue, MatchOption};
 
 /// Where something stands among others, or that there is none, in four bytes: the number is one more than its place, or 0.
 #[repr(C)]
@@ -42,6 +42,33 @@ impl Link {
         match self.0.checked_sub(1) {
             Some(place) => Some(place as usize),
             None => None,
+        }
+    }
+
+    /// The link, where it leads to one of the first rows, so many; else one to no row. So nothing is believed of links in memory that
+    /// a caller keeps.
+    #[inline(always)]
+    pub(crate) fn among(self, count: usize) -> Link
+        ensures below { result.0 ≤ count }
+        ensures same { self.0 ≤ count → result ≡ self }
+    {
+        if self.0 as usize <= count {
+            self
+        } else {
+            Link::NONE
+        }
+    }
+
+    /// A link that a row has at the place of this one, where it leads further back; else one to no row.
+    #[inline(always)]
+    pub(crate) fn back_to(self, before: Link) -> Link
+        ensures below { 0 < self.0 → result.0 < self.0 }
+        ensures same { before.0 < self.0 → result ≡ before }
+    {
+        if before.0 < self.0 {
+            before
+        } else {
+            Link::NONE
         }
     }
 

@@ -1,10 +1,10 @@
 //! The literal bytes of texts: the bytes that each value that a pattern matches has to end in, and those that it has to hold, alone
 //! and side by side.
-ghost use Rattle.std.specs.Prelude.{◌≡◌, ◌↔◌, ◌==◌, ◌||◌, ◌+◌, ◌*◌, ◌%◌, ◌<◌, ◌≤◌, ◌^◌, IsTrue, length};
+ghost use Rattle.std.specs.Prelude.{◌≡◌, ◌↔◌, ◌==◌, ◌||◌, ◌+◌, ◌-◌, ◌*◌, ◌%◌, ◌<◌, ◌≤◌, ◌^◌, IsTrue, length};
 ghost use Rattle.std.specs.Char.{to_ascii_lowercase};
 ghost use Rattle.gix_glob.specs.Bytes.{backslash, open_bracket};
 ghost use Rattle.gix_glob.specs.LiteralBytes.{is_joining};
-ghost use Rattle.glob_lists.specs.Private.Asks.Literals.{AsksForBits, EndsLiterally, NeedsBits, bit_of, end_key, from_end, pair_of, raw_end, spare_bits, without_bytes};
+ghost use Rattle.glob_lists.specs.Private.Asks.Literals.{AsksForBits, EndsLiterally, NeedsBits, bit_of, end_key, from_end, pair_of, raw_end, without_bytes};
 ghost use Rattle.glob_lists.specs.Private.Asks.Parts.{IsPlainEnd};
 ghost use Rattle.glob_lists.specs.Private.Asks.Showing.{HasAll, HasEndKeys, HoldsBits, HoldsBytes};
 
@@ -166,14 +166,13 @@ pub(crate) fn without_bytes(key: u64, count: usize) -> u64
     key >> (8 * count)
 }
 
-/// How many bits the number of the longest end that is looked at has more than that of an end of so many bytes; 0 where there
-/// is no byte, or more than in the longest.
+/// How many bits the number of the longest end that is looked at has more than that of an end of so many bytes.
 #[inline(always)]
-pub(crate) fn spare_bits(length: u8) -> u8
-    ensures { result ≡ spare_bits length }
+pub(crate) fn spare_bits(length: usize) -> u8
+    requires few { length ≤ LONGEST_END }
+    ensures { result ≡ 8 * (LONGEST_END - length) }
 {
-    const LONGEST: u8 = LONGEST_END as u8;
-    LONGEST.saturating_sub(length) % LONGEST * 8
+    (8 * (LONGEST_END - length)) as u8
 }
 
 /// The number of one byte more.

@@ -4,7 +4,7 @@ ghost use Rattle.gix_glob.specs.Bytes.{HasByte, star};
 ghost use Rattle.gix_glob.specs.Patterns.{is_for_directories, looks_at_name};
 ghost use Rattle.glob_patterns.specs.Private.Insides.{IsBetweenStars};
 ghost use Rattle.glob_lists.specs.Private.Asks.Literals.{EndsLiterally};
-ghost use Rattle.glob_lists.specs.Private.Asks.Parts.{IsFoundInside, IsToldByEnd, is_name, place_of};
+ghost use Rattle.glob_lists.specs.Private.Asks.Parts.{IsFoundInside, IsToldByEnd, is_name, part_of, place_of};
 
 use crate::asks::literals::{has_no_capital, is_joining};
 use bitflags::Flags;
@@ -63,6 +63,26 @@ impl Part {
             return Part::NameEnd;
         }
         Part::of_mode(pattern.mode)
+    }
+
+    /// The number of the part, by which a row keeps it.
+    pub(crate) fn number(self) -> u8
+        ensures { part_of result ≡ self }
+    {
+        self as u8
+    }
+
+    /// The part of a number; each number is that of some part.
+    #[inline(always)]
+    pub(crate) fn of_number(number: u8) -> Part
+        ensures { result ≡ part_of number }
+    {
+        match number % 4 {
+            0 => Part::Path,
+            1 => Part::Name,
+            2 => Part::NameInside,
+            _ => Part::NameEnd,
+        }
     }
 
     /// The place of the part among all.

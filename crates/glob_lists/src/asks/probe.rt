@@ -1,8 +1,7 @@
 //! What a path shows: the numbers of its ends, and the sets of its bytes and pairs.
 ghost use Rattle.std.specs.Prelude.{◌≡◌, ◌+◌, ◌-◌, ◌*◌, ◌/◌, ◌%◌, ◌^◌, ◌≤◌, length, min, if◌then◌else◌};
-ghost use Rattle.std.specs.Char.{to_ascii_lowercase};
 ghost use Rattle.gix_glob.specs.RepositoryPaths.{IsBasenameStart};
-ghost use Rattle.glob_lists.specs.Private.Asks.Literals.{from_end, without_bytes};
+ghost use Rattle.glob_lists.specs.Private.Asks.Literals.{without_bytes};
 ghost use Rattle.glob_lists.specs.Private.Looking.{LooksUpTo};
 ghost use Rattle.glob_lists.specs.Private.Asks.Parts.{is_name};
 ghost use Rattle.glob_lists.specs.Private.Asks.Showing.{IsWithout, Lacks, Shows, front_part, last_part};
@@ -21,8 +20,6 @@ pub(crate) struct Probe {
     end: u64,
     /// Whether that is the number of the path's last bytes as they are, of which none is a capital letter.
     has_plain_end: bool,
-    /// The last byte, letters as small ones.
-    last: u8,
     /// The bytes of the path, as a set, with all pairs: a whole path has too many for them to tell much.
     bytes: u64,
     /// The bytes and pairs of the last part of the path, as a set.
@@ -65,7 +62,6 @@ impl Probe {
         Probe {
             end: end_number(path),
             has_plain_end: has_plain_end(path),
-            last: last_byte(path),
             bytes: ALL_BITS,
             name_bytes: ALL_BITS,
         }
@@ -132,13 +128,6 @@ impl Probe {
         self.has_plain_end
     }
 
-    /// The last byte, letters as small ones.
-    pub(crate) fn last(&self) -> u8
-        ensures { result ≡ self.now.last }
-    {
-        self.last
-    }
-
     /// The number of the end of this length, in bytes; that of the longest end past its length.
     #[inline(always)]
     pub(crate) fn key(&self, length: u8) -> u64
@@ -188,17 +177,6 @@ impl Lacking {
         ensures { (probe : Probe) → Lacks probe self.now → IsWithout (if is_name part then probe.name_bytes else probe.bytes) result }
     {
         self.sets[part.place()]
-    }
-}
-
-/// The last byte of a path, letters as small ones; 0 where it has none.
-#[inline(always)]
-fn last_byte(path: &[u8]) -> u8
-    ensures { result ≡ to_ascii_lowercase (from_end path.now 0) }
-{
-    match path {
-        [.., last] => last.to_ascii_lowercase(),
-        [] => 0,
     }
 }
 

@@ -4,7 +4,6 @@ ghost use Rattle.glob_lists.specs.Private.Asks.Literals.{without_bytes};
 ghost use Rattle.glob_lists.specs.Private.Asks.Showing.{HasAll};
 ghost use Rattle.glob_lists.specs.Private.Asks.Sights.{HasEnding, IsSeen, Lacks, Sees, SeesBytes, SeesAll, SeesEnd, end_bit, needs_of};
 
-use crate::asks::class::Class;
 use crate::asks::literals::{has_all, without_bytes};
 use crate::asks::probe::Probe;
 use crate::asks::row::Row;
@@ -16,7 +15,7 @@ const LONG_END: u8 = 5;
 const SHORT_END: u8 = 2;
 
 /// What the number of an end is multiplied by for its place in a set of ends.
-const ENDS: u64 = 0x9E37_79B9_7F4A_7C15;
+pub(crate) const ENDS: u64 = 0x9E37_79B9_7F4A_7C15;
 
 /// The same for the other set.
 const OTHER_ENDS: u64 = 0xC2B2_AE3D_27D4_EB4F;
@@ -66,9 +65,10 @@ impl Sight {
 
     /// What is asked for where there is one row more.
     fn with(self, row: &Row) -> Sight {
-        match row.class() {
-            Class::Always => self.with_bytes(row),
-            Class::EndsIn(_) => self.with_end(row),
+        if row.has_no_end() {
+            self.with_bytes(row)
+        } else {
+            self.with_end(row)
         }
     }
 
@@ -121,9 +121,10 @@ impl Sight {
     fn sees(&self, row: &Row) -> bool
         ensures { IsTrue result → Sees self.now row.now }
     {
-        match row.class() {
-            Class::Always => self.sees_bytes(row),
-            Class::EndsIn(_) => self.sees_end(row),
+        if row.has_no_end() {
+            self.sees_bytes(row)
+        } else {
+            self.sees_end(row)
         }
     }
 

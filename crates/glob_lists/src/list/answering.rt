@@ -5,7 +5,9 @@ ghost use Rattle.gix_glob.specs.Steps.{NeverFall, step_limit};
 ghost use Rattle.glob_patterns.specs.Private.Fronts.{AgreeFrom};
 ghost use Rattle.glob_patterns.specs.Private.Insides.{HasInside};
 ghost use Rattle.glob_lists.specs.Deciding.{path_mode};
+ghost use Rattle.glob_lists.specs.Private.Asks.Parts.{part_of};
 ghost use Rattle.glob_lists.specs.Private.Asks.Rows.{Asks};
+ghost use Rattle.glob_lists.specs.Private.Asks.Showing.{Passes};
 ghost use Rattle.glob_lists.specs.Private.Lists.Answering.{TellsBelow};
 ghost use Rattle.glob_lists.specs.Private.Looking.{LooksUpTo};
 
@@ -30,8 +32,7 @@ pub(crate) fn is_answer<S: Ledger, L: Ledger>(
     case: Case,
     counts: &mut Counts<S, L>,
 ) -> bool
-    requires asks { Asks pattern.text.now pattern.mode row.now }
-    ensures exact { TellsBelow row.now probe.now pattern.entry.text.now pattern.entry.mode pattern.entry.first_wildcard_pos rest.now case result }
+    ensures exact { Passes row.now probe.now → Asks pattern.entry.text.now pattern.entry.mode row.now → TellsBelow row.now probe.now pattern.entry.text.now pattern.entry.mode pattern.entry.first_wildcard_pos rest.now case result }
     ensures steps { counts.new.steps ≤ counts.old.steps + step_limit (length pattern.entry.text.now) (length rest.now.bytes) }
     ensures looks { counts.new.looks ≤ counts.old.looks + pattern_look_limit (length pattern.entry.text.now) (length rest.now.bytes) }
     ensures grows { NeverFall counts.old counts.new }
@@ -39,19 +40,20 @@ pub(crate) fn is_answer<S: Ledger, L: Ledger>(
     if row.is_told_by(probe) {
         return true;
     }
-    if is_looked_for(row, case) {
+    if is_looked_for(row, pattern.text, case) {
         let name = last_part(rest.bytes(), rest.basename_start());
         return has_inside(name, pattern.text, counts);
     }
     rest.is_matched_with_counts(pattern, case, counts)
 }
 
-/// Whether it is enough to look for a literal.
+/// Whether it is enough to look for what a text has between its first byte and its last.
 #[inline(always)]
-fn is_looked_for(row: &Row, case: Case) -> bool
-    ensures { IsTrue result → (row.now.part ≡ Part.NameInside) × (case ≡ Case.Sensitive) }
+fn is_looked_for(row: &Row, text: &[u8], case: Case) -> bool
+    ensures part { IsTrue result → (part_of row.now.part ≡ Part.NameInside) × (case ≡ Case.Sensitive) }
+    ensures long { IsTrue result → 3 ≤ length text.now }
 {
-    matches!(row.part(), Part::NameInside) && matches!(case, Case::Sensitive)
+    matches!(row.part(), Part::NameInside) && matches!(case, Case::Sensitive) && text.len() >= 3
 }
 
 /// Whether a value has the bytes between the first of a text and its last. At each place that is tried, two looks are counted for each

@@ -1,23 +1,23 @@
 //! What the patterns of a list ask of a path: so most of them are passed over untested.
-ghost use Rattle.std.specs.Prelude.{◌≡◌, ◌-◌, ◌<◌, ◌≤◌, ℕ, IfOk, IfSome, IsTrue, MatchOption, Some, length, map, slice_get};
+ghost use Rattle.std.specs.Prelude.{◌≡◌, ◌-◌, ◌^◌, ◌<◌, ◌≤◌, ℕ, IfOk, IfSome, IsTrue, MatchOption, Some, [], length, slice_get};
 ghost use Rattle.gix_glob.specs.EntryLists.{entry_list_of};
 ghost use Rattle.gix_glob.specs.Stripping.{strip_looks};
 ghost use Rattle.glob_lists.specs.Deciding.{AnswersAt, HasFolder};
+ghost use Rattle.glob_lists.specs.Prepared.{AreAsked};
 ghost use Rattle.glob_lists.specs.Private.Asks.Showing.{Passes, Shows};
 ghost use Rattle.glob_lists.specs.Private.Asks.Sights.{IsUnseen};
 ghost use Rattle.glob_lists.specs.Private.Lists.Answering.{IsLastMatch, IsNextMatch, IsVisit, NoneAnswers, Spends, SpendsDown};
-ghost use Rattle.glob_lists.specs.Private.Lists.Ends.{AreChainedRows, AreSameRows};
-ghost use Rattle.glob_lists.specs.Private.Lists.Prepared.{AreInOrder, AreRowsOf};
-ghost use Rattle.glob_lists.specs.Private.Lists.Walking.{IsNextRow, IsWalkOver, NonePasses};
+ghost use Rattle.glob_lists.specs.Private.Lists.Chains.{AreChained};
+ghost use Rattle.glob_lists.specs.Private.Lists.Prepared.{AreRowsOf};
 ghost use Rattle.glob_lists.specs.Private.Looking.{LooksUpTo};
 
 use crate::asks::probe::Probe;
 use crate::asks::row::{Row, count_shown};
 use crate::asks::sight::Sight;
 use crate::laws;
+use crate::link::Link;
 use crate::list::answering::is_answer;
-use crate::list::chaining::chain;
-use crate::list::ends::Ends;
+use crate::list::chains::{chain, chain_count};
 use crate::list::question::Question;
 use crate::list::walk::Walk;
 use crate::path::RepositoryPath;
@@ -27,9 +27,6 @@ use gix_glob::wildmatch::Counts;
 use std::alloc::{AllocError, Global};
 use std::sync::ledger::Ledger;
 
-/// The fewest rows of which the ends are put in order: among fewer it costs less to look at each row.
-const FEWEST_ROWS: usize = 24;
-
 /// What the patterns of a list ask of a path.
 #[derive(Debug, Drop)]
 pub(crate) struct ListRows {
@@ -37,8 +34,8 @@ pub(crate) struct ListRows {
     rows: Vec<Row>,
     /// What they ask for together; where it isn't known, no path passes over the list.
     sight: Option<Sight>,
-    /// The ends of the rows, where these are chained.
-    ends: Option<Ends>,
+    /// The last row of each chain; none where the rows aren't chained.
+    heads: Vec<Link>,
 }
 
 /// How far a path has gone through a list, from its last mapping to the first.
@@ -57,9 +54,10 @@ impl ListRows {
     ) -> Result<ListRows, AllocError>
         ensures { IfOk result (AreRowsOf (entry_list_of T.seen list.now)) }
     {
-        let (rows, ends) = chained(alloc, rows_of(alloc, list)?)?;
+        let mut heads = Vec::from_elem(alloc, Link::NONE, chain_count(list.patterns.len()))?;
+        let rows = rows_of(alloc, list, &mut heads)?;
         let sight = Sight::of_all(&rows);
-        Ok(ListRows { rows, sight, ends })
+        Ok(ListRows { rows, sight, heads })
     }
 
     /// Whether a row needs some bytes or pairs of a path.
@@ -131,7 +129,7 @@ impl ListRows {
         let rest = question
             .path
             .under_with_counts(list, question.case, counts)?;
-        let walk = self.walk(&question.probe);
+        let walk = Walk::down(&self.rows, &self.heads, &question.probe);
         Some(Visit { rest, walk })
     }
 
@@ -170,7 +168,10 @@ impl ListRows {
         // a law does nothing: it is called for what it ensures
         laws::answering_patterns_pass();
         let mappings = list.patterns.as_slice();
-        'candidates: while let Some(m) = self.next(&question.probe, &mut visit.walk, counts) {
+        'candidates: while let Some(m) = visit
+            .walk
+            .next(&self.rows, &self.heads, &question.probe, counts)
+        {
             let row = &self.rows[m];
             let pattern = mappings[m].pattern.view();
             if is_answer(
@@ -186,64 +187,25 @@ impl ListRows {
         }
         None
     }
-
-    /// The start of a walk that meets what can pass of a path.
-    #[inline(always)]
-    fn walk(&self, probe: &Probe) -> Walk
-        requires { IfSome self.now.ends (AreChainedRows self.now.rows.items) }
-        ensures walk { IsWalkOver self.now.rows.items self.now.ends probe.now.end result }
-        ensures all { result.passed_from ≡ length self.now.rows.items }
-    {
-        match &self.ends {
-            Some(ends) => Walk::down(ends, &self.rows, probe),
-            None => Walk::over(self.rows.len()),
-        }
-    }
-
-    /// The place of the next row of a walk that passes, from the last one to the first. A look is counted at each row that is met.
-    #[inline(always)]
-    fn next<S: Ledger, L: Ledger>(
-        &self,
-        probe: &Probe,
-        walk: &mut Walk,
-        counts: &mut Counts<S, L>,
-    ) -> Option<usize>
-        requires chained { IfSome self.now.ends (AreChainedRows self.now.rows.items) }
-        requires walk { IsWalkOver self.now.rows.items self.now.ends probe.now.end walk.old }
-        ensures walk { IsWalkOver self.now.rows.items self.now.ends probe.now.end walk.new }
-        ensures next { MatchOption result
-            (NonePasses self.now.rows.items probe.now 0 walk.old.passed_from)
-            (IsNextRow self.now.rows.items probe.now walk.new.passed_from walk.old.passed_from) }
-        ensures falls { walk.new.passed_from ≤ walk.old.passed_from }
-        ensures looks { LooksUpTo counts.old counts.new (walk.old.passed_from - walk.new.passed_from) }
-    {
-        match &self.ends {
-            Some(_) => walk.next(&self.rows, probe, counts),
-            None => walk.next_in_turn(&self.rows, probe, counts),
-        }
-    }
 }
 
-/// What each pattern of a list asks for, in order.
-fn rows_of<T: search::Pattern>(alloc: Global, list: &List<T>) -> Result<Vec<Row>, AllocError>
-    ensures { IfOk result (λ rows. AreInOrder (entry_list_of T.seen list.now) rows.items) }
+/// What each pattern of a list asks for, in order, chained from these heads on.
+fn rows_of<T: search::Pattern>(
+    alloc: Global,
+    list: &List<T>,
+    heads: &mut [Link],
+) -> Result<Vec<Row>, AllocError>
+    requires few { length heads.old < 2 ^ 32 }
+    requires fits { 1 < length heads.old → length list.now.patterns.items < 2 ^ 32 }
+    requires none { AreChained [] heads.old }
+    ensures asked { IfOk result (λ rows. AreAsked (entry_list_of T.seen list.now).entries rows.items) }
+    ensures chained { IfOk result (λ rows. 1 < length heads.old → AreChained rows.items heads.new) }
+    ensures many { length heads.new ≡ length heads.old }
 {
     let mappings = list.patterns.as_slice();
     let mut rows = Vec::with_capacity(alloc, mappings.len())?;
     'mappings: for m in 0..mappings.len() {
-        rows.push(Row::new(&mappings[m].pattern))?;
+        rows.push(chain(heads, Row::new(&mappings[m].pattern), m))?;
     }
     Ok(rows)
-}
-
-/// The rows, chained, and their ends, where there are so many that this pays.
-fn chained(alloc: Global, mut rows: Vec<Row>) -> Result<(Vec<Row>, Option<Ends>), AllocError>
-    ensures same { IfOk result (λ it. AreSameRows rows.items it.0.items) }
-    ensures chained { IfOk result (λ it. IfSome it.1 (AreChainedRows it.0.items)) }
-{
-    if rows.len() < FEWEST_ROWS || rows.len() > u32::MAX as usize {
-        return Ok((rows, None));
-    }
-    let ends = chain(alloc, &mut rows)?;
-    Ok((rows, ends))
 }

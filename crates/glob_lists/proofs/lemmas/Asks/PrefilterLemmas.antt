@@ -17,15 +17,13 @@ use Rattle.gix_glob.specs.Patterns.{looks_at_name}
 use Rattle.gix_glob.specs.RepositoryPaths.{IsBasenameStart, subject, with_case}
 use Rattle.gix_glob.specs.Stripping.{RestOf}
 use Rattle.glob_lists.specs.Deciding.{AnswersFor, path_mode}
-use Rattle.glob_lists.specs.declared.asks.class.Class.{Class}
-use Rattle.glob_lists.specs.declared.asks.class.Class.TheVariants.{Always, EndsIn}
 use Rattle.glob_lists.specs.declared.asks.literals.TheConstants.{LONGEST_END}
 use Rattle.glob_lists.specs.declared.asks.probe.Probe.{Probe}
 use Rattle.glob_lists.specs.declared.asks.row.Row.{Row}
 use Rattle.glob_lists.specs.Private.Asks.Literals.{AsksForBits, EndsLiterally, IsNeededAt, IsNeededPairAt, bit_of, end_key, from_end, pair_of}
-use Rattle.glob_lists.specs.Private.Asks.Parts.{is_name}
-use Rattle.glob_lists.specs.Private.Asks.Rows.{Asks, AsksFor, HasLiteralEnd, length_of}
-use Rattle.glob_lists.specs.Private.Asks.Showing.{HasBytes, HasEnd, HoldsBits, Passes, PassesBy, Shows}
+use Rattle.glob_lists.specs.Private.Asks.Parts.{is_name, part_of}
+use Rattle.glob_lists.specs.Private.Asks.Rows.{Asks, HasLiteralEnd, length_of}
+use Rattle.glob_lists.specs.Private.Asks.Showing.{HasBytes, HasEnd, HoldsBits, Passes, Shows}
 use Rattle.glob_lists.proofs.lemmas.Asks.BitLemmas.{HoldsBits-drop}
 use Rattle.glob_lists.proofs.lemmas.Asks.EndNumbers.{without_bytes-shift}
 
@@ -142,8 +140,8 @@ module _ (ends : EndsAsTheText) (bytes : HasTheBytes) (pairs : HasThePairs) (tex
   value_length : length value ≡ length path - at
   value_length = ap (λ (xs : List ℕ). length xs) is ∙ length-drop at path
 
-  class_and_end : (byte : ℕ) → HasLiteralEnd text (length_of row) byte row.asked → row.spare ≡ 8 * (LONGEST_END - length_of row) → (byte ≡ probe.last) × HasEnd row probe
-  class_and_end byte e spare =
+  HasEnd-asked : HasLiteralEnd text (length_of row) row.asked → row.spare ≡ 8 * (LONGEST_END - length_of row) → HasEnd row probe
+  HasEnd-asked e spare =
       let n : ℕ = length_of row in
       let some = e.some in
       let alike = ends_alike ends text value mode n e.literal s in
@@ -151,18 +149,16 @@ module _ (ends : EndsAsTheText) (bytes : HasTheBytes) (pairs : HasThePairs) (tex
       let whole = value_length in
       let cut : row.spare % 64 ≡ 8 * (8 - n) = omega arith in
       let same : SameEnd text path n =
-      λ m below. alike.1 m below ∙ ap to_ascii_lowercase (end_of path value at is m (omega arith)) in (
-        e.last ∙ (same 0 (omega arith) ∙ sym shows.last),
-        e.number ∙ (same_key text path n same ∙ (sym (shows.ends n (omega arith) (omega arith)) ∙ sym (without_bytes-shift probe.end (8 - n) (row.spare % 64) cut))),
-      )
+      λ m below. alike.1 m below ∙ ap to_ascii_lowercase (end_of path value at is m (omega arith)) in
+      e.number ∙ (same_key text path n same ∙ (sym (shows.ends n (omega arith) (omega arith)) ∙ sym (without_bytes-shift probe.end (8 - n) (row.spare % 64) cut)))
 
   -- the set that the row looks at has what the value has
   abbrev held : ℕ
-  held = if is_name row.part then probe.name_bytes else probe.bytes
+  held = if is_name (part_of row.part) then probe.name_bytes else probe.bytes
 
-  value_is_held : (is_name row.part ≡ true → (m : ℕ) → ¬ HasByte value m slash) → HoldsBits value held
+  value_is_held : (is_name (part_of row.part) ≡ true → (m : ℕ) → ¬ HasByte value m slash) → HoldsBits value held
   value_is_held bare = subst (λ (xs : List ℕ). HoldsBits xs held) (sym is)
-      (cond_both (is_name row.part) probe.name_bytes probe.bytes (λ (set : ℕ). HoldsBits (drop at path) set)
+      (cond_both (is_name (part_of row.part)) probe.name_bytes probe.bytes (λ (set : ℕ). HoldsBits (drop at path) set)
       (λ name. shows.name_bytes at (λ m. subst (λ (xs : List ℕ). ¬ HasByte xs m slash) is (bare name m)))
       (λ other. HoldsBits-drop path at probe.bytes shows.bytes))
 
@@ -180,15 +176,11 @@ module _ (ends : EndsAsTheText) (bytes : HasTheBytes) (pairs : HasThePairs) (tex
       ∙ (ap (λ (b : ℕ). 32 + (to_ascii_lowercase n.first * 5 + b) % 32) second ∙ sym n.bit) in
       subst (λ (k : ℕ). bit_at held k ≡ 1) same (all.pairs has.place has.inside)
 
-  HasBytes-needed : AsksForBits text row.asked → (is_name row.part ≡ true → (m : ℕ) → ¬ HasByte value m slash) → HasBytes row probe
+  HasBytes-needed : AsksForBits text row.asked → (is_name (part_of row.part) ≡ true → (m : ℕ) → ¬ HasByte value m slash) → HasBytes row probe
   HasBytes-needed asks bare i bit = ⊎_elim
       (λ (first : i ≡ 0). absurd (let zero_bit = ap (bit_at row.asked) first ∙ asks.free in omega (arith, bit, zero_bit)))
       (λ (past : i ≡ 0 → ⊥). let needed = asks.needs i bit in bit_is_held i needed.0 (omega arith) (value_is_held bare) needed.1)
       (cases_eq i 0)
-
-  passes_by : (class : Class) → row.spare ≡ 8 * (LONGEST_END - length_of row) → AsksFor text (length_of row) row.asked class → (is_name row.part ≡ true → (m : ℕ) → ¬ HasByte value m slash) → PassesBy row probe class
-  passes_by Always spare needs bare = HasBytes-needed needs bare
-  passes_by (EndsIn byte) spare needs bare = class_and_end byte needs spare
 
 -- the law `answering_patterns_pass`, restated: a lemma can't cite a clause
 abbrev pub AnsweringPasses : Type 0
@@ -205,6 +197,7 @@ answering_passes ends bytes pairs text pattern_mode base path rest is_dir case r
     let at : ℕ = below.0 + within.0 in
     let is : value ≡ drop at path = within.1 ∙ (ap (drop within.0) below.1 ∙ drop-drop within.0 below.0 path) in
     let s = answers.answers.splits in record {
-      shown = passes_by ends bytes pairs text path value (with_case path_mode case) at row probe shows is s row.class asks.spare asks.needs
+      end = λ some. HasEnd-asked ends bytes pairs text path value (with_case path_mode case) at row probe shows is s (asks.end some) asks.spare;
+      bits = λ none. HasBytes-needed ends bytes pairs text path value (with_case path_mode case) at row probe shows is s (asks.bits none)
           (λ name. name_has_no_slash pattern_mode rest start (asks.name name) answers.basename);
     }

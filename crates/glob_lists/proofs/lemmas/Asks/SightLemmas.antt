@@ -5,17 +5,15 @@ use Rattle.std.specs.Int.{bit_at}
 use Rattle.std.proofs.lemmas.Bool.{cases_eq, cases_lt}
 use Rattle.std.proofs.lemmas.Nat.Bits.{bit_at-lt, bit_at-zero, bit_at_and, bit_at_or, bit_at_set_same}
 use Rattle.std.proofs.lemmas.Option.{same_Some, slice_get-get_or, slice_get_within}
-use Rattle.glob_lists.specs.declared.asks.class.Class.{Class}
-use Rattle.glob_lists.specs.declared.asks.class.Class.TheVariants.{Always, EndsIn}
 use Rattle.glob_lists.specs.declared.asks.probe.Probe.{Probe}
 use Rattle.glob_lists.specs.declared.asks.row.Row.{Row}
 use Rattle.glob_lists.specs.declared.asks.sight.Sight.{Sight}
 use Rattle.glob_lists.specs.declared.asks.sight.TheConstants.{ENDS, NO_END}
 use Rattle.glob_lists.specs.Private.Asks.Literals.{without_bytes}
-use Rattle.glob_lists.specs.Private.Asks.Parts.{is_name}
+use Rattle.glob_lists.specs.Private.Asks.Parts.{is_name, part_of}
 use Rattle.glob_lists.specs.Private.Asks.Rows.{length_of}
-use Rattle.glob_lists.specs.Private.Asks.Showing.{HasAll, HasEnd, Passes, PassesBy}
-use Rattle.glob_lists.specs.Private.Asks.Sights.{HasEnding, IsSeen, Lacks, Sees, SeesAll, SeesBy, SeesEnd, end_bit, end_place, needs_of}
+use Rattle.glob_lists.specs.Private.Asks.Showing.{HasAll, HasEnd, Passes}
+use Rattle.glob_lists.specs.Private.Asks.Sights.{HasEnding, IsSeen, Lacks, Sees, SeesAll, SeesEnd, end_bit, end_place, needs_of}
 use Rattle.glob_lists.proofs.lemmas.Asks.EndNumbers.{without_both, without_bytes-shift}
 
 -- ---- a row that passes is seen
@@ -51,12 +49,11 @@ module _ (probe : Probe) (sight : Sight) (row : Row) (spare : row.spare ≡ 8 * 
     | inr high ↦ long_seen same high seen
   ]
 
-  class_seen : (class : Class) → PassesBy row probe class → SeesBy sight row class → IsSeen sight probe
-  class_seen Always passes sees = bytes_seen sight probe row (is_name row.part) passes sees.needs sees.others
-  class_seen (EndsIn byte) passes sees = end_seen passes.1 sees
-
   pub Passes-seen : Sees sight row → Passes row probe → IsSeen sight probe
-  Passes-seen sees passes = class_seen row.class passes.shown sees.seen
+  Passes-seen sees passes = elim (cases_lt row.spare 64) [
+    | inl some ↦ end_seen (passes.end some) (sees.end some)
+    | inr none ↦ (let all = sees.bits none in bytes_seen sight probe row (is_name (part_of row.part)) (passes.bits none) all.needs all.others)
+  ]
 
 -- ---- where one test of several bits tells
 

@@ -20,14 +20,12 @@ use Rattle.gix_glob.proofs.lemmas.Places.{later_byte}
 use Rattle.glob_patterns.proofs.lemmas.LiteralLemmas.{AreAlike-from, star_literal_in}
 use Rattle.glob_lists.specs.Deciding.{AnswersFor, path_mode}
 use Rattle.glob_lists.specs.declared.asks.literals.TheConstants.{LONGEST_END}
-use Rattle.glob_lists.specs.declared.asks.part.Part.{Part}
-use Rattle.glob_lists.specs.declared.asks.part.Part.TheVariants as variants
 use Rattle.glob_lists.specs.declared.asks.probe.Probe.{Probe}
 use Rattle.glob_lists.specs.declared.asks.row.Row.{Row}
 use Rattle.glob_lists.specs.Private.Asks.Literals.{EndsLiterally, end_key, from_end}
 use Rattle.glob_lists.specs.Private.Asks.Parts.{IsPlainEnd, IsToldByEnd}
 use Rattle.glob_lists.specs.Private.Asks.Rows.{Asks, length_of}
-use Rattle.glob_lists.specs.Private.Asks.Showing.{HasEnd, IsTold, IsToldBy, Shows}
+use Rattle.glob_lists.specs.Private.Asks.Showing.{IsTold, Passes, Shows}
 use Rattle.glob_lists.proofs.lemmas.Asks.EndNumbers.{same_lower, without_bytes-shift}
 use Rattle.glob_lists.proofs.lemmas.Asks.PrefilterLemmas.{end_of, name_has_no_slash}
 use Rattle.glob_lists.proofs.lemmas.Deciding.StrippingLemmas.{empty_front, front_ends_in_slash}
@@ -160,32 +158,24 @@ star_matches mode text value n first long literal bare fits same =
 
 -- ---- a row that tells
 
-told_parts : (row : Row) (probe : Probe) (looked_at : Part) → IsToldBy row probe looked_at → (looked_at ≡ variants.NameEnd) × IsTrue probe.has_plain_end × HasEnd row probe
-told_parts row probe variants.Path told = absurd told
-told_parts row probe variants.Name told = absurd told
-told_parts row probe variants.NameInside told = absurd told
-told_parts row probe variants.NameEnd told = (refl, told.0, told.1)
-
-module _ (text path : List ℕ) (mode : pattern.Mode) (row : Row) (probe : Probe) (shows : Shows path probe) (asks : Asks text mode row) (told : IsTold row probe) where
-  parts : (row.part ≡ variants.NameEnd) × IsTrue probe.has_plain_end × HasEnd row probe
-  parts = told_parts row probe row.part told.told
-
+module _ (text path : List ℕ) (mode : pattern.Mode) (row : Row) (probe : Probe) (shows : Shows path probe) (asks : Asks text mode row) (passes : Passes row probe) (told : IsTold row probe) where
   shape : IsToldByEnd text mode (length_of row)
-  shape = (asks.told parts.0).0
+  shape = (asks.told told.part).1
 
   path_end : IsPlainEnd path LONGEST_END
-  path_end = shows.plain parts.1
+  path_end = shows.plain told.plain
 
   -- the path has the bytes of the text's end
   same_bytes : (m : ℕ) → m < length_of row → from_end text m ≡ from_end path m
   same_bytes m below =
       let n : ℕ = length_of row in
+      let some = (asks.told told.part).0 in
       let spare = asks.spare in
       let long = path_end.fits in
       let few : n ≤ 8 = omega arith in
       let cut : row.spare % 64 ≡ 8 * (8 - n) = omega arith in
       let number : end_key text n ≡ end_key path n =
-      sym (asks.told parts.0).1 ∙ (parts.2 ∙ (without_bytes-shift probe.end (8 - n) (row.spare % 64) cut ∙ shows.ends n few (omega arith))) in
+      sym (asks.end some).number ∙ (passes.end some ∙ (without_bytes-shift probe.end (8 - n) (row.spare % 64) cut ∙ shows.ends n few (omega arith))) in
       let lower = same_lower text path shape.shape.plain.bytes path_end.bytes n few number m below in
       sym (shape.shape.plain.small m below) ∙ (lower ∙ path_end.small m (omega arith))
 
@@ -194,16 +184,16 @@ module _ (text path : List ℕ) (mode : pattern.Mode) (row : Row) (probe : Probe
 
 -- A pattern whose row tells that a path has its end answers for what a folder leaves of the path.
 pub told_answers : (text : List ℕ) (pattern_mode : pattern.Mode) (base : Option (List ℕ)) (path rest : List ℕ) (is_dir : Bool) (case : Case) (row : Row) (probe : Probe)
-    → ForSome base IsFolder → Shows path probe → Asks text pattern_mode row → IsTold row probe → RestOf case base path rest → AnswersFor text pattern_mode rest is_dir case
-told_answers text pattern_mode base path rest is_dir case row probe folder shows asks told left =
+    → ForSome base IsFolder → Shows path probe → Asks text pattern_mode row → Passes row probe → IsTold row probe → RestOf case base path rest → AnswersFor text pattern_mode rest is_dir case
+told_answers text pattern_mode base path rest is_dir case row probe folder shows asks passes told left =
     let start = basename_start_of rest in
     let value : List ℕ = subject pattern_mode rest start.0 in
     let n : ℕ = length_of row in
-    let told_shape = shape text path pattern_mode row probe shows asks told in
-    let long = (path_end text path pattern_mode row probe shows asks told).fits in
+    let told_shape = shape text path pattern_mode row probe shows asks passes told in
+    let long = (path_end text path pattern_mode row probe shows asks passes told).fits in
     let few : n ≤ 8 = (let spare = asks.spare in omega arith) in
     let part = subject_is_part pattern_mode path rest start.0 start.1 (rest_is_part case base path rest folder left) in
-    let fits : n ≤ length value = part_is_long path value n part (omega arith) (no_slash text path pattern_mode row probe shows asks told) in
+    let fits : n ≤ length value = part_is_long path value n part (omega arith) (no_slash text path pattern_mode row probe shows asks passes told) in
     record {
       basename_start = start.0;
       basename = start.1;
@@ -211,6 +201,6 @@ told_answers text pattern_mode base path rest is_dir case row probe folder shows
         directory = λ yes. absurd (false≢true (sym told_shape.all ∙ yes));
         splits = star_matches (with_case path_mode case) text value n told_shape.shape.star told_shape.shape.long told_shape.literal
             (name_has_no_slash pattern_mode rest start.0 told_shape.name start.1) fits
-            (λ m below. same_bytes text path pattern_mode row probe shows asks told m below ∙ sym (end_of path value part.at part.is m (omega arith)));
+            (λ m below. same_bytes text path pattern_mode row probe shows asks passes told m below ∙ sym (end_of path value part.at part.is m (omega arith)));
       };
     }

@@ -14,12 +14,12 @@ use Rattle.glob_lists.specs.declared.asks.literals.TheConstants.{LONGEST_END}
 use Rattle.glob_lists.specs.declared.list.rows.ListRows.{ListRows}
 use Rattle.glob_lists.specs.Deciding.{AnswersAt}
 use Rattle.glob_lists.specs.Paths.{Path}
+use Rattle.glob_lists.specs.Prepared.{AreAsked}
 use Rattle.glob_lists.specs.Private.Asks.Rows.{Asks, length_of}
 use Rattle.glob_lists.specs.Private.Asks.Showing.{Passes, Shows}
 use Rattle.glob_lists.specs.Private.Asks.Sights.{IsUnseen, SeesAll}
 use Rattle.glob_lists.specs.Private.Lists.Answering.{NoneAnswers}
-use Rattle.glob_lists.specs.Private.Lists.Ends.{AreSameRows}
-use Rattle.glob_lists.specs.Private.Lists.Prepared.{AreInOrder, AreRowsOf}
+use Rattle.glob_lists.specs.Private.Lists.Prepared.{AreRowsOf}
 use Rattle.glob_lists.specs.Private.Lists.Walking.{NonePasses}
 use Rattle.glob_lists.proofs.lemmas.Elements.{slice_get-inside, slice_get-push_cases}
 use Rattle.glob_lists.proofs.lemmas.Asks.PrefilterLemmas.{AnsweringPasses}
@@ -27,25 +27,7 @@ use Rattle.glob_lists.proofs.lemmas.Asks.SightLemmas.{Passes-seen}
 
 -- a row asks for the same, whatever it is chained to
 pub Asks-linked : (text : List ℕ) (mode : pattern.Mode) (row : Row) (before : Link) → Asks text mode row → Asks text mode (record row { before = before })
-Asks-linked text mode row before a = record { spare = a.spare; needs = a.needs; name = a.name; told = a.told; inside = a.inside }
-
--- ---- rows that are the same but for their links
-
-module _ (rows others : List Row) (same : AreSameRows rows others) where
-  -- the row that stood there
-  row_before : (k : ℕ) (other : Row) → slice_get others k ≡ Some other → (row : Row) × (slice_get rows k ≡ Some row) × (other ≡ record row { before = other.before })
-  row_before k other got =
-      let inside = slice_get_within others k other got in
-      let many = same.many in
-      let there = slice_get-get_or rows k other (omega arith) in (get_or rows k other, there, same.each k (get_or rows k other) other there got)
-
-  pub AreInOrder-same : {V : Type 0} (list : EntryList V) → AreInOrder list rows → AreInOrder list others
-  AreInOrder-same {V} list h = record {
-    many = same.many ∙ h.many;
-    each = λ m entry other there got.
-        let r = row_before m other got in
-        subst (Asks entry.text entry.mode) (sym r.2) (Asks-linked entry.text entry.mode r.0 other.before (h.each m entry r.0 there r.1));
-  }
+Asks-linked text mode row before a = record { spare = a.spare; end = a.end; bits = a.bits; name = a.name; told = a.told; inside = a.inside }
 
 -- ---- rows in the order of entries
 
@@ -65,7 +47,7 @@ AskInOrder-more {V} entries rows m entry row many here asks before n other added
 
 -- ---- a list with its rows
 
-module _ {V : Type 0} (list : EntryList V) (rows : List Row) (are : AreInOrder list rows) where
+module _ {V : Type 0} (list : EntryList V) (rows : List Row) (are : AreAsked list.entries rows) where
   rows_spare_bytes : (m : ℕ) (row : Row) → slice_get rows m ≡ Some row → row.spare ≡ 8 * (LONGEST_END - length_of row)
   rows_spare_bytes m row got =
       let inside = slice_get_within rows m row got in
@@ -103,4 +85,4 @@ pub unseen_answers : {V : Type 0} (list : EntryList V) (rows : ListRows) → Are
     → Shows path.bytes probe → IsUnseen sight probe → (m : ℕ) → ¬ AnswersAt list path.bytes path.is_dir case m
 unseen_answers list rows are path case probe None is law shows unseen m = absurd unseen
 unseen_answers list rows are path case probe (Some sight) is law shows unseen m =
-    none_seen_answers list rows.rows.items are.ordered path case probe sight law shows (rw (← is) at are.seen) unseen m
+    none_seen_answers list rows.rows.items are.asked path case probe sight law shows (rw (← is) at are.seen) unseen m

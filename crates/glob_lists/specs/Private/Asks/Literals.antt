@@ -4,7 +4,6 @@ use Rattle.std.specs.Char.{to_ascii_lowercase}
 use Rattle.std.specs.Int.{bit_at}
 use Rattle.gix_glob.specs.Bytes.{HasByte}
 use Rattle.gix_glob.specs.LiteralBytes.{IsUnescapedUpTo, is_joining}
-use Rattle.glob_lists.specs.declared.asks.literals.TheConstants.{LONGEST_END}
 
 -- each element of the text is a byte
 abbrev pub AreBytes : List ℕ → Type 0
@@ -28,10 +27,6 @@ raw_end text (suc n) = raw_end text n * 256 + from_end text n
 abbrev pub without_bytes : ℕ → ℕ → ℕ
 without_bytes key zero = key
 without_bytes key (suc n) = without_bytes key n / 256
-
--- how many bits the number of the longest end has more than that of one of n bytes; 0 where n is 0, or more than the longest
-abbrev pub spare_bits : ℕ → ℕ
-spare_bits n = (LONGEST_END - n) % LONGEST_END * 8
 
 -- each of the last n bytes is a token of its own, and ends no other
 pub record EndsLiterally (text : List ℕ) (n : ℕ) : Type 0 where

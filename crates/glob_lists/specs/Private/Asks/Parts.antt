@@ -1,5 +1,5 @@
 -- What of a path a pattern looks at, and which patterns match wherever the path has their end.
-use Rattle.std.specs.Prelude.{◌≡◌, ℕ, ◌+◌, ◌<◌, ◌≤◌, Bool, true, false, List, length}
+use Rattle.std.specs.Prelude.{◌≡◌, ℕ, ◌==◌, ◌+◌, ◌%◌, ◌<◌, ◌≤◌, Bool, true, false, List, length, if◌then◌else◌}
 use Rattle.std.specs.Char.{to_ascii_lowercase}
 use Rattle.gix_glob.specs.declared.pattern.Mode.{Mode}
 use Rattle.gix_glob.specs.Bytes.{HasByte, star}
@@ -22,6 +22,10 @@ place_of Path = 0
 place_of Name = 1
 place_of NameInside = 2
 place_of NameEnd = 3
+
+-- the part that a number stands for, by its last two bits
+abbrev pub part_of : ℕ → Part
+part_of n = if n % 4 == 0 then Path else (if n % 4 == 1 then Name else (if n % 4 == 2 then NameInside else NameEnd))
 
 -- none of the last n bytes of a text is a capital letter
 pub record IsPlainEnd (text : List ℕ) (n : ℕ) : Type 0 where

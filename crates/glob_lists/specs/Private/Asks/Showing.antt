@@ -1,18 +1,15 @@
 -- What a path shows, and whether a row passes it.
 use Rattle.std.specs.Prelude.{◌≡◌, ℕ, ◌+◌, ◌-◌, ◌/◌, ◌%◌, ◌^◌, ◌<◌, ◌≤◌, List, [], ◌∷◌, length, slice_index, drop, take, Option, None, Some, if◌then◌else◌, IsTrue}
-use Rattle.std.specs.Char.{to_ascii_lowercase}
 use Rattle.std.specs.Int.{bit_at}
 use Rattle.gix_glob.specs.Bytes.{HasByte, slash}
-use Rattle.glob_lists.specs.declared.asks.class.Class.{Class}
-use Rattle.glob_lists.specs.declared.asks.class.Class.TheVariants.{Always, EndsIn}
 use Rattle.glob_lists.specs.declared.asks.literals.TheConstants.{LONGEST_END}
-use Rattle.glob_lists.specs.declared.asks.part.Part.{Part}
-use Rattle.glob_lists.specs.declared.asks.part.Part.TheVariants.{Path, Name, NameInside, NameEnd}
+use Rattle.glob_lists.specs.declared.asks.part.Part.TheVariants.{NameEnd}
 use Rattle.glob_lists.specs.declared.asks.probe.Lacking.{Lacking}
 use Rattle.glob_lists.specs.declared.asks.probe.Probe.{Probe}
 use Rattle.glob_lists.specs.declared.asks.row.Row.{Row}
-use Rattle.glob_lists.specs.Private.Asks.Literals.{bit_of, pair_of, end_key, from_end, without_bytes}
-use Rattle.glob_lists.specs.Private.Asks.Parts.{IsPlainEnd, is_name}
+use Rattle.glob_lists.specs.Private.Asks.Literals.{bit_of, pair_of, end_key, without_bytes}
+use Rattle.glob_lists.specs.Private.Asks.Parts.{IsPlainEnd, is_name, part_of}
+use Rattle.glob_lists.specs.Private.Asks.Rows.{HasNoEnd, HasSomeEnd}
 
 -- the set has each byte of the text but those of place 0, for which no row asks
 abbrev pub HoldsBytes : List ℕ → ℕ → Type 0
@@ -43,7 +40,6 @@ front_part (Some start) path = take start path
 
 -- The path shows these numbers and sets.
 pub record Shows (path : List ℕ) (probe : Probe) : Type 0 where
-  pub last : probe.last ≡ to_ascii_lowercase (from_end path 0)
   pub ends : HasEndKeys path probe.end
   pub plain : IsTrue probe.has_plain_end → IsPlainEnd path LONGEST_END
   pub bytes : HoldsBits path probe.bytes
@@ -69,24 +65,15 @@ HasEnd row probe = row.asked ≡ probe.end / 2 ^ (row.spare % 64)
 
 -- the path, or its last part where the row looks at no more, has the bytes and pairs that the row needs
 abbrev pub HasBytes : Row → Probe → Type 0
-HasBytes row probe = HasAll (if is_name row.part then probe.name_bytes else probe.bytes) row.asked
+HasBytes row probe = HasAll (if is_name (part_of row.part) then probe.name_bytes else probe.bytes) row.asked
 
--- the path has what the row asks for, if it is of this class
-abbrev pub PassesBy : Row → Probe → Class → Type 0
-PassesBy row probe Always = HasBytes row probe
-PassesBy row probe (EndsIn byte) = (byte ≡ probe.last) × HasEnd row probe
-
--- the path has the end of a row that is told by it
-abbrev pub IsToldBy : Row → Probe → Part → Type 0
-IsToldBy row probe Path = ⊥
-IsToldBy row probe Name = ⊥
-IsToldBy row probe NameInside = ⊥
-IsToldBy row probe NameEnd = IsTrue probe.has_plain_end × HasEnd row probe
-
--- The path is known to be matched by the row's pattern, without a test: the pattern is told by its end, and the path has that.
-pub record IsTold (row : Row) (probe : Probe) : Type 0 where
-  pub told : IsToldBy row probe row.part
-
--- What the path shows has what the row asks for.
+-- The path has what the row asks for.
 pub record Passes (row : Row) (probe : Probe) : Type 0 where
-  pub shown : PassesBy row probe row.class
+  pub end : HasSomeEnd row → HasEnd row probe
+  pub bits : HasNoEnd row → HasBytes row probe
+
+-- The path is known to be matched by the row's pattern, without a test, where it passes: the pattern is told by its end, and no byte of the
+-- path's end is a capital letter.
+pub record IsTold (row : Row) (probe : Probe) : Type 0 where
+  pub part : part_of row.part ≡ NameEnd
+  pub plain : IsTrue probe.has_plain_end

@@ -1,15 +1,13 @@
 -- What the rows of a list ask for together.
 use Rattle.std.specs.Prelude.{◌≡◌, ◌⊎◌, ℕ, ◌-◌, ◌*◌, ◌/◌, ◌%◌, ◌^◌, ◌<◌, ◌≤◌, Bool, List, Option, None, Some, slice_get, if◌then◌else◌}
-use Rattle.glob_lists.specs.declared.asks.class.Class.{Class}
-use Rattle.glob_lists.specs.declared.asks.class.Class.TheVariants.{Always, EndsIn}
 use Rattle.glob_lists.specs.declared.asks.literals.TheConstants.{LONGEST_END}
 use Rattle.glob_lists.specs.declared.asks.probe.Probe.{Probe}
 use Rattle.glob_lists.specs.declared.asks.row.Row.{Row}
 use Rattle.glob_lists.specs.declared.asks.sight.Sight.{Sight}
 use Rattle.glob_lists.specs.declared.asks.sight.TheConstants.{ENDS, LONG_END, NO_END, OTHER_ENDS, SHORT_END}
 use Rattle.glob_lists.specs.Private.Asks.Literals.{without_bytes}
-use Rattle.glob_lists.specs.Private.Asks.Parts.{is_name}
-use Rattle.glob_lists.specs.Private.Asks.Rows.{length_of}
+use Rattle.glob_lists.specs.Private.Asks.Parts.{is_name, part_of}
+use Rattle.glob_lists.specs.Private.Asks.Rows.{HasNoEnd, HasSomeEnd, length_of}
 use Rattle.glob_lists.specs.Private.Asks.Showing.{HasAll}
 
 -- the place of the number of last bytes in a set: the first six bits of a product of 64
@@ -38,7 +36,7 @@ pub record Lacks (sight : Sight) (short long : ℕ) : Type 0 where
 -- The sight tells that a row asks for something else than an end, and has what it asks for.
 pub record SeesBytes (sight : Sight) (row : Row) : Type 0 where
   pub others : HasAll sight.ends NO_END
-  pub needs : HasAll row.asked (needs_of sight (is_name row.part))
+  pub needs : HasAll row.asked (needs_of sight (is_name (part_of row.part)))
 
 -- The sight has the last bytes of the row's end; of a row with one byte it has that nothing else is needed.
 pub record SeesEnd (sight : Sight) (row : Row) : Type 0 where
@@ -46,14 +44,10 @@ pub record SeesEnd (sight : Sight) (row : Row) : Type 0 where
   pub few : SHORT_END ≤ length_of row → length_of row < LONG_END → HasEnding sight (without_bytes row.asked (length_of row - SHORT_END))
   pub many : LONG_END ≤ length_of row → HasEnding sight (without_bytes row.asked (length_of row - LONG_END))
 
--- the sight has what a row of this class asks for
-abbrev pub SeesBy : Sight → Row → Class → Type 0
-SeesBy sight row Always = SeesBytes sight row
-SeesBy sight row (EndsIn byte) = SeesEnd sight row
-
 -- The sight has what the row asks for.
 pub record Sees (sight : Sight) (row : Row) : Type 0 where
-  pub seen : SeesBy sight row row.class
+  pub bits : HasNoEnd row → SeesBytes sight row
+  pub end : HasSomeEnd row → SeesEnd sight row
 
 -- the sight has what each of the rows asks for
 abbrev pub SeesAll : List Row → Sight → Type 0

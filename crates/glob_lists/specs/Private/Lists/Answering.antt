@@ -17,7 +17,7 @@ use Rattle.glob_lists.specs.Deciding.{AnswersAt, AnswersFor}
 use Rattle.glob_lists.specs.DecisionLimits.{list_look_limit, list_step_limit}
 use Rattle.glob_lists.specs.Paths.{Path}
 use Rattle.glob_lists.specs.Private.Asks.Showing.{Shows}
-use Rattle.glob_lists.specs.Private.Lists.Walking.{IsWalkOver}
+use Rattle.glob_lists.specs.Private.Lists.Walking.{IsInside, IsWalkOver}
 
 -- The answer tells whether a pattern of this row answers for what some folder leaves of the path that shows the probe.
 abbrev pub TellsBelow : Row → Probe → List ℕ → pattern.Mode → Option ℕ → Path → Case → Bool → Type 0
@@ -46,7 +46,9 @@ pub record IsNextMatch {V : Type 0} (list : EntryList V) (path : Path) (case : C
 pub record IsVisit {V : Type 0} (list : EntryList V) (rows : ListRows) (path : Path) (case : Case) (probe : Probe) (visit : Visit) : Type 0 where
   pub left : RestOf case list.base path.bytes visit.rest.bytes
   pub is_dir : visit.rest.is_dir ≡ path.is_dir
-  pub walk : IsWalkOver rows.rows.items rows.ends probe.end visit.walk
+  pub inside : IsInside (length rows.rows.items) visit.walk
+  pub other : 1 < length rows.heads.items → visit.walk.other.0 ≤ visit.walk.passed_from
+  pub walk : IsWalkOver rows.rows.items rows.heads.items probe visit.walk
 
 -- how many steps the entries of a list from place m on take at most, and how many looks, v being the length of the path
 abbrev pub steps_from : {V : Type 0} → EntryList V → ℕ → ℕ → ℕ

@@ -11,9 +11,9 @@ use Rattle.glob_lists.proofs.list.answering.is_answer.Goals as goal
 use Rattle.glob_lists.proofs.list.answering.is_answer.Goals.{After-has_inside}
 
 pub returns-then-is_told_by-clause-exact : goal.returns-then-is_told_by-clause-exact
-returns-then-is_told_by-clause-exact g c base path folder shows left lawful = (
+returns-then-is_told_by-clause-exact g c passes asks base path folder shows left lawful = (
   λ yes. told_answers c.args.pattern.text.now c.args.pattern.mode base path c.args.rest.now.bytes c.args.rest.now.is_dir c.args.case c.args.row.now c.args.probe.now
-      folder shows c.requires.asks (c.is_told_by.ensures.0 c.if-is_told_by.true) left,
+      folder shows asks passes (c.is_told_by.ensures.0 c.if-is_told_by.true) left,
   λ answers. refl,
 )
 
@@ -22,13 +22,13 @@ name_is : (g : Over) (c : After-has_inside g) → c.last_part-name.result.now �
 name_is g c = c.last_part-name.ensures ∙ ap (last_part c.basename_start.result) c.bytes.ensures
 
 pub returns-then-is_looked_for-clause-exact : goal.returns-then-is_looked_for-clause-exact
-returns-then-is_looked_for-clause-exact g c base path folder shows left lawful =
+returns-then-is_looked_for-clause-exact g c passes asks base path folder shows left lawful =
     let after = (goal.at.returns-then-is_looked_for-clause-exact g c).After-has_inside in
-    let looked_for = c.is_looked_for.ensures c.if-is_looked_for.true in
+    let looked_for = c.is_looked_for.ensures.part c.if-is_looked_for.true in
     let exact = subst (λ (v : List ℕ). IsTrue c.has_inside.result ↔ HasInside path_mode v c.args.pattern.text.now) (name_is g after) c.has_inside.ensures.exact in
     subst (λ (case : Case). IsTrue c.has_inside.result ↔ AnswersFor c.args.pattern.text.now c.args.pattern.mode c.args.rest.now.bytes c.args.rest.now.is_dir case) (sym looked_for.1)
     (inside_answers c.has_inside.result c.args.pattern.text.now c.args.rest.now.bytes c.args.pattern.mode c.args.rest.now.is_dir c.basename_start.result
-    (c.requires.asks.inside looked_for.0) c.basename_start.ensures exact)
+    (asks.inside looked_for.0) c.basename_start.ensures exact)
 
 pub returns-then-is_looked_for-clause-looks : goal.returns-then-is_looked_for-clause-looks
 returns-then-is_looked_for-clause-looks g c =

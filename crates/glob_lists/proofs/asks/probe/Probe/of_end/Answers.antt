@@ -5,7 +5,6 @@ use Rattle.glob_lists.proofs.asks.probe.Probe.of_end.Goals as goal
 
 pub returns-clause-shows : goal.returns-clause-shows
 returns-clause-shows g c = record {
-  last = c.last_byte.ensures;
   ends = c.end_number.ensures;
   plain = c.has_plain_end.ensures;
   bytes = all_bits_hold c.args.path.now;

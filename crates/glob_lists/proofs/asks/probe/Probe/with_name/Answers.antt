@@ -6,7 +6,6 @@ use Rattle.glob_lists.proofs.asks.probe.Probe.with_name.Goals as goal
 
 pub returns-clause-shows : goal.returns-clause-shows
 returns-clause-shows g c = record {
-  last = c.requires.shows.last;
   ends = c.requires.shows.ends;
   plain = c.requires.shows.plain;
   bytes = c.requires.shows.bytes;

@@ -6,7 +6,6 @@ use Rattle.glob_lists.proofs.asks.probe.Probe.with_path.Goals as goal
 
 pub returns-clause-shows : goal.returns-clause-shows
 returns-clause-shows g c = record {
-  last = c.requires.shows.last;
   ends = c.requires.shows.ends;
   plain = c.requires.shows.plain;
   bytes = path_bits c.args.path.now c.args.basename_start c.args.self.name_bytes c.bytes_of.result c.requires.basename c.requires.shows.name_bytes

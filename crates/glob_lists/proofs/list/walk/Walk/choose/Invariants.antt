@@ -1,5 +1,5 @@
 use Rattle.std.proofs.Common.{◌≡◌}
-use Rattle.glob_lists.proofs.lemmas.Lists.BegunWalks.{IsLatestUpTo}
+use Rattle.glob_lists.proofs.lemmas.Lists.WalkLemmas.{IsLatestUpTo}
 use Rattle.glob_lists.proofs.list.walk.Walk.choose.Given as goal
 
 -- the latest so far

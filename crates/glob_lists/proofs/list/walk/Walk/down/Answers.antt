@@ -1,81 +1,80 @@
--- The ends that the path has lie on the chain of the last one up to its number.
-use Rattle.std.proofs.Common.{◌≡◌, ◌^◌, ◌<◌, ℕ, length, slice_get, Some, refl, sym, subst, arith}
+-- The chains of all ends of the path are added, each once.
+use Rattle.std.proofs.Common.{◌≡◌, ◌∙◌, ℕ, ◌+◌, ◌-◌, ◌<◌, ◌≤◌, inl, inr, ap, get_or, length, refl, subst, sym, arith}
 use Rattle.std.proofs.lemmas.Bool.{iff_false}
-use Rattle.std.proofs.lemmas.List.{length-map}
-use Rattle.std.proofs.lemmas.Option.{slice_get_read}
+use Rattle.std.proofs.lemmas.List.{length-map, length-set}
+use Rattle.glob_lists.specs.declared.link.TheConstants.Link.{NONE}
 use Rattle.glob_lists.specs.declared.list.walk.Walk.{Walk}
-use Rattle.glob_lists.specs.Private.Chains.{links_of}
-use Rattle.glob_lists.specs.Private.Lists.Ends.{IsLastEndUpTo, end_of, ends_of}
-use Rattle.glob_lists.proofs.lemmas.Lists.BegunWalks.{IsBegun-none, IsBegun-other_row, IsBegun-row, IsLatest-one, IsWalk-begun, above_falls, room_here}
-use Rattle.glob_lists.proofs.lemmas.Lists.EndLemmas.{last_inside}
+use Rattle.glob_lists.specs.Private.Asks.Literals.{without_bytes}
+use Rattle.glob_lists.specs.Private.Lists.Chains.{AreChained, IsLastBelow, chain_of, chains_of, end_chain}
+use Rattle.glob_lists.proofs.lemmas.Lists.WalkLemmas.{IsBegun, IsBegun-more, IsBegun-passed, IsWalk-begun}
 use Rattle.glob_lists.proofs.list.walk.Walk.down.Goals as goal
-use Rattle.glob_lists.proofs.list.walk.Walk.down.Goals.{After-end, After-index-end, then-has_end, else-has_end}
+use Rattle.glob_lists.proofs.list.walk.Walk.down.Goals.{After-end_chain, then-is_after+then-not-has, else-is_after, else-is_after-via-then-is_after+else-not-has, else-is_after-via-else-is_after}
 
-fits : (c : After-end) → c.args.probe.now.end < 2 ^ 64
-fits c = omega (arith, c.end.ensures)
+-- the chain of the length that is added, and its last row
+module _ (c : After-end_chain) (chained : AreChained c.args.rows.now c.args.heads.now) where
+  its_chain : c.end_chain.result ≡ end_chain (length c.args.heads.now) (without_bytes c.args.probe.now.end (8 - (c.lengths.n + 1)))
+  its_chain = c.end_chain.ensures.chain ∙ ap (end_chain (length c.args.heads.now)) c.key.ensures
 
-there : (c : After-index-end) → slice_get c.args.ends.now.all.items c.in-Some.k ≡ Some c.index-end.result.now
-there c =
-    let within = c.above.invariant.within in
-    slice_get_read c.args.ends.now.all.items _ c.in-Some.k c.index-end.result.now refl (omega (arith, c.in-Some.ensures)) c.index-end.ensures
+  its_last : IsLastBelow (chains_of (length c.args.heads.now) c.args.rows.now) c.end_chain.result (length (chains_of (length c.args.heads.now) c.args.rows.now)) (get_or c.args.heads.now c.end_chain.result NONE)
+  its_last = chained.linked.head c.end_chain.result c.end_chain.ensures.within
 
-inside : (c : After-index-end) → c.index-end.result.now.last < length c.args.rows.now
-inside c = last_inside c.args.rows.now c.args.ends.now.all.items c.requires.chained.sorted c.in-Some.k c.index-end.result.now (there c)
+  all_rows : c.lengths.walk.passed_from ≡ length (chains_of (length c.args.heads.now) c.args.rows.now)
+  all_rows = c.lengths.invariant.all ∙ sym (length-map c.args.rows.now (chain_of (length c.args.heads.now)))
 
-pub above-init : goal.above-init
-above-init c =
-    let has = ends_of c.args.rows.now in
-    let ends = c.args.ends.now.all.items in
-    IsBegun-none has (links_of c.args.rows.now) ends c.args.ends.now.always c.requires.chained c.args.probe.now.end (fits (goal.at.above-init c).After-end) c.last_up_to-link.result _
-    (subst (λ (n : ℕ). IsLastEndUpTo has ends n c.last_up_to-link.result) c.end.ensures c.last_up_to-link.ensures)
-    refl refl refl refl (sym (length-map c.args.rows.now end_of)) refl
-
-pub bounds-rows-last : goal.bounds-rows-last
-bounds-rows-last c = inside (goal.at.bounds-rows-last c).After-index-end
-
-pub to-requires : goal.to-requires
-to-requires c =
-    let below = inside (goal.at.to-requires c).After-index-end in
-    omega (arith, below, c.requires.many)
-
-pub bounds-walk-walk : goal.bounds-walk-walk
-bounds-walk-walk c =
-    room_here c.args.rows.now (links_of c.args.rows.now) c.args.ends.now.all.items c.args.ends.now.always c.requires.chained c.args.probe.now.end (fits (goal.at.bounds-walk-walk c).After-end)
-    c.above.link c.above.walk c.above.invariant c.in-Some.k c.in-Some.ensures c.index-end.result.now (there (goal.at.bounds-walk-walk c).After-index-end) _ (c.has_end.ensures.0 c.if-has_end.true)
-
-pub above-smaller : goal.above-smaller
-above-smaller c =
-    let falls = above_falls c.args.rows.now (links_of c.args.rows.now) c.args.ends.now.all.items c.args.ends.now.always c.requires.chained c.args.probe.now.end (fits (goal.at.above-smaller c).After-end)
-    c.above.link c.above.walk c.above.invariant c.in-Some.k c.in-Some.ensures c.index-end.result.now (there (goal.at.above-smaller c).After-index-end) in
-    let next = c.in-Some.ensures in
-    omega (arith, falls, next)
-
-pub above-preserved : goal.above-preserved
-above-preserved c =
-    let walk : Walk = c.above.walk in
-    let rows = c.args.rows.now in
-    let ends = c.args.ends.now.all.items in
-    let number = c.args.probe.now.end in
-    let small = fits (goal.at.above-preserved c).After-end in
-    let here = there (goal.at.above-preserved c).After-index-end in
-    elim c.if-has_end.branch [
-      | then-has_end w ↦ rw w.walk-is (IsBegun-row rows (links_of rows) ends c.args.ends.now.always c.requires.chained number small c.above.link walk c.above.invariant
-          c.in-Some.k c.in-Some.ensures c.index-end.result.now here _ (c.has_end.ensures.0 w.if-has_end.true) w.to.result w.to.ensures)
-      | else-has_end w ↦ rw w.walk-is (IsBegun-other_row rows (links_of rows) ends c.args.ends.now.always c.requires.chained number small c.above.link walk c.above.invariant
-          c.in-Some.k c.in-Some.ensures c.index-end.result.now here _ (iff_false c.has_end.ensures w.if-has_end.false))
+pub lengths-preserved : goal.lengths-preserved
+lengths-preserved c =
+    let old = c.lengths.invariant in
+    let few = old.few in
+    let wide = old.wide in
+    let turn = c.lengths-test.true in
+    let end = c.lengths.auto.n-end in
+    let walk : Walk = c.lengths.walk in
+    let chains = chains_of (length c.args.heads.now) c.args.rows.now in
+    let next = get_or c.args.heads.now c.end_chain.result NONE in
+    let before = (goal.at.lengths-preserved c).After-end_chain in elim c.if-is_after.branch [
+      | then-is_after+then-not-has w ↦ rw w.walk-is (record {
+        few = omega arith;
+        wide = length-set walk.nexts walk.count next ∙ wide;
+        latest = old.latest;
+        all = old.all;
+        none = λ zero. absurd (omega (arith, zero));
+        below = old.below;
+        lacking = old.lacking;
+        other = old.other;
+        begun = λ chained. IsBegun-more chains (length c.args.heads.now) c.args.probe.now.end c.lengths.n walk (old.begun chained) c.end_chain.result (its_chain before chained) next (all_rows before chained) (its_last before chained)
+            (c.is_after.ensures.0 w.if-is_after.true) (iff_false w.has.ensures w.if-not-has.true) (omega arith);
+      })
+      | else-is_after w ↦ rw w.walk-is (record {
+        few = omega arith;
+        wide = wide;
+        latest = old.latest;
+        all = old.all;
+        none = old.none;
+        below = old.below;
+        lacking = old.lacking;
+        other = old.other;
+        begun = λ chained. IsBegun-passed chains (length c.args.heads.now) c.args.probe.now.end c.lengths.n walk (old.begun chained) c.end_chain.result (its_chain before chained) next (all_rows before chained) (its_last before chained)
+            (elim w.else-is_after.branch [
+              | else-is_after-via-then-is_after+else-not-has w' ↦ inr (w'.has.ensures.0 w'.if-not-has.false)
+              | else-is_after-via-else-is_after w' ↦ (let not = iff_false c.is_after.ensures w'.if-is_after.false in inl (omega (arith, not)))
+            ]);
+      })
     ]
 
 pub returns-then-walk-gt1-clause-walk : goal.returns-then-walk-gt1-clause-walk
-returns-then-walk-gt1-clause-walk c =
-    IsWalk-begun (ends_of c.args.rows.now) (links_of c.args.rows.now) c.args.ends.now.all.items c.args.ends.now.always c.requires.chained c.args.probe.now.end
-    (fits (goal.at.returns-then-walk-gt1-clause-walk c).After-end) c.above.link c.above.walk c.choose.new.self
-    c.in_default.ensures c.above.invariant c.choose.ensures.same c.choose.ensures.latest
+returns-then-walk-gt1-clause-walk c = λ given some.
+    let chained = given some in
+    let old = c.lengths.invariant in
+    let eight : c.lengths.n ≡ 8 = omega (arith, c.lengths.auto.n-end, c.lengths-test.false) in
+    IsWalk-begun c.args.rows.now c.args.heads.now chained c.args.probe.now c.lengths.walk c.choose.new.self
+    (subst (λ (n : ℕ). IsBegun (chains_of (length c.args.heads.now) c.args.rows.now) (length c.args.heads.now) c.args.probe.now.end n c.lengths.walk) eight (old.begun chained)) old.lacking
+    (subst (λ (n : ℕ). IsLastBelow (chains_of (length c.args.heads.now) c.args.rows.now) 0 n c.lengths.walk.other) (sym old.all) (old.other chained)) c.choose.ensures.same
 
 pub returns-else-walk-gt1-clause-walk : goal.returns-else-walk-gt1-clause-walk
-returns-else-walk-gt1-clause-walk c =
-    let has = ends_of c.args.rows.now in
-    let ends = c.args.ends.now.all.items in
-    let number = c.args.probe.now.end in
-    IsWalk-begun has (links_of c.args.rows.now) ends c.args.ends.now.always c.requires.chained number
-    (fits (goal.at.returns-else-walk-gt1-clause-walk c).After-end) c.above.link c.above.walk c.above.walk
-    c.in_default.ensures c.above.invariant refl (IsLatest-one has ends number c.above.link c.above.walk c.above.invariant c.if-walk-gt1.false)
+returns-else-walk-gt1-clause-walk c = λ given some.
+    let chained = given some in
+    let old = c.lengths.invariant in
+    let eight : c.lengths.n ≡ 8 = omega (arith, c.lengths.auto.n-end, c.lengths-test.false) in
+    IsWalk-begun c.args.rows.now c.args.heads.now chained c.args.probe.now c.lengths.walk c.lengths.walk
+    (subst (λ (n : ℕ). IsBegun (chains_of (length c.args.heads.now) c.args.rows.now) (length c.args.heads.now) c.args.probe.now.end n c.lengths.walk) eight (old.begun chained)) old.lacking
+    (subst (λ (n : ℕ). IsLastBelow (chains_of (length c.args.heads.now) c.args.rows.now) 0 n c.lengths.walk.other) (sym old.all) (old.other chained)) refl

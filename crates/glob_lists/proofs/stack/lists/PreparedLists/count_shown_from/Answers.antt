@@ -30,11 +30,11 @@ lists-preserved g c =
     let sum = c.saturating_add-count.ensures in
     let few = c.count_shown.ensures.few in
     record {
-      few = omega (arith, are.ordered.many, c.lists.invariant.few);
+      few = omega (arith, are.asked.many, c.lists.invariant.few);
       some = λ below answers. ⊎_elim
           (λ (here : c.args.i ≡ k).
           let at_list = PairAnswers-only lists path.bytes path.is_dir case k c.args.m list there (subst (λ (i : ℕ). PairAnswers lists path.bytes path.is_dir case i c.args.m) here answers) in
-          let row = row_passes list its.rows.items are.ordered path case c.args.question.now.probe c.answering_patterns_pass.ensures c.requires.shows c.args.m at_list in
+          let row = row_passes list its.rows.items are.asked path case c.args.question.now.probe c.answering_patterns_pass.ensures c.requires.shows c.args.m at_list in
           elim c.if-k-i.branch [
             | then-k-i w ↦
                 (let counted = c.count_shown.ensures.some row.0 (subst (λ (n : ℕ). slice_get its.rows.items n ≡ Some row.0) (sym w.from-is) row.1) row.2 in

@@ -46,7 +46,7 @@ matches-init g c =
     record {
       visit = c.in-Some.ensures.visit;
       found = AreFoundFrom-list lists c.args.question.now.path.now c.args.question.now.case c.args.i list (list_at g after) (c.args.i + 1) c.in-Some.visit.walk.passed_from c.args.pairs.now.items refl
-          (omega (arith, c.in-Some.ensures.all, are.ordered.many)) c.requires.found;
+          (omega (arith, c.in-Some.ensures.all, are.asked.many)) c.requires.found;
     }
 
 pub next_match-requires-clause-of : goal.next_match-requires-clause-of

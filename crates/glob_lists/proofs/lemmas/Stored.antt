@@ -1,4 +1,0 @@
--- Rows that a caller keeps.
-pub mod ChainLemmas
-pub mod OneList
-pub mod StoredLemmas
