@@ -24,9 +24,6 @@ use Rattle.glob_lists.proofs.lemmas.Lists.ChainLemmas.{IsLastBelow-nearer, befor
 
 -- ---- rows that pass
 
-pub NonePasses-none : (rows : List Row) (probe : Probe) (place : ℕ) → NonePasses rows probe place place
-NonePasses-none rows probe place m row from below got passes = absurd (omega arith)
-
 pub NonePasses-joined : (rows : List Row) (probe : Probe) (from middle to : ℕ) → NonePasses rows probe from middle → NonePasses rows probe middle to → NonePasses rows probe from to
 NonePasses-joined rows probe from middle to low high m row above below got = elim (cases_lt m middle) [
   | inl before ↦ low m row above before got
@@ -243,18 +240,6 @@ pub record IsBegun (chains : List ℕ) (count : ℕ) (end lengths : ℕ) (walk :
   pub nexts : AreNexts chains own walk
   pub all : (j : ℕ) → j < lengths → HasChain chains own (end_chain count (without_bytes end (8 - (j + 1))))
 
-pub IsBegun-none : (chains : List ℕ) (count end lengths : ℕ) (walk : Walk) → walk.count ≡ 0 → lengths ≡ 0 → IsBegun chains count end lengths walk
-IsBegun-none chains count end lengths walk none zero = record {
-  own = [];
-  nexts = record {
-    many = sym none;
-    some = λ n chain got. absurd (none-some chain got);
-    next = λ n chain got. absurd (none-some chain got);
-    apart = λ m n chain got. absurd (none-some chain got);
-  };
-  all = λ j below. absurd (omega arith);
-}
-
 module _ (chains : List ℕ) (count end lengths : ℕ) (walk : Walk) (was : IsBegun chains count end lengths walk) (chain : ℕ) (is : chain ≡ end_chain count (without_bytes end (8 - (lengths + 1)))) (next : Link)
     (all_rows : walk.passed_from ≡ length chains) (last : IsLastBelow chains chain (length chains) next) where
   -- one length more, whose chain is there already, or is of no row
@@ -378,17 +363,6 @@ pub record HasPassedTo (rows : List Row) (own : Link) (walk : Walk) (before : Co
       → IsWalk (chains_of (length heads) rows) rows probe (record walk { other = other; passed_from = from })
   pub none : (heads : List Link) (probe : Probe) → AreChained rows heads → IsWalk (chains_of (length heads) rows) rows probe walk → own ≡ get_or walk.nexts walk.latest NONE
       → NonePasses rows probe from walk.passed_from
-
-pub HasPassedTo-start : (rows : List Row) (own : Link) (walk : Walk) (counts : Counts) → walk.other.0 ≤ walk.passed_from → own.0 ≤ walk.passed_from → HasPassedTo rows own walk counts walk.other counts
-HasPassedTo-start rows own walk counts other_low own_low = record {
-  from = walk.passed_from;
-  low = omega arith;
-  near = other_low;
-  above = own_low;
-  looks = record { steps = refl; from = omega arith; to = omega arith };
-  at = λ heads probe chained at is. at;
-  none = λ heads probe chained at is. NonePasses-none rows probe walk.passed_from;
-}
 
 module _ (rows : List Row) (own : Link) (walk : Walk) (before middle : Counts) (other : Link) (h : HasPassedTo rows own walk before other middle) (latest : IsLatest walk) where
   -- where the walk is

@@ -43,7 +43,7 @@ patterns-preserved g c =
     }
 
 pub returns-clause-prepared : goal.returns-clause-prepared
-returns-clause-prepared g c yes =
+returns-clause-prepared g c is_prepared =
     let entries = map g.P.Viewed.seen c.args.patterns.now in
     let end : c.patterns.i ≡ length c.args.patterns.now = omega (arith, c.patterns-test.false, c.patterns.auto.i-end) in
     let all = length-map c.args.patterns.now g.P.Viewed.seen in
