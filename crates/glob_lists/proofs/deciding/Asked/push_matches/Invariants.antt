@@ -1,7 +1,7 @@
 use Rattle.std.proofs.Common.{map}
 use Rattle.gix_glob.specs.EntryLists.{entry_list_of}
 use Rattle.glob_lists.specs.Private.Matching.{AreMatchesUpTo}
-use Rattle.glob_lists.proofs.deciding.matching.Asked.push_matches.Given as goal
+use Rattle.glob_lists.proofs.deciding.Asked.push_matches.Given as goal
 
 -- the pairs before this mapping that answer were found
 abbrev pub invariant-mappings : goal.invariant-mappings

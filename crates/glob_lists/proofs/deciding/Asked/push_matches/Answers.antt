@@ -11,8 +11,8 @@ use Rattle.gix_glob.proofs.lemmas.Elements.{All-map_at, slice_get-map_at}
 use Rattle.glob_lists.specs.Deciding.{HasFolder}
 use Rattle.glob_lists.proofs.lemmas.Deciding.Answering.{PairAnswers-nothing_left, PairAnswers-only, asked_rest}
 use Rattle.glob_lists.proofs.lemmas.Deciding.MatchesUpTo.{matches_more, matches_of_list, matches_skip}
-use Rattle.glob_lists.proofs.deciding.matching.Asked.push_matches.Goals as goal
-use Rattle.glob_lists.proofs.deciding.matching.Asked.push_matches.Goals.{then-is_matched_by+in_ok-push, else-is_matched_by}
+use Rattle.glob_lists.proofs.deciding.Asked.push_matches.Goals as goal
+use Rattle.glob_lists.proofs.deciding.Asked.push_matches.Goals.{then-is_matched_by+in_ok-push, else-is_matched_by}
 
 pub under-requires : goal.under-requires
 under-requires g c = All-map_at (entry_list_of g.T.Pattern.seen) HasFolder c.args.self.now.lists.now c.args.i c.index-lists-i.result c.requires.folders c.requires.inside c.index-lists-i.is
