@@ -1,7 +1,7 @@
 use Rattle.std.specs.Prelude.{All, map}
 use Rattle.glob_lists.proofs.lemmas.Deciding.DecidingLemmas.{NoListFrom}
 use Rattle.gix_glob_c.specs.Lists.{IsLawfulList, entry_list}
-use Rattle.gix_glob_c.proofs.tree.HandedLists.decide.Given as goal
+use Rattle.gix_glob_c.proofs.tree.HandedListsListStack.decide.Given as goal
 
 -- no list from here on has a pattern that answers, where all of them are lawful
 abbrev pub invariant-loop-i : goal.invariant-loop-i

@@ -5,10 +5,10 @@ use Rattle.gix_glob.specs.Entries.{Entry}
 use Rattle.gix_glob.specs.Patterns.{is_negative}
 use Rattle.gix_glob_c.proofs.lemmas.DecidingLemmas.{blank}
 use Rattle.gix_glob_c.proofs.lemmas.ListsLemmas.{blank_list, entry_is, list_within, pattern_within}
-use Rattle.gix_glob_c.proofs.tree.HandedLists.is_negative.Goals as goal
+use Rattle.gix_glob_c.proofs.tree.HandedListsListStack.is_negative.Goals as goal
 
-pub bounds-self-lists-pair : goal.bounds-self-lists-pair
-bounds-self-lists-pair c = list_within c.args.self.now.lists.now c.args.pair c.requires.0 c.requires.1
+pub bounds-self-pair : goal.bounds-self-pair
+bounds-self-pair c = list_within c.args.self.now.lists.now c.args.pair c.requires.0 c.requires.1
 
 pub is_negative_at-requires : goal.is_negative_at-requires
 is_negative_at-requires c = pattern_within c.args.self.now.lists.now c.args.pair c.requires.0 c.requires.1

@@ -4,7 +4,7 @@ use Rattle.std.proofs.lemmas.List.Elements.{All-get_or}
 use Rattle.glob_lists.proofs.lemmas.Deciding.DecidingLemmas.{Decides-found, Decides-none, NoListFrom-less}
 use Rattle.gix_glob_c.specs.Lists.{IsLawfulList, entry_list}
 use Rattle.gix_glob_c.proofs.lemmas.ListsLemmas.{blank_list, entry_list_at, has_entry}
-use Rattle.gix_glob_c.proofs.tree.HandedLists.decide.Goals as goal
+use Rattle.gix_glob_c.proofs.tree.HandedListsListStack.decide.Goals as goal
 
 pub returns-in-Some-clause-inside : goal.returns-in-Some-clause-inside
 returns-in-Some-clause-inside c = has_entry c.args.self.now.lists.now (c.loop-i.i - 1) c.in-Some.m (omega arith) c.in-Some.ensures.inside
