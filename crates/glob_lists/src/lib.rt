@@ -13,6 +13,7 @@ pub mod prepared;
 mod stack;
 
 pub use asks::row::Row;
+pub use deciding::list_stack::ListStack;
 pub use deciding::matching::matches_into;
 pub use deciding::{bases_are_folders, decide, decide_with_counts};
 pub use fault::IndexError;

@@ -5,6 +5,7 @@ ghost use Rattle.glob_lists.specs.Deciding.{BasesAreFolders};
 ghost use Rattle.glob_lists.specs.Index.{AreMatches};
 ghost use Rattle.glob_lists.specs.Private.Matching.{AreMatchesUpTo};
 
+use crate::deciding::Asked;
 use crate::path::RepositoryPath;
 use gix_glob::pattern::Case;
 use gix_glob::search;
@@ -34,14 +35,6 @@ pub fn matches_into<T: search::Pattern>(
         asked.push_matches(i, pairs)?;
     }
     Ok(())
-}
-
-/// What is asked of lists: which of their patterns match this path.
-#[derive(Drop)]
-struct Asked<'a, 'p, T: search::Pattern> {
-    lists: &'a [List<T>],
-    path: &'a RepositoryPath<'p>,
-    case: Case,
 }
 
 impl<'a, 'p, T: search::Pattern> Asked<'a, 'p, T> {

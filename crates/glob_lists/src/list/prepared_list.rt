@@ -3,7 +3,7 @@ ghost use Rattle.std.specs.Prelude.{◌≡◌, ◌↔◌, IsTrue, length};
 ghost use Rattle.gix_glob.specs.EntryLists.{entry_list_of};
 ghost use Rattle.glob_lists.specs.Deciding.{HasFolder};
 ghost use Rattle.glob_lists.specs.Private.Asks.Showing.{Shows};
-ghost use Rattle.glob_lists.specs.Private.Lists.Answering.{IsLastMatch};
+ghost use Rattle.glob_lists.specs.Private.Lists.Answering.{IsLastMatch, Spends};
 
 use crate::deciding::{has_folder, last_match};
 use crate::list::question::Question;
@@ -84,7 +84,8 @@ impl<T: search::Pattern> PreparedList<T> {
     ) -> Option<usize>
         requires folder { HasFolder (entry_list_of T.seen self.now) }
         requires shows { Shows question.now.path.now.bytes question.now.probe }
-        ensures { IsLastMatch (entry_list_of T.seen self.now) question.now.path.now question.now.case result }
+        ensures last { IsLastMatch (entry_list_of T.seen self.now) question.now.path.now question.now.case result }
+        ensures spends { Spends (entry_list_of T.seen self.now) (length question.now.path.now.bytes) counts.old counts.new }
     {
         match &self.rows {
             Some(rows) => rows.last_match(&self.list, question, counts),

@@ -1,11 +1,14 @@
 //! Stacks of prepared lists that come and go: which pattern of them decides about a path.
-ghost use Rattle.std.specs.Prelude.{map};
+ghost use Rattle.std.specs.Prelude.{length, map};
 ghost use Rattle.gix_glob.specs.EntryLists.{entry_list_of};
 ghost use Rattle.gix_glob.specs.Steps.{IsBlankOf};
 ghost use Rattle.glob_lists.specs.Deciding.{BasesAreFolders, Decides};
 ghost use Rattle.glob_lists.specs.Private.Asks.Showing.{Shows};
 
 use crate::asks::probe::Probe;
+use crate::deciding::among::{AskedLists, decide_among};
+use crate::deciding::is_negative_in;
+use crate::deciding::list_stack::ListStack;
 use crate::list::prepared_list::PreparedList;
 use crate::list::question::Question;
 use crate::path::RepositoryPath;
@@ -44,12 +47,64 @@ fn decide_with_new_counts<T: search::Pattern, S: Ledger, L: Ledger>(
     let mut counts = Counts::<S, L>::new(blanks.0, blanks.1);
     let probe = probe_of(lists, path, &mut counts);
     let question = Question { path, probe, case };
-    for i in (0..lists.len()).rev() {
-        if let Some(m) = lists[i].last_match(&question, &mut counts) {
-            return Some((i, m));
-        }
+    let question = &question;
+    decide_among(&Asked { lists, question }, &mut counts)
+}
+
+/// Prepared lists that come and go, and what they are asked.
+#[derive(Drop)]
+struct Asked<'a, 'q, 'p, T: search::Pattern> {
+    lists: &'a [PreparedList<T>],
+    question: &'a Question<'q, 'p>,
+}
+
+impl<'a, 'q, 'p, T: search::Pattern> AskedLists for Asked<'a, 'q, 'p, T> {
+    ghost Seen = { T.Seen };
+
+    ghost lists = { λ asked. map (entry_list_of T.seen) asked.lists.now };
+
+    ghost path = { λ asked. asked.question.now.path.now };
+
+    ghost case = { λ asked. asked.question.now.case };
+
+    ghost can_ask = { λ asked. BasesAreFolders (map (entry_list_of T.seen) asked.lists.now)
+        × Shows asked.question.now.path.now.bytes asked.question.now.probe };
+
+    ghost more_looks = { λ list. length list.entries };
+
+    #[inline(always)]
+    fn count(&self) -> usize {
+        self.lists.len()
     }
-    None
+
+    #[inline(always)]
+    fn last_match<S: Ledger, L: Ledger>(
+        &self,
+        i: usize,
+        counts: &mut Counts<S, L>,
+    ) -> Option<usize> {
+        self.lists[i].last_match(self.question, counts)
+    }
+}
+
+impl<'a, T: search::Pattern> ListStack for &'a [PreparedList<T>] {
+    ghost Seen = { T.Seen };
+
+    ghost lists = { λ lists. map (entry_list_of T.seen) lists.now };
+
+    ghost can_decide = { λ lists. BasesAreFolders (map (entry_list_of T.seen) lists.now) };
+
+    ghost is_lawful = { λ _. Unit {0} };
+
+    #[inline(always)]
+    fn decide(&self, path: &RepositoryPath<'_>, case: Case) -> Option<(usize, usize)> {
+        decide_prepared(*self, path, case)
+    }
+
+    #[inline(always)]
+    fn is_negative(&self, pair: (usize, usize)) -> bool {
+        is_negative_in(self[pair.0].list(), pair.1)
+    }
 }
 
 /// What a path shows. All its bytes are read only where a pattern may need some, which few lists have.

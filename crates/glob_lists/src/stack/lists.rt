@@ -5,8 +5,10 @@ ghost use Rattle.gix_glob.specs.EntryLists.{entry_list_of};
 ghost use Rattle.glob_lists.specs.Deciding.{BasesAreFolders, Decides, PairAnswers};
 ghost use Rattle.glob_lists.specs.Index.{AreMatches, entry_count};
 ghost use Rattle.glob_lists.specs.Private.Asks.Showing.{Shows};
-ghost use Rattle.glob_lists.specs.Private.Stack.Finding.{AreFoundFrom, IsLastOfList, SpendsOnAll, SpendsOnList};
+ghost use Rattle.glob_lists.specs.Private.Asked.{IsLastOfList};
+ghost use Rattle.glob_lists.specs.Private.Stack.Finding.{AreFoundFrom, SpendsOnAll, SpendsOnList};
 
+use crate::deciding::among::{AskedLists, decide_among};
 use crate::laws;
 use crate::list::question::Question;
 use crate::list::rows::ListRows;
@@ -115,12 +117,8 @@ impl<'a, T: search::Pattern> PreparedLists<'a, T> {
         ensures exact { Decides (map (entry_list_of T.seen) self.now) question.now.path.now.bytes question.now.path.now.is_dir question.now.case result }
         ensures spends { SpendsOnAll (map (entry_list_of T.seen) self.now) (length question.now.path.now.bytes) counts.old counts.new }
     {
-        'lists: for i in (0..self.lists.len()).rev() {
-            if let Some(m) = self.last_match(i, question, counts) {
-                return Some((i, m));
-            }
-        }
-        None
+        let lists = self;
+        decide_among(&Asked { lists, question }, counts)
     }
 
     /// Puts into `pairs` all patterns that match a path, in order, in place of what it held.
@@ -163,5 +161,40 @@ impl<'a, T: search::Pattern> PreparedLists<'a, T> {
             pairs.push((i, m))?;
         }
         Ok(())
+    }
+}
+
+/// Prepared lists, and what they are asked.
+#[derive(Drop)]
+struct Asked<'a, 'l, 'q, 'p, T: search::Pattern> {
+    lists: &'a PreparedLists<'l, T>,
+    question: &'a Question<'q, 'p>,
+}
+
+impl<'a, 'l, 'q, 'p, T: search::Pattern> AskedLists for Asked<'a, 'l, 'q, 'p, T> {
+    ghost Seen = { T.Seen };
+
+    ghost lists = { λ asked. map (entry_list_of T.seen) asked.lists.now };
+
+    ghost path = { λ asked. asked.question.now.path.now };
+
+    ghost case = { λ asked. asked.question.now.case };
+
+    ghost can_ask = { λ asked. Shows asked.question.now.path.now.bytes asked.question.now.probe };
+
+    ghost more_looks = { λ list. length list.entries };
+
+    #[inline(always)]
+    fn count(&self) -> usize {
+        self.lists.lists().len()
+    }
+
+    #[inline(always)]
+    fn last_match<S: Ledger, L: Ledger>(
+        &self,
+        i: usize,
+        counts: &mut Counts<S, L>,
+    ) -> Option<usize> {
+        self.lists.last_match(i, self.question, counts)
     }
 }

@@ -1,9 +1,9 @@
 -- The last match over a stack of lists, from the last list and its last mapping on.
 use Rattle.std.proofs.Common.{◌≡◌, inl, inr, ⊎_elim, ℕ, ◌+◌, ◌≤◌, Bool, List, Option, None, Some, subst, arith}
-use Rattle.std.specs.Prelude.{slice_get, MatchOption}
+use Rattle.std.specs.Prelude.{IfSome, MatchOption, slice_get}
 use Rattle.std.proofs.lemmas.Bool.{cases_eq}
 use Rattle.gix_glob.specs.declared.pattern.Case.{Case}
-use Rattle.glob_lists.specs.Deciding.{AnswersAt, Decides, PairAnswers}
+use Rattle.glob_lists.specs.Deciding.{AnswersAt, Decides, HasEntryAt, PairAnswers}
 use Rattle.gix_glob.specs.EntryLists.{EntryList}
 use Rattle.glob_lists.proofs.lemmas.Deciding.Answering.{PairAnswers-only}
 use Rattle.glob_lists.proofs.lemmas.Deciding.LastNumbers.{NoneFrom, NoneFrom-all, NoneFrom-last, NoneFrom-less}
@@ -48,3 +48,10 @@ module _ {V : Type 0} (lists : List (EntryList V)) (path : List ℕ) (is_dir : B
 
   pub Decides-none : (k : ℕ) → k ≤ 0 → NoListFrom k → Decides lists path is_dir case None
   Decides-none k all none i m h = NoneFrom-all ListAnswers k all none i (m, h)
+
+-- what decides stands in the lists
+pub Decides-inside : {V : Type 0} (lists : List (EntryList V)) (path : List ℕ) (is_dir : Bool) (case : Case) (pair : Option (ℕ × ℕ)) → Decides lists path is_dir case pair → IfSome pair (HasEntryAt lists)
+Decides-inside lists path is_dir case None none = tt
+Decides-inside lists path is_dir case (Some pair) h =
+    let answers = h.answers in
+    let at = answers.answers in (at.entry, record { list = answers.list; of_lists = answers.there; of_list = at.there })

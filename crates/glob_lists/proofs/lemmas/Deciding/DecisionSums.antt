@@ -2,7 +2,7 @@
 use Rattle.std.proofs.Common.{◌≡◌, ℕ, ◌+◌, ◌≤◌, ◌-◌, List, length, drop, get_or, Option, None, Some, sym, ap, ◌∙◌, length-append, arith}
 use Rattle.std.specs.Prelude.{slice_get, sum_by}
 use Rattle.std.proofs.lemmas.List.{drop-drop}
-use Rattle.std.proofs.lemmas.List.Sums.{sum_by-drop_more, sum_by-take-drop}
+use Rattle.std.proofs.lemmas.List.Sums.{sum_by-drop_more, sum_by-le, sum_by-take-drop}
 use Rattle.std.proofs.lemmas.Option.{get_or_from_slice_get, slice_get_within}
 use Rattle.gix_glob.specs.Steps.{step_limit}
 use Rattle.gix_glob.specs.PatternLimits.{pattern_look_limit}
@@ -30,6 +30,10 @@ module _ {X : Type 0} (f : X → ℕ) (xs : List X) where
   -- the same where something else was counted first
   pub counted-all_after : (start first total i : ℕ) → total ≤ start + first + sum_by f (drop i xs) → total ≤ start + (first + sum_by f xs)
   counted-all_after start first total i from = omega (arith, sum_by-take-drop f xs i, from)
+
+-- where each takes nothing, so do all
+pub sum_by-nothing : {X : Type 0} (xs : List X) → sum_by (λ (x : X). 0) xs ≡ 0
+sum_by-nothing {X} xs = (let most = sum_by-le (λ (x : X). 0) 0 xs (λ i x got. omega arith) in omega (arith, most))
 
 -- ---- sums of fewer elements
 

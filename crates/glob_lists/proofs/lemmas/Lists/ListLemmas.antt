@@ -15,7 +15,7 @@ use Rattle.glob_lists.specs.Deciding.{AnswersAt}
 use Rattle.glob_lists.specs.Paths.{Path}
 use Rattle.glob_lists.specs.Private.Looking.{LooksUpTo}
 use Rattle.glob_lists.specs.Private.Lists.Answering.{IsLastMatch, IsNextMatch, NoneAnswers, Spends, SpendsDown}
-use Rattle.glob_lists.specs.Private.Stack.Finding.{IsLastOfList}
+use Rattle.glob_lists.specs.Private.Asked.{IsLastOfList}
 use Rattle.glob_lists.proofs.lemmas.Deciding.Answering.{PairAnswers-only, PairAnswers-yes}
 use Rattle.glob_lists.proofs.lemmas.Deciding.DecisionSums.{sum_by-drop-le, sum_by-from}
 

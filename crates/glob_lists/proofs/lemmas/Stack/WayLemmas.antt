@@ -10,15 +10,16 @@ use Rattle.glob_lists.specs.declared.link.Link.{Link}
 use Rattle.glob_lists.specs.declared.stack.folders.Folder.{Folder}
 use Rattle.glob_lists.specs.Deciding.{Decides, PairAnswers}
 use Rattle.glob_lists.specs.Paths.{Path}
-use Rattle.glob_lists.specs.Private.Stack.Finding.{AreFoundFrom, IsLastOfList, SpendsOnAll, SpendsOnList}
+use Rattle.glob_lists.specs.Private.Asked.{IsLastOfList}
+use Rattle.glob_lists.specs.Private.Stack.Finding.{AreFoundFrom, SpendsOnAll, SpendsOnList}
 use Rattle.glob_lists.specs.Private.Stack.Folders.{AreFolderedBy, IsFolderAt, IsLastUpTo, base_at}
 use Rattle.glob_lists.specs.Private.Stack.Order.{Begins, IsUpTo}
+use Rattle.glob_lists.proofs.lemmas.Deciding.AskedLemmas.{Decides-last, NoListFrom-last, SpendsFrom-all, SpendsFrom-asked, SpendsFrom-none, SpendsFromWith}
 use Rattle.glob_lists.proofs.lemmas.Deciding.DecidingLemmas.{Decides-none, NoListFrom}
 use Rattle.glob_lists.proofs.lemmas.Stack.BaseLemmas.{Begins-answers}
 use Rattle.glob_lists.proofs.lemmas.Stack.FolderLemmas.{above_up_to, between_begins}
 use Rattle.glob_lists.proofs.lemmas.Stack.FoundPairs.{AreFoundFrom-none, AreFoundFrom-skip}
 use Rattle.glob_lists.proofs.lemmas.Stack.OrderLemmas.{Begins-between, IsUpTo-begins}
-use Rattle.glob_lists.proofs.lemmas.Stack.StackLemmas.{Decides-last, NoListFrom-last, SpendsFrom, SpendsFrom-all, SpendsFrom-asked, SpendsFrom-none}
 
 -- The next folder is that of the link, and its list comes before those from `reached` on; of the other lists before those none answers
 -- whose folder was passed.
@@ -33,7 +34,7 @@ pub record IsPassedTo {V : Type 0} (lists : List (EntryList V)) (folders : List 
   pub reached : ℕ
   pub way : IsOnWay lists folders path case link reached
   pub none : NoListFrom lists path.bytes path.is_dir case reached
-  pub spent : SpendsFrom lists (length path.bytes) reached before after
+  pub spent : SpendsFromWith lists (λ (l : EntryList V). length l.entries) (length path.bytes) reached before after
 
 -- All pairs of the lists that were passed were found.
 pub record IsFoundTo {V : Type 0} (lists : List (EntryList V)) (folders : List Folder) (path : Path) (case : Case) (link : Link) (found : List (ℕ × ℕ)) : Type 0 where
@@ -63,7 +64,7 @@ module _ {V : Type 0} (lists : List (EntryList V)) (folders : List Folder) (path
     reached = length lists;
     way = IsOnWay-start last h;
     none = λ i low answers. (let inside = slice_get_within lists i answers.1.list answers.1.there in absurd (omega arith));
-    spent = SpendsFrom-none lists (length path.bytes) (length lists) counts;
+    spent = SpendsFrom-none lists (λ (l : EntryList V). length l.entries) (length path.bytes) (length lists) counts;
   }
 
   pub IsFoundTo-start : (last : Link) (found : List (ℕ × ℕ)) → found ≡ [] → IsLastUpTo lists folders path.bytes last → IsFoundTo lists folders path case last found
@@ -120,13 +121,13 @@ module _ {V : Type 0} (lists : List (EntryList V)) (folders : List Folder) (path
   module _ (place : ℕ) (folder : Folder) (link : Link) (before middle after : Counts) (found : IsPassedTo lists folders path case link before middle) (next : place + 1 ≡ link.0)
       (there : slice_get folders place ≡ Some folder) (spends : SpendsOnList lists folder.list (length path.bytes) middle after) where
     -- what the lists from the one that is asked on may take
-    spent_here : SpendsFrom lists (length path.bytes) folder.list before after
+    spent_here : SpendsFromWith lists (λ (l : EntryList V). length l.entries) (length path.bytes) folder.list before after
     spent_here =
         let inside = (are.forest.each place folder there).inside in
         let list : EntryList V = get_or lists folder.list (record { entries = []; source = None; base = None }) in
         let got : slice_get lists folder.list ≡ Some list = slice_get-get_or lists folder.list (record { entries = []; source = None; base = None }) inside in
         let near = found.way.nearer place folder next there in
-        SpendsFrom-asked lists (length path.bytes) folder.list found.reached list before middle after (omega arith) got found.spent (spends list got)
+        SpendsFrom-asked lists (λ (l : EntryList V). length l.entries) (length path.bytes) folder.list found.reached list before middle after (omega arith) got found.spent (spends list got)
 
     -- the list has no answer
     pub IsPassedTo-next : IsLastOfList lists path case folder.list None → IsPassedTo lists folders path case folder.above before after
@@ -138,7 +139,7 @@ module _ {V : Type 0} (lists : List (EntryList V)) (folders : List Folder) (path
     }
 
     pub SpendsOnAll-here : SpendsOnAll lists (length path.bytes) before after
-    SpendsOnAll-here = SpendsFrom-all lists (length path.bytes) folder.list before after spent_here
+    SpendsOnAll-here = SpendsFrom-all lists (λ (l : EntryList V). length l.entries) (length path.bytes) folder.list before after spent_here
 
     -- the list has an answer, and so no later list does
     pub Decides-here : (last : ℕ) → IsLastOfList lists path case folder.list (Some last) → Decides lists path.bytes path.is_dir case (Some (folder.list, last))

@@ -14,8 +14,8 @@ use Rattle.glob_lists.specs.declared.asks.row.Row.{Row}
 use Rattle.glob_lists.specs.declared.list.rows.ListRows.{ListRows}
 use Rattle.glob_lists.specs.declared.list.rows.Visit.{Visit}
 use Rattle.glob_lists.specs.Deciding.{AnswersAt, AnswersFor}
-use Rattle.glob_lists.specs.DecisionLimits.{list_look_limit, list_step_limit}
 use Rattle.glob_lists.specs.Paths.{Path}
+use Rattle.glob_lists.specs.Private.Asked.{SpendsWith}
 use Rattle.glob_lists.specs.Private.Asks.Showing.{Shows}
 use Rattle.glob_lists.specs.Private.Lists.Walking.{IsInside, IsWalkOver}
 
@@ -63,8 +63,6 @@ pub record SpendsDown {V : Type 0} (list : EntryList V) (v from to : ℕ) (befor
   pub looks : after.looks + looks_from list v from + to ≤ before.looks + looks_from list v to + from
   pub grows : NeverFall before after
 
--- The counts rose by at most what the list may take, and a look for each of its rows.
-pub record Spends {V : Type 0} (list : EntryList V) (v : ℕ) (before after : Counts) : Type 0 where
-  pub steps : after.steps ≤ before.steps + list_step_limit list v
-  pub looks : after.looks ≤ before.looks + list_look_limit list v + length list.entries
-  pub grows : NeverFall before after
+-- the counts rose by at most what the list may take, and a look for each of its rows
+abbrev pub Spends : {V : Type 0} → EntryList V → ℕ → Counts → Counts → Type 0
+Spends list v before after = SpendsWith list (length list.entries) v before after

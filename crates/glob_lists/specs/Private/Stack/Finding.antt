@@ -1,29 +1,21 @@
--- What the lists of a stack answer for a path, from the last one to the first, and what it takes to find that.
-use Rattle.std.specs.Prelude.{◌≡◌, ◌⊎◌, ℕ, ◌+◌, ◌<◌, ◌≤◌, List, Option, MatchOption, Some, slice_get}
+-- What prepared lists answer for a path, from the last one to the first, and what it takes to find that.
+use Rattle.std.specs.Prelude.{◌≡◌, ◌⊎◌, ℕ, ◌<◌, ◌≤◌, List, Some, length, slice_get}
 use Rattle.gix_glob.specs.declared.pattern.Case.{Case}
 use Rattle.gix_glob.specs.EntryLists.{EntryList}
-use Rattle.gix_glob.specs.Steps.{Counts, NeverFall}
+use Rattle.gix_glob.specs.Steps.{Counts}
 use Rattle.glob_lists.specs.Deciding.{PairAnswers}
-use Rattle.glob_lists.specs.DecisionLimits.{decision_look_limit, decision_step_limit}
-use Rattle.glob_lists.specs.Index.{ComesBefore, entry_count}
+use Rattle.glob_lists.specs.Index.{ComesBefore}
 use Rattle.glob_lists.specs.Paths.{Path}
+use Rattle.glob_lists.specs.Private.Asked.{SpendsOnAllWith}
 use Rattle.glob_lists.specs.Private.Lists.Answering.{Spends}
-
--- the place of the last entry of the list at place i that answers, where there is one
-abbrev pub IsLastOfList : {V : Type 0} → List (EntryList V) → Path → Case → ℕ → Option ℕ → Type 0
-IsLastOfList lists path case i found =
-    MatchOption found ((m : ℕ) → ¬ PairAnswers lists path.bytes path.is_dir case i m)
-    (λ last. PairAnswers lists path.bytes path.is_dir case i last × ((m : ℕ) → PairAnswers lists path.bytes path.is_dir case i m → m ≤ last))
 
 -- the counts rose by at most what the list at place i may take, and a look for each of its rows, v being the length of the path
 abbrev pub SpendsOnList : {V : Type 0} → List (EntryList V) → ℕ → ℕ → Counts → Counts → Type 0
 SpendsOnList {V} lists i v before after = (list : EntryList V) → slice_get lists i ≡ Some list → Spends list v before after
 
--- The counts rose by at most what all lists may take, and a look for each of their rows.
-pub record SpendsOnAll {V : Type 0} (lists : List (EntryList V)) (v : ℕ) (before after : Counts) : Type 0 where
-  pub steps : after.steps ≤ before.steps + decision_step_limit lists v
-  pub looks : after.looks ≤ before.looks + decision_look_limit lists v + entry_count lists
-  pub grows : NeverFall before after
+-- the counts rose by at most what all lists may take, and a look for each of their rows
+abbrev pub SpendsOnAll : {V : Type 0} → List (EntryList V) → ℕ → Counts → Counts → Type 0
+SpendsOnAll lists v before after = SpendsOnAllWith lists (λ list. length list.entries) v before after
 
 -- the pair (i, m) is the pair (j, n), or comes after it: lists first
 abbrev pub IsFrom : ℕ → ℕ → ℕ → ℕ → Type 0

@@ -3,11 +3,11 @@ use Rattle.std.proofs.Common.{◌≡◌, ℕ, Some, ap, get_or, length, map, sym
 use Rattle.std.specs.Prelude.{slice_get}
 use Rattle.std.proofs.lemmas.List.{length-map}
 use Rattle.std.proofs.lemmas.Option.{slice_get-get_or}
-use Rattle.gix_glob.specs.EntryLists.{entry_list_of}
+use Rattle.gix_glob.specs.EntryLists.{EntryList, entry_list_of}
 use Rattle.glob_lists.specs.declared.link.Link.{Link}
 use Rattle.glob_lists.specs.declared.stack.folders.Folder.{Folder}
 use Rattle.glob_lists.specs.Deciding.{IsLastAnswer}
-use Rattle.glob_lists.proofs.lemmas.Stack.StackLemmas.{SpendsFrom-all}
+use Rattle.glob_lists.proofs.lemmas.Deciding.AskedLemmas.{SpendsFrom-all}
 use Rattle.glob_lists.proofs.lemmas.Stack.WayLemmas.{Decides-here, Decides-nowhere, IsPassedTo, IsPassedTo-next, IsPassedTo-start, SpendsOnAll-here}
 use Rattle.glob_lists.proofs.stack.way.decide_from.Given.{Over}
 use Rattle.glob_lists.proofs.stack.way.decide_from.Goals as goal
@@ -70,4 +70,4 @@ returns-clause-exact g c =
 
 pub returns-clause-spends : goal.returns-clause-spends
 returns-clause-spends g c =
-    SpendsFrom-all (map (entry_list_of g.T.Pattern.seen) c.args.lists.now) (length c.args.question.now.path.now.bytes) c.folders.invariant.reached c.args.counts.now c.folders.counts c.folders.invariant.spent
+    SpendsFrom-all (map (entry_list_of g.T.Pattern.seen) c.args.lists.now) (λ (l : EntryList g.T.Pattern.Seen). length l.entries) (length c.args.question.now.path.now.bytes) c.folders.invariant.reached c.args.counts.now c.folders.counts c.folders.invariant.spent

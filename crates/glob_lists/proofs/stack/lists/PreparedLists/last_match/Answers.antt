@@ -5,7 +5,8 @@ use Rattle.gix_glob.specs.EntryLists.{EntryList, entry_list_of}
 use Rattle.glob_lists.specs.Private.Lists.Answering.{Spends}
 use Rattle.glob_lists.specs.Private.Stack.Finding.{SpendsOnList}
 use Rattle.glob_lists.proofs.lemmas.Lists.ListLemmas.{IsLastOfList-at}
-use Rattle.glob_lists.proofs.lemmas.Stack.StackLemmas.{held_folder, held_rows, held_there}
+use Rattle.glob_lists.proofs.lemmas.Deciding.PairLemmas.{held_folder, held_there}
+use Rattle.glob_lists.proofs.lemmas.Stack.StackLemmas.{held_rows}
 use Rattle.glob_lists.proofs.stack.lists.PreparedLists.last_match.Given.{Over}
 use Rattle.glob_lists.proofs.stack.lists.PreparedLists.last_match.Goals as goal
 use Rattle.glob_lists.proofs.stack.lists.PreparedLists.last_match.Goals.{After-index-self-i}

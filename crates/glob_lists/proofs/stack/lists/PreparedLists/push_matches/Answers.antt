@@ -4,7 +4,8 @@ use Rattle.std.specs.Prelude.{slice_get}
 use Rattle.gix_glob.specs.EntryLists.{entry_list_of}
 use Rattle.glob_lists.specs.Private.Stack.Finding.{AreFoundFrom}
 use Rattle.glob_lists.proofs.lemmas.Stack.FoundPairs.{AreFoundFrom-end, AreFoundFrom-list, AreFoundFrom-match}
-use Rattle.glob_lists.proofs.lemmas.Stack.StackLemmas.{held_folder, held_rows, held_there}
+use Rattle.glob_lists.proofs.lemmas.Deciding.PairLemmas.{held_folder, held_there}
+use Rattle.glob_lists.proofs.lemmas.Stack.StackLemmas.{held_rows}
 use Rattle.glob_lists.proofs.stack.lists.PreparedLists.push_matches.Given.{Over}
 use Rattle.glob_lists.proofs.stack.lists.PreparedLists.push_matches.Goals as goal
 use Rattle.glob_lists.proofs.stack.lists.PreparedLists.push_matches.Goals.{After-index-self-i}
