@@ -3,13 +3,13 @@ ghost use Rattle.std.specs.Prelude.{◌≡◌, ◌-◌, ◌^◌, ◌≤◌, ℕ,
 ghost use Rattle.std.specs.Io.KnownBytes.{Appends, Consumes};
 ghost use Rattle.gix_glob.specs.Watched.{has_failed, inner};
 ghost use Rattle.glob_lines.specs.Transfers.{AppendsFront, ReadsWhole, Run};
-ghost use Rattle.glob_trees.specs.RecordFaults.{is_endless, is_read_fault, is_write_fault};
-ghost use Rattle.glob_trees.specs.Records.{AnswersAll, AnswersEnded, AnswersFirst, AnswersSome, TextOf};
+ghost use Rattle.record_streams.specs.Faults.{is_endless, is_read_fault, is_write_fault};
+ghost use Rattle.record_streams.specs.Records.{AnswersAll, AnswersEnded, AnswersFirst, AnswersSome, TextOf};
 ghost use Rattle.glob_attributes.specs.Answers.{IsAnswer};
 
 use crate::query::AttributeQuery;
 use gix_glob::search::Watched;
-use glob_trees::{Answerer, RecordFault, RecordStream};
+use record_streams::{Answerer, RecordFault, RecordStream};
 use std::alloc::{AllocError, Global};
 use std::io::{Read, Write};
 use std::marker::{Brand, PhantomData};

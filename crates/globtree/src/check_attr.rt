@@ -22,7 +22,7 @@ use gix_glob::search::Watched;
 use gix_glob::search::pattern::List;
 use glob_attributes::{AttributeLines, AttributeNames, MacroTable, is_name};
 use glob_lists::{ListIndex, bases_are_folders};
-use glob_trees::RecordStream;
+use record_streams::RecordStream;
 use std::alloc::{AllocError, Global};
 use std::io::{Read, Write};
 use std::rt::{Env, Files};

@@ -7,7 +7,7 @@ ghost use Rattle.globtree.specs.RecordNames.{is_zero};
 
 use crate::fault::CheckFault;
 use crate::unquoting::unquote;
-use glob_trees::Answerer;
+use record_streams::Answerer;
 use memchr::memchr;
 
 /// What answers told paths.
