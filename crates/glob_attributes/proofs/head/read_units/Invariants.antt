@@ -1,7 +1,7 @@
 use Rattle.std.proofs.Common.{◌≡◌, length}
 use Rattle.std.specs.Prelude.{option_map}
 use Rattle.glob_attributes.specs.Equations.Heads.{quoted_from, with_front}
-use Rattle.glob_attributes.proofs.head.read_quoted.Given as goal
+use Rattle.glob_attributes.proofs.head.read_units.Given as goal
 
 -- the bytes so far stand before those of the rest
 abbrev pub invariant-units : goal.invariant-units
