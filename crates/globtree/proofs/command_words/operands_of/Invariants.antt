@@ -1,5 +1,5 @@
 use Rattle.std.proofs.Common.{◌≤◌, length, IfSome}
-use Rattle.globtree.proofs.attribute_words.operands_of.Given as goal
+use Rattle.globtree.proofs.command_words.operands_of.Given as goal
 
 -- the dashes stand among the words
 abbrev pub invariant-words : goal.invariant-words

@@ -2,7 +2,7 @@ use Rattle.std.proofs.Common.{arith}
 use Rattle.std.proofs.lemmas.Grind.{common_steps}
 use Rattle.std.specs.Io.{StartsWith}
 use Rattle.globtree.proofs.lemmas.FrontLemmas.{front_of_front}
-use Rattle.globtree.proofs.lines.append_shown.Goals as goal
+use Rattle.globtree.proofs.lines.append_deciding.Goals as goal
 
 pub returns : goal.returns
 returns c =
