@@ -3,8 +3,6 @@ use Rattle.std.specs.Prelude.{ℕ, ◌+◌, Bool, true, false, not, ◌&&◌, �
 use Rattle.std.specs.Char.{is_ascii_alphabetic, is_ascii_alphanumeric, to_ascii_lowercase}
 use Rattle.std.specs.List.{before_first, starts_with}
 use Rattle.std.specs.Str.{byte}
-use Rattle.git_config.specs.declared.fault.ConfigFault.{ConfigFault}
-use Rattle.git_config.specs.declared.fault.ConfigFault.TheVariants.{Line}
 use Rattle.git_config.specs.declared.fault.Wrong.{Wrong}
 use Rattle.git_config.specs.declared.fault.Wrong.TheVariants.{Mark, Outside, Head, Subsection, Name, Quote, Escape}
 use Rattle.git_config.specs.declared.item.Item.{Item}
@@ -153,12 +151,12 @@ turn line (in_tail name bytes) b = if b == 10 then gives (entry_of name (Some (b
 
 -- ---- the end of the file, and the whole
 
--- what is read: the items up to the end of the file or the first fault, and that fault
+-- what is read: the items up to the end of the file or the first fault, and where one comes its line and what is wrong
 abbrev pub Reading : Type 0
-Reading = List (Item (List ℕ)) × Option ConfigFault
+Reading = List (Item (List ℕ)) × Option (ℕ × Wrong)
 
 abbrev pub stop : ℕ → Wrong → Reading
-stop line what = ([], Some (Line line what))
+stop line what = ([], Some (line, what))
 
 abbrev pub before : Item (List ℕ) → Reading → Reading
 before item rest = (item ∷ rest.0, rest.1)

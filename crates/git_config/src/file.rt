@@ -5,6 +5,7 @@ ghost use Rattle.std.specs.Vec.{vec_items};
 ghost use Rattle.git_config.specs.Grammar.{Place, before, between, ended, front, is_blank, is_mark, items_of, read, stop, text_of, turn};
 ghost use Rattle.git_config.specs.Items.{item_with, seen_items};
 ghost use Rattle.git_config.specs.Private.Taking.{FailsBehind, Reads, before_some, turn_mark};
+ghost use Rattle.git_config.specs.declared.fault.ConfigFault.TheVariants.{Line};
 ghost use Rattle.git_config.specs.declared.fault.Wrong.TheVariants.{Mark};
 
 use crate::bytes::{is_blank, is_mark};
@@ -29,7 +30,7 @@ impl ConfigFile {
     /// The first fault of the file, as Git tells it; [`ConfigFault::Memory`] where memory was refused.
     pub fn from_bytes(alloc: Global, bytes: &[u8]) -> Result<ConfigFile, ConfigFault>
         ensures items { IfOk result (λ file. items_of bytes.now ≡ (seen_items file.items.items, None)) }
-        ensures fault { IfErr result (λ fault. (fault ≡ ConfigFault.Memory) ⊎ ((items_of bytes.now).1 ≡ Some fault)) }
+        ensures fault { IfErr result (λ fault. (fault ≡ ConfigFault.Memory) ⊎ (option_map (λ at. Line at.0 at.1) (items_of bytes.now).1 ≡ Some fault)) }
     {
         let items = read_items(alloc, bytes)?;
         Ok(ConfigFile { items })
@@ -50,7 +51,7 @@ fn read_items(alloc: Global, bytes: &[u8]) -> Result<Vec<Item<Vec<u8>>>, ConfigF
 }
 
 /// Passes a byte order mark over, where one begins here.
-fn skip_mark(text: &mut Text<'_>) -> Result<(), ConfigFault>
+pub(crate) fn skip_mark(text: &mut Text<'_>) -> Result<(), ConfigFault>
     ensures { Reads (λ _. read (text_of text.new.rest.now) text.new.line between) result (read (text_of text.old.rest.now) text.old.line front) }
 {
     if !begins_with_mark(text.rest) {
@@ -91,7 +92,7 @@ fn skip_mark_byte(text: &mut Text<'_>, wanted: u8) -> Result<(), ConfigFault>
 }
 
 /// Takes the next item off a text, where one is left.
-fn next_item(alloc: Global, text: &mut Text<'_>) -> Result<Option<Item<Vec<u8>>>, ConfigFault>
+pub(crate) fn next_item(alloc: Global, text: &mut Text<'_>) -> Result<Option<Item<Vec<u8>>>, ConfigFault>
     ensures reads { Reads (λ item. before_some (option_map (item_with vec_items) item) (read (text_of text.new.rest.now) text.new.line between)) result
         (read (text_of text.old.rest.now) text.old.line between) }
     ensures fewer { IfOk result (λ item. IsSome item → length text.new.rest.now < length text.old.rest.now) }

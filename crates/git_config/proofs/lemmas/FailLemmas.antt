@@ -1,6 +1,6 @@
 -- What a call says of a whole reading.
 use Rattle.std.proofs.Common.{◌≡◌, ◌⊎◌, inl, inr, ℕ, Bool, true, false, cond, List, [], ◌∷◌, ◌++◌, Option, None, Some, Result, Ok, Err, refl, sym, ap, subst, ◌∙◌}
-use Rattle.std.specs.Prelude.{Vec}
+use Rattle.std.specs.Prelude.{Vec, option_map}
 use Rattle.std.specs.declared.alloc.Global.{Global}
 use Rattle.git_config.specs.declared.fault.ConfigFault.{ConfigFault}
 use Rattle.git_config.specs.declared.fault.ConfigFault.TheVariants.{Line, Memory}
@@ -35,13 +35,13 @@ value_fed line name quoted bytes rest = cond quoted (stop line Quote) (before (e
 
 fed : (r : Result (Entry (Vec ℕ Global)) ConfigFault) (rest : Reading) (line : ℕ) (name : List ℕ) (quoted : Bool) (blanks : ℕ) (bytes : List ℕ)
     → EndsValue r line name (record { quoted = quoted; blanks = blanks; bytes = bytes }) → GoesOn r rest (value_fed line name quoted bytes rest)
-fed (Ok entry) rest line name true blanks bytes h = absurd (let told : Some (Line line Quote) ≡ None = ap (λ (r : Reading). r.1) h in cc)
+fed (Ok entry) rest line name true blanks bytes h = absurd (let told : Some (line, Quote) ≡ None = ap (λ (r : Reading). r.1) h in cc)
 fed (Err Memory) rest line name true blanks bytes h = tt
 fed (Err (Line at what)) rest line name true blanks bytes h = h
 fed (Ok entry) rest line name false blanks bytes h = let one : entry_of name (Some (before_zero bytes)) line ∷ [] ≡ Sets (seen_entry entry) ∷ [] = ap (λ (r : Reading). r.0) h in
     let same : entry_of name (Some (before_zero bytes)) line ≡ Sets (seen_entry entry) = cc in ap (λ item. before item rest) same
 fed (Err Memory) rest line name false blanks bytes h = tt
-fed (Err (Line at what)) rest line name false blanks bytes h = absurd (let told : ◌≡◌ {A = Option ConfigFault} None (Some (Line at what)) = ap (λ (r : Reading). r.1) h in cc)
+fed (Err (Line at what)) rest line name false blanks bytes h = absurd (let told : ◌≡◌ {A = Option (ℕ × Wrong)} None (Some (at, what)) = ap (λ (r : Reading). r.1) h in cc)
 
 at_feed : {old new : List ℕ} {old_line new_line b : ℕ} (name : List ℕ) (quoted : Bool) (blanks : ℕ) (bytes : List ℕ) → TakesByte old new old_line new_line b → b ≡ 10
     → read (text_of old) old_line (in_value name (record { quoted = quoted; blanks = blanks; bytes = bytes })) ≡ value_fed old_line name quoted bytes (read (text_of new) new_line between)
@@ -76,7 +76,7 @@ pub before_all-none : (items : List (Item (List ℕ))) → before_all items noth
 before_all-none [] = refl
 before_all-none (first ∷ items) = ap (λ r. before first r) (before_all-none items)
 
-pub before_all-stop : (items : List (Item (List ℕ))) (line : ℕ) (what : Wrong) → (before_all items (stop line what)).1 ≡ Some (Line line what)
+pub before_all-stop : (items : List (Item (List ℕ))) (line : ℕ) (what : Wrong) → (before_all items (stop line what)).1 ≡ Some (line, what)
 before_all-stop [] line what = refl
 before_all-stop (first ∷ items) line what = before_all-stop items line what
 
@@ -86,6 +86,6 @@ fault_of_rest items Memory whole rest is h = tt
 fault_of_rest items (Line at what) whole rest is h = ap (λ (r : Reading). r.1) (is ∙ ap (λ r. before_all items r) h) ∙ before_all-stop items at what
 
 -- a fault is want of memory, or the whole's
-pub told_fault : (fault : ConfigFault) (whole : Reading) → FailsBehind fault whole → (fault ≡ Memory) ⊎ (whole.1 ≡ Some fault)
+pub told_fault : (fault : ConfigFault) (whole : Reading) → FailsBehind fault whole → (fault ≡ Memory) ⊎ (option_map (λ at. Line at.0 at.1) whole.1 ≡ Some fault)
 told_fault Memory whole h = inl refl
-told_fault (Line at what) whole h = inr h
+told_fault (Line at what) whole h = inr (ap (λ (o : Option (ℕ × Wrong)). option_map (λ at. Line at.0 at.1) o) h)

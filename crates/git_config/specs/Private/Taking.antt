@@ -31,7 +31,7 @@ Reads rest (Err fault) whole = Fails fault whole
 -- a fault behind any items
 abbrev pub FailsBehind : ConfigFault → Reading → Type 0
 FailsBehind Memory whole = Unit {0}
-FailsBehind (Line line what) whole = whole.1 ≡ Some (Line line what)
+FailsBehind (Line line what) whole = whole.1 ≡ Some (line, what)
 
 -- the items that are left, behind one that was taken, where one was
 abbrev pub before_some : Option (Item (List ℕ)) → Reading → Reading
