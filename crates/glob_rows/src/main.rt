@@ -8,6 +8,7 @@ mod attribute_files;
 mod attribute_states;
 mod bases;
 mod config_files;
+mod config_includes;
 mod fault;
 mod index_files;
 mod lines;
@@ -69,6 +70,7 @@ const SUBJECTS: [&str; 41] = [
     "index_files",
     "index_paths",
     "config_files",
+    "config_includes",
     "config_booleans",
 ];
 
