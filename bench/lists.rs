@@ -18,11 +18,11 @@ struct Parts {
 /// `struct gix_glob_row`.
 #[repr(C)]
 #[derive(Clone)]
-struct Row(u64, u32, [u8; 3]);
+struct Row(u64, u32, [u8; 2]);
 
 /// `struct gix_glob_heads`.
 #[repr(C)]
-struct Heads([u32; 257], [u32; 257]);
+struct Heads([u32; 512]);
 
 /// `struct gix_glob_index`.
 #[repr(C)]
@@ -76,7 +76,7 @@ fn main() {
     let paths: Vec<&[u8]> = lines(&paths).collect();
     let list = List::from_bytes(&patterns, "patterns".into(), None, Lines);
     let parts: Vec<Parts> = list.patterns.iter().map(|it| parts_of(&it.pattern)).collect();
-    let (mut rows, mut heads) = (vec![Row(0, 0, [0; 3]); parts.len()], Heads([0; 257], [0; 257]));
+    let (mut rows, mut heads) = (vec![Row(0, 0, [0; 2]); parts.len()], Heads([0; 512]));
     let mut prepare = || unsafe { gix_glob_prepare(parts.as_ptr(), parts.len(), rows.as_mut_ptr(), rows.len(), &mut heads) };
     assert!(prepare());
     let rounds = rounds.parse::<u32>().expect("a number of rounds");

@@ -8,12 +8,12 @@ static void rows_for_all_patterns_are_wanted(void)
     const struct gix_glob_pattern drawn[] = {parsed(TEXT("*.o")), parsed(TEXT("a/")), parsed(TEXT("B")), parsed(TEXT("!e.o"))};
     enum { COUNT = COUNT_OF(drawn) };
     for (size_t room = 0; room <= COUNT + 1; room++) {
-        struct gix_glob_row rows[COUNT + 2] = {{KEPT, KEPT, KEPT, KEPT, KEPT}};
-        struct gix_glob_heads heads = {{KEPT}, {KEPT}};
+        struct gix_glob_row rows[COUNT + 2] = {{KEPT, KEPT, KEPT, KEPT}};
+        struct gix_glob_heads heads = {{KEPT}};
         rows[COUNT].asked = KEPT;
         const bool is_prepared = gix_glob_prepare(drawn, COUNT, rows, room, &heads);
         check(is_prepared == (room >= COUNT), "so much room suffices", room);
-        check((heads.counts[0] == KEPT && heads.links[0] == KEPT) == !is_prepared, "the heads are written, or stay", room);
+        check((heads.links[0] == KEPT) == !is_prepared, "the heads are written, or stay", room);
         check((rows[0].asked == KEPT && rows[0].before == KEPT) == !is_prepared, "the rows are written, or stay", room);
         check(rows[COUNT].asked == KEPT, "a row behind those of the patterns stays", room);
     }
@@ -27,7 +27,7 @@ static void rows_behind_the_count_are_not_asked(void)
     };
     enum { COUNT = COUNT_OF(all) };
     struct gix_glob_row rows[COUNT + 1] = {{0}};
-    struct gix_glob_heads heads = {{0}, {0}};
+    struct gix_glob_heads heads = {{0}};
     check(gix_glob_prepare(all, COUNT, rows, COUNT + 1, &heads), "there is room", 0);
     static const struct {
         size_t count;
@@ -87,7 +87,7 @@ static void several_paths_are_told(void)
 {
     const struct gix_glob_pattern three[] = {parsed(TEXT("*.o")), parsed(TEXT("a/")), parsed(TEXT("!B"))};
     struct gix_glob_row rows[3] = {{0}};
-    struct gix_glob_heads heads = {{0}, {0}};
+    struct gix_glob_heads heads = {{0}};
     const struct gix_glob_index index = {three, 3, rows, 3, &heads};
     check(gix_glob_prepare(three, 3, rows, 3, &heads), "there is room", 0);
     for (size_t room = 0; room <= PATH_COUNT + 1; room++) {
@@ -105,7 +105,7 @@ static void memory_of_others_is_safe(void)
     const struct gix_glob_pattern others[] = {parsed(TEXT("q")), parsed(TEXT("q")), parsed(TEXT("q")), parsed(TEXT("q"))};
     enum { COUNT = COUNT_OF(drawn) };
     struct gix_glob_row rows[COUNT] = {{0}};
-    struct gix_glob_heads heads = {{0}, {0}};
+    struct gix_glob_heads heads = {{0}};
     for (size_t row = 0; row < (COUNT + 1) * (COUNT + 1); row++) {
         const size_t count = row / (COUNT + 1), room = row % (COUNT + 1);
         const struct gix_glob_index index = {drawn, COUNT, rows, room, &heads};
@@ -129,9 +129,9 @@ static void made_up_memory_is_safe(void)
         struct gix_glob_heads heads;
         const struct gix_glob_index index = {same, COUNT, rows, COUNT, &heads};
         for (size_t i = 0; i < COUNT; i++)
-            rows[i] = (struct gix_glob_row){number, number, (uint8_t)number, (uint8_t)number, (uint8_t)number};
+            rows[i] = (struct gix_glob_row){number, number, (uint8_t)number, (uint8_t)number};
         for (size_t i = 0; i < COUNT_OF(heads.links); i++)
-            heads.links[i] = heads.counts[i] = number;
+            heads.links[i] = number;
         const size_t last = gix_glob_index_last_match(&index, TEXT("x/e.o"), false, false);
         check(last == GIX_GLOB_NONE || last < COUNT, "a pattern of the index by made-up memory", row);
     }

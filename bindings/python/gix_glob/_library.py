@@ -47,16 +47,15 @@ class Row(ctypes.Structure):
     _fields_ = [
         ("asked", ctypes.c_uint64),
         ("before", ctypes.c_uint32),
-        ("last", ctypes.c_uint8),
-        ("length", ctypes.c_uint8),
-        ("is_name", ctypes.c_uint8),
+        ("spare", ctypes.c_uint8),
+        ("part", ctypes.c_uint8),
     ]
 
 
 class Heads(ctypes.Structure):
     """struct gix_glob_heads: where the chains of rows begin."""
 
-    _fields_ = [("links", ctypes.c_uint32 * 257), ("counts", ctypes.c_uint32 * 257)]
+    _fields_ = [("links", ctypes.c_uint32 * 512)]
 
 
 class Index(ctypes.Structure):

@@ -34,7 +34,7 @@ TYPES = {
     "bool ": (ctypes.c_bool,),
     "size_t ": (ctypes.c_size_t,),
     "uint64_t ": (ctypes.c_uint64,),
-    "uint32_t ": (ctypes.c_uint32, ctypes.c_uint32 * 257),
+    "uint32_t ": (ctypes.c_uint32, ctypes.c_uint32 * 512),
     "uint8_t ": (ctypes.c_uint8,),
 }
 

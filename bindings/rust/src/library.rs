@@ -45,14 +45,13 @@ struct ListParts<'a> {
 struct Row {
     asked: u64,
     before: u32,
-    bytes: [u8; 3],
+    bytes: [u8; 2],
 }
 
 /// `struct gix_glob_heads`.
 #[repr(C)]
 struct Heads {
-    links: [u32; 257],
-    counts: [u32; 257],
+    links: [u32; 512],
 }
 
 /// `struct gix_glob_index`.
@@ -214,8 +213,8 @@ unsafe impl Sync for Index<'_> {}
 impl<'a> Index<'a> {
     /// Prepares patterns; `None` where there are 2^32 or more.
     pub(crate) fn new(patterns: Box<[Parts<'a>]>) -> Option<Self> {
-        let mut rows = vec![Row { asked: 0, before: 0, bytes: [0; 3] }; patterns.len()].into_boxed_slice();
-        let mut heads = Box::new(Heads { links: [0; 257], counts: [0; 257] });
+        let mut rows = vec![Row { asked: 0, before: 0, bytes: [0; 2] }; patterns.len()].into_boxed_slice();
+        let mut heads = Box::new(Heads { links: [0; 512] });
         // SAFETY: patterns, rows and heads are initialised, apart from each other, and laid out as in the header; the texts of the
         // patterns are borrowed.
         let has_room =

@@ -123,12 +123,12 @@ size_t gix_glob_last_match(const struct gix_glob_pattern *patterns, size_t count
 struct gix_glob_row {
     uint64_t asked;
     uint32_t before;
-    uint8_t last, length, is_name;
+    uint8_t spare, part;
 };
 
-/* Where the chains of rows begin: 2,056 bytes of the caller's. */
+/* Where the chains of rows begin: 2,048 bytes of the caller's. */
 struct gix_glob_heads {
-    uint32_t links[257], counts[257];
+    uint32_t links[512];
 };
 
 /* Patterns that were prepared. All that it names is borrowed. Rows and heads that gix_glob_prepare didn't write for these

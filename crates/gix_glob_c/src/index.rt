@@ -9,9 +9,8 @@ ghost use Rattle.gix_glob_c.specs.Parts.{case_of, none, unless_none};
 use crate::case_of;
 use crate::parsed::{GlobPattern, NONE, last_match, path_of_file};
 use gix_glob::pattern::PatternView;
-use glob_lists::RepositoryPath;
 use glob_lists::prepared::{self, Heads, Viewed};
-use glob_lists::stored::StoredRow;
+use glob_lists::{RepositoryPath, Row};
 
 /// `struct gix_glob_index`: patterns, and what `gix_glob_prepare` wrote for them.
 #[repr(C)]
@@ -20,7 +19,7 @@ pub struct GlobIndex<'a> {
     /// The patterns, in the order of their lines.
     pub patterns: &'a [GlobPattern<'a>],
     /// Their rows; more may follow.
-    pub rows: &'a [StoredRow],
+    pub rows: &'a [Row],
     /// Where the chains of rows begin.
     pub heads: &'a Heads,
 }
@@ -40,7 +39,7 @@ impl<'a> Viewed for GlobPattern<'a> {
 #[unsafe(no_mangle)]
 pub extern "C" fn gix_glob_prepare(
     patterns: &[GlobPattern<'_>],
-    rows: &mut [StoredRow],
+    rows: &mut [Row],
     heads: &mut Heads,
 ) -> bool
     ensures room { (result ≡ false) ↔ ((length rows.old < length patterns.now) ⊎ (2 ^ 32 ≤ length patterns.now)) }
@@ -85,7 +84,7 @@ fn last_by_index(index: &GlobIndex<'_>, path: &RepositoryPath<'_>, fold: bool) -
     ensures exact { All IsLawful index.now.patterns.now → IsIndex index.now
         → Decides (list_of index.now.patterns.now ∷ []) path.now.bytes path.now.is_dir (case_of fold) (option_map (λ (index : ℕ). (0, index)) result) }
 {
-    if !prepared::pays_for(index.patterns.len(), index.rows, index.heads, path) {
+    if !prepared::pays_for(index.patterns.len(), index.rows) {
         return last_match(index.patterns, path, fold);
     }
     prepared::last_match(index.patterns, index.rows, index.heads, path, case_of(fold))

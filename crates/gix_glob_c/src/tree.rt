@@ -1,10 +1,10 @@
 //! Lists of patterns, each with its folder: `struct gix_glob_list` of the header, and which pattern of them decides about a path in
 //! a work tree.
-ghost use Rattle.std.specs.Prelude.{◌≡◌, ◌↔◌, ◌<◌, ◌≤◌, ℕ, All, IfSome, IsTrue, MatchOption, Some, length, map, slice_get, true, false};
+ghost use Rattle.std.specs.Prelude.{◌≡◌, ◌↔◌, ◌<◌, ◌≤◌, ℕ, All, IfSome, IsTrue, MatchOption, Some, false, length, map, slice_get, true};
 ghost use Rattle.gix_glob.specs.Paths.{IsFolder};
 ghost use Rattle.gix_glob.specs.Patterns.{is_negative};
-ghost use Rattle.glob_lists.specs.Deciding.{AnswersAt, Decides};
-ghost use Rattle.glob_trees.specs.Trees.{DecidesInTree, HasNoneIgnored, Ignores, IsBelowIgnored};
+ghost use Rattle.glob_lists.specs.Deciding.{AnswersAt};
+ghost use Rattle.glob_trees.specs.Trees.{DecidesInTree};
 ghost use Rattle.gix_glob_c.specs.Lists.{HasPatternAt, IsLawfulList, entry_list, pair_told};
 ghost use Rattle.gix_glob_c.specs.Parsed.{IsPathOfFile, mode_of};
 ghost use Rattle.gix_glob_c.specs.declared.parsed.GlobPattern.{GlobPattern};
@@ -12,9 +12,9 @@ ghost use Rattle.gix_glob_c.specs.Parts.{case_of};
 
 use crate::case_of;
 use crate::parsed::{GlobPattern, is_negative, last_match, path_of_file};
-use glob_lines::IgnoreLines;
-use glob_lists::RepositoryPath;
-use glob_lists::laws::decides_one_pair;
+use gix_glob::pattern::Case;
+use glob_lists::{ListStack, RepositoryPath};
+use glob_trees::decide_in_tree_by;
 
 /// `struct gix_glob_list`: the patterns of one file, and its folder.
 #[repr(C)]
@@ -56,73 +56,41 @@ pub extern "C" fn gix_glob_decide_in_tree(
     let Some(path) = path_of_file(path, is_dir) else {
         return false;
     };
-    let Some((list, pattern)) = decide_in_tree(lists, &path, fold) else {
+    let lists = HandedLists { lists };
+    let Some((list, pattern)) = decide_in_tree_by(&lists, &path, case_of(fold)) else {
         return false;
     };
     *out = GlobDecision { list, pattern };
     true
 }
 
-/// Which pattern decides about a path in a work tree.
-fn decide_in_tree(
-    lists: &[GlobList<'_>],
-    path: &RepositoryPath<'_>,
-    fold: bool,
-) -> Option<(usize, usize)>
-    ensures inside { IfSome result (HasPatternAt lists.now) }
-    ensures exact { All IsLawfulList lists.now
-        → DecidesInTree (map entry_list lists.now) path.now.bytes path.now.is_dir (case_of fold) result }
-{
-    match ignoring_folder(lists, path, fold) {
-        Some(pair) => Some(pair),
-        None => decide(lists, path, fold),
-    }
+/// The lists that C hands over.
+#[derive(Copy, Clone)]
+struct HandedLists<'a> {
+    lists: &'a [GlobList<'a>],
 }
 
-/// The pattern that ignores the topmost ignored folder above a path; `None` where no folder above it is ignored.
-fn ignoring_folder(
-    lists: &[GlobList<'_>],
-    path: &RepositoryPath<'_>,
-    fold: bool,
-) -> Option<(usize, usize)>
-    ensures inside { IfSome result (HasPatternAt lists.now) }
-    ensures exact { All IsLawfulList lists.now → MatchOption result
-        (HasNoneIgnored (map entry_list lists.now) (case_of fold) path.now.bytes)
-        (IsBelowIgnored (map entry_list lists.now) (case_of fold) path.now.bytes) }
-{
-    let bytes = path.bytes();
-    for place in 0..bytes.len() {
-        if bytes[place] != b'/' {
-            continue;
-        }
-        if let Some(pair) = ignoring(lists, &path.folder_before(place), fold) {
-            return Some(pair);
-        }
-    }
-    None
-}
+impl<'a> ListStack for HandedLists<'a> {
+    ghost Seen = { Unit {0} };
 
-/// The pattern that ignores a folder; `None` where no pattern decides about it, or a negative one.
-fn ignoring(
-    lists: &[GlobList<'_>],
-    folder: &RepositoryPath<'_>,
-    fold: bool,
-) -> Option<(usize, usize)>
-    requires dir { folder.now.is_dir ≡ true }
-    ensures inside { IfSome result (HasPatternAt lists.now) }
-    ensures exact { All IsLawfulList lists.now → MatchOption result
-        ((pair : ℕ × ℕ) → ¬ Ignores (map entry_list lists.now) (case_of fold) folder.now.bytes pair)
-        (Ignores (map entry_list lists.now) (case_of fold) folder.now.bytes) }
-{
-    // a law does nothing: it is called for what it ensures
-    decides_one_pair::<IgnoreLines>();
-    let Some((list, pattern)) = decide(lists, folder, fold) else {
-        return None;
-    };
-    if is_negative_at(lists[list].patterns, pattern) {
-        return None;
+    ghost lists = { λ handed. map entry_list handed.lists.now };
+
+    ghost can_decide = { λ _. Unit {0} };
+
+    ghost is_lawful = { λ handed. All IsLawfulList handed.lists.now };
+
+    fn decide(&self, path: &RepositoryPath<'_>, case: Case) -> Option<(usize, usize)> {
+        for i in (0..self.lists.len()).rev() {
+            if let Some(m) = last_match_under(&self.lists[i], path, case) {
+                return Some((i, m));
+            }
+        }
+        None
     }
-    Some((list, pattern))
+
+    fn is_negative(&self, pair: (usize, usize)) -> bool {
+        is_negative_at(self.lists[pair.0].patterns, pair.1)
+    }
 }
 
 /// Whether the line of the pattern at a place began with `!`.
@@ -133,36 +101,22 @@ fn is_negative_at(patterns: &[GlobPattern<'_>], place: usize) -> bool
     is_negative(&patterns[place])
 }
 
-/// The pattern that decides about a path by itself: the last one that matches it, of the last list that has one.
-fn decide(lists: &[GlobList<'_>], path: &RepositoryPath<'_>, fold: bool) -> Option<(usize, usize)>
-    ensures inside { IfSome result (HasPatternAt lists.now) }
-    ensures exact { All IsLawfulList lists.now
-        → Decides (map entry_list lists.now) path.now.bytes path.now.is_dir (case_of fold) result }
-{
-    for i in (0..lists.len()).rev() {
-        if let Some(m) = last_match_under(&lists[i], path, fold) {
-            return Some((i, m));
-        }
-    }
-    None
-}
-
 /// The place of the last pattern of a list that matches what the base of the list leaves of a path. A base that is no folder's
 /// leaves nothing.
-fn last_match_under(list: &GlobList<'_>, path: &RepositoryPath<'_>, fold: bool) -> Option<usize>
+fn last_match_under(list: &GlobList<'_>, path: &RepositoryPath<'_>, case: Case) -> Option<usize>
     ensures inside { IfSome result (λ last. last < length list.now.patterns.now) }
     ensures exact { IsLawfulList list.now → MatchOption result
-        ((m : ℕ) → ¬ AnswersAt (entry_list list.now) path.now.bytes path.now.is_dir (case_of fold) m)
-        (λ last. AnswersAt (entry_list list.now) path.now.bytes path.now.is_dir (case_of fold) last
-        × ((m : ℕ) → AnswersAt (entry_list list.now) path.now.bytes path.now.is_dir (case_of fold) m → m ≤ last)) }
+        ((m : ℕ) → ¬ AnswersAt (entry_list list.now) path.now.bytes path.now.is_dir case m)
+        (λ last. AnswersAt (entry_list list.now) path.now.bytes path.now.is_dir case last
+        × ((m : ℕ) → AnswersAt (entry_list list.now) path.now.bytes path.now.is_dir case m → m ≤ last)) }
 {
     if !is_folder(list.base) {
         return None;
     }
-    let Some(rest) = path.below(list.base, case_of(fold)) else {
+    let Some(rest) = path.below(list.base, case) else {
         return None;
     };
-    last_match(list.patterns, &rest, fold)
+    last_match(list.patterns, &rest, is_folded(case))
 }
 
 /// Whether a base is empty or ends in a slash.
@@ -170,4 +124,11 @@ pub(crate) fn is_folder(base: &[u8]) -> bool
     ensures { IsTrue result ↔ IsFolder base.now }
 {
     matches!(base, [] | [.., b'/'])
+}
+
+/// The flag of C that asks for the case.
+fn is_folded(case: Case) -> bool
+    ensures { case_of result ≡ case }
+{
+    matches!(case, Case::Fold)
 }

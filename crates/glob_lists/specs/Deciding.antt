@@ -57,3 +57,13 @@ pub record IsLastAnswer {V : Type 0} (lists : List (EntryList V)) (path : List �
 abbrev pub Decides : {V : Type 0} → List (EntryList V) → List ℕ → Bool → Case → Option (ℕ × ℕ) → Type 0
 Decides lists path is_dir case pair =
     MatchOption pair ((i m : ℕ) → ¬ PairAnswers lists path is_dir case i m) (IsLastAnswer lists path is_dir case)
+
+-- this entry stands at the pair of places: in the list at the first one, at the second one
+pub record IsEntryAt {V : Type 0} (lists : List (EntryList V)) (pair : ℕ × ℕ) (entry : Entry V) : Type 0 where
+  pub list : EntryList V
+  pub of_lists : slice_get lists pair.0 ≡ Some list
+  pub of_list : slice_get list.entries pair.1 ≡ Some entry
+
+-- an entry stands at the pair of places
+abbrev pub HasEntryAt : {V : Type 0} → List (EntryList V) → (ℕ × ℕ) → Type 0
+HasEntryAt {V} lists pair = (entry : Entry V) × IsEntryAt lists pair entry

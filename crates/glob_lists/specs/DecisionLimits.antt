@@ -21,7 +21,7 @@ decision_step_limit lists v = sum_by (λ list. list_step_limit list v) lists
 abbrev pub decision_look_limit : {V : Type 0} → List (EntryList V) → ℕ → ℕ
 decision_look_limit lists v = sum_by (λ list. list_look_limit list v) lists
 
--- how many looks an index adds: it reads the path three times, and its last byte twice more; it compares the path with at most 32
+-- how many looks an index adds: it reads the path three times, and two bytes more at most; it compares the path with at most 32
 -- bases, byte by byte, and the front of the path with numbers; and it meets the row of each entry once
 abbrev pub index_look_limit : {V : Type 0} → List (EntryList V) → ℕ → ℕ
 index_look_limit lists v = 68 * v + 2 + entry_count lists

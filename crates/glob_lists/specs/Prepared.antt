@@ -1,12 +1,12 @@
--- Patterns that are prepared in memory which a caller keeps: a row for each, and the last row of each class.
+-- Patterns that are prepared in memory which a caller keeps: a row for each, and the last row of each chain.
 use Rattle.std.specs.Prelude.{◌≡◌, ℕ, List, Some, None, length, slice_get}
 use Rattle.gix_glob.specs.Entries.{Entry}
 use Rattle.gix_glob.specs.EntryLists.{EntryList}
 use Rattle.gix_glob.specs.Patterns.{IsPattern}
 use Rattle.glob_lists.specs.declared.prepared.Heads.{Heads}
-use Rattle.glob_lists.specs.declared.stored.StoredRow.{StoredRow}
-use Rattle.glob_lists.specs.Private.Rows.{Asks}
-use Rattle.glob_lists.specs.Private.Stored.{AreLinked, row_of}
+use Rattle.glob_lists.specs.declared.asks.row.Row.{Row}
+use Rattle.glob_lists.specs.Private.Asks.Rows.{Asks}
+use Rattle.glob_lists.specs.Private.Lists.Chains.{AreChained}
 
 -- the parts of the entry make a pattern
 abbrev pub IsLawfulEntry : Entry (Unit {0}) → Type 0
@@ -16,8 +16,12 @@ IsLawfulEntry entry = IsPattern entry.text entry.mode entry.place
 abbrev pub list_without_base : List (Entry (Unit {0})) → EntryList (Unit {0})
 list_without_base entries = record { entries = entries; source = None; base = None }
 
--- The rows are those of the entries, in order, each asks for what its entry does, and they are chained.
-pub record ArePrepared {V : Type 0} (entries : List (Entry V)) (rows : List StoredRow) (heads : Heads) : Type 0 where
+-- The rows are those of the entries, in order, and each asks for what its entry does.
+pub record AreAsked {V : Type 0} (entries : List (Entry V)) (rows : List Row) : Type 0 where
   pub many : length rows ≡ length entries
-  pub each : (m : ℕ) (entry : Entry V) (row : StoredRow) → slice_get entries m ≡ Some entry → slice_get rows m ≡ Some row → Asks entry.text entry.mode (row_of row)
-  pub linked : AreLinked rows heads.links
+  pub each : (m : ℕ) (entry : Entry V) (row : Row) → slice_get entries m ≡ Some entry → slice_get rows m ≡ Some row → Asks entry.text entry.mode row
+
+-- The rows are those of the entries, and chained from these heads on.
+pub record ArePrepared {V : Type 0} (entries : List (Entry V)) (rows : List Row) (heads : Heads) : Type 0 where
+  pub asked : AreAsked entries rows
+  pub chained : AreChained rows heads.links

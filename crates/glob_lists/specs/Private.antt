@@ -1,23 +1,8 @@
 -- Words that only private clauses cite: what the functions of the crate say to one another.
-pub mod Chains
-pub mod Ends
-pub mod Firsts
-pub mod Folders
-pub mod Fronts
-pub mod Heads
-pub mod Indexes
+pub mod Asked
+pub mod Asks
 pub mod Keeping
-pub mod Literals
+pub mod Lists
 pub mod Looking
 pub mod Matching
-pub mod Parts
-pub mod PreparedLists
-pub mod Reaching
-pub mod Rows
-pub mod Showing
-pub mod Sights
-pub mod Spending
-pub mod Stored
-pub mod Tables
-pub mod Walking
-pub mod Ways
+pub mod Stack

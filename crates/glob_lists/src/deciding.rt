@@ -1,12 +1,19 @@
 //! Which pattern of a stack of lists decides about a path: the last one that matches it.
-ghost use Rattle.std.specs.Prelude.{◌↔◌, ◌+◌, ◌≤◌, ℕ, IsTrue, MatchOption, length, map, option_map};
-ghost use Rattle.std.specs.Vec.{vec_items};
+ghost use Rattle.std.specs.Prelude.{◌≡◌, ◌↔◌, ◌+◌, ◌<◌, ◌≤◌, ℕ, IsTrue, MatchOption, Some, length, map, slice_get};
+ghost use Rattle.gix_glob.specs.Entries.{Entry};
 ghost use Rattle.gix_glob.specs.EntryLists.{entry_list_of};
 ghost use Rattle.gix_glob.specs.Paths.{IsFolder};
+ghost use Rattle.gix_glob.specs.Patterns.{is_negative};
 ghost use Rattle.gix_glob.specs.Steps.{IsBlankOf, NeverFall};
 ghost use Rattle.glob_lists.specs.Deciding.{AnswersAt, BasesAreFolders, Decides, HasFolder};
 ghost use Rattle.glob_lists.specs.DecisionLimits.{decision_look_limit, decision_step_limit, list_look_limit, list_step_limit};
 
+pub(crate) mod among;
+pub(crate) mod list_stack;
+pub(crate) mod matching;
+
+use crate::deciding::among::{AskedLists, decide_among};
+use crate::deciding::list_stack::ListStack;
 use crate::path::RepositoryPath;
 use gix_glob::pattern::Case;
 use gix_glob::search;
@@ -72,12 +79,72 @@ pub fn decide_with_counts<T: search::Pattern, S: Ledger, L: Ledger>(
         ≤ counts.old.looks + decision_look_limit (map (entry_list_of T.seen) lists.now) (length path.now.bytes) }
     ensures grows { NeverFall counts.old counts.new }
 {
-    for i in (0..lists.len()).rev() {
-        if let Some(m) = last_match(&lists[i], path, case, counts) {
-            return Some((i, m));
-        }
+    decide_among(&Asked { lists, path, case }, counts)
+}
+
+/// Lists, each pattern of which is tested, and what they are asked: which of their patterns match this path.
+#[derive(Drop)]
+pub(crate) struct Asked<'a, 'p, T: search::Pattern> {
+    pub(crate) lists: &'a [List<T>],
+    pub(crate) path: &'a RepositoryPath<'p>,
+    pub(crate) case: Case,
+}
+
+impl<'a, 'p, T: search::Pattern> AskedLists for Asked<'a, 'p, T> {
+    ghost Seen = { T.Seen };
+
+    ghost lists = { λ asked. map (entry_list_of T.seen) asked.lists.now };
+
+    ghost path = { λ asked. asked.path.now };
+
+    ghost case = { λ asked. asked.case };
+
+    ghost can_ask = { λ asked. BasesAreFolders (map (entry_list_of T.seen) asked.lists.now) };
+
+    ghost more_looks = { λ _. 0 };
+
+    #[inline(always)]
+    fn count(&self) -> usize {
+        self.lists.len()
     }
-    None
+
+    #[inline(always)]
+    fn last_match<S: Ledger, L: Ledger>(
+        &self,
+        i: usize,
+        counts: &mut Counts<S, L>,
+    ) -> Option<usize> {
+        last_match(&self.lists[i], self.path, self.case, counts)
+    }
+}
+
+impl<'a, T: search::Pattern> ListStack for &'a [List<T>] {
+    ghost Seen = { T.Seen };
+
+    ghost lists = { λ lists. map (entry_list_of T.seen) lists.now };
+
+    ghost can_decide = { λ lists. BasesAreFolders (map (entry_list_of T.seen) lists.now) };
+
+    ghost is_lawful = { λ _. Unit {0} };
+
+    #[inline(always)]
+    fn decide(&self, path: &RepositoryPath<'_>, case: Case) -> Option<(usize, usize)> {
+        decide(*self, path, case)
+    }
+
+    #[inline(always)]
+    fn is_negative(&self, pair: (usize, usize)) -> bool {
+        is_negative_in(&self[pair.0], pair.1)
+    }
+}
+
+/// Whether the pattern of the mapping at a place of a list is negative.
+#[inline(always)]
+pub(crate) fn is_negative_in<T: search::Pattern>(list: &List<T>, place: usize) -> bool
+    requires { place < length list.now.patterns.items }
+    ensures { (entry : Entry T.Seen) → slice_get (entry_list_of T.seen list.now).entries place ≡ Some entry → result ≡ is_negative entry.mode }
+{
+    list.patterns[place].pattern.is_negative()
 }
 
 /// The place of the last mapping of a list that matches what the base of the list leaves of a path.

@@ -7,10 +7,10 @@ ghost use Rattle.gix_glob.specs.EntryLists.{EntryList};
 ghost use Rattle.gix_glob.specs.Loading.{IsLoaded};
 ghost use Rattle.gix_glob.specs.Stripping.{RestOf};
 ghost use Rattle.glob_lists.specs.Deciding.{AnswersFor, Decides, HasFolder};
-ghost use Rattle.glob_lists.specs.declared.probe.Probe.{Probe};
-ghost use Rattle.glob_lists.specs.declared.row.Row.{Row};
-ghost use Rattle.glob_lists.specs.Private.Rows.{Asks};
-ghost use Rattle.glob_lists.specs.Private.Showing.{Passes, Shows};
+ghost use Rattle.glob_lists.specs.declared.asks.probe.Probe.{Probe};
+ghost use Rattle.glob_lists.specs.declared.asks.row.Row.{Row};
+ghost use Rattle.glob_lists.specs.Private.Asks.Rows.{Asks};
+ghost use Rattle.glob_lists.specs.Private.Asks.Showing.{Passes, Shows};
 
 use gix_glob::laws::{
     bases_end_in_a_slash, matched_values_end_as_the_text, matched_values_have_the_literal_bytes,

@@ -1,19 +1,18 @@
 //! Which pattern decides about a path in a work tree: the one that ignores a folder above it, or its own.
-ghost use Rattle.std.specs.Prelude.{◌≡◌, ℕ, true, map, MatchOption};
+ghost use Rattle.std.specs.Prelude.{◌≡◌, ℕ, IfSome, MatchOption, map, true};
 ghost use Rattle.gix_glob.specs.EntryLists.{entry_list_of};
-ghost use Rattle.glob_lists.specs.Deciding.{BasesAreFolders};
+ghost use Rattle.glob_lists.specs.Deciding.{BasesAreFolders, HasEntryAt};
 ghost use Rattle.glob_trees.specs.Trees.{DecidesInTree, HasNoneIgnored, Ignores, IsBelowIgnored};
 
 use gix_glob::pattern::Case;
 use gix_glob::search;
 use gix_glob::search::pattern::List;
-use glob_lists::laws::decides_one_pair;
-use glob_lists::{PreparedList, RepositoryPath, decide, decide_prepared};
+use glob_lists::{ListStack, RepositoryPath};
 
 /// Which pattern decides about a path in a work tree, as Git says it. A folder above a path is what stands before one of its
 /// slashes. The topmost folder above the path that is ignored decides about the path: by the pattern that decides about the
 /// folder, as a directory, and isn't negative. Where no folder above is ignored, the path is decided about by itself, as
-/// [`decide`] does.
+/// [`decide`](glob_lists::decide) does.
 ///
 /// The answer is the place of the list and the place of the mapping in it, both from 0, or `None` where no pattern matches. The
 /// lists have to meet [`bases_are_folders`](glob_lists::bases_are_folders). No memory is taken.
@@ -25,22 +24,36 @@ pub fn decide_in_tree<T: search::Pattern>(
     requires folders { BasesAreFolders (map (entry_list_of T.seen) lists.now) }
     ensures { DecidesInTree (map (entry_list_of T.seen) lists.now) path.now.bytes path.now.is_dir case result }
 {
+    decide_in_tree_by(&lists, path, case)
+}
+
+/// Which pattern decides about a path in a work tree, as [`decide_in_tree`] answers it, by whatever answers for lists.
+pub fn decide_in_tree_by<L: ListStack>(
+    lists: &L,
+    path: &RepositoryPath<'_>,
+    case: Case,
+) -> Option<(usize, usize)>
+    requires { L.can_decide lists.now }
+    ensures inside { IfSome result (HasEntryAt (L.lists lists.now)) }
+    ensures exact { L.is_lawful lists.now → DecidesInTree (L.lists lists.now) path.now.bytes path.now.is_dir case result }
+{
     match ignoring_folder(lists, path, case) {
         Some(pair) => Some(pair),
-        None => decide(lists, path, case),
+        None => lists.decide(path, case),
     }
 }
 
 /// The pattern that ignores the topmost ignored folder above a path; `None` where no folder above it is ignored.
-fn ignoring_folder<T: search::Pattern>(
-    lists: &[List<T>],
+fn ignoring_folder<L: ListStack>(
+    lists: &L,
     path: &RepositoryPath<'_>,
     case: Case,
 ) -> Option<(usize, usize)>
-    requires folders { BasesAreFolders (map (entry_list_of T.seen) lists.now) }
-    ensures { MatchOption result
-        (HasNoneIgnored (map (entry_list_of T.seen) lists.now) case path.now.bytes)
-        (IsBelowIgnored (map (entry_list_of T.seen) lists.now) case path.now.bytes) }
+    requires { L.can_decide lists.now }
+    ensures inside { IfSome result (HasEntryAt (L.lists lists.now)) }
+    ensures exact { L.is_lawful lists.now → MatchOption result
+        (HasNoneIgnored (L.lists lists.now) case path.now.bytes)
+        (IsBelowIgnored (L.lists lists.now) case path.now.bytes) }
 {
     let bytes = path.bytes();
     for place in 0..bytes.len() {
@@ -55,47 +68,23 @@ fn ignoring_folder<T: search::Pattern>(
 }
 
 /// The pattern that ignores a folder; `None` where no pattern decides about it, or a negative one.
-fn ignoring<T: search::Pattern>(
-    lists: &[List<T>],
+pub(crate) fn ignoring<L: ListStack>(
+    lists: &L,
     folder: &RepositoryPath<'_>,
     case: Case,
 ) -> Option<(usize, usize)>
-    requires folders { BasesAreFolders (map (entry_list_of T.seen) lists.now) }
+    requires can { L.can_decide lists.now }
     requires dir { folder.now.is_dir ≡ true }
-    ensures { MatchOption result
-        ((pair : ℕ × ℕ) → ¬ Ignores (map (entry_list_of T.seen) lists.now) case folder.now.bytes pair)
-        (Ignores (map (entry_list_of T.seen) lists.now) case folder.now.bytes) }
+    ensures inside { IfSome result (HasEntryAt (L.lists lists.now)) }
+    ensures exact { L.is_lawful lists.now → MatchOption result
+        ((pair : ℕ × ℕ) → ¬ Ignores (L.lists lists.now) case folder.now.bytes pair)
+        (Ignores (L.lists lists.now) case folder.now.bytes) }
 {
-    // a law does nothing: it is called for what it ensures
-    decides_one_pair::<T>();
-    let Some((list, mapping)) = decide(lists, folder, case) else {
+    let Some(pair) = lists.decide(folder, case) else {
         return None;
     };
-    if lists[list].patterns[mapping].pattern.is_negative() {
+    if lists.is_negative(pair) {
         return None;
     }
-    Some((list, mapping))
-}
-
-/// What [`ignoring`] answers for lists that are prepared.
-pub(crate) fn ignoring_prepared<T: search::Pattern>(
-    lists: &[PreparedList<T>],
-    folder: &RepositoryPath<'_>,
-    case: Case,
-) -> Option<(usize, usize)>
-    requires folders { BasesAreFolders (map (entry_list_of T.seen) lists.now) }
-    requires dir { folder.now.is_dir ≡ true }
-    ensures { MatchOption result
-        ((pair : ℕ × ℕ) → ¬ Ignores (map (entry_list_of T.seen) lists.now) case folder.now.bytes pair)
-        (Ignores (map (entry_list_of T.seen) lists.now) case folder.now.bytes) }
-{
-    // a law does nothing: it is called for what it ensures
-    decides_one_pair::<T>();
-    let Some((list, mapping)) = decide_prepared(lists, folder, case) else {
-        return None;
-    };
-    if lists[list].list().patterns[mapping].pattern.is_negative() {
-        return None;
-    }
-    Some((list, mapping))
+    Some(pair)
 }

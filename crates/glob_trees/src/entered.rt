@@ -10,7 +10,7 @@ ghost use Rattle.glob_trees.specs.Trees.{DecidesInTree, Ignores};
 ghost use Rattle.glob_trees.specs.Ways.{AreOnTheWay, GivesOnly, GoesOn, IsAskedFor, IsListOf, folders_to};
 
 use crate::beginning::begins_with;
-use crate::deciding::ignoring_prepared;
+use crate::deciding::ignoring;
 use crate::fault::TreeFault;
 use crate::folders::FolderLists;
 use crate::left::LeftLists;
@@ -104,7 +104,7 @@ impl<T: search::Pattern, S: FolderLists<T>> Entered<T, S> {
                 continue;
             }
             let folder = path.folder_before(place);
-            if let Some(pair) = ignoring_prepared(&self.lists, &folder, self.case) {
+            if let Some(pair) = ignoring(&self.lists.as_slice(), &folder, self.case) {
                 return Ok(Some(pair));
             }
             self.enter(bytes, place)?;

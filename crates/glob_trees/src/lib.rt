@@ -16,7 +16,7 @@ mod records;
 mod tree;
 
 pub use answering::Answerer;
-pub use deciding::decide_in_tree;
+pub use deciding::{decide_in_tree, decide_in_tree_by};
 pub use fault::TreeFault;
 pub use folders::{FolderLists, list_in_folder};
 pub use record_fault::RecordFault;

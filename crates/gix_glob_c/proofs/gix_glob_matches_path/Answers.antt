@@ -1,6 +1,6 @@
 -- The line was read, and has no other reading; the path was looked at from its last slash on.
 use Rattle.std.proofs.Common.{None, refl}
-use Rattle.glob_lists.proofs.lemmas.Answering.{AnswersFor-tested, AnswersUnder-tested}
+use Rattle.glob_lists.proofs.lemmas.Deciding.Answering.{AnswersFor-tested, AnswersUnder-tested}
 use Rattle.gix_glob_c.specs.Parts.{case_of}
 use Rattle.gix_glob_c.proofs.gix_glob_matches_path.Goals as goal
 

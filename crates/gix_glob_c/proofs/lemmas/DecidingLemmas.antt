@@ -5,7 +5,7 @@ use Rattle.std.proofs.lemmas.Option.{slice_get-get_or, slice_get-map, slice_get_
 use Rattle.gix_glob.specs.declared.pattern.Case.{Case}
 use Rattle.glob_lists.specs.Deciding.{AnswersAt, Decides, PairAnswers}
 use Rattle.gix_glob.specs.EntryLists.{EntryList}
-use Rattle.glob_lists.proofs.lemmas.Answering.{PairAnswers-only, PairAnswers-yes}
+use Rattle.glob_lists.proofs.lemmas.Deciding.Answering.{PairAnswers-only, PairAnswers-yes}
 use Rattle.gix_glob_c.specs.declared.parsed.GlobPattern.{GlobPattern}
 use Rattle.gix_glob_c.specs.Parsed.{entry_of_parts}
 

@@ -13,8 +13,8 @@ use Rattle.gix_glob.specs.Stripping.{Rest}
 use Rattle.glob_lists.specs.Deciding.{AnswersFor, AnswersUnder, PairAnswers}
 use Rattle.glob_lists.specs.Index.{AreMatches}
 use Rattle.glob_lists.specs.Paths.{Path}
-use Rattle.glob_lists.proofs.lemmas.Answering.{AnswersAt-only, AnswersUnder-only, PairAnswers-only}
-use Rattle.glob_lists.proofs.lemmas.MatchesUpTo.{matches_all, matches_more, matches_of_list, matches_skip}
+use Rattle.glob_lists.proofs.lemmas.Deciding.Answering.{AnswersAt-only, AnswersUnder-only, PairAnswers-only}
+use Rattle.glob_lists.proofs.lemmas.Deciding.MatchesUpTo.{matches_all, matches_more, matches_of_list, matches_skip}
 use Rattle.glob_attributes.specs.Borrowed.{assigned_by}
 use Rattle.glob_attributes.specs.States.{Assigned, assigned_at}
 use Rattle.gix_glob_c.specs.Attributes.{attribute_list, entry_of_line}

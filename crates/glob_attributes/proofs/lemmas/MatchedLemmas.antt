@@ -15,7 +15,7 @@ use Rattle.gix_glob.proofs.lemmas.Rests.{Rest-front}
 use Rattle.glob_lists.specs.Deciding.{PairAnswers}
 use Rattle.glob_lists.specs.Paths.{Path}
 use Rattle.glob_lists.specs.Private.Matching.{AreMatchesUpTo}
-use Rattle.glob_lists.proofs.lemmas.MatchesUpTo.{matches_all, matches_more, matches_of_list, matches_skip}
+use Rattle.glob_lists.proofs.lemmas.Deciding.MatchesUpTo.{matches_all, matches_more, matches_of_list, matches_skip}
 use Rattle.glob_attributes.specs.Macros.{Definition}
 use Rattle.glob_attributes.specs.States.{Assigned, IsAssigned, Lists, assigned_at}
 use Rattle.glob_attributes.proofs.lemmas.LawLemmas.{filled-some}

@@ -4,7 +4,7 @@ use Rattle.std.proofs.lemmas.Bool.{false≢true, iff_false}
 use Rattle.std.proofs.lemmas.List.Elements.{All-get_or}
 use Rattle.gix_glob.specs.Stripping.{Rest}
 use Rattle.glob_attributes.specs.Borrowed.{row_of}
-use Rattle.glob_lists.proofs.lemmas.Answering.{PairAnswers-nothing_left}
+use Rattle.glob_lists.proofs.lemmas.Deciding.Answering.{PairAnswers-nothing_left}
 use Rattle.gix_glob_c.specs.Attributes.{IsLawfulAttributes, attribute_list}
 use Rattle.gix_glob_c.specs.Private.Finding.{IsFoundUpTo}
 use Rattle.gix_glob_c.specs.Parsed.{IsLawful}

@@ -1,6 +1,6 @@
 -- The parts are those that were handed over.
 use Rattle.std.proofs.Common.{None, refl}
-use Rattle.glob_lists.proofs.lemmas.Answering.{AnswersUnder-tested}
+use Rattle.glob_lists.proofs.lemmas.Deciding.Answering.{AnswersUnder-tested}
 use Rattle.gix_glob_c.specs.Parts.{case_of}
 use Rattle.gix_glob_c.specs.Parsed.{entry_of_parts}
 use Rattle.gix_glob_c.proofs.lemmas.Views.{view_is_lawful}

@@ -2,8 +2,8 @@
 use Rattle.std.proofs.Common.{◌≡◌, ◌+◌, ◌-◌, ◌<◌, true, length, slice_index_or, arith}
 use Rattle.std.proofs.lemmas.List.Elements.{All-get_or}
 use Rattle.glob_lists.specs.Deciding.{AnswersAt}
-use Rattle.glob_lists.proofs.lemmas.Answering.{AnswersAt-only, AnswersAt-yes}
-use Rattle.glob_lists.proofs.lemmas.LastNumbers.{NoneFrom-all, NoneFrom-last, NoneFrom-less}
+use Rattle.glob_lists.proofs.lemmas.Deciding.Answering.{AnswersAt-only, AnswersAt-yes}
+use Rattle.glob_lists.proofs.lemmas.Deciding.LastNumbers.{NoneFrom-all, NoneFrom-last, NoneFrom-less}
 use Rattle.gix_glob_c.specs.Parsed.{IsLawful, entry_of_parts, list_of}
 use Rattle.gix_glob_c.specs.Parts.{case_of}
 use Rattle.gix_glob_c.proofs.lemmas.DecidingLemmas.{Decides-no_list, Decides-one_list, blank, entry_at}

@@ -1,6 +1,6 @@
 use Rattle.std.specs.Prelude.{All}
 use Rattle.glob_lists.specs.Deciding.{AnswersAt}
-use Rattle.glob_lists.proofs.lemmas.LastNumbers.{NoneFrom}
+use Rattle.glob_lists.proofs.lemmas.Deciding.LastNumbers.{NoneFrom}
 use Rattle.gix_glob_c.specs.Parsed.{IsLawful, list_of}
 use Rattle.gix_glob_c.specs.Parts.{case_of}
 use Rattle.gix_glob_c.proofs.parsed.last_match.Given as goal

@@ -9,11 +9,11 @@ use Rattle.gix_glob.specs.PatternParts.{mode_of, text_of}
 use Rattle.gix_glob.specs.Steps.{step_limit}
 use Rattle.gix_glob.specs.PatternLimits.{pattern_look_limit}
 use Rattle.gix_glob.specs.Stripping.{strip_looks}
-use Rattle.glob_lists.proofs.lemmas.Answering.{AnswersAt-only, AnswersAt-yes, AnswersUnder-tested}
-use Rattle.glob_lists.proofs.lemmas.DecisionSums.{counted-all, counted-all_after, counted-from, looks-under, steps-under}
+use Rattle.glob_lists.proofs.lemmas.Deciding.Answering.{AnswersAt-only, AnswersAt-yes, AnswersUnder-tested}
+use Rattle.glob_lists.proofs.lemmas.Deciding.DecisionSums.{counted-all, counted-all_after, counted-from, looks-under, steps-under}
 use Rattle.gix_glob.proofs.lemmas.Elements.{slice_get-map_at}
-use Rattle.glob_lists.proofs.lemmas.LastNumbers.{NoneFrom-all, NoneFrom-less}
-use Rattle.glob_lists.proofs.lemmas.DecidingLemmas.{LastOf-found}
+use Rattle.glob_lists.proofs.lemmas.Deciding.LastNumbers.{NoneFrom-all, NoneFrom-less}
+use Rattle.glob_lists.proofs.lemmas.Deciding.DecidingLemmas.{LastOf-found}
 use Rattle.glob_lists.proofs.deciding.last_match.Given.{Over}
 use Rattle.glob_lists.proofs.deciding.last_match.Goals as goal
 use Rattle.glob_lists.proofs.deciding.last_match.Goals.{After-is_matched_with_counts}

@@ -7,7 +7,7 @@ use Rattle.gix_glob.specs.EntryLists.{entry_list_of}
 use Rattle.gix_glob.specs.Steps.{NeverFall, step_limit}
 use Rattle.gix_glob.specs.PatternLimits.{pattern_look_limit}
 use Rattle.gix_glob.specs.Stripping.{strip_looks}
-use Rattle.glob_lists.proofs.lemmas.LastNumbers.{NoneFrom}
+use Rattle.glob_lists.proofs.lemmas.Deciding.LastNumbers.{NoneFrom}
 use Rattle.glob_lists.proofs.deciding.last_match.Given as goal
 
 -- no mapping from here on answers, and what was counted is what stripping the base and those mappings may take

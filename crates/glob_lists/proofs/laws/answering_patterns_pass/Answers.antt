@@ -1,5 +1,5 @@
 -- By the three laws of matched values.
-use Rattle.glob_lists.proofs.lemmas.PrefilterLemmas.{answering_passes}
+use Rattle.glob_lists.proofs.lemmas.Asks.PrefilterLemmas.{answering_passes}
 use Rattle.glob_lists.proofs.laws.answering_patterns_pass.Goals as goal
 
 pub returns : goal.returns

@@ -1,4 +1,4 @@
-use Rattle.glob_lists.proofs.lemmas.PathsLemmas.{IsPlainUpTo}
+use Rattle.glob_lists.proofs.lemmas.Deciding.PathsLemmas.{IsPlainUpTo}
 use Rattle.glob_lists.proofs.path.plain_path.Given as goal
 
 -- whether the bytes so far are those of a plain path

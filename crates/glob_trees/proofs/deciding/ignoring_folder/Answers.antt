@@ -1,7 +1,6 @@
 -- The slashes are gone through from the front.
-use Rattle.std.proofs.Common.{◌≡◌, ◌<◌, length, map, slice_index, sym, subst}
+use Rattle.std.proofs.Common.{◌≡◌, ◌<◌, length, slice_index, sym, subst}
 use Rattle.gix_glob.specs.Bytes.{HasByte, slash}
-use Rattle.gix_glob.specs.EntryLists.{entry_list_of}
 use Rattle.glob_trees.proofs.lemmas.Topmost.{all_passed, passed_byte, passed_slash, topmost_here}
 use Rattle.glob_trees.proofs.deciding.ignoring_folder.Goals as goal
 use Rattle.glob_trees.proofs.deciding.ignoring_folder.Given.{Over}
@@ -14,24 +13,24 @@ slash_here g c = record {
   is = subst (λ l. slice_index l c.loop-place.place ≡ slash) c.bytes-bytes.ensures c.if-bytes-place-ne47.false;
 }
 
-pub returns-in-Some : goal.returns-in-Some
-returns-in-Some g c =
-    let lists = map (entry_list_of g.T.Pattern.seen) c.args.lists.now in
-    let at = (goal.at.returns-in-Some g c).After-folder_before in
-    topmost_here lists c.args.case c.args.path.now.bytes c.loop-place.place c.loop-place.invariant c.in-Some.pair (slash_here g at) (rw c.folder_before.ensures at c.in-Some.ensures)
+pub returns-in-Some-clause-exact : goal.returns-in-Some-clause-exact
+returns-in-Some-clause-exact g c = λ lawful.
+    let lists = g.L.ListStack.lists c.args.lists.now in
+    let at = (goal.at.returns-in-Some-clause-exact g c).After-folder_before in
+    topmost_here lists c.args.case c.args.path.now.bytes c.loop-place.place (c.loop-place.invariant lawful) c.in-Some.pair (slash_here g at) (rw c.folder_before.ensures at (c.in-Some.ensures.exact lawful))
 
 pub loop-place-preserved : goal.loop-place-preserved
-loop-place-preserved g c =
-    let lists = map (entry_list_of g.T.Pattern.seen) c.args.lists.now in
-    let kept = rw c.in_default.is at (rw c.folder_before.ensures at c.ignoring.ensures) in
-    passed_slash lists c.args.case c.args.path.now.bytes c.loop-place.place c.loop-place.invariant kept
+loop-place-preserved g c = λ lawful.
+    let lists = g.L.ListStack.lists c.args.lists.now in
+    let kept = rw c.in_default.is at (rw c.folder_before.ensures at (c.ignoring.ensures.exact lawful)) in
+    passed_slash lists c.args.case c.args.path.now.bytes c.loop-place.place (c.loop-place.invariant lawful) kept
 
 pub loop-place-preserved-then-bytes-place-ne47 : goal.loop-place-preserved-then-bytes-place-ne47
-loop-place-preserved-then-bytes-place-ne47 g c =
-    let lists = map (entry_list_of g.T.Pattern.seen) c.args.lists.now in
-    passed_byte lists c.args.case c.args.path.now.bytes c.loop-place.place c.loop-place.invariant
+loop-place-preserved-then-bytes-place-ne47 g c = λ lawful.
+    let lists = g.L.ListStack.lists c.args.lists.now in
+    passed_byte lists c.args.case c.args.path.now.bytes c.loop-place.place (c.loop-place.invariant lawful)
     (λ here. c.if-bytes-place-ne47.true (subst (λ l. slice_index l c.loop-place.place ≡ slash) (sym c.bytes-bytes.ensures) here.is))
 
-pub returns : goal.returns
-returns g c =
-    all_passed (map (entry_list_of g.T.Pattern.seen) c.args.lists.now) c.args.case c.args.path.now.bytes c.loop-place.place c.loop-place.invariant (let past = c.loop-place-test.false in rw c.bytes-bytes.ensures at past)
+pub returns-clause-exact : goal.returns-clause-exact
+returns-clause-exact g c = λ lawful.
+    all_passed (g.L.ListStack.lists c.args.lists.now) c.args.case c.args.path.now.bytes c.loop-place.place (c.loop-place.invariant lawful) (let past = c.loop-place-test.false in rw c.bytes-bytes.ensures at past)

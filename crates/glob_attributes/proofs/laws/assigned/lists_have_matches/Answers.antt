@@ -8,8 +8,7 @@ use Rattle.gix_glob.specs.Paths.{IsFolder}
 use Rattle.gix_glob.specs.Stripping.{NothingLeft, Rest}
 use Rattle.gix_glob.proofs.lemmas.Elements.{All-map_at, slice_get-map_at}
 use Rattle.glob_lists.specs.Deciding.{HasFolder}
-use Rattle.glob_lists.proofs.lemmas.Answering.{PairAnswers-nothing_left, PairAnswers-only}
-use Rattle.glob_lists.proofs.lemmas.Asking.{asked_rest}
+use Rattle.glob_lists.proofs.lemmas.Deciding.Answering.{PairAnswers-nothing_left, PairAnswers-only, asked_rest}
 use Rattle.glob_attributes.specs.Views.{seen_assignments}
 use Rattle.glob_attributes.proofs.lemmas.MatchedLemmas.{asked-more, folder-of, list-more, nothing-of, rest-of}
 use Rattle.glob_attributes.proofs.laws.assigned.lists_have_matches.Goals as goal

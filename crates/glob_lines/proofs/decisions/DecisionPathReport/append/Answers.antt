@@ -3,7 +3,7 @@ use Rattle.std.proofs.Common.{◌<◌, length, rules, subst, sym}
 use Rattle.std.proofs.lemmas.Result.{on_ok_weaker}
 use Rattle.gix_glob.specs.Entries.{entry_of}
 use Rattle.gix_glob.specs.EntryLists.{entry_list_of}
-use Rattle.glob_lists.proofs.lemmas.Answering.{PairAnswers-only}
+use Rattle.glob_lists.proofs.lemmas.Deciding.Answering.{PairAnswers-only}
 use Rattle.gix_glob.proofs.lemmas.Elements.{slice_get-map_at, slice_get-map_within}
 use Rattle.glob_lines.proofs.lemmas.DecisionsLemmas.{grown_on_ok, writes_none, writes_verdict}
 use Rattle.glob_lines.proofs.decisions.DecisionPathReport.append.Given.{Over}

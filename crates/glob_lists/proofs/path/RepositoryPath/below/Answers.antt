@@ -1,6 +1,6 @@
 -- The place of the last part is taken along by the laws of stripping.
 use Rattle.std.proofs.Common.{Some}
-use Rattle.glob_lists.proofs.lemmas.StrippingLemmas.{ForSome-folder, IsKept-rest, IsPlaced-basename}
+use Rattle.glob_lists.proofs.lemmas.Deciding.StrippingLemmas.{ForSome-folder, IsKept-rest, IsPlaced-basename}
 use Rattle.glob_lists.proofs.path.RepositoryPath.below.Goals as goal
 
 pub strip_base_handle_recompute_basename_pos-requires :

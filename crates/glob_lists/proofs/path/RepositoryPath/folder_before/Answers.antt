@@ -2,7 +2,7 @@
 use Rattle.std.proofs.Common.{sym, subst}
 use Rattle.gix_glob.specs.Bytes.{HasByte, slash}
 use Rattle.glob_lists.specs.Paths.{Path}
-use Rattle.glob_lists.proofs.lemmas.PathsLemmas.{IsPlainPath-folder}
+use Rattle.glob_lists.proofs.lemmas.Deciding.PathsLemmas.{IsPlainPath-folder}
 use Rattle.glob_lists.proofs.path.RepositoryPath.folder_before.Goals as goal
 
 pub from_plain-requires : goal.from_plain-requires

@@ -1,5 +1,5 @@
 -- The place that is kept is where the last part begins.
-use Rattle.glob_lists.proofs.lemmas.Answering.{AnswersFor-tested}
+use Rattle.glob_lists.proofs.lemmas.Deciding.Answering.{AnswersFor-tested}
 use Rattle.glob_lists.proofs.path.RepositoryPath.is_matched_with_counts.Goals as goal
 
 pub returns-clause-exact : goal.returns-clause-exact

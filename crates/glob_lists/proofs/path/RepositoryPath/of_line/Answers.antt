@@ -1,5 +1,5 @@
 -- The path of a plain line is plain.
-use Rattle.glob_lists.proofs.lemmas.PathsLemmas.{IsPlainPath-marked}
+use Rattle.glob_lists.proofs.lemmas.Deciding.PathsLemmas.{IsPlainPath-marked}
 use Rattle.glob_lists.proofs.path.RepositoryPath.of_line.Goals as goal
 
 pub from_plain-requires : goal.from_plain-requires

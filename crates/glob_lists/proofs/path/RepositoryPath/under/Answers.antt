@@ -1,5 +1,5 @@
 -- The place of the last part is taken along by the laws of stripping.
-use Rattle.glob_lists.proofs.lemmas.StrippingLemmas.{IsKept-rest, IsPlaced-basename}
+use Rattle.glob_lists.proofs.lemmas.Deciding.StrippingLemmas.{IsKept-rest, IsPlaced-basename}
 use Rattle.glob_lists.proofs.path.RepositoryPath.under.Goals as goal
 
 pub strip_base_handle_recompute_basename_pos-requires : goal.strip_base_handle_recompute_basename_pos-requires

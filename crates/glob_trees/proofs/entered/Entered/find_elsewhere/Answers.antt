@@ -48,7 +48,7 @@ under g c =
 
 -- the folder is ignored
 ignored : (g : Over) (c : In-Some g) → Ignores (map (entry_list_of g.T.Pattern.seen) c.enter_again.new.self.lists.items) c.enter_again.new.self.case (take c.bytes.place c.args.path.now.bytes) c.in-Some.pair
-ignored g c = rw c.deref.ensures.value at (rw c.folder_before-folder.ensures at c.in-Some.ensures)
+ignored g c = rw c.as_slice.ensures.value at (rw c.folder_before-folder.ensures at (c.in-Some.ensures.exact tt))
 
 -- a folder was asked for on the way to a folder whose slash stands at the place
 asked : (g : Over) (c : After-enter_again g) (self : Entered g.row.T.Denot g.row.S.Denot g.row.T-Value.Denot g.row.S-Fault.Denot) → GivesOnly (Contains (folders_to (take c.bytes.place c.args.path.now.bytes))) (g.S.FolderLists.gave c.args.self.now.source) (g.S.FolderLists.gave self.source)
@@ -99,7 +99,7 @@ returns-in-Some-clause-asks g c =
 pub enter-requires-clause-kept : goal.enter-requires-clause-kept
 enter-requires-clause-kept g c =
     let self = c.enter_again.new.self in
-    let kept = rw c.deref.ensures.value at (rw c.folder_before-folder.ensures at c.in_default.ensures) in
+    let kept = rw c.as_slice.ensures.value at (rw c.in_default.is at (rw c.folder_before-folder.ensures at (c.ignoring.ensures.exact tt))) in
     subst (λ l. (pair : ℕ × ℕ) → ¬ Ignores (map (entry_list_of g.T.Pattern.seen) self.lists.items) self.case (take c.bytes.place l) pair) (sym c.bytes-bytes.ensures) kept
 
 pub enter-requires-clause-under : goal.enter-requires-clause-under
@@ -133,7 +133,7 @@ stands g c = subst (AreEntered (g.S.FolderLists.shows g.T.Pattern.Seen c.bytes.s
 pub returns-clause-decides : goal.returns-clause-decides
 returns-clause-decides g c =
     let all = stands g c in
-    inr (all.none, rw c.deref-2.ensures.value at c.decide_prepared.ensures)
+    inr (all.none, rw c.deref.ensures.value at c.decide_prepared.ensures)
 
 pub returns-clause-way : goal.returns-clause-way
 returns-clause-way g c =

@@ -1,9 +1,0 @@
-use Rattle.std.specs.Prelude.{All, map}
-use Rattle.glob_lists.proofs.lemmas.DecidingLemmas.{NoListFrom}
-use Rattle.gix_glob_c.specs.Lists.{IsLawfulList, entry_list}
-use Rattle.gix_glob_c.specs.Parts.{case_of}
-use Rattle.gix_glob_c.proofs.tree.decide.Given as goal
-
--- no list from here on has a pattern that answers, where all of them are lawful
-abbrev pub invariant-loop-i : goal.invariant-loop-i
-invariant-loop-i l = All IsLawfulList l.lists → NoListFrom (map entry_list l.lists) l.path.bytes l.path.is_dir (case_of l.fold) l.i

@@ -1,0 +1,17 @@
+-- The next match from the end on is the last one.
+use Rattle.std.proofs.Common.{length, arith}
+use Rattle.gix_glob.specs.EntryLists.{entry_list_of}
+use Rattle.glob_lists.proofs.lemmas.Lists.ListLemmas.{IsLastMatch-found, Spends-down}
+use Rattle.glob_lists.proofs.list.rows.ListRows.last_match.Goals as goal
+
+pub returns-clause-last : goal.returns-clause-last
+returns-clause-last g c =
+    let list = entry_list_of g.T.Pattern.seen c.args.list.now in
+    IsLastMatch-found list c.args.question.now.path.now c.args.question.now.case c.next_match.new.visit.walk.passed_from c.in_ok-visit.visit.walk.passed_from c.next_match.result
+    (omega (arith, c.in_ok-visit.ensures.all, c.requires.of.asked.many)) c.next_match.ensures.next
+
+pub returns-clause-spends : goal.returns-clause-spends
+returns-clause-spends g c =
+    let list = entry_list_of g.T.Pattern.seen c.args.list.now in
+    Spends-down list (length c.args.question.now.path.now.bytes) c.in_ok-visit.visit.walk.passed_from c.next_match.new.visit.walk.passed_from c.args.counts.now c.visit.new.counts c.next_match.new.counts
+    (omega (arith, c.in_ok-visit.ensures.all, c.requires.of.asked.many)) c.in_ok-visit.ensures.looks c.next_match.ensures.spends

@@ -1,6 +1,0 @@
-use Rattle.glob_lists.proofs.lemmas.BitLemmas.{IsReadUpTo}
-use Rattle.glob_lists.proofs.literals.needed_bytes.Given as goal
-
--- the text was read so far
-abbrev pub invariant-loop-byte : goal.invariant-loop-byte
-invariant-loop-byte l = IsReadUpTo l.text l.byte-index l.bits

@@ -1,6 +1,0 @@
-use Rattle.glob_lists.proofs.lemmas.EndNumbers.{IsPadded}
-use Rattle.glob_lists.proofs.literals.padded_end.Given as goal
-
--- the number of the bytes so far
-abbrev pub invariant-bytes : goal.invariant-bytes
-invariant-bytes l = IsPadded l.text l.n l.key

@@ -1,8 +1,0 @@
-use Rattle.std.proofs.Common.{map}
-use Rattle.gix_glob.specs.EntryLists.{entry_list_of}
-use Rattle.glob_lists.proofs.lemmas.DecidingLemmas.{NoListFrom}
-use Rattle.glob_lists.proofs.prepared_list.decide_with_new_counts.Given as goal
-
--- no list from here on has a mapping that answers
-abbrev pub invariant-loop-i : goal.invariant-loop-i
-invariant-loop-i g l = record { none : NoListFrom (map (entry_list_of g.T.Pattern.seen) l.lists) l.path.bytes l.path.is_dir l.case l.i }

@@ -1,0 +1,8 @@
+-- The counts are kept in the ledgers that the blank ones become.
+use Rattle.glob_lists.proofs.stack.index.ListIndex.decide_near.Given as goal
+
+abbrev pub ghosts-decide_near_with_new_counts-S-Ledger : goal.ghosts-decide_near_with_new_counts-S-Ledger
+ghosts-decide_near_with_new_counts-S-Ledger g a = record { name = a.steps.name; parts = a.steps.parts }
+
+abbrev pub ghosts-decide_near_with_new_counts-L-Ledger : goal.ghosts-decide_near_with_new_counts-L-Ledger
+ghosts-decide_near_with_new_counts-L-Ledger g a = record { name = a.looks.name; parts = a.looks.parts }

@@ -1,0 +1,61 @@
+//! Which patterns of a stack of lists match a path: all of them, in order.
+ghost use Rattle.std.specs.Prelude.{◌+◌, ◌<◌, OnOk, length, map};
+ghost use Rattle.gix_glob.specs.EntryLists.{entry_list_of};
+ghost use Rattle.glob_lists.specs.Deciding.{BasesAreFolders};
+ghost use Rattle.glob_lists.specs.Index.{AreMatches};
+ghost use Rattle.glob_lists.specs.Private.Matching.{AreMatchesUpTo};
+
+use crate::deciding::Asked;
+use crate::path::RepositoryPath;
+use gix_glob::pattern::Case;
+use gix_glob::search;
+use gix_glob::search::pattern::List;
+use std::alloc::AllocError;
+
+/// Puts into `pairs` all patterns that match a path, in place of what it held: the places of the list and of the mapping in it,
+/// lists first, each from 0. A pattern matches where it matches what the base of its list leaves of the path.
+///
+/// The lists have to meet [`bases_are_folders`](crate::bases_are_folders). An index answers the same for less
+/// ([`ListIndex::matches_into`](crate::ListIndex::matches_into)): this is the way where there is none.
+///
+/// # Errors
+/// Only where memory was refused. What `pairs` holds then is not said.
+pub fn matches_into<T: search::Pattern>(
+    lists: &[List<T>],
+    path: &RepositoryPath<'_>,
+    case: Case,
+    pairs: &mut Vec<(usize, usize)>,
+) -> Result<(), AllocError>
+    requires folders { BasesAreFolders (map (entry_list_of T.seen) lists.now) }
+    ensures { OnOk result (AreMatches (map (entry_list_of T.seen) lists.now) path.now.bytes path.now.is_dir case pairs.new.items) }
+{
+    let asked = Asked { lists, path, case };
+    pairs.clear();
+    'lists: for i in 0..lists.len() {
+        asked.push_matches(i, pairs)?;
+    }
+    Ok(())
+}
+
+impl<'a, 'p, T: search::Pattern> Asked<'a, 'p, T> {
+    /// Adds the pairs of the list at place `i` after those of the lists before it.
+    fn push_matches(&self, i: usize, pairs: &mut Vec<(usize, usize)>) -> Result<(), AllocError>
+        requires folders { BasesAreFolders (map (entry_list_of T.seen) self.now.lists.now) }
+        requires inside { i < length self.now.lists.now }
+        requires found { AreMatchesUpTo (map (entry_list_of T.seen) self.now.lists.now) self.now.path.now.bytes self.now.path.now.is_dir self.now.case i 0 pairs.old.items }
+        ensures { OnOk result (AreMatchesUpTo (map (entry_list_of T.seen) self.now.lists.now) self.now.path.now.bytes self.now.path.now.is_dir self.now.case (i + 1) 0 pairs.new.items) }
+    {
+        let lists = self.lists;
+        let list = &lists[i];
+        let Some(rest) = self.path.under(list, self.case) else {
+            return Ok(());
+        };
+        let mappings = list.patterns.as_slice();
+        'mappings: for m in 0..mappings.len() {
+            if rest.is_matched_by(mappings[m].pattern.view(), self.case) {
+                pairs.push((i, m))?;
+            }
+        }
+        Ok(())
+    }
+}

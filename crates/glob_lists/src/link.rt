@@ -1,0 +1,90 @@
+//! Links: where a row, an end or a folder stands, in four bytes.
+ghost use Rattle.std.specs.Prelude.{◌≡◌, ◌↔◌, ◌+◌, ◌^◌, ◌<◌, ◌≤◌, IsTrue, MatchOption};
+
+/// Where something stands among others, or that there is none, in four bytes: the number is one more than its place, or 0.
+#[repr(C)]
+#[derive(Debug, Copy, Clone)]
+pub(crate) struct Link(u32);
+
+impl Link {
+    /// The link to no row.
+    pub(crate) const NONE: Link = Link(0);
+
+    /// The link to the row at a place.
+    pub(crate) fn to(place: usize) -> Link
+        requires { place + 1 < 2 ^ 32 }
+        ensures { result.0 ≡ place + 1 }
+    {
+        Link(place as u32 + 1)
+    }
+
+    /// The link to the last of so many, where there is one.
+    pub(crate) fn up_to(count: usize) -> Link
+        requires { count < 2 ^ 32 }
+        ensures { result.0 ≡ count }
+    {
+        Link(count as u32)
+    }
+
+    /// The place of the row, where there is one.
+    #[inline(always)]
+    pub(crate) fn place(self) -> Option<usize>
+        ensures { MatchOption result (self.0 ≡ 0) (λ place. place + 1 ≡ self.0) }
+    {
+        (self.0 as usize).checked_sub(1)
+    }
+
+    /// What [`Link::place`] answers, counted in 32 bits: that costs less for a row that is mostly passed over.
+    #[inline(always)]
+    pub(crate) fn narrow_place(self) -> Option<usize>
+        ensures { MatchOption result (self.0 ≡ 0) (λ place. place + 1 ≡ self.0) }
+    {
+        match self.0.checked_sub(1) {
+            Some(place) => Some(place as usize),
+            None => None,
+        }
+    }
+
+    /// The link, where it leads to one of the first rows, so many; else one to no row. So nothing is believed of links in memory that
+    /// a caller keeps.
+    #[inline(always)]
+    pub(crate) fn among(self, count: usize) -> Link
+        ensures below { result.0 ≤ count }
+        ensures same { self.0 ≤ count → result ≡ self }
+    {
+        if self.0 as usize <= count {
+            self
+        } else {
+            Link::NONE
+        }
+    }
+
+    /// A link that a row has at the place of this one, where it leads further back; else one to no row.
+    #[inline(always)]
+    pub(crate) fn back_to(self, before: Link) -> Link
+        ensures below { 0 < self.0 → result.0 < self.0 }
+        ensures same { before.0 < self.0 → result ≡ before }
+    {
+        if before.0 < self.0 {
+            before
+        } else {
+            Link::NONE
+        }
+    }
+
+    /// One more than the place of the row, or 0.
+    #[inline(always)]
+    pub(crate) fn number(self) -> usize
+        ensures { result ≡ self.0 }
+    {
+        self.0 as usize
+    }
+
+    /// Whether there is a row, and it stands after that of another link, if that has one.
+    #[inline(always)]
+    pub(crate) fn is_after(self, other: Link) -> bool
+        ensures { IsTrue result ↔ other.0 < self.0 }
+    {
+        self.0 > other.0
+    }
+}

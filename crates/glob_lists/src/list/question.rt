@@ -1,0 +1,14 @@
+//! What lists are asked: which of their patterns match this path.
+
+use crate::asks::probe::Probe;
+use crate::path::RepositoryPath;
+use gix_glob::pattern::Case;
+
+/// What lists are asked: which of their patterns match this path.
+#[derive(Debug, Drop)]
+pub(crate) struct Question<'q, 'p> {
+    pub(crate) path: &'q RepositoryPath<'p>,
+    /// What the path shows.
+    pub(crate) probe: Probe,
+    pub(crate) case: Case,
+}

@@ -1,0 +1,211 @@
+//! What the patterns of a list ask of a path: so most of them are passed over untested.
+ghost use Rattle.std.specs.Prelude.{◌≡◌, ◌-◌, ◌^◌, ◌<◌, ◌≤◌, ℕ, IfOk, IfSome, IsTrue, MatchOption, Some, [], length, slice_get};
+ghost use Rattle.gix_glob.specs.EntryLists.{entry_list_of};
+ghost use Rattle.gix_glob.specs.Stripping.{strip_looks};
+ghost use Rattle.glob_lists.specs.Deciding.{AnswersAt, HasFolder};
+ghost use Rattle.glob_lists.specs.Prepared.{AreAsked};
+ghost use Rattle.glob_lists.specs.Private.Asks.Showing.{Passes, Shows};
+ghost use Rattle.glob_lists.specs.Private.Asks.Sights.{IsUnseen};
+ghost use Rattle.glob_lists.specs.Private.Lists.Answering.{IsLastMatch, IsNextMatch, IsVisit, NoneAnswers, Spends, SpendsDown};
+ghost use Rattle.glob_lists.specs.Private.Lists.Chains.{AreChained};
+ghost use Rattle.glob_lists.specs.Private.Lists.Prepared.{AreRowsOf};
+ghost use Rattle.glob_lists.specs.Private.Looking.{LooksUpTo};
+
+use crate::asks::probe::Probe;
+use crate::asks::row::{Row, count_shown};
+use crate::asks::sight::Sight;
+use crate::laws;
+use crate::link::Link;
+use crate::list::answering::is_answer;
+use crate::list::chains::{chain, chain_count};
+use crate::list::question::Question;
+use crate::list::walk::Walk;
+use crate::path::RepositoryPath;
+use gix_glob::search;
+use gix_glob::search::pattern::List;
+use gix_glob::wildmatch::Counts;
+use std::alloc::{AllocError, Global};
+use std::sync::ledger::Ledger;
+
+/// What the patterns of a list ask of a path.
+#[derive(Debug, Drop)]
+pub(crate) struct ListRows {
+    /// What each pattern asks for, in order.
+    rows: Vec<Row>,
+    /// What they ask for together; where it isn't known, no path passes over the list.
+    sight: Option<Sight>,
+    /// The last row of each chain; none where the rows aren't chained.
+    heads: Vec<Link>,
+}
+
+/// How far a path has gone through a list, from its last mapping to the first.
+#[derive(Debug, Drop)]
+pub(crate) struct Visit<'p> {
+    /// What the base of the list leaves of the path.
+    rest: RepositoryPath<'p>,
+    pub(crate) walk: Walk,
+}
+
+impl ListRows {
+    /// What the patterns of a list ask for.
+    pub(crate) fn of<T: search::Pattern>(
+        alloc: Global,
+        list: &List<T>,
+    ) -> Result<ListRows, AllocError>
+        ensures { IfOk result (AreRowsOf (entry_list_of T.seen list.now)) }
+    {
+        let mut heads = Vec::from_elem(alloc, Link::NONE, chain_count(list.patterns.len()))?;
+        let rows = rows_of(alloc, list, &mut heads)?;
+        let sight = Sight::of_all(&rows);
+        Ok(ListRows { rows, sight, heads })
+    }
+
+    /// Whether a row needs some bytes or pairs of a path.
+    pub(crate) fn has_open(&self) -> bool {
+        match &self.sight {
+            Some(sight) => sight.has_open(),
+            None => true,
+        }
+    }
+
+    /// Whether a row may need some bytes of a whole path.
+    #[inline(always)]
+    pub(crate) fn has_paths(&self) -> bool {
+        match &self.sight {
+            Some(sight) => sight.has_paths(),
+            None => true,
+        }
+    }
+
+    /// How many rows from a place on ask for nothing that a path doesn't show.
+    pub(crate) fn count_shown(&self, from: usize, probe: &Probe) -> usize
+        ensures few { result ≤ length self.now.rows.items - from }
+        ensures some { (row : Row) → slice_get self.now.rows.items from ≡ Some row → Passes row probe.now → 0 < result }
+    {
+        count_shown(&self.rows, from, probe)
+    }
+
+    /// The place of the last mapping of the list that matches what its base leaves of a path.
+    #[inline(always)]
+    pub(crate) fn last_match<T: search::Pattern, S: Ledger, L: Ledger>(
+        &self,
+        list: &List<T>,
+        question: &Question<'_, '_>,
+        counts: &mut Counts<S, L>,
+    ) -> Option<usize>
+        requires of { AreRowsOf (entry_list_of T.seen list.now) self.now }
+        requires folder { HasFolder (entry_list_of T.seen list.now) }
+        requires shows { Shows question.now.path.now.bytes question.now.probe }
+        ensures last { IsLastMatch (entry_list_of T.seen list.now) question.now.path.now question.now.case result }
+        ensures spends { Spends (entry_list_of T.seen list.now) (length question.now.path.now.bytes) counts.old counts.new }
+    {
+        let mut visit = self.visit(list, question, counts)?;
+        self.next_match(list, question, &mut visit, counts)
+    }
+
+    /// Begins to go through the list. `None` where no mapping matches, as the path tells at once: it shows nothing that the patterns ask
+    /// for together, or doesn't begin with the base.
+    #[inline(always)]
+    pub(crate) fn visit<'p, T: search::Pattern, S: Ledger, L: Ledger>(
+        &self,
+        list: &List<T>,
+        question: &Question<'_, 'p>,
+        counts: &mut Counts<S, L>,
+    ) -> Option<Visit<'p>>
+        requires of { AreRowsOf (entry_list_of T.seen list.now) self.now }
+        requires folder { HasFolder (entry_list_of T.seen list.now) }
+        requires shows { Shows question.now.path.now.bytes question.now.probe }
+        ensures visit { MatchOption result
+            ((m : ℕ) → ¬ AnswersAt (entry_list_of T.seen list.now) question.now.path.now.bytes question.now.path.now.is_dir question.now.case m)
+            (IsVisit (entry_list_of T.seen list.now) self.now question.now.path.now question.now.case question.now.probe) }
+        ensures all { IfSome result (λ visit. visit.walk.passed_from ≡ length self.now.rows.items) }
+        ensures looks { LooksUpTo counts.old counts.new (strip_looks (entry_list_of T.seen list.now).base (length question.now.path.now.bytes)) }
+    {
+        // a law does nothing: it is called for what it ensures
+        laws::answering_patterns_pass();
+        if self.is_passed_over(&question.probe) {
+            return None;
+        }
+        let rest = question
+            .path
+            .under_with_counts(list, question.case, counts)?;
+        let walk = Walk::down(&self.rows, &self.heads, &question.probe);
+        Some(Visit { rest, walk })
+    }
+
+    /// Whether a path shows nothing that the patterns ask for together.
+    #[inline(always)]
+    fn is_passed_over(&self, probe: &Probe) -> bool
+        ensures { IsTrue result → IsUnseen self.now.sight probe.now }
+    {
+        match &self.sight {
+            Some(sight) => !sight.is_seen(probe),
+            None => false,
+        }
+    }
+
+    /// The place of the next mapping that matches, below where a path has come. A mapping isn't tested where it asks for what the path
+    /// doesn't show; one look is counted at each that is passed, and those of the tests.
+    #[inline(always)]
+    pub(crate) fn next_match<T: search::Pattern, S: Ledger, L: Ledger>(
+        &self,
+        list: &List<T>,
+        question: &Question<'_, '_>,
+        visit: &mut Visit<'_>,
+        counts: &mut Counts<S, L>,
+    ) -> Option<usize>
+        requires of { AreRowsOf (entry_list_of T.seen list.now) self.now }
+        requires folder { HasFolder (entry_list_of T.seen list.now) }
+        requires shows { Shows question.now.path.now.bytes question.now.probe }
+        requires visit { IsVisit (entry_list_of T.seen list.now) self.now question.now.path.now question.now.case question.now.probe visit.old }
+        ensures visit { IsVisit (entry_list_of T.seen list.now) self.now question.now.path.now question.now.case question.now.probe visit.new }
+        ensures next { MatchOption result
+            (NoneAnswers (entry_list_of T.seen list.now) question.now.path.now question.now.case 0 visit.old.walk.passed_from)
+            (IsNextMatch (entry_list_of T.seen list.now) question.now.path.now question.now.case visit.new.walk.passed_from visit.old.walk.passed_from) }
+        ensures spends { SpendsDown (entry_list_of T.seen list.now) (length question.now.path.now.bytes)
+            visit.old.walk.passed_from visit.new.walk.passed_from counts.old counts.new }
+    {
+        // a law does nothing: it is called for what it ensures
+        laws::answering_patterns_pass();
+        let mappings = list.patterns.as_slice();
+        'candidates: while let Some(m) = visit
+            .walk
+            .next(&self.rows, &self.heads, &question.probe, counts)
+        {
+            let row = &self.rows[m];
+            let pattern = mappings[m].pattern.view();
+            if is_answer(
+                row,
+                &question.probe,
+                pattern,
+                &visit.rest,
+                question.case,
+                counts,
+            ) {
+                return Some(m);
+            }
+        }
+        None
+    }
+}
+
+/// What each pattern of a list asks for, in order, chained from these heads on.
+fn rows_of<T: search::Pattern>(
+    alloc: Global,
+    list: &List<T>,
+    heads: &mut [Link],
+) -> Result<Vec<Row>, AllocError>
+    requires few { length heads.old < 2 ^ 32 }
+    requires fits { 1 < length heads.old → length list.now.patterns.items < 2 ^ 32 }
+    requires none { AreChained [] heads.old }
+    ensures asked { IfOk result (λ rows. AreAsked (entry_list_of T.seen list.now).entries rows.items) }
+    ensures chained { IfOk result (λ rows. 1 < length heads.old → AreChained rows.items heads.new) }
+    ensures many { length heads.new ≡ length heads.old }
+{
+    let mappings = list.patterns.as_slice();
+    let mut rows = Vec::with_capacity(alloc, mappings.len())?;
+    'mappings: for m in 0..mappings.len() {
+        rows.push(chain(heads, Row::new(&mappings[m].pattern), m))?;
+    }
+    Ok(rows)
+}

@@ -1,0 +1,343 @@
+//! Lists of patterns with an index: which of their patterns match a path, and which one decides.
+ghost use Rattle.std.specs.Prelude.{◌≡◌, ◌↔◌, ◌⊎◌, ◌+◌, ◌*◌, ◌^◌, ◌<◌, ◌≤◌, IfOk, IsErrOf, IsSome, IsTrue, OnOk, length, map, min};
+ghost use Rattle.gix_glob.specs.EntryLists.{entry_list_of};
+ghost use Rattle.gix_glob.specs.Steps.{IsBlankOf, NeverFall};
+ghost use Rattle.glob_lists.specs.Deciding.{BasesAreFolders, Decides};
+ghost use Rattle.glob_lists.specs.DecisionLimits.{decision_look_limit, decision_step_limit, index_look_limit};
+ghost use Rattle.glob_lists.specs.Index.{AreMatches, AreTooMany, entry_count};
+ghost use Rattle.glob_lists.specs.Private.Asks.Showing.{Shows};
+ghost use Rattle.glob_lists.specs.Private.Looking.{LooksUpTo};
+
+use crate::asks::probe::Probe;
+use crate::fault::IndexError;
+use crate::link::Link;
+use crate::list::question::Question;
+use crate::path::RepositoryPath;
+use crate::stack::folders::{Folder, folders_of, last_near, last_up_to};
+use crate::stack::lists::PreparedLists;
+use crate::stack::way::{decide_from, matches_from};
+use gix_glob::pattern::Case;
+use gix_glob::search;
+use gix_glob::search::pattern::List;
+use gix_glob::wildmatch::Counts;
+use std::alloc::{AllocError, Global};
+use std::marker::{Brand, Model};
+use std::sync::ledger::{Blank, Ledger};
+
+/// Lists of patterns, each prepared, and the folders of their bases. It is made once, and then tests only the few patterns that can
+/// match a path. Contracts see its lists, and whether the case of letters counts.
+#[derive(Debug, Drop)]
+pub struct ListIndex<'a, T: search::Pattern> {
+    lists: PreparedLists<'a, T>,
+    case: Case,
+    /// The folders of the lists, where going through those on the way of a path pays.
+    folders: Option<Vec<Folder>>,
+    /// How many bytes a path has at most of which the sets are made: as many as there are patterns, or 0 where none needs some.
+    longest: usize,
+}
+
+impl<'a, T: search::Pattern> Model for ListIndex<'a, T> {
+    ghost use Rattle.std.specs.Prelude.{IfSome, map, option_map};
+    ghost use Rattle.std.specs.Vec.{vec_items};
+    ghost use Rattle.gix_glob.specs.EntryLists.{entry_list_of};
+    ghost use Rattle.glob_lists.specs.Index.{IndexedLists};
+    ghost use Rattle.glob_lists.specs.Private.Stack.Folders.{AreFolderedBy};
+
+    ghost Value = { IndexedLists T T.Value };
+
+    ghost view = { λ index. record { lists = index.lists; case = index.case } };
+
+    ghost invariant = { λ index. IfSome (option_map vec_items index.folders) (AreFolderedBy (map (entry_list_of T.seen) index.lists)) };
+}
+
+/// What an index found for the path before, for the next one: where paths come in order they share their folders.
+#[derive(Debug, Copy, Clone)]
+pub struct Cursor {
+    last: Link,
+}
+
+impl Cursor {
+    /// Nothing was found yet.
+    pub fn new() -> Cursor {
+        Cursor { last: Link::NONE }
+    }
+}
+
+/// What decides about a path, and what it took to find it.
+#[derive(Debug, Clone, Copy, PartialEq, Eq)]
+pub struct CountedDecision {
+    /// The place of the list and of the mapping that decides, both from 0; `None` where no pattern matches.
+    pub pair: Option<(usize, usize)>,
+    /// How many patterns were left to be asked whether they match, where the path lies below the base of their list. Contracts say
+    /// only that it is no more than all of them, and not 0 where one decides.
+    pub asked: usize,
+}
+
+impl<'a, T: search::Pattern> ListIndex<'a, T> {
+    /// The index of the lists, whose bases have to be those of folders: [`bases_are_folders`](crate::bases_are_folders). It
+    /// takes 16 bytes for each pattern, 24 in lists of many, some 150 for each list, and 1 KB more for each list of many patterns; while
+    /// it is made, 17 more for each pattern of one list.
+    ///
+    /// # Errors
+    /// [`IndexError::TooMany`] where there are 2^32 patterns or more, or more than 2^32 lists, and there alone;
+    /// [`decide`](crate::decide) then answers the same. [`IndexError::Memory`] where memory was refused.
+    pub fn new(
+        alloc: Global,
+        lists: &'a [List<T>],
+        case: Case,
+    ) -> Result<ListIndex<'a, T>, IndexError>
+        requires folders { BasesAreFolders (map (entry_list_of T.seen) lists.now) }
+        ensures index { IfOk result (λ index. (index.lists ≡ lists.entry.now) × (index.case ≡ case)) }
+        ensures too_many { IsErrOf result IndexError.TooMany ↔ AreTooMany (map (entry_list_of T.seen) lists.entry.now) }
+    {
+        let patterns = pattern_count(lists);
+        if are_too_many(patterns, lists.len()) {
+            return Err(IndexError::TooMany);
+        }
+        let prepared = PreparedLists::of(alloc, lists)?;
+        let folders = folders_of(alloc, lists)?;
+        let longest = if prepared.has_open() { patterns } else { 0 };
+        Ok(ListIndex {
+            lists: prepared,
+            case,
+            folders,
+            longest,
+        })
+    }
+
+    /// The lists that the index is of.
+    pub fn lists(&self) -> &'a [List<T>]
+        ensures { result.now ≡ self.now.lists }
+    {
+        self.lists.lists()
+    }
+
+    /// Whether the case of letters counts.
+    pub fn case(&self) -> Case
+        ensures { result ≡ self.now.case }
+    {
+        self.case
+    }
+
+    /// Which pattern decides about a path, as [`decide`](crate::decide) answers it for the lists. No memory is taken.
+    ///
+    /// Of many lists those alone are gone through whose base the path begins with, and of each list the patterns alone are tested that
+    /// ask for nothing that the path doesn't show.
+    pub fn decide(&self, path: &RepositoryPath<'_>) -> Option<(usize, usize)>
+        ensures { Decides (map (entry_list_of T.seen) self.now.lists) path.now.bytes path.now.is_dir self.now.case result }
+    {
+        self.decide_with_new_counts::<Brand, Brand>(path, Blank::new(1), Blank::new(1))
+    }
+
+    /// Which pattern decides about a path, with new counts that no one asks for.
+    #[inline(always)]
+    fn decide_with_new_counts<S: Ledger, L: Ledger>(
+        &self,
+        path: &RepositoryPath<'_>,
+        steps: Blank,
+        looks: Blank,
+    ) -> Option<(usize, usize)>
+        requires steps { IsBlankOf S.name S.parts steps }
+        requires looks { IsBlankOf L.name L.parts looks }
+        ensures { Decides (map (entry_list_of T.seen) self.now.lists) path.now.bytes path.now.is_dir self.now.case result }
+    {
+        self.decide_with_counts(path, &mut Counts::<S, L>::new(steps, looks))
+    }
+
+    /// Which pattern decides about a path, as [`ListIndex::decide`] answers it, whatever the cursor holds. What was found for the
+    /// path before saves a search where this one lies in the same folder. No memory is taken.
+    pub fn decide_near(
+        &self,
+        path: &RepositoryPath<'_>,
+        cursor: &mut Cursor,
+    ) -> Option<(usize, usize)>
+        ensures { Decides (map (entry_list_of T.seen) self.now.lists) path.now.bytes path.now.is_dir self.now.case result }
+    {
+        self.decide_near_with_new_counts::<Brand, Brand>(path, cursor, Blank::new(1), Blank::new(1))
+    }
+
+    /// Which pattern decides about a path, with new counts that no one asks for.
+    #[inline(always)]
+    fn decide_near_with_new_counts<S: Ledger, L: Ledger>(
+        &self,
+        path: &RepositoryPath<'_>,
+        cursor: &mut Cursor,
+        steps: Blank,
+        looks: Blank,
+    ) -> Option<(usize, usize)>
+        requires steps { IsBlankOf S.name S.parts steps }
+        requires looks { IsBlankOf L.name L.parts looks }
+        ensures { Decides (map (entry_list_of T.seen) self.now.lists) path.now.bytes path.now.is_dir self.now.case result }
+    {
+        let mut counts = Counts::<S, L>::new(steps, looks);
+        let question = self.question(path, &mut counts);
+        match &self.folders {
+            Some(folders) => {
+                let lists = self.lists.lists();
+                let last = last_near(folders, lists, path.bytes(), cursor.last, &mut counts);
+                cursor.last = last;
+                decide_from(&self.lists, folders, last, &question, &mut counts)
+            }
+            None => self.lists.decide(&question, &mut counts),
+        }
+    }
+
+    /// Which pattern decides about a path, as [`ListIndex::decide`] answers it, with its steps and looks counted. No memory is
+    /// taken.
+    ///
+    /// The counts rise by at most what [`decide_with_counts`](crate::decide_with_counts) says for the lists, and that of looks by
+    /// what the index reads besides: 68 times the path's length and 2, and a look for each row that it meets, of which there is
+    /// one for each pattern.
+    pub fn decide_with_counts<S: Ledger, L: Ledger>(
+        &self,
+        path: &RepositoryPath<'_>,
+        counts: &mut Counts<S, L>,
+    ) -> Option<(usize, usize)>
+        ensures exact { Decides (map (entry_list_of T.seen) self.now.lists) path.now.bytes path.now.is_dir self.now.case result }
+        ensures steps { counts.new.steps
+            ≤ counts.old.steps + decision_step_limit (map (entry_list_of T.seen) self.now.lists) (length path.now.bytes) }
+        ensures looks { counts.new.looks
+            ≤ counts.old.looks + decision_look_limit (map (entry_list_of T.seen) self.now.lists) (length path.now.bytes)
+            + index_look_limit (map (entry_list_of T.seen) self.now.lists) (length path.now.bytes) }
+        ensures grows { NeverFall counts.old counts.new }
+    {
+        let question = self.question(path, counts);
+        match &self.folders {
+            Some(folders) => {
+                let last = last_up_to(folders, self.lists.lists(), path.bytes(), counts);
+                decide_from(&self.lists, folders, last, &question, counts)
+            }
+            None => self.lists.decide(&question, counts),
+        }
+    }
+
+    /// What the lists are asked. The sets of the path's bytes are made where that is less work than the patterns that they pass over. A
+    /// look is counted at each byte that is read.
+    #[inline(always)]
+    fn question<'q, 'p, S: Ledger, L: Ledger>(
+        &self,
+        path: &'q RepositoryPath<'p>,
+        counts: &mut Counts<S, L>,
+    ) -> Question<'q, 'p>
+        ensures path { (result.path.now ≡ path.entry.now) × (result.case ≡ self.now.case) }
+        ensures shows { Shows result.path.now.bytes result.probe }
+        ensures looks { LooksUpTo counts.old counts.new (3 * length path.entry.now.bytes + 1) }
+    {
+        let bytes = path.bytes();
+        let has_sets = bytes.len() <= self.longest;
+        Question {
+            path,
+            probe: Probe::new(bytes, path.basename_start(), has_sets, counts),
+            case: self.case,
+        }
+    }
+
+    /// Which pattern decides about a path, as [`ListIndex::decide`] answers it, and how many patterns were left to be asked: the fewer,
+    /// the more the index saves. No memory is taken.
+    pub fn decide_and_count(&self, path: &RepositoryPath<'_>) -> CountedDecision
+        ensures decides { Decides (map (entry_list_of T.seen) self.now.lists) path.now.bytes path.now.is_dir self.now.case result.pair }
+        ensures each_once { result.asked ≤ entry_count (map (entry_list_of T.seen) self.now.lists) }
+        ensures some { IsSome result.pair → 0 < result.asked }
+    {
+        self.decide_and_count_with_new_counts::<Brand, Brand>(path, Blank::new(1), Blank::new(1))
+    }
+
+    /// Which pattern decides about a path, and how many were left to be asked, with new counts that no one asks for.
+    #[inline(always)]
+    fn decide_and_count_with_new_counts<S: Ledger, L: Ledger>(
+        &self,
+        path: &RepositoryPath<'_>,
+        steps: Blank,
+        looks: Blank,
+    ) -> CountedDecision
+        requires steps { IsBlankOf S.name S.parts steps }
+        requires looks { IsBlankOf L.name L.parts looks }
+        ensures decides { Decides (map (entry_list_of T.seen) self.now.lists) path.now.bytes path.now.is_dir self.now.case result.pair }
+        ensures each_once { result.asked ≤ entry_count (map (entry_list_of T.seen) self.now.lists) }
+        ensures some { IsSome result.pair → 0 < result.asked }
+    {
+        let mut counts = Counts::<S, L>::new(steps, looks);
+        let question = self.question(path, &mut counts);
+        let pair = self.lists.decide(&question, &mut counts);
+        let asked = match pair {
+            Some((list, mapping)) => self.lists.count_shown_from(list, mapping, &question),
+            None => self.lists.count_shown_from(0, 0, &question),
+        };
+        CountedDecision { pair, asked }
+    }
+
+    /// All patterns that match a path, in order: the places of the list and of the mapping in it, lists first.
+    ///
+    /// # Errors
+    /// Only where memory was refused.
+    pub fn matches(
+        &self,
+        alloc: Global,
+        path: &RepositoryPath<'_>,
+    ) -> Result<Vec<(usize, usize)>, AllocError>
+        ensures { IfOk result (λ found. AreMatches (map (entry_list_of T.seen) self.now.lists) path.now.bytes path.now.is_dir self.now.case found.items) }
+    {
+        let mut pairs = Vec::new(alloc);
+        self.matches_into(path, &mut pairs)?;
+        Ok(pairs)
+    }
+
+    /// Puts into `pairs` all patterns that match a path, as [`ListIndex::matches`] answers them, in place of what it held. So
+    /// one list of pairs serves many paths, and memory is taken only where it has to grow.
+    ///
+    /// # Errors
+    /// Only where memory was refused. What `pairs` holds then is not said.
+    pub fn matches_into(
+        &self,
+        path: &RepositoryPath<'_>,
+        pairs: &mut Vec<(usize, usize)>,
+    ) -> Result<(), AllocError>
+        ensures { OnOk result (AreMatches (map (entry_list_of T.seen) self.now.lists) path.now.bytes path.now.is_dir self.now.case pairs.new.items) }
+    {
+        self.matches_with_new_counts::<Brand, Brand>(path, pairs, Blank::new(1), Blank::new(1))
+    }
+
+    /// Puts into `pairs` all patterns that match a path, with new counts that no one asks for.
+    #[inline(always)]
+    fn matches_with_new_counts<S: Ledger, L: Ledger>(
+        &self,
+        path: &RepositoryPath<'_>,
+        pairs: &mut Vec<(usize, usize)>,
+        steps: Blank,
+        looks: Blank,
+    ) -> Result<(), AllocError>
+        requires steps { IsBlankOf S.name S.parts steps }
+        requires looks { IsBlankOf L.name L.parts looks }
+        ensures { OnOk result (AreMatches (map (entry_list_of T.seen) self.now.lists) path.now.bytes path.now.is_dir self.now.case pairs.new.items) }
+    {
+        let mut counts = Counts::<S, L>::new(steps, looks);
+        let question = self.question(path, &mut counts);
+        match &self.folders {
+            Some(folders) => {
+                let lists = self.lists.lists();
+                let last = last_up_to(folders, lists, path.bytes(), &mut counts);
+                matches_from(&self.lists, folders, last, &question, pairs, &mut counts)
+            }
+            None => self.lists.matches_into(&question, pairs, &mut counts),
+        }
+    }
+}
+
+/// How many patterns the lists have, or the greatest number where they have more.
+fn pattern_count<T: search::Pattern>(lists: &[List<T>]) -> usize
+    ensures { result ≡ min (entry_count (map (entry_list_of T.seen) lists.now)) usize.MAX }
+{
+    let mut count: usize = 0;
+    for list in lists {
+        count = count.saturating_add(list.patterns.len());
+    }
+    count
+}
+
+/// Whether so many patterns and lists are too many for an index.
+fn are_too_many(patterns: usize, lists: usize) -> bool
+    ensures { IsTrue result ↔ (2 ^ 32 ≤ patterns) ⊎ (2 ^ 32 < lists) }
+{
+    const PLACES: usize = 1 << 32;
+    patterns >= PLACES || lists > PLACES
+}
