@@ -10,6 +10,7 @@ pub mod KeptLemmas
 pub mod LawLemmas
 pub mod LineLemmas
 pub mod MacroLemmas
+pub mod MarkingLemmas
 pub mod MatchedLemmas
 pub mod NamingLemmas
 pub mod NarrowingLemmas

@@ -11,6 +11,7 @@ pub mod Narrowing
 pub mod Patterns
 pub mod Private
 pub mod Readings
+pub mod Runs
 pub mod States
 pub mod Told
 pub mod Views

@@ -1,15 +1,12 @@
 //! A stream of paths, for each of which it is written which states attributes have.
-ghost use Rattle.std.specs.Prelude.{◌≡◌, ◌-◌, ◌^◌, ◌≤◌, ℕ, List, false, length, IsTrue, OnErr, OnOk};
-ghost use Rattle.std.specs.Io.KnownBytes.{Appends, Consumes};
+ghost use Rattle.std.specs.Prelude.{◌≡◌, false};
 ghost use Rattle.gix_glob.specs.Watched.{has_failed, inner};
-ghost use Rattle.glob_lines.specs.Transfers.{AppendsFront, ReadsWhole, Run};
-ghost use Rattle.glob_trees.specs.RecordFaults.{is_endless, is_read_fault, is_write_fault};
-ghost use Rattle.glob_trees.specs.Records.{AnswersAll, AnswersEnded, AnswersFirst, AnswersSome, TextOf};
 ghost use Rattle.glob_attributes.specs.Answers.{IsAnswer};
+ghost use Rattle.glob_attributes.specs.Runs.{EndsRun};
 
 use crate::query::AttributeQuery;
 use gix_glob::search::Watched;
-use glob_trees::{Answerer, RecordFault, RecordStream};
+use record_streams::{Answerer, RecordFault, RecordStream};
 use std::alloc::{AllocError, Global};
 use std::io::{Read, Write};
 use std::marker::{Brand, PhantomData};
@@ -36,30 +33,8 @@ pub fn run_attributes<R: Read, W: Write>(
 ) -> Result<(), RecordFault<AllocError>>
     requires readable { has_failed paths.old ≡ false }
     requires writable { has_failed writer.old ≡ false }
-    // On success, all of the input was read, and the text of all its paths was written.
-    ensures ok { OnOk result
-        (Run (ReadsWhole (R.remaining (inner paths.old)) (R.remaining (inner paths.new)))
-        (AnswersAll (TextOf (IsAnswer query.now)) 0)
-        (Appends (W.contents (inner writer.old)) (W.contents (inner writer.new)))) }
-    // After a fault that is none of the writer's, the text of the first paths was written.
-    ensures err { OnErr result (has_failed writer.new ≡ false →
-        Run (Consumes (R.remaining (inner paths.old)) (R.remaining (inner paths.new)))
-        (AnswersFirst (TextOf (IsAnswer query.now)) 0)
-        (Appends (W.contents (inner writer.old)) (W.contents (inner writer.new)))) }
-    // After a failed read, that of all that ended in what was read.
-    ensures unread { IsTrue (is_read_fault result) →
-        Run (Consumes (R.remaining (inner paths.old)) (R.remaining (inner paths.new)))
-        (AnswersEnded (TextOf (IsAnswer query.now)) 0)
-        (Appends (W.contents (inner writer.old)) (W.contents (inner writer.new))) }
-    // After one of the writer's, a beginning of such a text was.
-    ensures cut { OnErr result
-        (Run (Consumes (R.remaining (inner paths.old)) (R.remaining (inner paths.new)))
-        (AnswersSome (TextOf (IsAnswer query.now)) 0)
-        (AppendsFront (W.contents (inner writer.old)) (W.contents (inner writer.new)))) }
-    ensures endless { IsTrue (is_endless result) → (input : List ℕ) × Consumes (R.remaining (inner paths.old)) (R.remaining (inner paths.new)) input
-        × (2 ^ 64 - 1 ≤ length input) }
-    ensures read { is_read_fault result ≡ has_failed paths.new }
-    ensures write { is_write_fault result ≡ has_failed writer.new }
+    ensures { EndsRun (IsAnswer query.now) result (R.remaining (inner paths.old)) (R.remaining (inner paths.new))
+        (W.contents (inner writer.old)) (W.contents (inner writer.new)) (has_failed paths.new) (has_failed writer.new) }
 {
     match run_question::<R, W, Brand>(alloc, query, paths, writer) {
         Err(RecordFault::Answer(_)) => Err(RecordFault::Memory),
@@ -83,14 +58,14 @@ impl Question for Brand {
 
 /// What answers each path by what is asked, which its type names: so a run keeps the question, whatever it does to the answerer.
 #[derive(Drop)]
-struct PathAnswerer<'a, Q: Question> {
+struct QueryAnswerer<'a, Q: Question> {
     alloc: Global,
     query: &'a AttributeQuery<'a>,
     question: PhantomData<Q>,
     ghost asked: { query.now ≡ Q.query },
 }
 
-impl<'a, Q: Question> Answerer for PathAnswerer<'a, Q> {
+impl<'a, Q: Question> Answerer for QueryAnswerer<'a, Q> {
     ghost use Rattle.glob_attributes.specs.Answers.{IsAnswer};
 
     type Fault = AllocError;
@@ -116,28 +91,10 @@ fn run_question<R: Read, W: Write, Q: Question>(
     requires asked { query.now ≡ Q.query }
     requires readable { has_failed paths.old ≡ false }
     requires writable { has_failed writer.old ≡ false }
-    ensures ok { OnOk result
-        (Run (ReadsWhole (R.remaining (inner paths.old)) (R.remaining (inner paths.new)))
-        (AnswersAll (TextOf (IsAnswer Q.query)) 0)
-        (Appends (W.contents (inner writer.old)) (W.contents (inner writer.new)))) }
-    ensures err { OnErr result (has_failed writer.new ≡ false →
-        Run (Consumes (R.remaining (inner paths.old)) (R.remaining (inner paths.new)))
-        (AnswersFirst (TextOf (IsAnswer Q.query)) 0)
-        (Appends (W.contents (inner writer.old)) (W.contents (inner writer.new)))) }
-    ensures unread { IsTrue (is_read_fault result) →
-        Run (Consumes (R.remaining (inner paths.old)) (R.remaining (inner paths.new)))
-        (AnswersEnded (TextOf (IsAnswer Q.query)) 0)
-        (Appends (W.contents (inner writer.old)) (W.contents (inner writer.new))) }
-    ensures cut { OnErr result
-        (Run (Consumes (R.remaining (inner paths.old)) (R.remaining (inner paths.new)))
-        (AnswersSome (TextOf (IsAnswer Q.query)) 0)
-        (AppendsFront (W.contents (inner writer.old)) (W.contents (inner writer.new)))) }
-    ensures endless { IsTrue (is_endless result) → (input : List ℕ) × Consumes (R.remaining (inner paths.old)) (R.remaining (inner paths.new)) input
-        × (2 ^ 64 - 1 ≤ length input) }
-    ensures read { is_read_fault result ≡ has_failed paths.new }
-    ensures write { is_write_fault result ≡ has_failed writer.new }
+    ensures { EndsRun (IsAnswer Q.query) result (R.remaining (inner paths.old)) (R.remaining (inner paths.new))
+        (W.contents (inner writer.old)) (W.contents (inner writer.new)) (has_failed paths.new) (has_failed writer.new) }
 {
-    let mut answerer = PathAnswerer::<'_, Q> {
+    let mut answerer = QueryAnswerer::<'_, Q> {
         alloc,
         query,
         question: PhantomData,

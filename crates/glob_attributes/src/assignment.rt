@@ -4,6 +4,7 @@ ghost use Rattle.std.specs.List.{before_first};
 ghost use Rattle.std.specs.Vec.{vec_items};
 ghost use Rattle.glob_attributes.specs.Names.{is_name};
 ghost use Rattle.glob_attributes.specs.Assignments.{assignment_of};
+ghost use Rattle.glob_attributes.specs.Private.Filling.{is_set};
 ghost use Rattle.glob_attributes.specs.Private.Readings.{is_equals};
 ghost use Rattle.glob_attributes.specs.Views.{assignment_with};
 
@@ -21,6 +22,15 @@ pub enum State<B> {
     Unspecified,
     /// The attribute has these bytes as its value, as `name=value` says.
     Value(B),
+}
+
+impl<B> State<B> {
+    /// Whether the attribute is set.
+    pub(crate) fn is_set(&self) -> bool
+        ensures { result ≡ is_set self.now }
+    {
+        matches!(self, State::Set)
+    }
 }
 
 /// A state for the attribute of a name. `B` holds the bytes of a name, and those of a value.

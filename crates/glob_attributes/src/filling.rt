@@ -1,12 +1,13 @@
 //! A row of assignments with what macros put in.
 ghost use Rattle.std.specs.Prelude.{◌≡◌, ◌+◌, ◌++◌, ◌∷◌, ◌≤◌, [], List, IfOk, OnOk, false, length, map, replicate, reverse};
 ghost use Rattle.std.specs.Vec.{vec_items};
-ghost use Rattle.glob_attributes.specs.Views.{assignment_with, state_with};
-ghost use Rattle.glob_attributes.specs.Private.Filling.{AreMarked, is_set, seen_entry, unmarked};
+ghost use Rattle.glob_attributes.specs.Views.{assignment_with};
+ghost use Rattle.glob_attributes.specs.Private.Filling.{AreMarked, seen_entry, unmarked};
 ghost use Rattle.glob_attributes.specs.States.{Assigned, IsFilledIn, put_in};
 
-use crate::assignment::{Assignment, State};
+use crate::assignment::Assignment;
 use crate::macro_table::MacroTable;
+use crate::marking::marked_place;
 use std::alloc::{AllocError, Global};
 
 /// The row of a path, from the weakest assignment to the strongest, with what macros put in, from the strongest to the weakest. Each
@@ -52,25 +53,11 @@ fn put_in<'a>(
     ensures fewer { length result.now + unmarked macros.now marks.new ≤ unmarked macros.now marks.old }
     ensures count { length marks.new ≡ length marks.old }
 {
-    let Some(place) = macros.place_of(&assignment.name) else {
-        return &[];
-    };
-    if marks[place] {
-        return &[];
+    let named = macros.place_of(&assignment.name);
+    match marked_place(marks, named, assignment.state.is_set()) {
+        Some(place) => macros.assignments(place),
+        None => &[],
     }
-    marks[place] = true;
-    if is_set(&assignment.state) {
-        macros.assignments(place)
-    } else {
-        &[]
-    }
-}
-
-/// Whether a state is that of an attribute that is set.
-fn is_set(state: &State<Vec<u8>>) -> bool
-    ensures { result ≡ is_set (state_with vec_items state.now) }
-{
-    matches!(state, State::Set)
 }
 
 /// Adds each of the assignments.

@@ -1,6 +1,7 @@
 //! The head of a line: a pattern, or what defines a macro, bare or between quotes.
-ghost use Rattle.std.specs.Prelude.{◌≡◌, IfOk, option_map};
+ghost use Rattle.std.specs.Prelude.{◌≡◌, ℕ, List, IfOk, MatchOption, option_map};
 ghost use Rattle.glob_attributes.specs.Equations.Heads.{head_of, letter_byte, quoted_from, unit_at};
+ghost use Rattle.glob_attributes.specs.Heads.{IsQuotedHead};
 
 use crate::words::split_at_blank;
 use std::alloc::{AllocError, Global};
@@ -13,7 +14,7 @@ pub(crate) fn read_head(alloc: Global, text: &[u8]) -> Result<(Vec<u8>, &[u8]), 
     ensures { IfOk result (λ read. (read.0.items, read.1.now) ≡ head_of text.now) }
 {
     if let Some(quoted) = text.strip_prefix(b"\"") {
-        if let Some(found) = read_quoted(alloc, quoted)? {
+        if let Some(found) = read_units(alloc, quoted)? {
             return Ok(found);
         }
     }
@@ -21,9 +22,25 @@ pub(crate) fn read_head(alloc: Global, text: &[u8]) -> Result<(Vec<u8>, &[u8]), 
     Ok((Vec::from_slice(alloc, head)?, rest))
 }
 
+/// The bytes that a text spells between a quote at its front and the next one, as Git writes a name with unusual bytes, and what
+/// follows that quote. `None` where the text begins with no quote, has no other one, or has a wrong escape before it.
+///
+/// # Errors
+/// Only where memory was refused.
+pub fn read_quoted(alloc: Global, text: &[u8]) -> Result<Option<(Vec<u8>, &[u8])>, AllocError>
+    ensures { IfOk result (λ read. MatchOption read
+        ((name rest : List ℕ) → ¬ IsQuotedHead text.now name rest)
+        (λ found. IsQuotedHead text.now found.0.items found.1.now)) }
+{
+    match text.strip_prefix(b"\"") {
+        Some(quoted) => read_units(alloc, quoted),
+        None => Ok(None),
+    }
+}
+
 /// The bytes before the closing quote, with their escapes replaced, and what follows that quote. `None` where there is no closing
 /// quote, or a wrong escape stands before it.
-fn read_quoted(alloc: Global, quoted: &[u8]) -> Result<Option<(Vec<u8>, &[u8])>, AllocError>
+fn read_units(alloc: Global, quoted: &[u8]) -> Result<Option<(Vec<u8>, &[u8])>, AllocError>
     ensures { IfOk result (λ read. option_map (λ found. (found.0.items, found.1.now)) read ≡ quoted_from 0 quoted.now) }
 {
     let mut head = Vec::new(alloc);

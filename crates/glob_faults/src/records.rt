@@ -6,7 +6,7 @@ mod in_turn;
 use crate::compare::same;
 use crate::fakes::{Sink, Source};
 use gix_glob::search::Watched;
-use glob_trees::{Answerer, RecordFault, RecordStream};
+use record_streams::{Answerer, RecordFault, RecordStream};
 use std::alloc::AllocError;
 use std::io::ErrorKind;
 use std::process::Abort;

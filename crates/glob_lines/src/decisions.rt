@@ -13,7 +13,7 @@ use crate::ignore::IgnoreLines;
 use crate::numbers::append_decimal;
 use crate::path_lines::{PathReport, report_on};
 use crate::stack::ListStack;
-use crate::transfer::{read_whole, write_whole};
+use crate::transfer::{read_whole, write_output};
 use gix_glob::pattern::Case;
 use gix_glob::search;
 use gix_glob::search::Watched;
@@ -55,7 +55,7 @@ pub fn run_ignore<R: Read, W: Write>(
 {
     let path_lines = read_whole(alloc, paths)?;
     let text = decisions_of(alloc, lists, case, &path_lines)?;
-    write_whole(writer, &text)
+    write_output(writer, &text)
 }
 
 /// The text of decisions for the path lines.

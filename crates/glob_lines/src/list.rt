@@ -16,7 +16,7 @@ use crate::numbers::{append_decimal, append_separated};
 use crate::path_lines::{PathReport, report_on};
 use crate::plain::PlainLines;
 use crate::stack::ListStack;
-use crate::transfer::{read_whole, write_whole};
+use crate::transfer::{read_whole, write_output};
 use gix_glob::pattern::Case;
 use gix_glob::search::Watched;
 use gix_glob::search::pattern::List;
@@ -70,7 +70,7 @@ pub fn run_list<P: Read, Q: Read, W: Write>(
     laws::loaded_lists_have_folders::<PlainLines>();
     laws::plain_entries_are_these();
     let text = matches_of(alloc, &list, case, &path_lines)?;
-    write_whole(writer, &text)
+    write_output(writer, &text)
 }
 
 /// The text of mappings for the path lines.

@@ -9,7 +9,7 @@ ghost use Rattle.glob_lines.specs.Private.Answering.{word_of};
 
 use crate::fault::EngineFault;
 use crate::lines::Lines;
-use crate::transfer::{read_whole, write_whole};
+use crate::transfer::{read_whole, write_output};
 use gix_glob::search::Watched;
 use gix_glob::wildmatch::{Mode, wildmatch};
 use std::alloc::{AllocError, Global};
@@ -41,7 +41,7 @@ pub fn run_wild<R: Read, W: Write>(
 {
     let input = read_whole(alloc, reader)?;
     let text = answers(alloc, pattern, mode, &input)?;
-    write_whole(writer, &text)
+    write_output(writer, &text)
 }
 
 /// The text of answers to the lines of values.

@@ -7,7 +7,7 @@ use crate::question::Question;
 use gix_glob::search::Watched;
 use glob_attributes::{AttributeQuery, run_attributes};
 use glob_lists::{IndexError, ListIndex, bases_are_folders};
-use glob_trees::{Answerer, RecordFault, RecordStream};
+use record_streams::{Answerer, RecordFault, RecordStream};
 use std::alloc::{AllocError, Global};
 
 /// Room for what most rows answer: so a refusal of memory is told by the call itself, and not as a failed write.

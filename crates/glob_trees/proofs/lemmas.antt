@@ -1,6 +1,5 @@
 pub mod Asking
 pub mod AtHand
-pub mod BeginningLemmas
 pub mod Emptied
 pub mod Entering
 pub mod FoldedMatches
@@ -13,12 +12,9 @@ pub mod InTree
 pub mod Kept
 pub mod OnWay
 pub mod OneMore
-pub mod RecordLemmas
 pub mod Rooms
-pub mod RunLemmas
 pub mod Settled
 pub mod Stepping
 pub mod Standing
-pub mod StreamLemmas
 pub mod Topmost
 pub mod WayLemmas

@@ -1,5 +1,3 @@
-pub mod RecordFaults
-pub mod Records
 pub mod Trees
 pub mod Ways
 pub mod TreeParts

@@ -1,5 +1,3 @@
 -- Words that only private clauses cite: what the functions of the crate say to one another.
-pub mod Beginning
 pub mod Entered
 pub mod Left
-pub mod Streaming

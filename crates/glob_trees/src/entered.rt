@@ -9,7 +9,6 @@ ghost use Rattle.glob_trees.specs.Private.Left.{HasMoreRooms, HasRoom};
 ghost use Rattle.glob_trees.specs.Trees.{DecidesInTree, Ignores};
 ghost use Rattle.glob_trees.specs.Ways.{AreOnTheWay, GivesOnly, GoesOn, IsAskedFor, IsListOf, folders_to};
 
-use crate::beginning::begins_with;
 use crate::deciding::ignoring;
 use crate::fault::TreeFault;
 use crate::folders::FolderLists;
@@ -69,7 +68,7 @@ impl<T: search::Pattern, S: FolderLists<T>> Entered<T, S> {
             return false;
         };
         match (&list.list().base, path.basename_start()) {
-            (Some(base), Some(start)) => base.len() == start && begins_with(path.bytes(), base),
+            (Some(base), Some(start)) => base.len() == start && path.bytes().starts_with(base),
             (None, None) => true,
             _ => false,
         }
@@ -241,7 +240,7 @@ fn length_on_the_way<T: search::Pattern>(list: &PreparedList<T>, path: &[u8]) ->
         (IsFrontOf (option_map vec_items list.now.base) path.now) }
 {
     match &list.list().base {
-        Some(base) if begins_with(path, base) => Some(base.len()),
+        Some(base) if path.starts_with(base) => Some(base.len()),
         Some(_) => None,
         None => Some(0),
     }

@@ -6,20 +6,14 @@ mod ignore_files;
 mod words;
 
 use gix_glob::search::Watched;
-use std::fs::File;
-use std::os::fd::{AsRawFd, RawFd};
+use program_start::{command_line, stand_ins};
 use std::process::ExitCode;
-use std::rt::{Env, Files};
-use std::{env, fs, io};
 pub use words::run_words;
-
-/// The last of the three descriptors that a program begins with.
-const STANDARD_ERROR: RawFd = 2;
 
 /// Takes the words of the command line, and ends with the status that they lead to.
 fn main(rt: HostRuntime) -> ExitCode {
-    // a file that is opened takes the lowest number that is free, which must be none of the three standard ones
-    let _stand_ins = [stand_in(&rt), stand_in(&rt), stand_in(&rt)];
+    // no file that is opened takes the place of a closed stream
+    let _stand_ins = stand_ins(&rt);
     let mut errors = rt.stderr();
     let status = match command_line(&rt) {
         Ok(words) => {
@@ -37,20 +31,4 @@ fn main(rt: HostRuntime) -> ExitCode {
         Err(refused) => words::without_words(refused.kind(), &mut errors),
     };
     ExitCode::from(status)
-}
-
-/// The root folder in the place of a standard input or output that was closed: reading it fails, and so does writing to it.
-fn stand_in<F: Files<File = File>>(rt: &F) -> Option<File> {
-    let folder = fs::open(rt, "/").ok()?;
-    if folder.as_raw_fd() <= STANDARD_ERROR {
-        Some(folder)
-    } else {
-        None
-    }
-}
-
-/// The words after the program's name.
-fn command_line<R: Env + AllocGlobal>(rt: &R) -> io::Result<Vec<String>> {
-    let words = env::args(rt)?.skip(1).collect(rt.alloc())?;
-    Ok(words)
 }

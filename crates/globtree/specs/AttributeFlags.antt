@@ -1,10 +1,16 @@
 -- What the options of `check-attr` ask for, and which words are names of attributes.
-use Rattle.std.specs.Prelude.{ℕ, true, ◌==◌, nat_lt, if◌then◌else◌, List, [], ◌∷◌, drop, Option, None, Some, Result, Ok, Err, codes}
-use Rattle.std.specs.Option.{option_and_then}
+use Rattle.std.specs.Prelude.{ℕ, true, ◌==◌, nat_lt, if◌then◌else◌, List, Option, None, Some, Result, Ok, Err, codes}
 use Rattle.std.specs.Str.{byte, bytes_eq}
 use Rattle.globtree.specs.declared.attribute_flags.AttributeFlags.{AttributeFlags}
 use Rattle.globtree.specs.declared.attribute_flags.Misuse.{Misuse}
 use Rattle.globtree.specs.declared.attribute_flags.Misuse.TheVariants.{NoAttribute, AttributesAndAll, NoPath, PathsAndStdin}
+
+-- a whole option
+abbrev pub with_name : AttributeFlags → List ℕ → Option AttributeFlags
+with_name flags name =
+    if bytes_eq name (codes "--all") then Some (record flags { all = true })
+    else (if bytes_eq name (codes "--stdin") then Some (record flags { stdin = true })
+    else None)
 
 -- a letter behind a dash
 abbrev pub with_letter : AttributeFlags → ℕ → Option AttributeFlags
@@ -12,18 +18,6 @@ with_letter flags letter =
     if letter == byte "a" then Some (record flags { all = true })
     else (if letter == byte "z" then Some (record flags { nul = true })
     else None)
-
--- letters, one after the other
-abbrev pub with_letters : AttributeFlags → List ℕ → Option AttributeFlags
-with_letters flags [] = Some flags
-with_letters flags (letter ∷ letters) = option_and_then (λ more. with_letters more letters) (with_letter flags letter)
-
--- a word
-abbrev pub with_option : AttributeFlags → List ℕ → Option AttributeFlags
-with_option flags word =
-    if bytes_eq word (codes "--all") then Some (record flags { all = true })
-    else (if bytes_eq word (codes "--stdin") then Some (record flags { stdin = true })
-    else with_letters flags (drop 1 word))
 
 -- How many of the words are names: with `-a` none; else those before `--`; without it all where the paths are read, and else the first.
 abbrev pub names_among : AttributeFlags → ℕ → Option ℕ → Result ℕ Misuse

@@ -1,7 +1,9 @@
 pub mod AttributeFlags
 pub mod AttributeText
+pub mod CommandWords
 pub mod ConfigKeys
 pub mod Files
+pub mod FilesFlags
 pub mod Flags
 pub mod IndexHead
 pub mod Lines
@@ -9,6 +11,5 @@ pub mod Paths
 pub mod Quoting
 pub mod RecordNames
 pub mod Telling
-pub mod Unquoting
 pub mod Words
 pub mod Private

@@ -2,11 +2,11 @@
 
 ghost use Rattle.std.specs.Io.{StartsWith};
 
-use crate::asking::Standpoint;
+use crate::answering::PathAnswerer;
 use crate::attribute_text::{append_answer, append_label, path_text};
 use crate::fault::CheckFault;
 use crate::folder_attributes::FolderAttributes;
-use crate::record_names::PathAnswerer;
+use crate::standpoint::Standpoint;
 use glob_attributes::{Assignment, AttributeLines, PathAttributes, State};
 use glob_lists::{ListIndex, RepositoryPath, bases_are_folders};
 use std::alloc::{AllocError, Global};
@@ -29,6 +29,8 @@ pub(crate) struct AttributeAsker<'a, R> {
 }
 
 impl<'a, R: Files + Eprint> PathAnswerer for AttributeAsker<'a, R> {
+    const KEEPS_ANSWERS: bool = true;
+
     fn answer_path(&mut self, text: &mut Vec<u8>, told: &[u8]) -> Result<(), CheckFault> {
         let is_folder = self.lead(told)?;
         let mut quoted = Vec::new(self.alloc);
@@ -38,22 +40,6 @@ impl<'a, R: Files + Eprint> PathAnswerer for AttributeAsker<'a, R> {
 }
 
 impl<'a, R: Files + Eprint> AttributeAsker<'a, R> {
-    /// Appends what is written about each told path, up to the first that gets no answer: of that nothing is appended.
-    pub(crate) fn append_each(
-        &mut self,
-        text: &mut Vec<u8>,
-        paths: &[&str],
-    ) -> Result<(), CheckFault> {
-        'paths: for path in paths {
-            let whole = text.len();
-            if let Err(fault) = self.answer_path(text, path.as_bytes()) {
-                text.truncate(whole);
-                return Err(fault);
-            }
-        }
-        Ok(())
-    }
-
     /// Goes where a told path leads, from the top, and to the folder that it lies in. It answers whether the path names a folder.
     fn lead(&mut self, told: &[u8]) -> Result<bool, CheckFault> {
         // no bytes lead nowhere else, as a dot does

@@ -1,7 +1,8 @@
 //! Reading attribute files: their lists, their names, and the lines that say nothing.
 
 use crate::fault::CheckFault;
-use crate::sources::{OwnFile, Standing, file_in, file_list, folder_text, own_file, what_stands};
+use crate::sources::file_list;
+use crate::standing::{OwnFile, Standing, file_in, folder_text, own_file, what_stands};
 use crate::telling::tell_line;
 use gix_glob::search::pattern::List;
 use glob_attributes::{

@@ -1,6 +1,8 @@
 //! The options of `check-attr`, and which of its words are names of attributes.
 ghost use Rattle.std.specs.Prelude.{◌≡◌, ◌≤◌, IfOk, IfSome};
-ghost use Rattle.globtree.specs.AttributeFlags.{names_among, names_first, with_letter, with_letters, with_option};
+ghost use Rattle.globtree.specs.AttributeFlags.{names_among, names_first};
+
+use crate::command_words::CommandFlags;
 
 /// What the options of `check-attr` ask for.
 #[derive(Clone, Copy, Drop)]
@@ -79,41 +81,29 @@ impl AttributeFlags {
             None => Ok(1),
         }
     }
+}
 
-    /// These, with those of a word more. `None` where the word is no option.
-    pub(crate) fn with_option(self, word: &str) -> Option<AttributeFlags>
-        ensures { result ≡ with_option self word.now }
-    {
-        if word == "--all" {
+impl CommandFlags for AttributeFlags {
+    ghost use Rattle.globtree.specs.AttributeFlags.{with_letter, with_name};
+
+    ghost named = { with_name };
+
+    ghost lettered = { with_letter };
+
+    fn with_name(self, name: &str) -> Option<AttributeFlags> {
+        if name == "--all" {
             return Some(AttributeFlags { all: true, ..self });
         }
-        if word == "--stdin" {
+        if name == "--stdin" {
             return Some(AttributeFlags {
                 stdin: true,
                 ..self
             });
         }
-        match word.as_bytes() {
-            [_dash, letters @ ..] => self.with_letters(letters),
-            [] => Some(self),
-        }
+        None
     }
 
-    /// These, with those of the letters behind a dash.
-    fn with_letters(self, letters: &[u8]) -> Option<AttributeFlags>
-        ensures { result ≡ with_letters self letters.now }
-    {
-        let mut flags = self;
-        'letters: for letter in letters {
-            flags = flags.with_letter(*letter)?;
-        }
-        Some(flags)
-    }
-
-    /// These, with that of a letter.
-    fn with_letter(self, letter: u8) -> Option<AttributeFlags>
-        ensures { result ≡ with_letter self letter }
-    {
+    fn with_letter(self, letter: u8) -> Option<AttributeFlags> {
         match letter {
             b'a' => Some(AttributeFlags { all: true, ..self }),
             b'z' => Some(AttributeFlags { nul: true, ..self }),

@@ -3,12 +3,13 @@ ghost use Rattle.std.specs.Prelude.{OnOk};
 ghost use Rattle.std.specs.Vec.{vec_items};
 ghost use Rattle.globtree.specs.Files.{PutsInOrder};
 
-use crate::asking::Standpoint;
 use crate::fault::CheckFault;
 use crate::finding::fault_of;
 use crate::paths::{enter, last_name};
 use crate::quoting::append_quoted;
-use crate::sources::{FolderFiles, folder_text};
+use crate::sources::FolderFiles;
+use crate::standing::folder_text;
+use crate::standpoint::Standpoint;
 use crate::telling::tell_line;
 use anyhow::{Context, Result};
 use gix_glob::search::Watched;

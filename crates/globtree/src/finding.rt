@@ -2,7 +2,8 @@
 ghost use Rattle.glob_lists.specs.Paths.{IsPlainPath};
 
 use crate::fault::CheckFault;
-use crate::sources::{FolderFiles, folder_text, is_folder, is_link};
+use crate::sources::FolderFiles;
+use crate::standing::{folder_text, is_folder, is_link};
 use crate::unlinked::UnlinkedFolders;
 use bitflags::Flags as _;
 use gix_glob::pattern::Mode;

@@ -1,6 +1,6 @@
 //! The options of `check-ignore`.
-ghost use Rattle.std.specs.Prelude.{◌≡◌};
-ghost use Rattle.globtree.specs.Flags.{is_option, with_letter, with_letters, with_option};
+
+use crate::command_words::CommandFlags;
 
 /// What the options of `check-ignore` ask for.
 #[derive(Clone, Copy, Drop)]
@@ -54,62 +54,50 @@ impl Flags {
         }
         None
     }
+}
 
-    /// These, with those of a word more. `None` where the word is no option.
-    pub(crate) fn with_option(self, word: &str) -> Option<Flags>
-        ensures { result ≡ with_option self word.now }
-    {
-        if word == "--verbose" {
+impl CommandFlags for Flags {
+    ghost use Rattle.globtree.specs.Flags.{with_letter, with_name};
+
+    ghost named = { with_name };
+
+    ghost lettered = { with_letter };
+
+    fn with_name(self, name: &str) -> Option<Flags> {
+        if name == "--verbose" {
             return Some(Flags {
                 verbose: true,
                 ..self
             });
         }
-        if word == "--non-matching" {
+        if name == "--non-matching" {
             return Some(Flags {
                 non_matching: true,
                 ..self
             });
         }
-        if word == "--quiet" {
+        if name == "--quiet" {
             return Some(Flags {
                 quiet: true,
                 ..self
             });
         }
-        if word == "--stdin" {
+        if name == "--stdin" {
             return Some(Flags {
                 stdin: true,
                 ..self
             });
         }
-        if word == "--no-index" {
+        if name == "--no-index" {
             return Some(Flags {
                 no_index: true,
                 ..self
             });
         }
-        match word.as_bytes() {
-            [_dash, letters @ ..] => self.with_letters(letters),
-            [] => Some(self),
-        }
+        None
     }
 
-    /// These, with those of the letters behind a dash.
-    fn with_letters(self, letters: &[u8]) -> Option<Flags>
-        ensures { result ≡ with_letters self letters.now }
-    {
-        let mut flags = self;
-        'letters: for letter in letters {
-            flags = flags.with_letter(*letter)?;
-        }
-        Some(flags)
-    }
-
-    /// These, with that of a letter.
-    fn with_letter(self, letter: u8) -> Option<Flags>
-        ensures { result ≡ with_letter self letter }
-    {
+    fn with_letter(self, letter: u8) -> Option<Flags> {
         match letter {
             b'v' => Some(Flags {
                 verbose: true,
@@ -127,11 +115,4 @@ impl Flags {
             _ => None,
         }
     }
-}
-
-/// Whether a word is an option: a dash stands at its front, and more behind it.
-pub(crate) fn is_option(word: &str) -> bool
-    ensures { result ≡ is_option word.now }
-{
-    word.len() > 1 && word.as_bytes().starts_with(b"-")
 }

@@ -23,14 +23,14 @@ pub(crate) struct FolderAttributes<'a, R> {
     /// The path of the folder entered last, with a slash at its end; empty where that is the top.
     folder: Vec<u8>,
     /// The top and the folders on the way, from outer to inner.
-    way: Vec<Entered>,
+    way: Vec<FolderOnWay>,
     /// The folders that were looked at. The first is the top.
     known: Vec<KnownFolder>,
 }
 
 /// A folder on the way.
 #[derive(Clone, Copy)]
-struct Entered {
+struct FolderOnWay {
     /// Its place among the known folders.
     place: usize,
     /// How many bytes of a path name it, with the slash at its end.
@@ -60,7 +60,7 @@ impl<'a, R: Files + Eprint> FolderAttributes<'a, R> {
     ) -> Result<FolderAttributes<'a, R>, AllocError> {
         let alloc = reader.alloc;
         let mut way = Vec::new(alloc);
-        way.push(Entered {
+        way.push(FolderOnWay {
             place: 0,
             length: 0,
             has_list: false,
@@ -162,7 +162,7 @@ impl<'a, R: Files + Eprint> FolderAttributes<'a, R> {
         self.folder.clear();
         self.folder.extend_from_slice(folder)?;
         self.folder.push(b'/')?;
-        self.way.push(Entered {
+        self.way.push(FolderOnWay {
             place,
             length: self.folder.len(),
             has_list: list.is_some(),

@@ -15,7 +15,7 @@ use std::alloc::AllocError;
 
 /// The line of a file that decides about a path.
 #[derive(Drop)]
-pub(crate) struct Shown<'a> {
+pub(crate) struct DecidingLine<'a> {
     /// The name of the file.
     pub(crate) source: &'a [u8],
     /// The number of the line, from 1.
@@ -29,14 +29,14 @@ pub(crate) fn append_line(
     text: &mut Vec<u8>,
     told: &[u8],
     is_usual: bool,
-    shown: &Option<Shown<'_>>,
+    line: &Option<DecidingLine<'_>>,
     flags: Flags,
 ) -> Result<(), AllocError>
     requires { IsTrue is_usual → list_any is_unusual told.now ≡ false }
     ensures { StartsWith text.new.items text.old.items }
 {
     if flags.verbose {
-        append_decision(text, shown, flags)?;
+        append_decision(text, line, flags)?;
     }
     append_told(text, told, is_usual, flags)?;
     text.push(if flags.nul { 0 } else { b'\n' })?;
@@ -46,13 +46,13 @@ pub(crate) fn append_line(
 /// Appends the name of the file, the number of the line and its pattern, each with the byte behind it.
 fn append_decision(
     text: &mut Vec<u8>,
-    shown: &Option<Shown<'_>>,
+    line: &Option<DecidingLine<'_>>,
     flags: Flags,
 ) -> Result<(), AllocError>
     ensures { StartsWith text.new.items text.old.items }
 {
-    if let Some(shown) = shown {
-        return append_shown(text, shown, flags);
+    if let Some(line) = line {
+        return append_deciding(text, line, flags);
     }
     let behind = if flags.nul { 0 } else { b':' };
     let last = if flags.nul { 0 } else { b'\t' };
@@ -60,16 +60,20 @@ fn append_decision(
 }
 
 /// Appends them of a line that decides.
-fn append_shown(text: &mut Vec<u8>, shown: &Shown<'_>, flags: Flags) -> Result<(), AllocError>
+fn append_deciding(
+    text: &mut Vec<u8>,
+    line: &DecidingLine<'_>,
+    flags: Flags,
+) -> Result<(), AllocError>
     ensures { StartsWith text.new.items text.old.items }
 {
     let behind = if flags.nul { 0 } else { b':' };
     let last = if flags.nul { 0 } else { b'\t' };
-    append_name(text, shown.source, flags)?;
+    append_name(text, line.source, flags)?;
     text.push(behind)?;
-    append_number(text, shown.number)?;
+    append_number(text, line.number)?;
     text.push(behind)?;
-    append_pattern(text, shown.pattern, last)
+    append_pattern(text, line.pattern, last)
 }
 
 /// Appends the number of a line.

@@ -1,6 +1,6 @@
 //! Going to the top of the work tree.
-use crate::asking::Standpoint;
 use crate::paths::below_folder;
+use crate::standpoint::Standpoint;
 use crate::words::takes_value;
 use anyhow::{Context, Result, bail};
 use std::alloc::Global;

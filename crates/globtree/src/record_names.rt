@@ -5,19 +5,12 @@ ghost use Rattle.std.specs.Io.{StartsWith};
 ghost use Rattle.std.specs.List.{before_first};
 ghost use Rattle.globtree.specs.RecordNames.{is_zero};
 
+use crate::answering::PathAnswerer;
 use crate::fault::CheckFault;
-use crate::unquoting::unquote;
-use glob_trees::Answerer;
+use glob_attributes::read_quoted;
 use memchr::memchr;
-
-/// What answers told paths.
-pub(crate) trait PathAnswerer: Drop {
-    ghost use Rattle.std.specs.Io.{StartsWith};
-
-    /// Appends what is written about a told path to the text. Where this fails, what was appended doesn't count.
-    fn answer_path(&mut self, text: &mut Vec<u8>, told: &[u8]) -> Result<(), CheckFault>
-        ensures { StartsWith text.new.items text.old.items };
-}
+use record_streams::Answerer;
+use std::alloc::Global;
 
 /// What answers each line or record of the input.
 #[derive(Drop)]
@@ -25,8 +18,8 @@ pub(crate) struct RecordAnswerer<A> {
     pub(crate) paths: A,
     /// Whether a NUL ends each record: then none is quoted.
     pub(crate) is_nul: bool,
-    /// The name that stood in quotes.
-    pub(crate) name: Vec<u8>,
+    /// The memory for a name that stands in quotes.
+    pub(crate) alloc: Global,
 }
 
 impl<A: PathAnswerer> Answerer for RecordAnswerer<A> {
@@ -41,9 +34,9 @@ impl<A: PathAnswerer> Answerer for RecordAnswerer<A> {
     #[inline(always)]
     fn answer(&mut self, text: &mut Vec<u8>, bytes: &[u8]) -> Result<(), CheckFault> {
         let bytes = before_zero(bytes);
-        if let [b'"', quoted @ ..] = bytes {
+        if let [b'"', ..] = bytes {
             if !self.is_nul {
-                return self.answer_quoted(text, quoted);
+                return self.answer_quoted(text, bytes);
             }
         }
         self.paths.answer_path(text, bytes)
@@ -51,15 +44,15 @@ impl<A: PathAnswerer> Answerer for RecordAnswerer<A> {
 }
 
 impl<A: PathAnswerer> RecordAnswerer<A> {
-    /// Appends what is written about a path that is told in quotes, by what stands behind the first quote.
+    /// Appends what is written about a path that is told in quotes. What follows the last quote is passed over, as Git does.
     #[inline(never)]
     fn answer_quoted(&mut self, text: &mut Vec<u8>, quoted: &[u8]) -> Result<(), CheckFault>
         ensures { StartsWith text.new.items text.old.items }
     {
-        if !unquote(&mut self.name, quoted)? {
+        let Some((name, _behind)) = read_quoted(self.alloc, quoted)? else {
             return Err(CheckFault::BadlyQuoted);
-        }
-        self.paths.answer_path(text, before_zero(&self.name))
+        };
+        self.paths.answer_path(text, before_zero(&name))
     }
 }
 

@@ -1,7 +1,9 @@
 //! Files of patterns: that of each folder, and those outside all folders.
 
 use crate::fault::CheckFault;
-use crate::telling::tell_line;
+use crate::standing::{
+    OwnFile, Standing, file_in, folder_text, own_file, tell_unread, what_stands,
+};
 use gix_glob::search;
 use gix_glob::search::LoadFault;
 use gix_glob::search::pattern::List;
@@ -10,10 +12,9 @@ use glob_trees::{FolderLists, list_in_folder};
 use memchr::memrchr;
 use std::alloc::{AllocError, Global};
 use std::collections::HashSet;
-use std::fs::Metadata;
+use std::io;
 use std::io::ErrorKind;
 use std::rt::Files;
-use std::{fs, io};
 
 /// The ignore files of the folders below the one that the program stands in.
 #[derive(Drop)]
@@ -127,115 +128,6 @@ impl<'a, R: Files + Eprint> FolderLists<IgnoreLines> for FolderFiles<'a, R> {
     }
 }
 
-/// What stands where a folder may be.
-#[derive(Drop)]
-pub(crate) enum Standing {
-    /// A folder.
-    Folder,
-    /// What can't be looked at, so that nothing below it can.
-    Unseen,
-    /// A link, wherever it leads.
-    Link,
-    /// Nothing in which a file could lie.
-    Nothing,
-}
-
-/// What is known of a folder's own file.
-#[derive(Drop)]
-pub(crate) enum OwnFile {
-    /// There is none, or none that is to be read.
-    Nothing,
-    /// The folder can't be looked into: neither the file nor anything below the folder can be seen.
-    Shut,
-    /// It is to be read.
-    Found(Metadata),
-}
-
-/// What stands in the place of a folder, the top being named by an empty text. Why it can't be looked at is told.
-pub(crate) fn what_stands<R: Files + Eprint>(
-    rt: &R,
-    alloc: Global,
-    name: &str,
-) -> Result<Standing, AllocError> {
-    if name.is_empty() {
-        return Ok(Standing::Folder);
-    }
-    match fs::symlink_metadata(rt, name) {
-        Ok(found) if found.is_symlink() => Ok(Standing::Link),
-        Ok(found) if found.is_dir() => Ok(Standing::Folder),
-        Ok(_file) => Ok(Standing::Nothing),
-        Err(error) if is_fault(&error) => {
-            tell_unread(rt, alloc, name, error)?;
-            Ok(Standing::Unseen)
-        }
-        Err(_missing) => Ok(Standing::Nothing),
-    }
-}
-
-/// The name of a folder as text, which is what files are opened by.
-pub(crate) fn folder_text(alloc: Global, folder: &[u8]) -> Result<String, CheckFault> {
-    match str::from_utf8(folder) {
-        Ok(text) => Ok(String::from_str(alloc, text)?),
-        Err(_bad) => Err(CheckFault::NotText(String::from_utf8_lossy(alloc, folder)?)),
-    }
-}
-
-/// The name of a file in a folder.
-pub(crate) fn file_in(alloc: Global, folder: &str, file: &str) -> Result<String, AllocError> {
-    let mut name = String::from_str(alloc, folder)?;
-    if !folder.is_empty() {
-        name.push_str("/")?;
-    }
-    name.push_str(file)?;
-    Ok(name)
-}
-
-/// Whether a link stands there.
-pub(crate) fn is_link<R: Files>(rt: &R, name: &str) -> bool {
-    match fs::symlink_metadata(rt, name) {
-        Ok(found) => found.is_symlink(),
-        Err(_missing) => false,
-    }
-}
-
-/// Whether a folder stands there, and no link to one.
-pub(crate) fn is_folder<R: Files>(rt: &R, name: &str) -> bool {
-    match fs::symlink_metadata(rt, name) {
-        Ok(found) => found.is_dir(),
-        Err(_missing) => false,
-    }
-}
-
-/// What is known of a folder's own file. A link isn't followed, which is told, as is why one can't be read.
-pub(crate) fn own_file<R: Files + Eprint>(
-    rt: &R,
-    alloc: Global,
-    file: &str,
-) -> Result<OwnFile, AllocError> {
-    match fs::symlink_metadata(rt, file) {
-        Ok(found) if found.is_symlink() => {
-            tell_unread(rt, alloc, file, io::Error::from(ErrorKind::FilesystemLoop))?;
-            Ok(OwnFile::Nothing)
-        }
-        Ok(found) => Ok(OwnFile::Found(found)),
-        Err(error) if is_fault(&error) => {
-            let is_shut = error.kind() == ErrorKind::PermissionDenied;
-            tell_unread(rt, alloc, file, error)?;
-            Ok(if is_shut {
-                OwnFile::Shut
-            } else {
-                OwnFile::Nothing
-            })
-        }
-        Err(_missing) => Ok(OwnFile::Nothing),
-    }
-}
-
-/// Whether an error says more than that a file isn't there.
-fn is_fault(error: &io::Error) -> bool {
-    !matches!(error.kind(), ErrorKind::NotFound | ErrorKind::NotADirectory)
-}
-
 /// The list of a file, whose bytes are put into `bytes`; no patterns and no bytes where there is none. One that can't be read is
 /// told, and passed over; but not one that could be read the next time.
 pub(crate) fn file_list<T: search::Pattern, R: Files + Eprint>(
@@ -262,18 +154,4 @@ pub(crate) fn file_list<T: search::Pattern, R: Files + Eprint>(
 /// Whether an error says that the same may be done the next time.
 fn is_passing(error: &io::Error) -> bool {
     matches!(error.kind(), ErrorKind::Interrupted | ErrorKind::WouldBlock)
-}
-
-/// Tells that a file couldn't be read.
-fn tell_unread<R: Eprint>(
-    rt: &R,
-    alloc: Global,
-    name: &str,
-    error: io::Error,
-) -> Result<(), AllocError> {
-    tell_line(
-        rt,
-        alloc,
-        format_args!("warning: unable to access '{name}': {error}"),
-    )
 }

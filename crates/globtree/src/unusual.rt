@@ -40,12 +40,12 @@ fn is_usual_by_blocks(name: &[u8]) -> bool
     }
     let mut place = 0;
     'steps: while name.len() - place > BLOCK_SIZE {
-        if !is_usual_block(name, place) {
+        if !is_usual_block::<BLOCK_SIZE>(name, place) {
             return false;
         }
         place += BLOCK_SIZE;
     }
-    is_usual_block(name, name.len() - BLOCK_SIZE)
+    is_usual_block::<BLOCK_SIZE>(name, name.len() - BLOCK_SIZE)
 }
 
 /// The same of a name that is shorter than a block. One that is shorter than a half isn't looked at.
@@ -54,30 +54,20 @@ fn is_usual_by_halves(name: &[u8]) -> bool
     requires { length name.now < BLOCK_SIZE }
     ensures { IsTrue result → HasNoneUnusual name.now 0 (length name.now) }
 {
-    name.len() >= HALF_SIZE && is_usual_half(name, 0) && is_usual_half(name, name.len() - HALF_SIZE)
+    name.len() >= HALF_SIZE
+        && is_usual_block::<HALF_SIZE>(name, 0)
+        && is_usual_block::<HALF_SIZE>(name, name.len() - HALF_SIZE)
 }
 
 /// Whether no byte of a block is unusual.
 #[inline(always)]
-pub(crate) fn is_usual_block(bytes: &[u8], place: usize) -> bool
-    requires { place + BLOCK_SIZE ≤ length bytes.now }
-    ensures { IsTrue result → HasNoneUnusual bytes.now place (place + BLOCK_SIZE) }
+pub(crate) fn is_usual_block<const N: usize>(bytes: &[u8], place: usize) -> bool
+    requires { (0 < N) × (N ≤ 64) × (place + N ≤ length bytes.now) }
+    ensures { IsTrue result → HasNoneUnusual bytes.now place (place + N) }
 {
-    let block = u8x16::from_slice(&bytes[place..]);
-    let is_no_sign = block.simd_lt(u8x16::splat(32)) | block.simd_ge(u8x16::splat(127));
-    let is_escaped = block.simd_eq(u8x16::splat(b'"')) | block.simd_eq(u8x16::splat(b'\\'));
-    (is_no_sign | is_escaped).to_bitmask() == 0
-}
-
-/// Whether no byte of half a block is unusual.
-#[inline(always)]
-fn is_usual_half(bytes: &[u8], place: usize) -> bool
-    requires { place + HALF_SIZE ≤ length bytes.now }
-    ensures { IsTrue result → HasNoneUnusual bytes.now place (place + HALF_SIZE) }
-{
-    let half = u8x8::from_slice(&bytes[place..]);
-    let is_no_sign = half.simd_lt(u8x8::splat(32)) | half.simd_ge(u8x8::splat(127));
-    let is_escaped = half.simd_eq(u8x8::splat(b'"')) | half.simd_eq(u8x8::splat(b'\\'));
+    let block = Simd::<u8, N>::from_slice(&bytes[place..]);
+    let is_no_sign = block.simd_lt(Simd::splat(32)) | block.simd_ge(Simd::splat(127));
+    let is_escaped = block.simd_eq(Simd::splat(b'"')) | block.simd_eq(Simd::splat(b'\\'));
     (is_no_sign | is_escaped).to_bitmask() == 0
 }
 

@@ -60,7 +60,7 @@ fn is_even_block(told: &[u8], place: usize) -> bool
     requires { (1 ≤ place) × (place + BLOCK_SIZE ≤ length told.now) }
     ensures { IsTrue result → HasNoneOdd told.now place (place + BLOCK_SIZE) }
 {
-    is_usual_block(told, place) && begins_names_in_block(told, place)
+    is_usual_block::<BLOCK_SIZE>(told, place) && begins_names_in_block(told, place)
 }
 
 /// Whether no byte of a block is a slash or a dot right behind a slash.

@@ -3,9 +3,9 @@ ghost use Rattle.std.specs.Prelude.{◌≡◌};
 ghost use Rattle.globtree.specs.Words.{takes_value};
 
 use crate::attribute_flags::AttributeFlags;
-use crate::attribute_words::attribute_flags_of;
-use crate::flags::{Flags, is_option};
-use std::alloc::{AllocError, Global};
+use crate::command_words::{flags_of, only_operand};
+use crate::files_flags::FilesFlags;
+use crate::flags::Flags;
 
 /// What is asked for before the command.
 #[derive(Clone, Copy, Drop)]
@@ -41,9 +41,9 @@ pub(crate) enum Command<'a> {
         flags: AttributeFlags,
         words: &'a [String],
     },
-    /// List the files below a folder that aren't ignored; below the current one where none is told. With `nul` a NUL ends each name.
+    /// List the files below a folder that aren't ignored; below the current one where none is told.
     Files {
-        nul: bool,
+        flags: FilesFlags,
         folder: &'a str,
     },
 }
@@ -118,71 +118,19 @@ fn command_of(words: &[String]) -> Option<Command<'_>> {
     };
     match command.as_str() {
         "check-ignore" => Some(Command::CheckIgnore {
-            flags: flags_of(rest)?,
+            flags: flags_of(Flags::none(), rest)?,
             words: rest,
         }),
-        "files" => files_of(rest),
+        "files" => Some(Command::Files {
+            flags: flags_of(FilesFlags { nul: false }, rest)?,
+            folder: only_operand(rest, ".")?,
+        }),
         "check-attr" => Some(Command::CheckAttr {
-            flags: attribute_flags_of(rest)?,
+            flags: flags_of(AttributeFlags::none(), rest)?,
             words: rest,
         }),
         "--help" | "-h" => Some(Command::Help),
         "--version" => Some(Command::Version),
         _ => None,
     }
-}
-
-/// The options of `check-ignore`, which may stand behind paths; `None` where one is wrong. Behind `--` there is none.
-fn flags_of(words: &[String]) -> Option<Flags> {
-    let mut flags = Flags::none();
-    'words: for word in words {
-        if word.as_str() == "--" {
-            return Some(flags);
-        }
-        if is_option(word.as_str()) {
-            flags = flags.with_option(word.as_str())?;
-        }
-    }
-    Some(flags)
-}
-
-/// The command of the words behind `files`; `None` where they are wrong.
-fn files_of(words: &[String]) -> Option<Command<'_>> {
-    let mut nul = false;
-    let mut folder = None;
-    let mut are_paths = false;
-    'words: for word in words {
-        let word = word.as_str();
-        if are_paths || !is_option(word) {
-            if folder.is_some() {
-                return None;
-            }
-            folder = Some(word);
-        } else if word == "--" {
-            are_paths = true;
-        } else if word == "-z" {
-            nul = true;
-        } else {
-            return None;
-        }
-    }
-    Some(Command::Files {
-        nul,
-        folder: folder.unwrap_or("."),
-    })
-}
-
-/// The paths among the words behind `check-ignore`: those that are no option, and all behind `--`.
-pub(crate) fn paths_of(alloc: Global, words: &[String]) -> Result<Vec<&str>, AllocError> {
-    let mut paths = Vec::new(alloc);
-    let mut are_paths = false;
-    'words: for word in words {
-        let word = word.as_str();
-        if are_paths || !is_option(word) {
-            paths.push(word)?;
-        } else if word == "--" {
-            are_paths = true;
-        }
-    }
-    Ok(paths)
 }

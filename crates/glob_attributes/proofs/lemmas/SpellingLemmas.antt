@@ -1,8 +1,10 @@
 -- The head of a line: the relation and the equation agree.
-use Rattle.std.proofs.Common.{◌≡◌, ◌≢◌, ◌⊎◌, inl, inr, ⊎_elim, ℕ, zero, suc, ◌+◌, ◌-◌, ◌*◌, ◌<◌, ◌≤◌, Bool, true, false, cond, List, [], ◌∷◌, ◌++◌, length, drop, Option, None, Some, refl, sym, ap, subst, ◌∙◌, append_assoc, le_refl, take-append-drop, arith}
+use Rattle.std.proofs.Common.{◌≡◌, ◌≢◌, ◌⊎◌, inl, inr, ⊎_elim, ℕ, zero, suc, ◌+◌, ◌-◌, ◌*◌, ◌<◌, ◌≤◌, Bool, true, false, cond, List, [], ◌∷◌, ◌++◌, length, drop, Option, None, Some, Vec, refl, sym, ap, subst, ◌∙◌, append_assoc, le_refl, take-append-drop, arith}
 use Rattle.std.specs.Prelude.{◌==◌, ◌&&◌, ◌↔◌, codes, nat_eq, nat_le, option_map, slice_index_or}
 use Rattle.std.specs.List.{AllByRecursion, AllZip, IsAmong, before_first, concat, position_or_len, starts_with}
+use Rattle.std.specs.Borrow.{Bor}
 use Rattle.std.specs.Map.{lookup}
+use Rattle.std.specs.Option.{MatchOption}
 use Rattle.std.proofs.lemmas.Bool.{and_parts, cases_Bool, eqb-true, false≢true, le-leb, leb-true, ne_eqb}
 use Rattle.std.proofs.lemmas.Bool.Decides.{eqb_tells}
 use Rattle.std.proofs.lemmas.List.{append_cancel_left}
@@ -287,7 +289,7 @@ quoted_is_spelled (suc n) (a ∷ bytes) head rest low is =
 
 -- ---- the head
 
-abbrev begins : List ℕ → Bool
+abbrev pub begins : List ℕ → Bool
 begins text = starts_with nat_eq text (codes "\"")
 
 quote_first : (text : List ℕ) → begins text ≡ true → text ≡ quote ∷ drop 1 text
@@ -301,13 +303,19 @@ no_quoted : (text : List ℕ) → begins text ≡ true → quoted_from 0 (drop 1
 no_quoted text quoted none head rest q =
     let found : None ≡ some_texts head rest = sym none ∙ ap (λ t. quoted_from 0 (drop 1 t)) q.2 ∙ quoted_spelled head q.0 rest q.1 in absurd (cc)
 
-no_quote : (text : List ℕ) → begins text ≡ false → (head rest : List ℕ) → IsQuotedHead text head rest → ⊥
+pub no_quote : (text : List ℕ) → begins text ≡ false → (head rest : List ℕ) → IsQuotedHead text head rest → ⊥
 no_quote text other head rest q = false≢true (sym other ∙ ap begins q.2)
 
 quoted_head : (text head rest : List ℕ) → begins text ≡ true → quoted_from 0 (drop 1 text) ≡ Some (head, rest) → IsQuotedHead text head rest
 quoted_head text head rest quoted found =
     let spelled = quoted_is_spelled (length (drop 1 text)) (drop 1 text) head rest (le_refl _) found in
     (spelled.units, spelled.spells, quote_first text quoted ∙ ap (λ l. quote ∷ l) spelled.joined)
+
+-- what was read behind a quote at the front, where anything was, is a quoted head
+pub quoted_or_none : {Z : Type 0} (text : List ℕ) → begins text ≡ true → (read : Option (Vec ℕ Z × Bor (List ℕ))) → option_map (λ found. (found.0.items, found.1.now)) read ≡ quoted_from 0 (drop 1 text)
+    → MatchOption read ((head rest : List ℕ) → ¬ IsQuotedHead text head rest) (λ found. IsQuotedHead text found.0.items found.1.now)
+quoted_or_none text begun None is = λ head rest. no_quoted text begun (sym is) head rest
+quoted_or_none text begun (Some found) is = quoted_head text found.0.items found.1.now begun (sym is)
 
 -- a quoted head is the head, and else the bare one is
 data HeadCase (text : List ℕ) : Type 0 where

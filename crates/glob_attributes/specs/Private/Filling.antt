@@ -1,5 +1,5 @@
 -- Putting in macros: which of them have their names decided.
-use Rattle.std.specs.Prelude.{◌≡◌, ℕ, ◌+◌, suc, Bool, false, true, if◌then◌else◌, List, [], ◌∷◌, length, Option, None, Some, is_some, option_map, slice_get}
+use Rattle.std.specs.Prelude.{◌≡◌, ℕ, ◌+◌, ◌≤◌, suc, Bool, false, true, if◌then◌else◌, List, [], ◌∷◌, length, Option, None, Some, is_some, option_map, reverse, slice_get}
 use Rattle.std.specs.List.{list_any}
 use Rattle.std.specs.Option.{option_map_or, option_or}
 use Rattle.std.specs.Borrow.{Bor}
@@ -12,7 +12,8 @@ use Rattle.glob_attributes.specs.declared.places.Places.{Places}
 use Rattle.glob_attributes.specs.Views.{assignment_with}
 use Rattle.glob_attributes.specs.Macros.{Definition}
 use Rattle.glob_attributes.specs.Private.Places.{place_in}
-use Rattle.glob_attributes.specs.States.{Assigned}
+use Rattle.glob_attributes.specs.Private.Telling.{unmarked_count}
+use Rattle.glob_attributes.specs.States.{Assigned, put_in}
 use Rattle.glob_attributes.specs.declared.assignment.State.{State}
 use Rattle.glob_attributes.specs.declared.assignment.State.TheVariants.{Set, Unspecified}
 
@@ -48,10 +49,18 @@ abbrev pub assignments_at : List Definition → ℕ → List Assigned
 assignments_at macros place = option_map_or (λ macro. macro.assignments) (slice_get macros place) []
 
 -- whether a state is that of an attribute that is set, and whether it says something
-abbrev pub is_set : State (List ℕ) → Bool
+abbrev pub is_set : {B : Type 0} → State B → Bool
 is_set Set = true
 is_set _ = false
 
 abbrev pub is_specified : State (List ℕ) → Bool
 is_specified Unspecified = false
 is_specified _ = true
+
+-- The macro of an assignment's name gets a mark. The place is that of the macro where the assignment puts it in: then it had none.
+pub record PutsIn (macros : List Definition) (assigned : Assigned) (old new : List Bool) (place : Option ℕ) : Type 0 where
+  pub count : length new ≡ length old
+  pub gives : (before : List Assigned) → AreMarked macros before old → reverse (option_map_or (assignments_at macros) place []) ≡ put_in macros before assigned
+  pub marked : (before : List Assigned) → AreMarked macros before old → AreMarked macros (assigned ∷ before) new
+  pub fewer : length (option_map_or (assignments_at macros) place []) + unmarked macros new ≤ unmarked macros old
+  pub room : option_map_or (λ p. 1) place 0 + unmarked_count new ≤ unmarked_count old

@@ -6,10 +6,10 @@ ghost use Rattle.glob_attributes.specs.Borrowed.{assigned_by, definition_of, row
 ghost use Rattle.glob_attributes.specs.Private.Filling.{AreMarked, last_place, unmarked};
 ghost use Rattle.glob_attributes.specs.Private.Telling.{unmarked_count};
 ghost use Rattle.glob_attributes.specs.States.{Assigned, IsFilledIn, put_in, state_in};
-ghost use Rattle.glob_attributes.specs.Private.Filling.{is_set};
 
 use crate::assignment::{Assignment, State, split_word};
 use crate::borrowed::last_word::last_word;
+use crate::marking::marked_place;
 
 /// A text of words.
 #[repr(C)]
@@ -102,23 +102,9 @@ fn put_in<'a>(
     ensures room { option_map_or (λ words. 1) result 0 + unmarked_count marks.new ≤ unmarked_count marks.old }
     ensures count { length marks.new ≡ length marks.old }
 {
-    let place = last_place(macros, assignment.name)?;
-    if marks[place] {
-        return None;
-    }
-    marks[place] = true;
-    if is_set(&assignment.state) {
-        Some(macros[place].words)
-    } else {
-        None
-    }
-}
-
-/// Whether a state is that of an attribute that is set.
-fn is_set(state: &State<&[u8]>) -> bool
-    ensures { result ≡ is_set (state_with (λ bytes. bytes.now) state.now) }
-{
-    matches!(state, State::Set)
+    let named = last_place(macros, assignment.name);
+    let place = marked_place(marks, named, assignment.state.is_set())?;
+    Some(macros[place].words)
 }
 
 /// The place of the last macro of a name.

@@ -8,7 +8,7 @@ use gix_glob::search::pattern::List;
 use gix_glob::search::{Pattern as _, Watched};
 use glob_attributes::{AttributeLines, AttributeQuery, MacroTable, run_attributes};
 use glob_lists::{ListIndex, bases_are_folders};
-use glob_trees::RecordFault;
+use record_streams::RecordFault;
 use std::alloc::{AllocError, Global};
 use std::io::ErrorKind;
 use std::process::Abort;

@@ -2,7 +2,7 @@
 use super::Brackets;
 use crate::compare::same;
 use gix_glob::search::Watched;
-use glob_trees::RecordStream;
+use record_streams::RecordStream;
 use std::alloc::Global;
 use std::cell::Cell;
 use std::io;

@@ -3,7 +3,7 @@ use Rattle.std.proofs.Common.{◌≡◌, ℕ, List, ◌++◌, ◌≤◌, take, d
 use Rattle.std.specs.Io.{StartsWith}
 use Rattle.std.proofs.Math.Seq.{take-append_seam}
 use Rattle.std.proofs.lemmas.List.{length-take, take-append-drop, take-append-le}
-use Rattle.glob_trees.specs.Records.{Adds}
+use Rattle.record_streams.specs.Records.{Adds}
 
 -- what a text begins with, and the rest
 cut : (front text : List ℕ) → StartsWith text front → text ≡ front ++ drop (length front) text

@@ -1,20 +1,17 @@
--- A byte more is the head's.
-use Rattle.std.proofs.Common.{◌≡◌, ◌+◌, ◌∙◌, ap, sym, Some, drop}
-use Rattle.std.proofs.lemmas.List.{take_rest}
-use Rattle.std.specs.Prelude.{option_map}
-use Rattle.glob_attributes.specs.Equations.Heads.{quoted_from, unit_at, with_front}
-use Rattle.glob_attributes.proofs.lemmas.HeadLemmas.{quoted_from-unit, with_front-more}
+-- What was read behind the first quote tells.
+use Rattle.std.proofs.Common.{sym, ap, ◌∙◌}
+use Rattle.std.proofs.lemmas.Result.{IfOk-weaker}
+use Rattle.glob_attributes.specs.Equations.Heads.{quoted_from}
+use Rattle.glob_attributes.proofs.lemmas.SpellingLemmas.{no_quote, quoted_or_none}
+use Rattle.glob_attributes.proofs.lemmas.StartLemmas.{starts_with-byte}
 use Rattle.glob_attributes.proofs.head.read_quoted.Goals as goal
 
-pub units-preserved : goal.units-preserved
-units-preserved c =
-    let rest = c.units.rest.now in
-    let head = c.units.head.items in
-    let byte = c.in-Some.byte in
-    let more = c.in-Some.more in
-    let unit : unit_at rest ≡ Some (byte, more) = sym c.unit_at.ensures ∙ c.in-Some.is in
-    rw take_rest (
-    ap (λ h. option_map (with_front h) (quoted_from 0 (drop (more + 1) rest))) c.in_ok-push.ensures.items
-    ∙ with_front-more head byte (quoted_from 0 (drop (more + 1) rest))
-    ∙ sym (ap (option_map (with_front head)) (quoted_from-unit rest byte more unit))
-    ∙ c.units.invariant)
+pub returns-in-Some : goal.returns-in-Some
+returns-in-Some c =
+    let text = c.args.text.now in
+    IfOk-weaker c.read_units.result _ _
+    (λ read is. quoted_or_none text (starts_with-byte 34 text ∙ c.in-Some.ensures.cases.0) read (is ∙ ap (quoted_from 0) c.in-Some.ensures.cases.1))
+    c.read_units.ensures
+
+pub returns-in-None : goal.returns-in-None
+returns-in-None c = let text = c.args.text.now in λ head rest. no_quote text (starts_with-byte 34 text ∙ c.in-None.ensures.cases) head rest

@@ -6,13 +6,14 @@ use Rattle.globtree.proofs.lemmas.LaneLemmas.{hit, below, at_most, joined, from_
 use Rattle.globtree.proofs.unusual.is_usual_block.Goals as goal
 
 pub returns : goal.returns
-returns c none =
+returns g c none =
     let told = c.args.bytes.now in
     let at = c.args.place in
-    let v = chunk at 16 told in
-    let long = length-chunk at 16 told c.requires in
-    none_is is_unusual told at 16 _ c.requires (omega arith) c.type_inv.bytes none _
+    let n = g.row.N in
+    let v = chunk at n told in
+    let long = length-chunk at n told c.requires.2 in
+    none_is is_unusual told at n _ c.requires.2 c.requires.1 c.type_inv.bytes none _
     (joined bit_or _ _ v
-    (joined bit_or _ _ v (zip2_splat below v 16 32 long) (from_splat at_most v 16 127 long))
-    (joined bit_or _ _ v (zip2_splat hit v 16 34 long) (zip2_splat hit v 16 92 long)))
+    (joined bit_or _ _ v (zip2_splat below v n 32 long) (from_splat at_most v n 127 long))
+    (joined bit_or _ _ v (zip2_splat hit v n 34 long) (zip2_splat hit v n 92 long)))
     refl

@@ -1,6 +1,8 @@
 -- The path begins with the base of the last list, and has no slash behind it.
 use Rattle.std.proofs.Common.{◌≡◌, ◌-◌, ◌<◌, ◌≤◌, None, Some, length, option_map, take, ap, refl, sym, subst, ◌∙◌, arith}
 use Rattle.std.specs.Option.{option_copied}
+use Rattle.std.proofs.lemmas.Bool.Decides.{Decides-eqb}
+use Rattle.std.proofs.lemmas.Slice.Eq.{slice_eq-Decides}
 use Rattle.std.specs.Vec.{vec_items}
 use Rattle.glob_trees.specs.Private.Entered.{IsFrontOf}
 use Rattle.glob_trees.proofs.lemmas.InFolder.{somewhere, under_last, under_rest}
@@ -20,7 +22,9 @@ returns-then-len-start g c begins =
     let split = last_splits c.deref.result.now list (sym c.last.ensures.value ∙ ap option_copied c.in-Some.is) in
     let based : option_map vec_items list.base ≡ Some base = ap (λ l. option_map vec_items l.base) (sym c.list.ensures) ∙ ap (option_map vec_items) c.in-Some-Some.is-0 in
     let long = c.deref-then-len-start.ensures.len ∙ sym c.len-in-Some-Some.ensures ∙ c.if-len-start.true in
-    let front : base ≡ take start path = sym c.deref-then-len-start.ensures.value ∙ c.begins_with.ensures.0 begins ∙ ap (λ k. take k c.bytes.result.now) long ∙ ap (take start) c.bytes.ensures in
+    let told = c.deref-then-len-start.result.now in
+    let whole : told ≡ take (length told) c.bytes.result.now = (slice_eq-Decides Decides-eqb told (take (length told) c.bytes.result.now) c.starts_with.result c.starts_with.ensures.value).0 begins in
+    let front : base ≡ take start path = sym c.deref-then-len-start.ensures.value ∙ whole ∙ ap (λ k. take k c.bytes.result.now) long ∙ ap (take start) c.bytes.ensures in
     let last = c.in-Some-Some.ensures in
     let after = last.after in
     let room : start ≤ length path = omega (arith, last.some, after.inside) in

@@ -1,0 +1,37 @@
+//! The work tree that the options before a command tell of, with the files of patterns that count in all of it.
+
+use crate::excludes::{push_excludes, push_info};
+use crate::places::{go_to_folders, go_to_top};
+use crate::signs::{Concerns, tell_signs};
+use crate::sources::FolderFiles;
+use crate::standpoint::Standpoint;
+use crate::words::Options;
+use anyhow::{Context, Result};
+use gix_glob::pattern::Case;
+use glob_lines::IgnoreLines;
+use glob_trees::Tree;
+use std::alloc::Global;
+use std::rt::{Env, Files};
+
+/// Goes to the top by the options: where paths are told from, and the work tree.
+pub(crate) fn tree_of<'a, R: Files + Env + Eprint + AllocGlobal>(
+    rt: &'a R,
+    alloc: Global,
+    options: Options<'_>,
+    concerns: Concerns,
+) -> Result<(Standpoint, Tree<IgnoreLines, FolderFiles<'a, R>>)> {
+    go_to_folders(rt, options.words)?;
+    let mut fronts = Vec::new(alloc);
+    push_excludes(rt, alloc, options.excludes, &mut fronts)?;
+    let standpoint = go_to_top(rt, alloc, options.top)?;
+    tell_signs(rt, alloc, options, concerns)?;
+    push_info(rt, alloc, &mut fronts)?;
+    let case = if options.ignore_case {
+        Case::Fold
+    } else {
+        Case::Sensitive
+    };
+    let source = FolderFiles::new(rt, alloc);
+    let tree = Tree::new(alloc, source, fronts, case).context("the bases of lists")?;
+    Ok((standpoint, tree))
+}
