@@ -31,14 +31,7 @@ impl Link {
     pub(crate) fn place(self) -> Option<usize>
         ensures { MatchOption result (self.0 ≡ 0) (λ place. place + 1 ≡ self.0) }
     {
-        (self.0 as usize).checked_sub(1)
-    }
-
-    /// What [`Link::place`] answers, counted in 32 bits: that costs less for a row that is mostly passed over.
-    #[inline(always)]
-    pub(crate) fn narrow_place(self) -> Option<usize>
-        ensures { MatchOption result (self.0 ≡ 0) (λ place. place + 1 ≡ self.0) }
-    {
+        // counted in 32 bits: that costs less for a row that is mostly passed over
         match self.0.checked_sub(1) {
             Some(place) => Some(place as usize),
             None => None,

@@ -36,7 +36,7 @@ module _ (macros : List Definition) (marks : List Bool) (a : Assigned) where
     pub puts_in_marked : slice_get marks p ≡ Some true → PutsIn macros a marks marks None
     puts_in_marked there = record {
       count = refl;
-        gives = λ before marked. sym (put_in-marked macros before marks a p marked is there);
+      gives = λ before marked. sym (put_in-marked macros before marks a p marked is there);
       marked = λ before marked. marked-same macros before marks a p marked is there;
       fewer = omega arith;
       room = omega arith;
@@ -54,7 +54,7 @@ module _ (macros : List Definition) (marks : List Bool) (a : Assigned) where
     pub puts_in_unset : slice_get marks p ≡ Some false → is_set a.state ≡ false → PutsIn macros a marks (set marks p true) None
     puts_in_unset there unset = record {
       count = length-set marks p true;
-        gives = λ before marked. sym (put_in-unset macros before a unset);
+      gives = λ before marked. sym (put_in-unset macros before a unset);
       marked = λ before marked. marked-more macros before marks a p marked is;
       fewer = omega (arith, unmarked-less macros marks p there);
       room = omega (arith, unmarked_count-less marks p there);

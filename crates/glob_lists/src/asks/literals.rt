@@ -70,14 +70,7 @@ pub(crate) fn end_key(text: &[u8], count: usize) -> u64
     requires few { count ≤ LONGEST_END }
     ensures { result ≡ end_key text.now count }
 {
-    if text.len() >= LONGEST_END {
-        return without_bytes(end_number(text), LONGEST_END - count);
-    }
-    let mut key = 0;
-    'bytes: for n in 0..count {
-        key = longer_key(key, text[text.len() - (n + 1)]);
-    }
-    key
+    without_bytes(end_number(text), LONGEST_END - count)
 }
 
 /// The number of the longest end of a text that is looked at. Where the text is shorter, zeros stand for the bytes that it lacks.
@@ -176,7 +169,7 @@ pub(crate) fn spare_bits(length: usize) -> u8
 }
 
 /// The number of one byte more.
-pub(crate) fn longer_key(key: u64, byte: u8) -> u64
+fn longer_key(key: u64, byte: u8) -> u64
     ensures { result ≡ ((key * 256) % (2 ^ 64) + to_ascii_lowercase byte) % (2 ^ 64) }
 {
     key.wrapping_mul(256)

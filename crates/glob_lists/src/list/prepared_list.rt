@@ -42,13 +42,8 @@ impl<T: search::Pattern> PreparedList<T> {
     pub fn new(alloc: Global, list: List<T>) -> PreparedList<T>
         ensures { result ≡ list }
     {
-        match ListRows::of(alloc, &list) {
-            Ok(rows) => PreparedList {
-                list,
-                rows: Some(rows),
-            },
-            Err(_) => PreparedList { list, rows: None },
-        }
+        let rows = ListRows::of(alloc, &list).ok();
+        PreparedList { list, rows }
     }
 
     /// The list.

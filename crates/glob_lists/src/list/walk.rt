@@ -216,7 +216,7 @@ impl Walk {
     {
         let mut other = self.other;
         'others: while other.is_after(own) {
-            let place = other.narrow_place()?;
+            let place = other.place()?;
             counts.looks(1);
             let row = &rows[place];
             let before = other.back_to(row.before());

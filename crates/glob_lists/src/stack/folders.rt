@@ -26,27 +26,9 @@ pub(crate) struct Folder {
     /// The number of the first bytes of the base.
     key: u64,
     /// The place of the list.
-    list: u32,
+    pub(crate) list: u32,
     /// The last folder before this one whose base begins the base of this one.
-    above: Link,
-}
-
-impl Folder {
-    /// The place of the list.
-    #[inline(always)]
-    pub(crate) fn list(&self) -> usize
-        ensures { result ≡ self.now.list }
-    {
-        self.list as usize
-    }
-
-    /// The last folder before this one whose base begins the base of this one.
-    #[inline(always)]
-    pub(crate) fn above(&self) -> Link
-        ensures { result ≡ self.now.above }
-    {
-        self.above
-    }
+    pub(crate) above: Link,
 }
 
 /// The folders of the lists that have patterns, or none where going up from a folder doesn't pay, or wouldn't meet the later lists first:
@@ -337,13 +319,7 @@ fn all_after<T: search::Pattern>(
     requires forest { IsForest (map (entry_list_of T.seen) lists.now) folders.now }
     ensures { IsTrue result → AreAllAfter (map (entry_list_of T.seen) lists.now) folders.now path.now place }
 {
-    if place >= folders.len() {
-        return true;
-    }
-    if is_up_to(base_at(lists, folders[place].list), path) {
-        return false;
-    }
-    true
+    place >= folders.len() || !is_up_to(base_at(lists, folders[place].list), path)
 }
 
 /// The base of the list at a place; empty where it has none, or there is no such list.

@@ -126,22 +126,7 @@ impl<'a, T: search::Pattern> ListIndex<'a, T> {
     pub fn decide(&self, path: &RepositoryPath<'_>) -> Option<(usize, usize)>
         ensures { Decides (map (entry_list_of T.seen) self.now.lists) path.now.bytes path.now.is_dir self.now.case result }
     {
-        self.decide_with_new_counts::<Brand, Brand>(path, Blank::new(1), Blank::new(1))
-    }
-
-    /// Which pattern decides about a path, with new counts that no one asks for.
-    #[inline(always)]
-    fn decide_with_new_counts<S: Ledger, L: Ledger>(
-        &self,
-        path: &RepositoryPath<'_>,
-        steps: Blank,
-        looks: Blank,
-    ) -> Option<(usize, usize)>
-        requires steps { IsBlankOf S.name S.parts steps }
-        requires looks { IsBlankOf L.name L.parts looks }
-        ensures { Decides (map (entry_list_of T.seen) self.now.lists) path.now.bytes path.now.is_dir self.now.case result }
-    {
-        self.decide_with_counts(path, &mut Counts::<S, L>::new(steps, looks))
+        self.decide_near(path, &mut Cursor::new())
     }
 
     /// Which pattern decides about a path, as [`ListIndex::decide`] answers it, whatever the cursor holds. What was found for the

@@ -15,23 +15,12 @@ pub(crate) fn front_key(text: &[u8]) -> u64
     ensures bytes { AreBytes text.now }
 {
     if FRONT <= text.len() {
-        return whole_key(text, 0);
+        let key = bytes_key(text, 0);
+        if key & NO_CAPITAL == NO_CAPITAL {
+            return key;
+        }
     }
-    folded_key(text, 0)
-}
-
-/// What [`front_key`] says, where the text has as many bytes.
-#[inline(always)]
-fn whole_key(text: &[u8], place: usize) -> u64
-    requires { place + FRONT ≤ length text.now }
-    ensures number { result ≡ front_key text.now place FRONT }
-    ensures bytes { AreBytes text.now }
-{
-    let key = bytes_key(text, place);
-    if key & NO_CAPITAL == NO_CAPITAL {
-        return key;
-    }
-    folded_key(text, place)
+    folded_key(text)
 }
 
 /// The number that as many bytes of a text make from a place on, as they are.
@@ -50,14 +39,13 @@ fn bytes_key(text: &[u8], place: usize) -> u64
 /// What [`front_key`] says, byte by byte.
 #[cold]
 #[inline(never)]
-fn folded_key(text: &[u8], place: usize) -> u64
-    requires { place + FRONT < 2 ^ 64 }
-    ensures number { result ≡ front_key text.now place FRONT }
+fn folded_key(text: &[u8]) -> u64
+    ensures number { result ≡ front_key text.now 0 FRONT }
     ensures bytes { AreBytes text.now }
 {
     let mut key = 0;
     'bytes: for n in 0..FRONT {
-        key = key * 256 + u64::from(folded_at(text, place + n));
+        key = key * 256 + u64::from(folded_at(text, n));
     }
     key
 }

@@ -36,11 +36,11 @@ pub(crate) fn decide_from<T: search::Pattern, S: Ledger, L: Ledger>(
     let mut link = last;
     'folders: while let Some(place) = link.place() {
         let folder = &folders[place];
-        let list = folder.list();
+        let list = folder.list as usize;
         if let Some(mapping) = lists.last_match(list, question, counts) {
             return Some((list, mapping));
         }
-        link = folder.above();
+        link = folder.above;
     }
     None
 }
@@ -64,9 +64,9 @@ pub(crate) fn matches_from<T: search::Pattern, S: Ledger, L: Ledger>(
     let mut link = last;
     'folders: while let Some(place) = link.place() {
         let folder = &folders[place];
-        let list = folder.list();
+        let list = folder.list as usize;
         lists.push_matches(list, question, pairs, counts)?;
-        link = folder.above();
+        link = folder.above;
     }
     pairs.reverse();
     Ok(())

@@ -122,9 +122,6 @@ AreChained-push rows heads heads' row added chain head small is here set same wh
 
 -- ---- the chain of a row
 
-
-
-
 pub chain_of-end : (count : ℕ) (row : Row) → HasSomeEnd row → chain_of count row ≡ end_chain count row.asked
 chain_of-end count row some = ap (λ (b : Bool). if b then end_chain count row.asked else 0) (lt-ltb row.spare 64 some)
 

@@ -7,13 +7,13 @@ use Rattle.glob_lists.proofs.stack.order.folded_key.Goals as goal
 pub overflow_mul-key : goal.overflow_mul-key
 overflow_mul-key c =
     let bytes : AreBytes c.args.text.now = λ j. (let fits = c.type_inv.text j in omega arith) in
-    let room = front_key-fits c.args.text.now bytes c.args.place c.bytes.n c.bytes.key (omega arith) c.bytes.invariant in
+    let room = front_key-fits c.args.text.now bytes 0 c.bytes.n c.bytes.key (omega arith) c.bytes.invariant in
     omega arith
 
 pub overflow_add-key : goal.overflow_add-key
 overflow_add-key c =
     let bytes : AreBytes c.args.text.now = λ j. (let fits = c.type_inv.text j in omega arith) in
-    let room = front_key-fits c.args.text.now bytes c.args.place c.bytes.n c.bytes.key (omega arith) c.bytes.invariant in
+    let room = front_key-fits c.args.text.now bytes 0 c.bytes.n c.bytes.key (omega arith) c.bytes.invariant in
     omega arith
 
 pub returns-clause-bytes : goal.returns-clause-bytes
