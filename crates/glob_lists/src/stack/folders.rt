@@ -319,7 +319,10 @@ fn all_after<T: search::Pattern>(
     requires forest { IsForest (map (entry_list_of T.seen) lists.now) folders.now }
     ensures { IsTrue result → AreAllAfter (map (entry_list_of T.seen) lists.now) folders.now path.now place }
 {
-    place >= folders.len() || !is_up_to(base_at(lists, folders[place].list), path)
+    if place >= folders.len() {
+        return true;
+    }
+    !is_up_to(base_at(lists, folders[place].list), path)
 }
 
 /// The base of the list at a place; empty where it has none, or there is no such list.

@@ -1,12 +1,11 @@
 -- The row of a pattern is chained to those before it.
-use Rattle.std.proofs.Common.{◌≡◌, List, ◌+◌, ◌%◌, ◌<◌, ℕ, Some, length, map, take, refl, sym, subst, ◌∙◌, arith}
+use Rattle.std.proofs.Common.{◌≡◌, List, ◌%◌, ◌<◌, ℕ, Some, length, map, take, refl, sym, subst, ◌∙◌, arith}
 use Rattle.std.specs.Prelude.{slice_get}
 use Rattle.std.proofs.lemmas.List.{length-map, length-set, length-take, take_more_set}
 use Rattle.std.proofs.lemmas.Option.{none-some}
 use Rattle.gix_glob.specs.Entries.{Entry}
 use Rattle.gix_glob.proofs.lemmas.Elements.{slice_get-map_at}
 use Rattle.glob_lists.specs.declared.asks.row.Row.{Row}
-use Rattle.glob_lists.specs.Prepared.{ArePrepared}
 use Rattle.glob_lists.specs.Private.Asks.Rows.{Asks}
 use Rattle.glob_lists.specs.Private.Lists.Chains.{AreChained}
 use Rattle.glob_lists.proofs.lemmas.Lists.ChainLemmas.{AreChained-none}

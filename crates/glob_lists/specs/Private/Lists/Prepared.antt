@@ -1,8 +1,6 @@
 -- A list and what its entries ask of a path: a row for each, what all of them ask for together, and their chains.
 use Rattle.std.specs.Prelude.{◌≡◌, ℕ, ◌^◌, ◌<◌, IfSome, List, Some, length, slice_get}
-use Rattle.gix_glob.specs.Entries.{Entry}
 use Rattle.gix_glob.specs.EntryLists.{EntryList}
-use Rattle.glob_lists.specs.declared.asks.row.Row.{Row}
 use Rattle.glob_lists.specs.declared.list.rows.ListRows.{ListRows}
 use Rattle.glob_lists.specs.Deciding.{BasesAreFolders}
 use Rattle.glob_lists.specs.Prepared.{AreAsked}

@@ -1,5 +1,5 @@
 -- A walk over rows, from the last one to the first.
-use Rattle.std.specs.Prelude.{◌≡◌, ◌⊎◌, ℕ, ◌+◌, ◌<◌, ◌≤◌, List, MatchOption, Option, Some, length, slice_get, slice_index, slice_index_or, slice_set}
+use Rattle.std.specs.Prelude.{◌≡◌, ◌⊎◌, ℕ, ◌+◌, ◌<◌, ◌≤◌, List, MatchOption, Option, Some, length, slice_get, slice_index, slice_index_or}
 use Rattle.glob_lists.specs.declared.link.Link.{Link}
 use Rattle.glob_lists.specs.declared.link.TheConstants.Link.{NONE}
 use Rattle.glob_lists.specs.declared.asks.literals.TheConstants.{LONGEST_END}

@@ -1,6 +1,6 @@
 -- The lists are gone through from the last one on.
 use Rattle.std.proofs.Common.{◌-◌, length, arith}
-use Rattle.glob_lists.proofs.lemmas.Deciding.AskedLemmas.{Decides-last, NoListFrom-last, SpendsFrom-all, SpendsFrom-asked, SpendsFrom-none, SpendsFromWith}
+use Rattle.glob_lists.proofs.lemmas.Deciding.AskedLemmas.{Decides-last, NoListFrom-last, SpendsFrom-all, SpendsFrom-asked, SpendsFromWith}
 use Rattle.glob_lists.proofs.lemmas.Deciding.DecidingLemmas.{Decides-none}
 use Rattle.glob_lists.proofs.lemmas.Elements.{slice_get-inside}
 use Rattle.glob_lists.proofs.deciding.among.decide_among.Given.{Over}

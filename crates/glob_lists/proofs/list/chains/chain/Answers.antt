@@ -1,5 +1,5 @@
 -- The row is the last of its chain, and is linked to what was the last before.
-use Rattle.std.proofs.Common.{refl, sym, ◌∙◌, arith}
+use Rattle.std.proofs.Common.{refl, arith}
 use Rattle.glob_lists.proofs.lemmas.Lists.ChainLemmas.{AreChained-push}
 use Rattle.glob_lists.proofs.list.chains.chain.Goals as goal
 

@@ -1,5 +1,5 @@
 -- The list is the one that is prepared. Without rows its mappings are tested, and no look is taken for a row.
-use Rattle.std.proofs.Common.{◌+◌, ◌≤◌, length, arith}
+use Rattle.std.proofs.Common.{length, arith}
 use Rattle.gix_glob.specs.EntryLists.{entry_list_of}
 use Rattle.glob_lists.specs.Private.Lists.Answering.{Spends}
 use Rattle.glob_lists.proofs.list.prepared_list.PreparedList.last_match.Goals as goal
