@@ -1,5 +1,5 @@
 //! Links: where a row, an end or a folder stands, in four bytes.
-ghost use Rattle.std.specs.Prelude.{◌≡◌, ◌↔◌, ◌+◌, ◌^◌, ◌<◌, ◌≤◌, IsTrue, MatchOption};
+ghost use Rattle.std.specs.Prelude.{◌≡◌, ◌↔◌, ◌+◌, ◌^◌, ◌<◌, ◌≤◌, IsTrue, MatchOption, true};
 
 /// Where something stands among others, or that there is none, in four bytes: the number is one more than its place, or 0.
 #[repr(C)]
@@ -38,31 +38,34 @@ impl Link {
         }
     }
 
-    /// The link, where it leads to one of the first rows, so many; else one to no row. So nothing is believed of links in memory that
-    /// a caller keeps.
+    /// The link, where it leads to one of the first rows, so many, as one that is believed does; else one to no row. So nothing has to be
+    /// believed of links in memory that a caller keeps.
     #[inline(always)]
-    pub(crate) fn among(self, count: usize) -> Link
+    pub(crate) fn among<const IS_BELIEVED: bool>(self, count: usize) -> Link
+        requires { IS_BELIEVED ≡ true → self.0 ≤ count }
         ensures below { result.0 ≤ count }
         ensures same { self.0 ≤ count → result ≡ self }
     {
-        if self.0 as usize <= count {
+        if IS_BELIEVED || self.0 as usize <= count {
             self
         } else {
             Link::NONE
         }
     }
 
-    /// A link that a row has at the place of this one, where it leads further back; else one to no row.
+    /// A link that a row has at the place of this one, where it leads further back, as one that is believed does; else one to the row
+    /// before that.
     #[inline(always)]
-    pub(crate) fn back_to(self, before: Link) -> Link
-        ensures below { 0 < self.0 → result.0 < self.0 }
+    pub(crate) fn back_to<const IS_BELIEVED: bool>(self, before: Link) -> Link
+        requires some { 0 < self.0 }
+        requires low { IS_BELIEVED ≡ true → before.0 < self.0 }
+        ensures below { result.0 < self.0 }
         ensures same { before.0 < self.0 → result ≡ before }
     {
-        if before.0 < self.0 {
-            before
-        } else {
-            Link::NONE
+        if IS_BELIEVED {
+            return before;
         }
+        Link(before.0.min(self.0 - 1))
     }
 
     /// One more than the place of the row, or 0.

@@ -12,7 +12,7 @@ use crate::asks::row::Row;
 use crate::laws;
 use crate::link::Link;
 use crate::list::answering::is_answer;
-use crate::list::chains::{FEWEST_ROWS, chain};
+use crate::list::chains::{FEWEST_CHAINS, FEWEST_ROWS, chain};
 use crate::list::walk::Walk;
 use crate::path::RepositoryPath;
 use gix_glob::pattern::{Case, PatternView};
@@ -38,20 +38,17 @@ pub trait Viewed {
         ensures place { result.first_wildcard_pos ≡ (seen self.now).place };
 }
 
-/// How many chains there are: one of the rows without an end, and one for each bucket of ends.
-const CHAINS: usize = 512;
-
-/// The last row of each chain.
+/// The last row of each chain: one of the rows without an end, and one for each bucket of ends.
 #[repr(C)]
 #[derive(Debug, Copy, Clone)]
 pub struct Heads {
-    links: [Link; CHAINS],
+    links: [Link; FEWEST_CHAINS],
 }
 
 impl Heads {
     /// No row in any chain.
     pub const NONE: Heads = Heads {
-        links: [Link::NONE; CHAINS],
+        links: [Link::NONE; FEWEST_CHAINS],
     };
 
     /// The heads of the chains of so many rows; none where few rows are met in turn.
@@ -151,7 +148,12 @@ fn last_match_with<P: Viewed, S: Ledger, L: Ledger>(
     let has_sets = path.bytes().len() <= rows.len();
     let probe = Probe::new(path.bytes(), path.basename_start(), has_sets, &mut counts);
     let mut walk = Walk::down(rows, heads, &probe);
-    'candidates: while let Some(place) = walk.next(rows, heads, &probe, &mut counts) {
+    'candidates: while let Some(place) = walk.next::<false, S, L>(
+        rows,
+        heads,
+        &probe,
+        &mut counts,
+    ) {
         let pattern = patterns[place].view();
         if is_answer(&rows[place], &probe, pattern, path, case, &mut counts) {
             return Some(place);

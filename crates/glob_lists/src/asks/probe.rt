@@ -112,14 +112,6 @@ impl Probe {
         }
     }
 
-    /// The number of the longest end.
-    #[inline(always)]
-    pub(crate) fn end(&self) -> u64
-        ensures { result ≡ self.now.end }
-    {
-        self.end
-    }
-
     /// Whether that is the number of the path's last bytes as they are, of which none is a capital letter.
     #[inline(always)]
     pub(crate) fn has_plain_end(&self) -> bool

@@ -203,10 +203,7 @@ impl Sight {
         if self.lacks(short, long) {
             return false;
         }
-        if self.has_ending(short) {
-            return true;
-        }
-        if self.has_ending(long) {
+        if self.has_ending(short) || self.has_ending(long) {
             return true;
         }
         if has_all(probe.bytes_for(true), self.names) {

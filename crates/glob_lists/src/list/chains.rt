@@ -11,16 +11,20 @@ use crate::link::Link;
 /// The fewest rows that are chained: among fewer it costs less to look at each row.
 pub(crate) const FEWEST_ROWS: usize = 24;
 
-/// How many chains so many rows have: one for those without an end, and twice as many buckets as rows; none where they aren't chained.
+/// The fewest chains of rows that are chained.
+pub(crate) const FEWEST_CHAINS: usize = 512;
+
+/// How many chains so many rows have: one for those without an end, and at least four times as many buckets as rows; none where they
+/// aren't chained.
 pub(crate) fn chain_count(rows: usize) -> usize
     ensures few { result < 2 ^ 32 }
     ensures fits { 1 < result → rows < 2 ^ 32 }
 {
-    const MOST_ROWS: usize = (1 << 31) - 1;
+    const MOST_ROWS: usize = (1 << 30) - 1;
     if rows < FEWEST_ROWS || rows > MOST_ROWS {
         return 0;
     }
-    2 * rows + 1
+    (4 * rows + 1).max(FEWEST_CHAINS)
 }
 
 /// Chains a row to the last one of its chain, and makes it the last. `place` is where it will stand. Without chains it stays as it is.

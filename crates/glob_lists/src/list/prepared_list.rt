@@ -37,7 +37,7 @@ impl<T: search::Pattern> Model for PreparedList<T> {
 }
 
 impl<T: search::Pattern> PreparedList<T> {
-    /// Prepares a list. It takes 16 bytes for each pattern, and 24 where there are many. Where memory is refused, the list stays
+    /// Prepares a list. It takes 16 bytes for each pattern, and 32 where there are many. Where memory is refused, the list stays
     /// unprepared: its answers are the same, and cost more.
     pub fn new(alloc: Global, list: List<T>) -> PreparedList<T>
         ensures { result ≡ list }

@@ -6,7 +6,7 @@ ghost use Rattle.glob_lists.specs.Deciding.{AnswersAt, HasFolder};
 ghost use Rattle.glob_lists.specs.Prepared.{AreAsked};
 ghost use Rattle.glob_lists.specs.Private.Asks.Showing.{Passes, Shows};
 ghost use Rattle.glob_lists.specs.Private.Asks.Sights.{IsUnseen};
-ghost use Rattle.glob_lists.specs.Private.Lists.Answering.{IsLastMatch, IsNextMatch, IsVisit, NoneAnswers, Spends, SpendsDown};
+ghost use Rattle.glob_lists.specs.Private.Lists.Answering.{IsLastMatch, IsNextMatch, IsRest, IsWalkOf, NoneAnswers, Spends, SpendsDown};
 ghost use Rattle.glob_lists.specs.Private.Lists.Chains.{AreChained};
 ghost use Rattle.glob_lists.specs.Private.Lists.Prepared.{AreRowsOf};
 ghost use Rattle.glob_lists.specs.Private.Looking.{LooksUpTo};
@@ -36,14 +36,6 @@ pub(crate) struct ListRows {
     sight: Option<Sight>,
     /// The last row of each chain; none where the rows aren't chained.
     heads: Vec<Link>,
-}
-
-/// How far a path has gone through a list, from its last mapping to the first.
-#[derive(Debug, Drop)]
-pub(crate) struct Visit<'p> {
-    /// What the base of the list leaves of the path.
-    rest: RepositoryPath<'p>,
-    pub(crate) walk: Walk,
 }
 
 impl ListRows {
@@ -99,26 +91,26 @@ impl ListRows {
         ensures last { IsLastMatch (entry_list_of T.seen list.now) question.now.path.now question.now.case result }
         ensures spends { Spends (entry_list_of T.seen list.now) (length question.now.path.now.bytes) counts.old counts.new }
     {
-        let mut visit = self.visit(list, question, counts)?;
-        self.next_match(list, question, &mut visit, counts)
+        let rest = self.rest(list, question, counts)?;
+        let mut walk = self.walk(list, question);
+        self.next_match(list, question, &rest, &mut walk, counts)
     }
 
-    /// Begins to go through the list. `None` where no mapping matches, as the path tells at once: it shows nothing that the patterns ask
-    /// for together, or doesn't begin with the base.
+    /// What the base of the list leaves of a path. `None` where no mapping matches, as the path tells at once: it shows nothing that the
+    /// patterns ask for together, or doesn't begin with the base.
     #[inline(always)]
-    pub(crate) fn visit<'p, T: search::Pattern, S: Ledger, L: Ledger>(
+    pub(crate) fn rest<'p, T: search::Pattern, S: Ledger, L: Ledger>(
         &self,
         list: &List<T>,
         question: &Question<'_, 'p>,
         counts: &mut Counts<S, L>,
-    ) -> Option<Visit<'p>>
+    ) -> Option<RepositoryPath<'p>>
         requires of { AreRowsOf (entry_list_of T.seen list.now) self.now }
         requires folder { HasFolder (entry_list_of T.seen list.now) }
         requires shows { Shows question.now.path.now.bytes question.now.probe }
-        ensures visit { MatchOption result
+        ensures rest { MatchOption result
             ((m : ℕ) → ¬ AnswersAt (entry_list_of T.seen list.now) question.now.path.now.bytes question.now.path.now.is_dir question.now.case m)
-            (IsVisit (entry_list_of T.seen list.now) self.now question.now.path.now question.now.case question.now.probe) }
-        ensures all { IfSome result (λ visit. visit.walk.passed_from ≡ length self.now.rows.items) }
+            (IsRest (entry_list_of T.seen list.now) question.now.path.now question.now.case) }
         ensures looks { LooksUpTo counts.old counts.new (strip_looks (entry_list_of T.seen list.now).base (length question.now.path.now.bytes)) }
     {
         // a law does nothing: it is called for what it ensures
@@ -126,11 +118,21 @@ impl ListRows {
         if self.is_passed_over(&question.probe) {
             return None;
         }
-        let rest = question
-            .path
-            .under_with_counts(list, question.case, counts)?;
-        let walk = Walk::down(&self.rows, &self.heads, &question.probe);
-        Some(Visit { rest, walk })
+        question.path.under_with_counts(list, question.case, counts)
+    }
+
+    /// The start of a walk over the rows of the list.
+    #[inline(always)]
+    pub(crate) fn walk<T: search::Pattern>(
+        &self,
+        list: &List<T>,
+        question: &Question<'_, '_>,
+    ) -> Walk
+        requires { AreRowsOf (entry_list_of T.seen list.now) self.now }
+        ensures walk { IsWalkOf self.now question.now.probe result }
+        ensures all { result.passed_from ≡ length self.now.rows.items }
+    {
+        Walk::down(&self.rows, &self.heads, &question.probe)
     }
 
     /// Whether a path shows nothing that the patterns ask for together.
@@ -151,37 +153,34 @@ impl ListRows {
         &self,
         list: &List<T>,
         question: &Question<'_, '_>,
-        visit: &mut Visit<'_>,
+        rest: &RepositoryPath<'_>,
+        walk: &mut Walk,
         counts: &mut Counts<S, L>,
     ) -> Option<usize>
         requires of { AreRowsOf (entry_list_of T.seen list.now) self.now }
         requires folder { HasFolder (entry_list_of T.seen list.now) }
         requires shows { Shows question.now.path.now.bytes question.now.probe }
-        requires visit { IsVisit (entry_list_of T.seen list.now) self.now question.now.path.now question.now.case question.now.probe visit.old }
-        ensures visit { IsVisit (entry_list_of T.seen list.now) self.now question.now.path.now question.now.case question.now.probe visit.new }
+        requires rest { IsRest (entry_list_of T.seen list.now) question.now.path.now question.now.case rest.now }
+        requires walk { IsWalkOf self.now question.now.probe walk.old }
+        ensures walk { IsWalkOf self.now question.now.probe walk.new }
         ensures next { MatchOption result
-            (NoneAnswers (entry_list_of T.seen list.now) question.now.path.now question.now.case 0 visit.old.walk.passed_from)
-            (IsNextMatch (entry_list_of T.seen list.now) question.now.path.now question.now.case visit.new.walk.passed_from visit.old.walk.passed_from) }
+            (NoneAnswers (entry_list_of T.seen list.now) question.now.path.now question.now.case 0 walk.old.passed_from)
+            (IsNextMatch (entry_list_of T.seen list.now) question.now.path.now question.now.case walk.new.passed_from walk.old.passed_from) }
         ensures spends { SpendsDown (entry_list_of T.seen list.now) (length question.now.path.now.bytes)
-            visit.old.walk.passed_from visit.new.walk.passed_from counts.old counts.new }
+            walk.old.passed_from walk.new.passed_from counts.old counts.new }
     {
         // a law does nothing: it is called for what it ensures
         laws::answering_patterns_pass();
         let mappings = list.patterns.as_slice();
-        'candidates: while let Some(m) = visit
-            .walk
-            .next(&self.rows, &self.heads, &question.probe, counts)
-        {
+        'candidates: while let Some(m) = walk.next::<true, S, L>(
+            &self.rows,
+            &self.heads,
+            &question.probe,
+            counts,
+        ) {
             let row = &self.rows[m];
             let pattern = mappings[m].pattern.view();
-            if is_answer(
-                row,
-                &question.probe,
-                pattern,
-                &visit.rest,
-                question.case,
-                counts,
-            ) {
+            if is_answer(row, &question.probe, pattern, rest, question.case, counts) {
                 return Some(m);
             }
         }

@@ -1,8 +1,8 @@
 //! A walk over rows, from the last one to the first: it meets those that may have an end of the path, and those that have none. Nothing is
 //! believed of the rows and their links: whatever they say, the walk stays inside and ends.
-ghost use Rattle.std.specs.Prelude.{◌≡◌, ◌↔◌, ◌-◌, ◌^◌, ◌<◌, ◌≤◌, IfSome, IsTrue, List, MatchOption, length, slice_index_or, slice_set};
+ghost use Rattle.std.specs.Prelude.{◌≡◌, ◌↔◌, ◌-◌, ◌^◌, ◌<◌, ◌≤◌, IfSome, IsTrue, List, MatchOption, length, slice_index_or, slice_set, true};
 ghost use Rattle.glob_lists.specs.Private.Lists.Chains.{AreChained, chains_of};
-ghost use Rattle.glob_lists.specs.Private.Lists.Walking.{HasNext, IsInside, IsLatest, IsNextFrom, IsWalk, IsWalkOver, next_of};
+ghost use Rattle.glob_lists.specs.Private.Lists.Walking.{HasNext, IsBelieved, IsInside, IsLatest, IsNextFrom, IsWalk, IsWalkOver, next_of};
 ghost use Rattle.glob_lists.specs.Private.Looking.{LooksUpTo};
 ghost use Rattle.glob_lists.specs.declared.asks.probe.Probe.{Probe};
 ghost use Rattle.glob_lists.specs.declared.link.Link.{Link};
@@ -54,7 +54,7 @@ impl Walk {
         if heads.len() < 2 {
             return walk;
         }
-        walk.other = heads[0].among(rows.len());
+        walk.other = heads[0].among::<false>(rows.len());
         'lengths: for n in 0..LONGEST_END {
             let next = heads[end_chain(heads.len(), probe.key(n as u8 + 1))];
             if next.is_after(Link::NONE) && !walk.has(next) {
@@ -99,9 +99,9 @@ impl Walk {
     }
 
     /// The next place of a walk whose row passes, over rows that are chained from these heads on; over all rows in turn where there are
-    /// none. A look is counted at each row that is met.
+    /// none. Links are believed only where the rows are known to be chained. A look is counted at each row that is met.
     #[inline(always)]
-    pub(crate) fn next<S: Ledger, L: Ledger>(
+    pub(crate) fn next<const IS_BELIEVED: bool, S: Ledger, L: Ledger>(
         &mut self,
         rows: &[Row],
         heads: &[Link],
@@ -110,6 +110,7 @@ impl Walk {
     ) -> Option<usize>
         requires inside { IsInside (length rows.now) self.old }
         requires other { 1 < length heads.now → self.old.other.0 ≤ self.old.passed_from }
+        requires believed { IS_BELIEVED ≡ true → 1 < length heads.now → AreChained rows.now heads.now × IsWalkOver rows.now heads.now probe.now self.old }
         ensures inside { IsInside (length rows.now) self.new }
         ensures other { 1 < length heads.now → self.new.other.0 ≤ self.new.passed_from }
         ensures met { IfSome result (λ place. (place < self.old.passed_from) × (self.new.passed_from ≡ place)) }
@@ -123,7 +124,7 @@ impl Walk {
         if heads.len() < 2 {
             self.next_in_turn(rows, probe, counts)
         } else {
-            self.next_chained(rows, probe, counts)
+            self.next_chained::<IS_BELIEVED, S, L>(rows, probe, counts)
         }
     }
 
@@ -157,7 +158,7 @@ impl Walk {
 
     /// The same, over rows that are chained.
     #[inline(always)]
-    fn next_chained<S: Ledger, L: Ledger>(
+    fn next_chained<const IS_BELIEVED: bool, S: Ledger, L: Ledger>(
         &mut self,
         rows: &[Row],
         probe: &Probe,
@@ -165,6 +166,7 @@ impl Walk {
     ) -> Option<usize>
         requires inside { IsInside (length rows.now) self.old }
         requires other { self.old.other.0 ≤ self.old.passed_from }
+        requires believed { IS_BELIEVED ≡ true → IsBelieved rows.now probe.now self.old }
         ensures inside { IsInside (length rows.now) self.new }
         ensures other { self.new.other.0 ≤ self.new.passed_from }
         ensures met { IfSome result (λ place. (place < self.old.passed_from) × (self.new.passed_from ≡ place)) }
@@ -174,8 +176,8 @@ impl Walk {
             → IsWalk (chains_of (length heads) rows.now) rows.now probe.now self.new × IsNextFrom rows.now probe.now 0 self.old.passed_from result }
     {
         'chains: loop {
-            let own = self.nexts[self.latest].among(self.passed_from);
-            if let Some(place) = self.next_other(own, rows, counts) {
+            let own = self.nexts[self.latest].among::<IS_BELIEVED>(self.passed_from);
+            if let Some(place) = self.next_other::<IS_BELIEVED, S, L>(own, rows, counts) {
                 return Some(place);
             }
             if !own.is_after(self.other) {
@@ -196,7 +198,7 @@ impl Walk {
     /// The next place of a row without an end that passes, among those after the next row of all other chains. Where there is none, the walk
     /// has come to that row.
     #[inline(always)]
-    fn next_other<S: Ledger, L: Ledger>(
+    fn next_other<const IS_BELIEVED: bool, S: Ledger, L: Ledger>(
         &mut self,
         own: Link,
         rows: &[Row],
@@ -206,6 +208,8 @@ impl Walk {
         requires latest { IsLatest self.old }
         requires other { self.old.other.0 ≤ self.old.passed_from }
         requires own { own.0 ≤ self.old.passed_from }
+        requires believed { IS_BELIEVED ≡ true → (probe : Probe) × IsBelieved rows.now probe self.old }
+        requires own_is { IS_BELIEVED ≡ true → own ≡ slice_index_or self.old.nexts self.old.latest NONE }
         ensures same { self.new ≡ record self.old { other = self.new.other; passed_from = self.new.passed_from } }
         ensures here { MatchOption result (self.new.passed_from ≡ own.0) (λ place. (place < self.old.passed_from) × (self.new.passed_from ≡ place)) }
         ensures other { self.new.other.0 ≤ self.new.passed_from }
@@ -219,7 +223,7 @@ impl Walk {
             let place = other.place()?;
             counts.looks(1);
             let row = &rows[place];
-            let before = other.back_to(row.before());
+            let before = other.back_to::<IS_BELIEVED>(row.before());
             if row.needs_none_of(&self.lacking) {
                 // the place anew: to keep it beside its row would take each turn one instruction more
                 let met = other.number() - 1;

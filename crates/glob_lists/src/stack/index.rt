@@ -75,8 +75,7 @@ pub struct CountedDecision {
 
 impl<'a, T: search::Pattern> ListIndex<'a, T> {
     /// The index of the lists, whose bases have to be those of folders: [`bases_are_folders`](crate::bases_are_folders). It
-    /// takes 16 bytes for each pattern, 24 in lists of many, some 150 for each list, and 1 KB more for each list of many patterns; while
-    /// it is made, 17 more for each pattern of one list.
+    /// takes 16 bytes for each pattern, 32 in lists of many, some 150 for each list, and 2 KB more for each list of many patterns.
     ///
     /// # Errors
     /// [`IndexError::TooMany`] where there are 2^32 patterns or more, or more than 2^32 lists, and there alone;

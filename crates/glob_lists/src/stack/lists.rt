@@ -154,10 +154,11 @@ impl<'a, T: search::Pattern> PreparedLists<'a, T> {
     {
         let rows = &self.rows[i];
         let list = &self.lists[i];
-        let Some(mut visit) = rows.visit(list, question, counts) else {
+        let Some(rest) = rows.rest(list, question, counts) else {
             return Ok(());
         };
-        'matches: while let Some(m) = rows.next_match(list, question, &mut visit, counts) {
+        let mut walk = rows.walk(list, question);
+        'matches: while let Some(m) = rows.next_match(list, question, &rest, &mut walk, counts) {
             pairs.push((i, m))?;
         }
         Ok(())

@@ -12,7 +12,7 @@ use Rattle.gix_glob.specs.declared.pattern.Mode as pattern
 use Rattle.glob_lists.specs.declared.asks.probe.Probe.{Probe}
 use Rattle.glob_lists.specs.declared.asks.row.Row.{Row}
 use Rattle.glob_lists.specs.declared.list.rows.ListRows.{ListRows}
-use Rattle.glob_lists.specs.declared.list.rows.Visit.{Visit}
+use Rattle.glob_lists.specs.declared.list.walk.Walk.{Walk}
 use Rattle.glob_lists.specs.Deciding.{AnswersAt, AnswersFor}
 use Rattle.glob_lists.specs.Paths.{Path}
 use Rattle.glob_lists.specs.Private.Asked.{SpendsWith}
@@ -42,13 +42,16 @@ pub record IsNextMatch {V : Type 0} (list : EntryList V) (path : Path) (case : C
   pub answers : AnswersAt list path.bytes path.is_dir case place
   pub between : NoneAnswers list path case (passed_from + 1) end
 
--- The base of the list left this of the path, and the walk is one over the rows.
-pub record IsVisit {V : Type 0} (list : EntryList V) (rows : ListRows) (path : Path) (case : Case) (probe : Probe) (visit : Visit) : Type 0 where
-  pub left : RestOf case list.base path.bytes visit.rest.bytes
-  pub is_dir : visit.rest.is_dir ≡ path.is_dir
-  pub inside : IsInside (length rows.rows.items) visit.walk
-  pub other : 1 < length rows.heads.items → visit.walk.other.0 ≤ visit.walk.passed_from
-  pub walk : IsWalkOver rows.rows.items rows.heads.items probe visit.walk
+-- The base of the list leaves this of the path.
+pub record IsRest {V : Type 0} (list : EntryList V) (path : Path) (case : Case) (rest : Path) : Type 0 where
+  pub left : RestOf case list.base path.bytes rest.bytes
+  pub is_dir : rest.is_dir ≡ path.is_dir
+
+-- The walk is one over the rows.
+pub record IsWalkOf (rows : ListRows) (probe : Probe) (walk : Walk) : Type 0 where
+  pub inside : IsInside (length rows.rows.items) walk
+  pub other : 1 < length rows.heads.items → walk.other.0 ≤ walk.passed_from
+  pub over : IsWalkOver rows.rows.items rows.heads.items probe walk
 
 -- how many steps the entries of a list from place m on take at most, and how many looks, v being the length of the path
 abbrev pub steps_from : {V : Type 0} → EntryList V → ℕ → ℕ → ℕ

@@ -8,7 +8,7 @@ use Rattle.glob_lists.specs.declared.asks.row.Row.{Row}
 use Rattle.glob_lists.specs.declared.list.walk.Walk.{Walk}
 use Rattle.glob_lists.specs.Private.Asks.Rows.{HasSomeEnd}
 use Rattle.glob_lists.specs.Private.Asks.Showing.{HasEnd, Lacks, Passes}
-use Rattle.glob_lists.specs.Private.Lists.Chains.{IsLastBelow, chains_of}
+use Rattle.glob_lists.specs.Private.Lists.Chains.{AreChained, IsLastBelow, chains_of}
 
 -- the next row of the chain at place n of a walk
 abbrev pub next_of : Walk → ℕ → ℕ
@@ -45,6 +45,12 @@ pub record IsWalk (chains : List ℕ) (rows : List Row) (probe : Probe) (walk : 
   pub own : List ℕ
   pub nexts : AreNexts chains own walk
   pub all : (place : ℕ) (row : Row) → slice_get rows place ≡ Some row → HasSomeEnd row → HasEnd row probe → (n : ℕ) × (slice_get own n ≡ Some (slice_index chains place))
+
+-- The rows are chained from some heads on, and the walk is one over them.
+pub record IsBelieved (rows : List Row) (probe : Probe) (walk : Walk) : Type 0 where
+  pub heads : List Link
+  pub chained : AreChained rows heads
+  pub at : IsWalk (chains_of (length heads) rows) rows probe walk
 
 -- the walk is one over rows that are chained from these heads on, where there are any
 abbrev pub IsWalkOver : List Row → List Link → Probe → Walk → Type 0

@@ -7,11 +7,11 @@ use Rattle.glob_lists.proofs.list.rows.ListRows.last_match.Goals as goal
 pub returns-clause-last : goal.returns-clause-last
 returns-clause-last g c =
     let list = entry_list_of g.T.Pattern.seen c.args.list.now in
-    IsLastMatch-found list c.args.question.now.path.now c.args.question.now.case c.next_match.new.visit.walk.passed_from c.in_ok-visit.visit.walk.passed_from c.next_match.result
-    (omega (arith, c.in_ok-visit.ensures.all, c.requires.of.asked.many)) c.next_match.ensures.next
+    IsLastMatch-found list c.args.question.now.path.now c.args.question.now.case c.next_match.new.walk.passed_from c.walk-walk.result.passed_from c.next_match.result
+    (omega (arith, c.walk-walk.ensures.all, c.requires.of.asked.many)) c.next_match.ensures.next
 
 pub returns-clause-spends : goal.returns-clause-spends
 returns-clause-spends g c =
     let list = entry_list_of g.T.Pattern.seen c.args.list.now in
-    Spends-down list (length c.args.question.now.path.now.bytes) c.in_ok-visit.visit.walk.passed_from c.next_match.new.visit.walk.passed_from c.args.counts.now c.visit.new.counts c.next_match.new.counts
-    (omega (arith, c.in_ok-visit.ensures.all, c.requires.of.asked.many)) c.in_ok-visit.ensures.looks c.next_match.ensures.spends
+    Spends-down list (length c.args.question.now.path.now.bytes) c.walk-walk.result.passed_from c.next_match.new.walk.passed_from c.args.counts.now c.rest.new.counts c.next_match.new.counts
+    (omega (arith, c.walk-walk.ensures.all, c.requires.of.asked.many)) c.in_ok-rest.ensures.looks c.next_match.ensures.spends

@@ -11,7 +11,7 @@ use Rattle.gix_glob.specs.PatternParts.{mode_of, text_of}
 use Rattle.gix_glob.proofs.lemmas.Elements.{slice_get-map_at}
 use Rattle.glob_lists.specs.Deciding.{AnswersAt, AnswersUnder}
 use Rattle.glob_lists.specs.Private.Asks.Rows.{Asks}
-use Rattle.glob_lists.specs.Private.Lists.Answering.{IsVisit, NoneAnswers, SpendsDown}
+use Rattle.glob_lists.specs.Private.Lists.Answering.{IsWalkOf, NoneAnswers, SpendsDown}
 use Rattle.glob_lists.specs.Private.Lists.Walking.{NonePasses, PassesAt}
 use Rattle.glob_lists.proofs.lemmas.Deciding.Answering.{AnswersAt-only, AnswersAt-yes, AnswersUnder-tested}
 use Rattle.glob_lists.proofs.lemmas.Deciding.DecisionSums.{looks-under, steps-under}
@@ -23,7 +23,7 @@ use Rattle.glob_lists.proofs.list.rows.ListRows.next_match.Goals.{After-is_answe
 
 -- the place of the mapping that is tested lies within the rows, and within the list
 row_within : (g : Over) (c : After-view-pattern g) → c.in-Some.m < length c.args.self.now.rows.items
-row_within g c = omega (arith, c.in-Some.ensures.met.0, c.candidates.invariant.visit.inside.within)
+row_within g c = omega (arith, c.in-Some.ensures.met.0, c.candidates.invariant.walk.inside.within)
 
 within : (g : Over) (c : After-view-pattern g) → c.in-Some.m < length c.args.list.now.patterns.items
 within g c =
@@ -56,25 +56,22 @@ tested_row g c =
     subst (λ mode. Asks c.view-pattern.result.text.now mode c.index-row.result.now) (sym (tested_mode g c))
     (subst (λ (text : List ℕ). Asks text (mode_of c.index-mappings-m.result.pattern) c.index-row.result.now) (sym (tested_text g c)) asks)
 
--- what is visited, where the walk has gone on
-visit_after : (g : Over) (c : After-next g) → IsVisit (entry_list_of g.T.Pattern.seen c.args.list.now) c.args.self.now c.args.question.now.path.now c.args.question.now.case c.args.question.now.probe
-    (record { rest = c.candidates.visit.rest; walk = c.next.new.self })
-visit_after g c =
-    let visit = c.candidates.invariant.visit in record {
-      left = visit.left;
-      is_dir = visit.is_dir;
+-- the walk has gone on
+walk_after : (g : Over) (c : After-next g) → IsWalkOf c.args.self.now c.args.question.now.probe c.next.new.self
+walk_after g c =
+    let walk = c.candidates.invariant.walk in record {
       inside = rw c.deref.ensures.value at c.next.ensures.inside;
       other = rw c.deref-in-candidates.ensures.value at c.next.ensures.other;
-      walk = rw (c.deref.ensures.value, c.deref-in-candidates.ensures.value) at (c.next.ensures.walk (rw (c.deref.ensures.value, c.deref-in-candidates.ensures.value) c.requires.of.chained)
-          (rw (c.deref.ensures.value, c.deref-in-candidates.ensures.value) visit.walk));
+      over = rw (c.deref.ensures.value, c.deref-in-candidates.ensures.value) at (c.next.ensures.walk (rw (c.deref.ensures.value, c.deref-in-candidates.ensures.value) c.requires.of.chained)
+          (rw (c.deref.ensures.value, c.deref-in-candidates.ensures.value) walk.over));
     }
 
 -- the row passes, and none between it and where the walk was does
 next_row : (g : Over) (c : After-is_answer g) → PassesAt c.args.self.now.rows.items c.args.question.now.probe c.in-Some.m
-    × NonePasses c.args.self.now.rows.items c.args.question.now.probe (c.in-Some.m + 1) c.candidates.visit.walk.passed_from
+    × NonePasses c.args.self.now.rows.items c.args.question.now.probe (c.in-Some.m + 1) c.candidates.walk.passed_from
 next_row g c =
     rw c.deref.ensures.value at (c.in-Some.ensures.next (rw (c.deref.ensures.value, c.deref-in-candidates.ensures.value) c.requires.of.chained)
-    (rw (c.deref.ensures.value, c.deref-in-candidates.ensures.value) c.candidates.invariant.visit.walk))
+    (rw (c.deref.ensures.value, c.deref-in-candidates.ensures.value) c.candidates.invariant.walk.over))
 
 -- the test says whether it answers
 told : (g : Over) (c : After-is_answer g) → IsTrue c.is_answer.result
@@ -82,40 +79,40 @@ told : (g : Over) (c : After-is_answer g) → IsTrue c.is_answer.result
 told g c =
     let path = c.args.question.now.path.now in
     let base = option_map vec_items c.args.list.now.base in
-    let visit = c.candidates.invariant.visit in
+    let rest = c.requires.rest in
     let before = (goal.at.After-is_answer g c).After-view-pattern in
-    AnswersUnder-tested base path.bytes path.is_dir c.args.question.now.case (entry_of g.T.Pattern.seen c.index-mappings-m.result) c.candidates.visit.rest.bytes visit.left
-    c.view-pattern.result.text.now c.view-pattern.result.mode c.candidates.visit.rest.is_dir c.is_answer.result (tested_text g before) (tested_mode g before) visit.is_dir
-    (c.is_answer.ensures.exact ((next_row g c).0 c.index-row.result.now (row_there g before)) (tested_row g before) base path.bytes c.requires.folder c.requires.shows visit.left c.view-pattern.ensures.lawful)
+    AnswersUnder-tested base path.bytes path.is_dir c.args.question.now.case (entry_of g.T.Pattern.seen c.index-mappings-m.result) c.args.rest.now.bytes rest.left
+    c.view-pattern.result.text.now c.view-pattern.result.mode c.args.rest.now.is_dir c.is_answer.result (tested_text g before) (tested_mode g before) rest.is_dir
+    (c.is_answer.ensures.exact ((next_row g c).0 c.index-row.result.now (row_there g before)) (tested_row g before) base path.bytes c.requires.folder c.requires.shows rest.left c.view-pattern.ensures.lawful)
 
 -- no mapping answers between the one that is tested and those that were passed
-none_between : (g : Over) (c : After-is_answer g) → NoneAnswers (entry_list_of g.T.Pattern.seen c.args.list.now) c.args.question.now.path.now c.args.question.now.case (c.next.new.self.passed_from + 1) c.args.visit.now.walk.passed_from
+none_between : (g : Over) (c : After-is_answer g) → NoneAnswers (entry_list_of g.T.Pattern.seen c.args.list.now) c.args.question.now.path.now c.args.question.now.case (c.next.new.self.passed_from + 1) c.args.walk.now.passed_from
 none_between g c =
     let list = entry_list_of g.T.Pattern.seen c.args.list.now in
     let path = c.args.question.now.path.now in
     let case = c.args.question.now.case in
     let from = c.next.new.self.passed_from + 1 in
-    let to = c.candidates.visit.walk.passed_from in
-    NoneAnswers-joined list path case from to c.args.visit.now.walk.passed_from
+    let to = c.candidates.walk.passed_from in
+    NoneAnswers-joined list path case from to c.args.walk.now.passed_from
     (NoneAnswers-passed list c.args.self.now.rows.items c.requires.of.asked path case c.args.question.now.probe c.answering_patterns_pass.ensures c.requires.shows from to (subst (λ (n : ℕ). NonePasses c.args.self.now.rows.items c.args.question.now.probe (n + 1) to) (sym c.in-Some.ensures.met.1) (next_row g c).1))
     c.candidates.invariant.none
 
 -- what the mappings down to the one that is tested may take
-spent : (g : Over) (c : After-is_answer g) → SpendsDown (entry_list_of g.T.Pattern.seen c.args.list.now) (length c.args.question.now.path.now.bytes) c.args.visit.now.walk.passed_from c.next.new.self.passed_from c.args.counts.now
+spent : (g : Over) (c : After-is_answer g) → SpendsDown (entry_list_of g.T.Pattern.seen c.args.list.now) (length c.args.question.now.path.now.bytes) c.args.walk.now.passed_from c.next.new.self.passed_from c.args.counts.now
     c.is_answer.new.counts
 spent g c =
     let list = entry_list_of g.T.Pattern.seen c.args.list.now in
     let path = c.args.question.now.path.now in
     let base = option_map vec_items c.args.list.now.base in
-    let left = c.candidates.invariant.visit.left in
+    let left = c.requires.rest.left in
     let before = (goal.at.After-is_answer g c).After-view-pattern in
     let here : c.in-Some.m ≡ c.next.new.self.passed_from = sym c.in-Some.ensures.met.1 in
     let entry = subst (λ (n : ℕ). slice_get list.entries n ≡ Some (entry_of g.T.Pattern.seen c.index-mappings-m.result)) here (tested_entry g before) in
     let text = length (text_of c.index-mappings-m.result.pattern) in
-    SpendsDown-asked list (length path.bytes) c.args.visit.now.walk.passed_from c.candidates.visit.walk.passed_from c.next.new.self.passed_from (entry_of g.T.Pattern.seen c.index-mappings-m.result)
+    SpendsDown-asked list (length path.bytes) c.args.walk.now.passed_from c.candidates.walk.passed_from c.next.new.self.passed_from (entry_of g.T.Pattern.seen c.index-mappings-m.result)
     c.args.counts.now c.candidates.counts c.next.new.counts c.is_answer.new.counts (omega (arith, c.in-Some.ensures.met.0, here)) entry c.candidates.invariant.spent c.in-Some.ensures.looks c.is_answer.ensures.grows
-    (steps-under c.args.question.now.case base path.bytes c.candidates.visit.rest.bytes left text _ _ (rw (tested_text g before) at c.is_answer.ensures.steps))
-    (looks-under c.args.question.now.case base path.bytes c.candidates.visit.rest.bytes left text _ _ (rw (tested_text g before) at c.is_answer.ensures.looks))
+    (steps-under c.args.question.now.case base path.bytes c.args.rest.now.bytes left text _ _ (rw (tested_text g before) at c.is_answer.ensures.steps))
+    (looks-under c.args.question.now.case base path.bytes c.args.rest.now.bytes left text _ _ (rw (tested_text g before) at c.is_answer.ensures.looks))
 
 pub returns-then-is_answer-clause-next : goal.returns-then-is_answer-clause-next
 returns-then-is_answer-clause-next g c =
@@ -143,8 +140,8 @@ candidates-preserved g c =
     let refused : ¬ AnswersAt list path.bytes path.is_dir case c.in-Some.m = λ h.
     iff_false (told g after) c.if-is_answer.false (AnswersAt-only list path.bytes path.is_dir case c.in-Some.m (entry_of g.T.Pattern.seen c.index-mappings-m.result) (tested_entry g before) h) in
     record {
-      visit = visit_after g (goal.at.candidates-preserved g c).After-next;
-      none = NoneAnswers-less list path case c.next.new.self.passed_from (c.next.new.self.passed_from + 1) c.args.visit.now.walk.passed_from refl
+      walk = walk_after g (goal.at.candidates-preserved g c).After-next;
+      none = NoneAnswers-less list path case c.next.new.self.passed_from (c.next.new.self.passed_from + 1) c.args.walk.now.passed_from refl
           (subst (λ (n : ℕ). ¬ AnswersAt list path.bytes path.is_dir case n) here refused) (none_between g after);
       low = omega (arith, c.in-Some.ensures.falls, c.candidates.invariant.low);
       spent = spent g after;
@@ -155,20 +152,20 @@ returns-clause-next g c =
     let list = entry_list_of g.T.Pattern.seen c.args.list.now in
     let path = c.args.question.now.path.now in
     let case = c.args.question.now.case in
-    let to = c.candidates.visit.walk.passed_from in
-    NoneAnswers-joined list path case 0 to c.args.visit.now.walk.passed_from
+    let to = c.candidates.walk.passed_from in
+    NoneAnswers-joined list path case 0 to c.args.walk.now.passed_from
     (NoneAnswers-passed list c.args.self.now.rows.items c.requires.of.asked path case c.args.question.now.probe c.answering_patterns_pass.ensures c.requires.shows 0 to
     (rw c.deref.ensures.value at (c.in_default.ensures.next (rw (c.deref.ensures.value, c.deref-in-candidates.ensures.value) c.requires.of.chained)
-    (rw (c.deref.ensures.value, c.deref-in-candidates.ensures.value) c.candidates.invariant.visit.walk))))
+    (rw (c.deref.ensures.value, c.deref-in-candidates.ensures.value) c.candidates.invariant.walk.over))))
     c.candidates.invariant.none
 
 pub returns-clause-spends : goal.returns-clause-spends
 returns-clause-spends g c =
-    SpendsDown-passed (entry_list_of g.T.Pattern.seen c.args.list.now) (length c.args.question.now.path.now.bytes) c.args.visit.now.walk.passed_from c.candidates.visit.walk.passed_from c.next.new.self.passed_from
+    SpendsDown-passed (entry_list_of g.T.Pattern.seen c.args.list.now) (length c.args.question.now.path.now.bytes) c.args.walk.now.passed_from c.candidates.walk.passed_from c.next.new.self.passed_from
     c.args.counts.now c.candidates.counts c.next.new.counts c.in_default.ensures.falls c.candidates.invariant.spent c.in_default.ensures.looks
 
-pub returns-then-is_answer-clause-visit : goal.returns-then-is_answer-clause-visit
-returns-then-is_answer-clause-visit g c = visit_after g (goal.at.returns-then-is_answer-clause-visit g c).After-next
+pub returns-then-is_answer-clause-walk : goal.returns-then-is_answer-clause-walk
+returns-then-is_answer-clause-walk g c = walk_after g (goal.at.returns-then-is_answer-clause-walk g c).After-next
 
-pub returns-clause-visit : goal.returns-clause-visit
-returns-clause-visit g c = visit_after g (goal.at.returns-clause-visit g c).After-next
+pub returns-clause-walk : goal.returns-clause-walk
+returns-clause-walk g c = walk_after g (goal.at.returns-clause-walk g c).After-next

@@ -1,16 +1,16 @@
 use Rattle.std.proofs.Common.{◌≤◌, length}
 use Rattle.gix_glob.specs.EntryLists.{entry_list_of}
-use Rattle.glob_lists.specs.Private.Lists.Answering.{IsVisit, NoneAnswers, SpendsDown}
+use Rattle.glob_lists.specs.Private.Lists.Answering.{IsWalkOf, NoneAnswers, SpendsDown}
 use Rattle.glob_lists.proofs.list.rows.ListRows.next_match.Given as goal
 
 -- no mapping that was passed answers, and what was counted is what those may take
 abbrev pub invariant-candidates : goal.invariant-candidates
 invariant-candidates g l = record {
-  visit : IsVisit (entry_list_of g.T.Pattern.seen l.list) l.self l.question.path.now l.question.case l.question.probe l.visit;
-  none : NoneAnswers (entry_list_of g.T.Pattern.seen l.list) l.question.path.now l.question.case l.visit.walk.passed_from l.fn.visit.walk.passed_from;
-  low : l.visit.walk.passed_from ≤ l.fn.visit.walk.passed_from;
-  spent : SpendsDown (entry_list_of g.T.Pattern.seen l.list) (length l.question.path.now.bytes) l.fn.visit.walk.passed_from l.visit.walk.passed_from l.fn.counts l.counts;
+  walk : IsWalkOf l.self l.question.probe l.walk;
+  none : NoneAnswers (entry_list_of g.T.Pattern.seen l.list) l.question.path.now l.question.case l.walk.passed_from l.fn.walk.passed_from;
+  low : l.walk.passed_from ≤ l.fn.walk.passed_from;
+  spent : SpendsDown (entry_list_of g.T.Pattern.seen l.list) (length l.question.path.now.bytes) l.fn.walk.passed_from l.walk.passed_from l.fn.counts l.counts;
 }
 
 abbrev pub decreases-candidates : goal.decreases-candidates
-decreases-candidates g l = l.visit.walk.passed_from
+decreases-candidates g l = l.walk.passed_from

@@ -34,6 +34,20 @@ own_after : (g : Over) (c : After-next_other g) (heads : List Link) → AreChain
     → next_of c.next_other.new.self c.next_other.new.self.latest ≡ c.among-own.result.0
 own_after g c heads chained start = ap (λ (w : Walk). next_of w w.latest) c.next_other.ensures.same ∙ sym (ap (λ (link : Link). link.0) (own_is g (goal.at.After-next_other g c).After-among-own heads chained start))
 
+pub among-own-requires : goal.among-own-requires
+among-own-requires g c = λ is.
+    let believed = c.requires.believed is in
+    latest_below (length believed.heads) c.args.rows.now c.args.probe.now c.chains.self (c.chains.invariant.walk believed.heads believed.chained believed.at) c.chains.invariant.inside.latest
+
+pub next_other-requires-clause-believed : goal.next_other-requires-clause-believed
+next_other-requires-clause-believed g c = λ is.
+    let believed = c.requires.believed is in
+    (c.args.probe.now, record { heads = believed.heads; chained = believed.chained; at = c.chains.invariant.walk believed.heads believed.chained believed.at })
+
+pub next_other-requires-clause-own_is : goal.next_other-requires-clause-own_is
+next_other-requires-clause-own_is g c = λ is.
+    let believed = c.requires.believed is in own_is g (goal.at.next_other-requires-clause-own_is g c).After-among-own believed.heads believed.chained believed.at
+
 pub returns-in-Some-clause-chained : goal.returns-in-Some-clause-chained
 returns-in-Some-clause-chained g c = λ heads chained start.
     let it = c.in-Some.ensures.chained heads c.args.probe.now chained (c.chains.invariant.walk heads chained start) (own_is g (goal.at.returns-in-Some-clause-chained g c).After-among-own heads chained start) in (

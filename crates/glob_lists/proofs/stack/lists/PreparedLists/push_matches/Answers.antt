@@ -19,14 +19,19 @@ list_at g c =
     let there = held_there g.T.Pattern.seen c.self.inside.lists.now c.args.i c.index-self-i.result (within g c) in
     subst (λ (l : List _). slice_get (map (entry_list_of g.T.Pattern.seen) l) c.args.i ≡ Some (entry_list_of g.T.Pattern.seen (get_or c.self.inside.lists.now c.args.i c.index-self-i.result))) c.self.view_is there
 
-pub visit-requires-clause-of : goal.visit-requires-clause-of
-visit-requires-clause-of g c =
-    held_rows g.T.Pattern.seen c.self.inside.lists.now c.args.i c.index-self-i.result (within g (goal.at.visit-requires-clause-of g c).After-index-self-i) c.self.inside.rows.items c.self.invariant
+pub rest-requires-clause-of : goal.rest-requires-clause-of
+rest-requires-clause-of g c =
+    held_rows g.T.Pattern.seen c.self.inside.lists.now c.args.i c.index-self-i.result (within g (goal.at.rest-requires-clause-of g c).After-index-self-i) c.self.inside.rows.items c.self.invariant
     c.index-rows.result.now c.index-rows.ensures
 
-pub visit-requires-clause-folder : goal.visit-requires-clause-folder
-visit-requires-clause-folder g c =
-    held_folder g.T.Pattern.seen c.self.inside.lists.now c.args.i c.index-self-i.result (within g (goal.at.visit-requires-clause-folder g c).After-index-self-i) c.self.invariant.folders
+pub rest-requires-clause-folder : goal.rest-requires-clause-folder
+rest-requires-clause-folder g c =
+    held_folder g.T.Pattern.seen c.self.inside.lists.now c.args.i c.index-self-i.result (within g (goal.at.rest-requires-clause-folder g c).After-index-self-i) c.self.invariant.folders
+
+pub walk-walk-requires : goal.walk-walk-requires
+walk-walk-requires g c =
+    held_rows g.T.Pattern.seen c.self.inside.lists.now c.args.i c.index-self-i.result (within g (goal.at.walk-walk-requires g c).After-index-self-i) c.self.inside.rows.items c.self.invariant
+    c.index-rows.result.now c.index-rows.ensures
 
 pub returns-in_default : goal.returns-in_default
 returns-in_default g c =
@@ -35,7 +40,7 @@ returns-in_default g c =
     let case = c.args.question.now.case in
     let list = entry_list_of g.T.Pattern.seen (get_or c.self.inside.lists.now c.args.i c.index-self-i.result) in
     let there = list_at g (goal.at.returns-in_default g c).After-index-self-i in
-    AreFoundFrom-end lists path case c.args.i list there (length list.entries) c.args.pairs.now.items (λ m low below. c.in_default.ensures.visit m)
+    AreFoundFrom-end lists path case c.args.i list there (length list.entries) c.args.pairs.now.items (λ m low below. c.in_default.ensures.rest m)
     (AreFoundFrom-list lists path case c.args.i list there (c.args.i + 1) (length list.entries) c.args.pairs.now.items refl (omega arith) c.requires.found)
 
 pub matches-init : goal.matches-init
@@ -45,9 +50,9 @@ matches-init g c =
     let after = (goal.at.matches-init g c).After-index-self-i in
     let are = held_rows g.T.Pattern.seen c.self.inside.lists.now c.args.i c.index-self-i.result (within g after) c.self.inside.rows.items c.self.invariant c.index-rows.result.now c.index-rows.ensures in
     record {
-      visit = c.in-Some.ensures.visit;
-      found = AreFoundFrom-list lists c.args.question.now.path.now c.args.question.now.case c.args.i list (list_at g after) (c.args.i + 1) c.in-Some.visit.walk.passed_from c.args.pairs.now.items refl
-          (omega (arith, c.in-Some.ensures.all, are.asked.many)) c.requires.found;
+      walk = c.walk-walk.ensures.walk;
+      found = AreFoundFrom-list lists c.args.question.now.path.now c.args.question.now.case c.args.i list (list_at g after) (c.args.i + 1) c.walk-walk.result.passed_from c.args.pairs.now.items refl
+          (omega (arith, c.walk-walk.ensures.all, are.asked.many)) c.requires.found;
     }
 
 pub next_match-requires-clause-of : goal.next_match-requires-clause-of
@@ -66,9 +71,9 @@ matches-preserved g c =
     let case = c.args.question.now.case in
     let list = entry_list_of g.T.Pattern.seen (get_or c.self.inside.lists.now c.args.i c.index-self-i.result) in
     record {
-      visit = c.in-Some-next_match.ensures.visit;
-      found = subst (λ (found : List (ℕ × ℕ)). AreFoundFrom lists path case c.args.i c.next_match.new.visit.walk.passed_from found) (sym c.in_ok-push.ensures.items)
-          (AreFoundFrom-match lists path case c.args.i list (list_at g (goal.at.matches-preserved g c).After-index-self-i) c.next_match.new.visit.walk.passed_from c.matches.visit.walk.passed_from c.in-Some-next_match.m c.matches.pairs.items
+      walk = c.in-Some-next_match.ensures.walk;
+      found = subst (λ (found : List (ℕ × ℕ)). AreFoundFrom lists path case c.args.i c.next_match.new.walk.passed_from found) (sym c.in_ok-push.ensures.items)
+          (AreFoundFrom-match lists path case c.args.i list (list_at g (goal.at.matches-preserved g c).After-index-self-i) c.next_match.new.walk.passed_from c.matches.walk.passed_from c.in-Some-next_match.m c.matches.pairs.items
           c.in-Some-next_match.ensures.next c.matches.invariant.found);
     }
 
@@ -76,5 +81,5 @@ pub returns : goal.returns
 returns g c =
     let lists = map (entry_list_of g.T.Pattern.seen) c.args.self.now in
     let list = entry_list_of g.T.Pattern.seen (get_or c.self.inside.lists.now c.args.i c.index-self-i.result) in
-    AreFoundFrom-end lists c.args.question.now.path.now c.args.question.now.case c.args.i list (list_at g (goal.at.returns g c).After-index-self-i) c.matches.visit.walk.passed_from c.matches.pairs.items
+    AreFoundFrom-end lists c.args.question.now.path.now c.args.question.now.case c.args.i list (list_at g (goal.at.returns g c).After-index-self-i) c.matches.walk.passed_from c.matches.pairs.items
     c.in_default-next_match.ensures.next c.matches.invariant.found
