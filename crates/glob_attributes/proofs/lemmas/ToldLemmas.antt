@@ -1,5 +1,5 @@
 -- What is told of lines, one line after the other.
-use Rattle.std.proofs.Common.{◌≡◌, ℕ, ◌+◌, Bool, List, [], ◌∷◌, ◌++◌, None, Some, refl, sym, ap, ◌∙◌, append-nil, append_assoc, take}
+use Rattle.std.proofs.Common.{◌≡◌, ℕ, ◌+◌, Bool, List, [], ◌∷◌, ◌++◌, None, Some, refl, sym, ap, ◌∙◌, append_assoc, take}
 use Rattle.std.specs.Prelude.{if◌then◌else◌, slice_get}
 use Rattle.std.specs.List.{cons_option, enumerate_from, filter_map, list_any}
 use Rattle.std.specs.Str.{bytes_eq}
@@ -54,10 +54,6 @@ with_names-one old now new all i name there before added =
     let taken = take_more all i name (slice_get_within all i name there) ∙ ap (λ x. take i all ++ x ∷ []) (get_or_from_slice_get all i name name there) in
     added ∙ ap (λ l. with_names l (name ∷ [])) before ∙ sym (with_names-append old (take i all) (name ∷ [])) ∙ ap (with_names old) (sym taken)
 
--- the names of one line more
-pub with_names-line : (now new mine others : List (List ℕ)) → new ≡ with_names now mine → with_names new others ≡ with_names now (mine ++ others)
-with_names-line now new mine others added = ap (λ l. with_names l others) added ∙ sym (with_names-append now mine others)
-
 -- ---- names of which some first ones were added
 
 -- the names that were read before the rest are added
@@ -74,10 +70,6 @@ up_to-more old read rest now mine others new before is added = (
   before.1 ∙ ap (λ l. before.0 ++ l) is ∙ sym (append_assoc before.0 mine others),
   added ∙ ap (λ names. with_names names mine) before.2 ∙ sym (with_names-append old before.0 mine),
 )
-
-pub up_to-all : (old read rest now : List (List ℕ)) → AddsUpTo old read rest now → rest ≡ [] → now ≡ with_names old read
-up_to-all old read rest now before is =
-    before.2 ∙ ap (with_names old) (sym (before.1 ∙ ap (λ l. before.0 ++ l) is ∙ append-nil before.0))
 
 -- where nothing more was added
 pub some-here : (old read rest now new : List (List ℕ)) → AddsUpTo old read rest now → new ≡ now → AddsSome old read new

@@ -1,5 +1,5 @@
 -- A line was cut off, so there were bytes.
-use Rattle.std.proofs.Common.{◌≡◌, ◌<◌, [], length, true, false, ap, sym, arith}
+use Rattle.std.proofs.Common.{◌≡◌, length, ap, sym, arith}
 use Rattle.std.proofs.lemmas.Bool.{false≢true}
 use Rattle.glob_lines.proofs.lemmas.IgnoreLemmas.{CutsLine-shorter_by}
 use Rattle.gix_glob_c.specs.AttributeFile.{unread_of_file}

@@ -1,5 +1,5 @@
 -- The path at a place is told behind those before it.
-use Rattle.std.proofs.Common.{◌≡◌, ◌∷◌, ◌++◌, ◌+◌, ◌<◌, ◌∙◌, ℕ, false, List, [], length, take, slice_index_or, slice_set, sym, subst, refl, arith}
+use Rattle.std.proofs.Common.{◌≡◌, ◌∷◌, ◌++◌, ◌+◌, ◌<◌, ◌∙◌, ℕ, false, List, [], length, take, slice_index_or, slice_set, sym, subst, arith}
 use Rattle.std.specs.List.{AllZip}
 use Rattle.std.proofs.lemmas.List.{drop-set-lt, length-set, take_all, take_more, take_more_set}
 use Rattle.gix_glob_c.specs.declared.paths.GlobPath.{GlobPath}

@@ -1,5 +1,5 @@
 -- What was read behind the first quote tells.
-use Rattle.std.proofs.Common.{sym, ap, ◌∙◌}
+use Rattle.std.proofs.Common.{ap, ◌∙◌}
 use Rattle.std.proofs.lemmas.Result.{IfOk-weaker}
 use Rattle.glob_attributes.specs.Equations.Heads.{quoted_from}
 use Rattle.glob_attributes.proofs.lemmas.SpellingLemmas.{no_quote, quoted_or_none}

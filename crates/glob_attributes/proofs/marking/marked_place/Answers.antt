@@ -1,6 +1,5 @@
 -- The mark tells whether the macro was put in before.
-use Rattle.std.proofs.Common.{◌≡◌, ◌<◌, length, true, false, Some, ap, sym, ◌∙◌, arith}
-use Rattle.std.specs.Prelude.{slice_get}
+use Rattle.std.proofs.Common.{◌<◌, length, false, Some, ap, sym, ◌∙◌, arith}
 use Rattle.std.proofs.lemmas.Option.{slice_get-get_or}
 use Rattle.glob_attributes.proofs.lemmas.FillingLemmas.{place_within}
 use Rattle.glob_attributes.proofs.lemmas.MarkingLemmas.{puts_in_marked, puts_in_none, puts_in_set, puts_in_unset}

@@ -1,4 +1,4 @@
-use Rattle.std.proofs.Common.{bit_or, refl, arith}
+use Rattle.std.proofs.Common.{bit_or, refl}
 use Rattle.std.proofs.lemmas.Simd.{zip2_splat, length-chunk}
 use lib.Lanes.{chunk}
 use Rattle.globtree.specs.Quoting.{is_unusual}
