@@ -132,17 +132,12 @@ impl Sight {
     fn sees_bytes(&self, row: &Row) -> bool
         ensures { IsTrue result → SeesBytes self.now row.now }
     {
-        if !has_all(self.ends, NO_END) {
-            return false;
-        }
-        has_all(row.asked(), self.needs(row.is_name()))
-    }
-
-    /// What it has of the bytes that rows without an end need.
-    fn needs(&self, is_name: bool) -> u64
-        ensures { result ≡ needs_of self.now is_name }
-    {
-        if is_name { self.names } else { self.paths }
+        let needed = if row.is_name() {
+            self.names
+        } else {
+            self.paths
+        };
+        has_all(self.ends, NO_END) && has_all(row.asked(), needed)
     }
 
     /// Whether it has the end that a row asks for.
@@ -150,20 +145,10 @@ impl Sight {
         ensures { IsTrue result → SeesEnd self.now row.now }
     {
         if row.length() < SHORT_END {
-            return self.has_all_paths();
+            return self.paths == 0 && has_all(self.ends, NO_END);
         }
         let end = seen_end(row.asked(), row.length());
         self.has_ending(end)
-    }
-
-    /// Whether some row asks for something else than an end, and nothing is needed of a whole path.
-    fn has_all_paths(&self) -> bool
-        ensures { IsTrue result → (self.now.paths ≡ 0) × HasAll self.now.ends NO_END }
-    {
-        if self.paths != 0 {
-            return false;
-        }
-        has_all(self.ends, NO_END)
     }
 
     /// Whether some row asks for something else than an end of two bytes or more.

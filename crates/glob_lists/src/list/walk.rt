@@ -2,7 +2,7 @@
 //! believed of the rows and their links: whatever they say, the walk stays inside and ends.
 ghost use Rattle.std.specs.Prelude.{◌≡◌, ◌↔◌, ◌-◌, ◌^◌, ◌<◌, ◌≤◌, IfSome, IsTrue, List, MatchOption, length, slice_index_or, slice_set, true};
 ghost use Rattle.glob_lists.specs.Private.Lists.Chains.{AreChained, chains_of};
-ghost use Rattle.glob_lists.specs.Private.Lists.Walking.{HasNext, IsBelieved, IsInside, IsLatest, IsNextFrom, IsWalk, IsWalkOver, next_of};
+ghost use Rattle.glob_lists.specs.Private.Lists.Walking.{HasNext, IsBelieved, IsFresh, IsInside, IsLatest, IsNextFrom, IsWalk, IsWalkOver, next_of};
 ghost use Rattle.glob_lists.specs.Private.Looking.{LooksUpTo};
 ghost use Rattle.glob_lists.specs.declared.asks.probe.Probe.{Probe};
 ghost use Rattle.glob_lists.specs.declared.link.Link.{Link};
@@ -51,21 +51,35 @@ impl Walk {
             lacking: probe.lacking(),
             passed_from: rows.len(),
         };
-        if heads.len() < 2 {
-            return walk;
-        }
-        walk.other = heads[0].among::<false>(rows.len());
-        'lengths: for n in 0..LONGEST_END {
-            let next = heads[end_chain(heads.len(), probe.key(n as u8 + 1))];
-            if next.is_after(Link::NONE) && !walk.has(next) {
-                walk.nexts[walk.count] = next;
-                walk.count += 1;
-            }
-        }
-        if walk.count > 1 {
-            walk.choose();
+        if heads.len() > 1 {
+            walk.begin(rows, heads, probe);
         }
         walk
+    }
+
+    /// Begins a walk that stands behind all rows with the last row without an end, and with those of the chains that may have an end of the
+    /// path. It is no part of [`Walk::down`], which serves many lists without chains, for which nothing of this is worked out.
+    #[inline(never)]
+    fn begin(&mut self, rows: &[Row], heads: &[Link], probe: &Probe)
+        requires some { 1 < length heads.now }
+        requires few { length heads.now < 2 ^ 32 }
+        requires fresh { IsFresh (length rows.now) probe.now self.old }
+        ensures inside { IsInside (length rows.now) self.new }
+        ensures other { self.new.other.0 ≤ length rows.now }
+        ensures all { self.new.passed_from ≡ length rows.now }
+        ensures walk { AreChained rows.now heads.now → IsWalkOver rows.now heads.now probe.now self.new }
+    {
+        self.other = heads[0].among::<false>(rows.len());
+        'lengths: for n in 0..LONGEST_END {
+            let next = heads[end_chain(heads.len(), probe.key(n as u8 + 1))];
+            if next.is_after(Link::NONE) && !self.has(next) {
+                self.nexts[self.count] = next;
+                self.count += 1;
+            }
+        }
+        if self.count > 1 {
+            self.choose();
+        }
     }
 
     /// Whether a row is the next one of some chain.

@@ -4,7 +4,6 @@ use Rattle.std.specs.Prelude.{slice_get}
 use Rattle.std.proofs.lemmas.List.{get_or_default}
 use Rattle.std.proofs.lemmas.Option.{same_Some}
 use Rattle.gix_glob.specs.declared.search.pattern.list.List as patterns
-use Rattle.gix_glob.specs.declared.search.pattern.mapping.Mapping.{Mapping}
 use Rattle.gix_glob.specs.Entries.{Entry, entry_of}
 use Rattle.gix_glob.specs.EntryLists.{EntryList, entry_list_of}
 use Rattle.gix_glob.proofs.lemmas.Elements.{All-map_at, slice_get-map_at, slice_get-map_within}
@@ -28,11 +27,3 @@ module _ {T X V : Type 0} (seen : X → V) (lists : List (patterns.List T X)) (p
     held_entry =
         let there = slice_get-map_at (entry_list_of seen) lists pair.0 held list_within is in
         subst (λ (l : EntryList V). slice_get l.entries pair.1 ≡ Some entry) (same_Some h.list (entry_list_of seen held) (sym h.of_lists ∙ there)) h.of_list
-
-    pub mapping_within : pair.1 < length held.patterns.items
-    mapping_within = slice_get-map_within (entry_of seen) held.patterns.items pair.1 entry held_entry
-
--- the entry is that of the mapping at its place
-pub entry_of_mapping : {X V : Type 0} (seen : X → V) (mappings : List (Mapping X)) (place : ℕ) (mapping : Mapping X) → place < length mappings → mapping ≡ get_or mappings place mapping
-    → (entry : Entry V) → slice_get (map (entry_of seen) mappings) place ≡ Some entry → entry ≡ entry_of seen mapping
-entry_of_mapping seen mappings place mapping within is entry there = same_Some entry (entry_of seen mapping) (sym there ∙ slice_get-map_at (entry_of seen) mappings place mapping within is)

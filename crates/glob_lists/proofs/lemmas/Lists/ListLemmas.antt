@@ -69,12 +69,6 @@ module _ {V : Type 0} (lists : List (EntryList V)) (path : Path) (case : Case) (
 
 -- ---- what that takes
 
-pub NeverFall-through : (before middle after : Counts) → NeverFall before middle → NeverFall middle after → NeverFall before after
-NeverFall-through before middle after one two = record {
-  steps = (let a = one.steps in let b = two.steps in omega arith);
-  looks = (let a = one.looks in let b = two.looks in omega arith);
-}
-
 module _ {V : Type 0} (list : EntryList V) (v : ℕ) where
   -- so many rows more were passed, and the entry of the last of them may have been asked
   pub SpendsDown-passed : (from middle to : ℕ) (start before after : Counts) → to ≤ middle → SpendsDown list v from middle start before → LooksUpTo before after (middle - to) → SpendsDown list v from to start after

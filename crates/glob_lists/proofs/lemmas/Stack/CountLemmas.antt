@@ -1,9 +1,9 @@
 -- How many entries lists have: one list more, and that they are few enough for an index.
-use Rattle.std.proofs.Common.{◌≡◌, inl, ⊎_elim, ℕ, ◌+◌, ◌^◌, ◌<◌, ◌≤◌, List, length, get_or, map, take, Some, ◌∙◌, ap, subst}
+use Rattle.std.proofs.Common.{◌≡◌, inl, ⊎_elim, ℕ, ◌+◌, ◌^◌, ◌<◌, ◌≤◌, List, length, get_or, map, take, Some, ◌∙◌, ap}
 use Rattle.std.specs.Prelude.{slice_get}
 use Rattle.std.proofs.lemmas.Bool.{cases_lt}
 use Rattle.std.proofs.lemmas.List.{length-map}
-use Rattle.std.proofs.lemmas.List.Sums.{sum_by_more, sum_by_more_le}
+use Rattle.std.proofs.lemmas.List.Sums.{sum_by_more}
 use Rattle.std.proofs.lemmas.Option.{get_or_from_slice_get, slice_get_within}
 use Rattle.gix_glob.specs.declared.search.pattern.list.List as patterns
 use Rattle.gix_glob.specs.Entries.{entry_of}
@@ -17,11 +17,6 @@ module _ {V : Type 0} (lists : List (EntryList V)) where
     entry_count-more =
         sum_by_more (λ (l : EntryList V). length l.entries) lists i list (slice_get_within lists i list there)
         ∙ ap (λ (l : EntryList V). entry_count (take i lists) + length l.entries) (get_or_from_slice_get lists i list list there)
-
-    pub entry_count-more_le : entry_count (take i lists) + length list.entries ≤ entry_count lists
-    entry_count-more_le =
-        subst (λ (l : EntryList V). entry_count (take i lists) + length l.entries ≤ entry_count lists) (get_or_from_slice_get lists i list list there)
-        (sum_by_more_le (λ (l : EntryList V). length l.entries) lists i list (slice_get_within lists i list there))
 
   pub few_entries : ¬ AreTooMany lists → entry_count lists < 2 ^ 32
   few_entries few = ⊎_elim (λ (no : entry_count lists < 2 ^ 32). no) (λ (more : 2 ^ 32 ≤ entry_count lists). absurd (few (inl more))) (cases_lt (entry_count lists) (2 ^ 32))

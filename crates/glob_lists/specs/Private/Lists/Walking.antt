@@ -26,6 +26,14 @@ pub record IsInside (count : ℕ) (walk : Walk) : Type 0 where
   pub few : walk.count ≤ LONGEST_END
   pub latest : IsLatest walk
 
+-- The walk stands behind so many rows, and leads to none.
+pub record IsFresh (count : ℕ) (probe : Probe) (walk : Walk) : Type 0 where
+  pub all : walk.passed_from ≡ count
+  pub none : next_of walk 0 ≡ 0
+  pub no_chain : walk.count ≡ 0
+  pub latest : walk.latest ≡ 0
+  pub lacking : Lacks probe walk.lacking
+
 -- The row is the next one of some chain of the walk.
 abbrev pub HasNext : Walk → Link → Type 0
 HasNext walk next = (n : ℕ) × (n < walk.count) × (next_of walk n ≡ next.0)

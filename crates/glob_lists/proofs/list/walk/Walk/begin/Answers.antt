@@ -7,8 +7,8 @@ use Rattle.glob_lists.specs.declared.list.walk.Walk.{Walk}
 use Rattle.glob_lists.specs.Private.Asks.Literals.{without_bytes}
 use Rattle.glob_lists.specs.Private.Lists.Chains.{AreChained, IsLastBelow, chain_of, chains_of, end_chain}
 use Rattle.glob_lists.proofs.lemmas.Lists.WalkLemmas.{IsBegun, IsBegun-more, IsBegun-passed, IsWalk-begun}
-use Rattle.glob_lists.proofs.list.walk.Walk.down.Goals as goal
-use Rattle.glob_lists.proofs.list.walk.Walk.down.Goals.{After-end_chain, then-is_after+then-not-has, else-is_after, else-is_after-via-then-is_after+else-not-has, else-is_after-via-else-is_after}
+use Rattle.glob_lists.proofs.list.walk.Walk.begin.Goals as goal
+use Rattle.glob_lists.proofs.list.walk.Walk.begin.Goals.{After-end_chain, then-is_after+then-not-has, else-is_after, else-is_after-via-then-is_after+else-not-has, else-is_after-via-else-is_after}
 
 -- the chain of the length that is added, and its last row
 module _ (c : After-end_chain) (chained : AreChained c.args.rows.now c.args.heads.now) where
@@ -18,7 +18,7 @@ module _ (c : After-end_chain) (chained : AreChained c.args.rows.now c.args.head
   its_last : IsLastBelow (chains_of (length c.args.heads.now) c.args.rows.now) c.end_chain.result (length (chains_of (length c.args.heads.now) c.args.rows.now)) (get_or c.args.heads.now c.end_chain.result NONE)
   its_last = chained.linked.head c.end_chain.result c.end_chain.ensures.within
 
-  all_rows : c.lengths.walk.passed_from ≡ length (chains_of (length c.args.heads.now) c.args.rows.now)
+  all_rows : c.lengths.self.passed_from ≡ length (chains_of (length c.args.heads.now) c.args.rows.now)
   all_rows = c.lengths.invariant.all ∙ sym (length-map c.args.rows.now (chain_of (length c.args.heads.now)))
 
 pub lengths-preserved : goal.lengths-preserved
@@ -28,11 +28,11 @@ lengths-preserved c =
     let wide = old.wide in
     let turn = c.lengths-test.true in
     let end = c.lengths.auto.n-end in
-    let walk : Walk = c.lengths.walk in
+    let walk : Walk = c.lengths.self in
     let chains = chains_of (length c.args.heads.now) c.args.rows.now in
     let next = get_or c.args.heads.now c.end_chain.result NONE in
     let before = (goal.at.lengths-preserved c).After-end_chain in elim c.if-is_after.branch [
-      | then-is_after+then-not-has w ↦ rw w.walk-is (record {
+      | then-is_after+then-not-has w ↦ rw w.self-is (record {
         few = omega arith;
         wide = length-set walk.nexts walk.count next ∙ wide;
         latest = old.latest;
@@ -44,7 +44,7 @@ lengths-preserved c =
         begun = λ chained. IsBegun-more chains (length c.args.heads.now) c.args.probe.now.end c.lengths.n walk (old.begun chained) c.end_chain.result (its_chain before chained) next (all_rows before chained) (its_last before chained)
             (c.is_after.ensures.0 w.if-is_after.true) (iff_false w.has.ensures w.if-not-has.true) (omega arith);
       })
-      | else-is_after w ↦ rw w.walk-is (record {
+      | else-is_after w ↦ rw w.self-is (record {
         few = omega arith;
         wide = wide;
         latest = old.latest;
@@ -61,20 +61,18 @@ lengths-preserved c =
       })
     ]
 
-pub returns-then-walk-gt1-clause-walk : goal.returns-then-walk-gt1-clause-walk
-returns-then-walk-gt1-clause-walk c = λ given some.
-    let chained = given some in
+pub returns-then-self-gt1-clause-walk : goal.returns-then-self-gt1-clause-walk
+returns-then-self-gt1-clause-walk c = λ chained some.
     let old = c.lengths.invariant in
     let eight : c.lengths.n ≡ 8 = omega (arith, c.lengths.auto.n-end, c.lengths-test.false) in
-    IsWalk-begun c.args.rows.now c.args.heads.now chained c.args.probe.now c.lengths.walk c.choose.new.self
-    (subst (λ (n : ℕ). IsBegun (chains_of (length c.args.heads.now) c.args.rows.now) (length c.args.heads.now) c.args.probe.now.end n c.lengths.walk) eight (old.begun chained)) old.lacking
-    (subst (λ (n : ℕ). IsLastBelow (chains_of (length c.args.heads.now) c.args.rows.now) 0 n c.lengths.walk.other) (sym old.all) (old.other chained)) c.choose.ensures.same
+    IsWalk-begun c.args.rows.now c.args.heads.now chained c.args.probe.now c.lengths.self c.choose.new.self
+    (subst (λ (n : ℕ). IsBegun (chains_of (length c.args.heads.now) c.args.rows.now) (length c.args.heads.now) c.args.probe.now.end n c.lengths.self) eight (old.begun chained)) old.lacking
+    (subst (λ (n : ℕ). IsLastBelow (chains_of (length c.args.heads.now) c.args.rows.now) 0 n c.lengths.self.other) (sym old.all) (old.other chained)) c.choose.ensures.same
 
-pub returns-else-walk-gt1-clause-walk : goal.returns-else-walk-gt1-clause-walk
-returns-else-walk-gt1-clause-walk c = λ given some.
-    let chained = given some in
+pub returns-else-self-gt1-clause-walk : goal.returns-else-self-gt1-clause-walk
+returns-else-self-gt1-clause-walk c = λ chained some.
     let old = c.lengths.invariant in
     let eight : c.lengths.n ≡ 8 = omega (arith, c.lengths.auto.n-end, c.lengths-test.false) in
-    IsWalk-begun c.args.rows.now c.args.heads.now chained c.args.probe.now c.lengths.walk c.lengths.walk
-    (subst (λ (n : ℕ). IsBegun (chains_of (length c.args.heads.now) c.args.rows.now) (length c.args.heads.now) c.args.probe.now.end n c.lengths.walk) eight (old.begun chained)) old.lacking
-    (subst (λ (n : ℕ). IsLastBelow (chains_of (length c.args.heads.now) c.args.rows.now) 0 n c.lengths.walk.other) (sym old.all) (old.other chained)) refl
+    IsWalk-begun c.args.rows.now c.args.heads.now chained c.args.probe.now c.lengths.self c.lengths.self
+    (subst (λ (n : ℕ). IsBegun (chains_of (length c.args.heads.now) c.args.rows.now) (length c.args.heads.now) c.args.probe.now.end n c.lengths.self) eight (old.begun chained)) old.lacking
+    (subst (λ (n : ℕ). IsLastBelow (chains_of (length c.args.heads.now) c.args.rows.now) 0 n c.lengths.self.other) (sym old.all) (old.other chained)) refl
