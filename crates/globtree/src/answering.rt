@@ -4,6 +4,7 @@ ghost use Rattle.gix_glob.specs.Watched.{has_failed};
 
 use crate::fault::CheckFault;
 use crate::record_names::RecordAnswerer;
+use crate::usual::are_usual_names;
 use anyhow::{Context, Result};
 use gix_glob::search::Watched;
 use record_streams::RecordStream;
@@ -12,13 +13,25 @@ use std::io::{Read, Write};
 
 /// What answers told paths.
 pub(crate) trait PathAnswerer: Drop {
+    ghost use Rattle.std.specs.Prelude.{◌≡◌, IsTrue, false};
     ghost use Rattle.std.specs.Io.{StartsWith};
+    ghost use Rattle.std.specs.List.{list_any};
+    ghost use Rattle.glob_lists.specs.Paths.{IsPlainPath};
+    ghost use Rattle.globtree.specs.Quoting.{is_unusual};
 
     /// Whether the answers before a path that gets none are written, where the paths are those of the words.
     const KEEPS_ANSWERS: bool;
 
-    /// Appends what is written about a told path to the text. Where this fails, what was appended doesn't count.
-    fn answer_path(&mut self, text: &mut Vec<u8>, told: &[u8]) -> Result<(), CheckFault>
+    /// Appends what is written about a told path to the text. It may be known that it is told by usual names. Where this fails, what was
+    /// appended doesn't count.
+    fn answer_path(
+        &mut self,
+        text: &mut Vec<u8>,
+        told: &[u8],
+        is_usual: bool,
+    ) -> Result<(), CheckFault>
+        requires plain { IsTrue is_usual → IsPlainPath told.now }
+        requires usual { IsTrue is_usual → list_any is_unusual told.now ≡ false }
         ensures { StartsWith text.new.items text.old.items };
 }
 
@@ -47,7 +60,8 @@ fn append_each<A: PathAnswerer>(
 ) -> Result<(), CheckFault> {
     'paths: for path in paths {
         let whole = text.len();
-        if let Err(fault) = answerer.answer_path(text, path.as_bytes()) {
+        let told = path.as_bytes();
+        if let Err(fault) = answerer.answer_path(text, told, are_usual_names(told)) {
             text.truncate(whole);
             return Err(fault);
         }

@@ -9,7 +9,6 @@ use crate::flags::Flags;
 use crate::lines::{DecidingLine, append_line};
 use crate::sources::FolderFiles;
 use crate::standpoint::Standpoint;
-use crate::usual::are_usual_names;
 use glob_lines::IgnoreLines;
 use glob_trees::Tree;
 use std::alloc::Global;
@@ -31,8 +30,12 @@ pub(crate) struct Asker<'a, R: Files + Eprint> {
 impl<'a, R: Files + Eprint> PathAnswerer for Asker<'a, R> {
     const KEEPS_ANSWERS: bool = false;
 
-    fn answer_path(&mut self, text: &mut Vec<u8>, told: &[u8]) -> Result<(), CheckFault> {
-        let is_usual = are_usual_names(told);
+    fn answer_path(
+        &mut self,
+        text: &mut Vec<u8>,
+        told: &[u8],
+        is_usual: bool,
+    ) -> Result<(), CheckFault> {
         let pair = self.find(told, is_usual)?;
         let line = line_at(&self.finder.tree, pair, self.flags);
         if line.is_some() {

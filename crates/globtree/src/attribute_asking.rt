@@ -31,7 +31,12 @@ pub(crate) struct AttributeAsker<'a, R> {
 impl<'a, R: Files + Eprint> PathAnswerer for AttributeAsker<'a, R> {
     const KEEPS_ANSWERS: bool = true;
 
-    fn answer_path(&mut self, text: &mut Vec<u8>, told: &[u8]) -> Result<(), CheckFault> {
+    fn answer_path(
+        &mut self,
+        text: &mut Vec<u8>,
+        told: &[u8],
+        _is_usual: bool,
+    ) -> Result<(), CheckFault> {
         let is_folder = self.lead(told)?;
         let mut quoted = Vec::new(self.alloc);
         let shown = path_text(&mut quoted, told, self.is_nul)?;

@@ -7,6 +7,7 @@ ghost use Rattle.globtree.specs.RecordNames.{is_zero};
 
 use crate::answering::PathAnswerer;
 use crate::fault::CheckFault;
+use crate::usual::are_usual_names;
 use glob_attributes::read_quoted;
 use memchr::memchr;
 use record_streams::Answerer;
@@ -33,17 +34,29 @@ impl<A: PathAnswerer> Answerer for RecordAnswerer<A> {
 
     #[inline(always)]
     fn answer(&mut self, text: &mut Vec<u8>, bytes: &[u8]) -> Result<(), CheckFault> {
-        let bytes = before_zero(bytes);
-        if let [b'"', ..] = bytes {
-            if !self.is_nul {
-                return self.answer_quoted(text, bytes);
-            }
+        // most records are usual names, in which there is no byte 0 and no quote to look for
+        if are_usual_names(bytes) {
+            return self.paths.answer_path(text, bytes, true);
         }
-        self.paths.answer_path(text, bytes)
+        self.answer_unusual(text, bytes)
     }
 }
 
 impl<A: PathAnswerer> RecordAnswerer<A> {
+    /// Appends what is written about any path, up to the first byte 0.
+    #[inline(never)]
+    fn answer_unusual(&mut self, text: &mut Vec<u8>, bytes: &[u8]) -> Result<(), CheckFault>
+        ensures { StartsWith text.new.items text.old.items }
+    {
+        let told = before_zero(bytes);
+        if let [b'"', ..] = told {
+            if !self.is_nul {
+                return self.answer_quoted(text, told);
+            }
+        }
+        self.paths.answer_path(text, told, are_usual_names(told))
+    }
+
     /// Appends what is written about a path that is told in quotes. What follows the last quote is passed over, as Git does.
     #[inline(never)]
     fn answer_quoted(&mut self, text: &mut Vec<u8>, quoted: &[u8]) -> Result<(), CheckFault>
@@ -52,7 +65,8 @@ impl<A: PathAnswerer> RecordAnswerer<A> {
         let Some((name, _behind)) = read_quoted(self.alloc, quoted)? else {
             return Err(CheckFault::BadlyQuoted);
         };
-        self.paths.answer_path(text, before_zero(&name))
+        let told = before_zero(&name);
+        self.paths.answer_path(text, told, are_usual_names(told))
     }
 }
 
