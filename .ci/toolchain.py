@@ -2,6 +2,7 @@
 import importlib.machinery
 import importlib.util
 import os
+import re
 import shutil
 import subprocess
 import sys
@@ -39,3 +40,23 @@ def linked(folder, to):
     """Gives a folder of kept work a second name, file by file, and a copy of what a check writes into."""
     shutil.rmtree(to, ignore_errors=True)
     shutil.copytree(folder, to, copy_function=link_or_copy)
+
+
+# The file in a crate's folder out/ that has the names of its functions, as its proof called them, under the sum of what was proved.
+FUNCTIONS = "functions"
+
+
+def functions_in(said):
+    """Returns the names of the functions that a check has proved, by what it said. (Where a library was built too, each stands twice.)"""
+    return sorted({*re.findall(r"^fn (\S+): proved", said, re.M)})
+
+
+def keep_functions(crate, said):
+    with open(f"{crate.folder}/out/{FUNCTIONS}", "w", encoding="utf-8") as it:
+        it.write("\n".join([crate.stamp(), *functions_in(said)]))
+
+
+def kept_functions(crate):
+    """Returns the names of the functions, if the crate was proved as it stands."""
+    stamp, *names = rt.rtlib.text_of(f"{crate.folder}/out/{FUNCTIONS}").split("\n")
+    return names if stamp == crate.stamp() else None
