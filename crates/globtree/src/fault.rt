@@ -26,8 +26,8 @@ pub(crate) enum CheckFault {
     /// A folder above the path is a link.
     #[error("'{0}' is beyond a symbolic link")]
     BeyondLink(String),
-    /// Reading a file was interrupted, or would have had to wait. It is one text, that tells which file and why: so a fault takes few
-    /// bytes, and each answer that could be one.
+    /// Reading a file was interrupted, or would have had to wait. One text tells which file and why, so that the fault stays small: each
+    /// answer about a path has room for one.
     #[error("{0}")]
     Unready(String),
     /// A folder or a path that has to be looked at has a name that is no UTF-8 text.
