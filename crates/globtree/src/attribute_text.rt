@@ -4,8 +4,8 @@ ghost use Rattle.std.specs.Io.{StartsWith};
 ghost use Rattle.glob_attributes.specs.Views.{state_with};
 ghost use Rattle.globtree.specs.AttributeText.{answer_of, label_of, path_text};
 
-use crate::quoting::append_quoted;
-use crate::unusual::has_unusual;
+use told_paths::append_quoted;
+use told_paths::has_unusual;
 use glob_attributes::{State, state_text};
 use std::alloc::AllocError;
 

@@ -5,8 +5,8 @@ ghost use Rattle.globtree.specs.Files.{PutsInOrder};
 
 use crate::fault::CheckFault;
 use crate::finding::fault_of;
-use crate::paths::{enter, last_name};
-use crate::quoting::append_quoted;
+use told_paths::{enter, last_name};
+use told_paths::append_quoted;
 use crate::sources::FolderFiles;
 use crate::standing::folder_text;
 use crate::standpoint::Standpoint;

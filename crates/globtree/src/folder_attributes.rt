@@ -2,7 +2,7 @@
 
 use crate::attribute_files::AttributeReader;
 use crate::fault::CheckFault;
-use crate::paths::last_name;
+use told_paths::last_name;
 use gix_glob::search::pattern::List;
 use glob_attributes::{AttributeLines, MacroTable, keep_named};
 use memchr::memchr;

@@ -23,9 +23,7 @@ mod index_head;
 mod lines;
 mod list_files;
 mod outer_attributes;
-mod paths;
 mod places;
-mod quoting;
 mod record_names;
 mod running;
 mod signs;
@@ -34,8 +32,6 @@ mod standing;
 mod standpoint;
 mod telling;
 mod unlinked;
-mod unusual;
-mod usual;
 mod words;
 mod work_tree;
 

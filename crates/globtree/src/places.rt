@@ -1,5 +1,5 @@
 //! Going to the top of the work tree.
-use crate::paths::below_folder;
+use told_paths::below_folder;
 use crate::standpoint::Standpoint;
 use crate::words::takes_value;
 use anyhow::{Context, Result, bail};
@@ -88,7 +88,7 @@ fn nearest_top<R: Files + Env>(rt: &R, alloc: Global, here: &[u8]) -> Result<Vec
         if top.is_empty() {
             break;
         }
-        crate::paths::leave(&mut top);
+        told_paths::leave(&mut top);
         env::set_current_dir(rt, "..").context("the folder above")?;
     }
     bail!("not a git repository, nor a folder below one (--top DIR names a top)")

@@ -7,7 +7,7 @@ ghost use Rattle.globtree.specs.RecordNames.{is_zero};
 
 use crate::answering::PathAnswerer;
 use crate::fault::CheckFault;
-use crate::usual::are_usual_names;
+use told_paths::are_usual_names;
 use glob_attributes::read_quoted;
 use memchr::memchr;
 use record_streams::Answerer;

@@ -1,7 +1,7 @@
 //! Where paths are told from, and where they lead.
 
 use crate::fault::CheckFault;
-use crate::paths::{append_seen, below_folder, enter, walk};
+use told_paths::{append_seen, below_folder, enter, walk};
 use std::alloc::{AllocError, Global};
 
 /// Where paths are told from.

@@ -1,0 +1,7 @@
+pub mod FrontLemmas
+pub mod LaneLemmas
+pub mod NameLemmas
+pub mod PathLemmas
+pub mod QuotedLemmas
+pub mod SeenLemmas
+pub mod UsualLemmas
