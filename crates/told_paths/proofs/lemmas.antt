@@ -1,5 +1,6 @@
 pub mod FrontLemmas
 pub mod LaneLemmas
+pub mod LastLemmas
 pub mod NameLemmas
 pub mod PathLemmas
 pub mod QuotedLemmas

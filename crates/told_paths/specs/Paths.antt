@@ -1,5 +1,5 @@
 -- Where a told path leads.
-use Rattle.std.specs.Prelude.{ℕ, ◌==◌, ◌||◌, Bool, IsTrue, not, nat_eq, if◌then◌else◌, List, [], ◌∷◌, ◌++◌, drop, length, Option, None, Some, codes}
+use Rattle.std.specs.Prelude.{◌≡◌, ◌≢◌, ◌⊎◌, ℕ, ◌==◌, ◌||◌, Bool, IsTrue, not, nat_eq, if◌then◌else◌, List, [], ◌∷◌, ◌++◌, drop, length, Option, None, Some, codes}
 use Rattle.std.specs.List.{AllByRecursion, flat_map, list_any, slice_split, starts_with}
 use Rattle.std.specs.Option.{option_and_then, option_map, unwrap_or}
 use Rattle.std.specs.Str.{byte, bytes_eq}
@@ -59,6 +59,10 @@ walk path (part ∷ parts) = option_and_then (λ next. walk next parts) (step pa
 abbrev pub names_folder : Bool → List (List ℕ) → Bool
 names_folder known [] = known
 names_folder known (part ∷ parts) = names_folder (stays part || goes_up part) parts
+
+-- the name has no slash, and the path is the name, or ends in a slash and the name
+abbrev pub IsLastName : List ℕ → List ℕ → Type 0
+IsLastName path name = AllByRecursion (λ b. b ≢ byte "/") name × ((path ≡ name) ⊎ ((folder : List ℕ) × (path ≡ folder ++ byte "/" ∷ name)))
 
 -- what is left of a path behind a folder's slash; all of it, where the folder is the root, and nothing for the folder itself
 abbrev pub after_slash : List ℕ → Option (List ℕ)

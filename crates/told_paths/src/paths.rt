@@ -1,7 +1,7 @@
 //! Where a told path leads: `.` stays, `..` goes up, and slashes that follow one another are one.
 ghost use Rattle.std.specs.Prelude.{◌≡◌, ◌∷◌, ◌++◌, ◌||◌, ℕ, Bool, false, List, [], if◌then◌else◌, None, Some, IfOk, IsTrue, MatchOption, OnOk};
 ghost use Rattle.std.specs.Option.{option_copied};
-ghost use Rattle.told_paths.specs.Paths.{AreNames, below, folder_of, folder_parts, goes_up, left_below, names_folder, or_here, parts_left, parts_of, seen_from, stays, step, steps_up, walk};
+ghost use Rattle.told_paths.specs.Paths.{AreNames, IsLastName, below, folder_of, folder_parts, goes_up, left_below, names_folder, or_here, parts_left, parts_of, seen_from, stays, step, steps_up, walk};
 
 use memchr::{memchr, memrchr};
 use std::alloc::AllocError;
@@ -83,7 +83,9 @@ pub fn enter(path: &mut Vec<u8>, name: &[u8]) -> Result<(), AllocError>
 }
 
 /// The last name of a path.
-pub fn last_name(path: &[u8]) -> &[u8] {
+pub fn last_name(path: &[u8]) -> &[u8]
+    ensures { IsLastName path.entry.now result.now }
+{
     match memrchr(b'/', path) {
         Some(at) => &path[at + 1..],
         None => path,
