@@ -58,5 +58,5 @@ def keep_functions(crate, said):
 
 def kept_functions(crate):
     """Returns the names of the functions, if the crate was proved as it stands."""
-    stamp, *names = rt.rtlib.text_of(f"{crate.folder}/out/{FUNCTIONS}").split("\n")
+    stamp, *names = (rt.rtlib.text_of(f"{crate.folder}/out/{FUNCTIONS}") or "").split("\n")
     return names if stamp == crate.stamp() else None
