@@ -4,12 +4,12 @@ ghost use Rattle.gix_glob.specs.Watched.{has_failed};
 
 use crate::fault::CheckFault;
 use crate::record_names::RecordAnswerer;
-use told_paths::are_usual_names;
 use anyhow::{Context, Result};
 use gix_glob::search::Watched;
 use record_streams::RecordStream;
 use std::alloc::Global;
 use std::io::{Read, Write};
+use told_paths::are_usual_names;
 
 /// What answers told paths.
 pub(crate) trait PathAnswerer: Drop {

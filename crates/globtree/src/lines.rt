@@ -6,12 +6,12 @@ ghost use Rattle.globtree.specs.Lines.{name_of};
 ghost use Rattle.told_paths.specs.Quoting.{is_unusual};
 
 use crate::flags::Flags;
-use told_paths::append_quoted;
 use bitflags::Flags as _;
 use gix_glob::Pattern;
 use gix_glob::pattern::Mode;
 use itoa::Buffer;
 use std::alloc::AllocError;
+use told_paths::append_quoted;
 
 /// The line of a file that decides about a path.
 #[derive(Drop)]

@@ -29,7 +29,6 @@ mod running;
 mod signs;
 mod sources;
 mod standing;
-mod standpoint;
 mod telling;
 mod unlinked;
 mod words;

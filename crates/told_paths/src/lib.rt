@@ -4,10 +4,12 @@
 pub mod laws;
 mod paths;
 mod quoting;
+mod standpoint;
 mod unusual;
 mod usual;
 
 pub use paths::{append_seen, below_folder, enter, last_name, leave, walk};
 pub use quoting::append_quoted;
+pub use standpoint::{LeadFault, Standpoint};
 pub use unusual::has_unusual;
 pub use usual::are_usual_names;

@@ -17,7 +17,7 @@ pub last_name_behind : (path : List ℕ) (at : ℕ) → IsLastByte (is_byte (byt
 last_name_behind path at found =
     let len = length-drop (at + 1) path in
     let none = all_other (drop (at + 1) path) (λ j below is.
-        found.0.after (at + 1 + j) (omega arith) (omega (arith, len)) (eq-eqb (get_or path (at + 1 + j) 0) (byte "/") (sym (get_or-drop (at + 1) path j 0) ∙ is))) in
+    found.0.after (at + 1 + j) (omega arith) (omega (arith, len)) (eq-eqb (get_or path (at + 1 + j) 0) (byte "/") (sym (get_or-drop (at + 1) path j 0) ∙ is))) in
     let slash = ap (λ b. b ∷ drop (at + 1) path) (eqb-true (get_or path at 0) (byte "/") found.1) in
     (none, inr (take at path, sym (take-append-drop at path) ∙ ap (λ rest. take at path ++ rest) (drop_more path at 0 found.0.high ∙ slash)))
 

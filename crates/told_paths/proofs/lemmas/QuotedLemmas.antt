@@ -72,7 +72,9 @@ joined (b ∷ name) = ap (λ rest. escaped b ++ rest) (joined name)
 
 -- what stands in quotes is a quoted head, and nothing follows it
 pub quoted_is_read : (name : List ℕ) → AllByRecursion (λ b. b < 2 ^ 8) name → list_any is_unusual name ≡ true → IsQuotedHead (quoted name) name []
-quoted_is_read name few some =
-    (map escaped name, each_spelled name few,
-    ap (λ t. if t then codes "\"" ++ (flat_map escaped name ++ codes "\"") else name) some
-    ∙ ap (λ text. codes "\"" ++ (text ++ codes "\"")) (joined name))
+quoted_is_read name few some = (
+  map escaped name,
+  each_spelled name few,
+  ap (λ t. if t then codes "\"" ++ (flat_map escaped name ++ codes "\"") else name) some
+      ∙ ap (λ text. codes "\"" ++ (text ++ codes "\"")) (joined name),
+)
