@@ -172,15 +172,13 @@ impl ListRows {
         // a law does nothing: it is called for what it ensures
         laws::answering_patterns_pass();
         let mappings = list.patterns.as_slice();
-        'candidates: while let Some(m) = walk.next::<true, S, L>(
-            &self.rows,
-            &self.heads,
-            &question.probe,
-            counts,
-        ) {
-            let row = &self.rows[m];
+        let rows = self.rows.as_slice();
+        let heads = self.heads.as_slice();
+        let probe = &question.probe;
+        'candidates: while let Some(m) = walk.next::<true, S, L>(rows, heads, probe, counts) {
+            let row = &rows[m];
             let pattern = mappings[m].pattern.view();
-            if is_answer(row, &question.probe, pattern, rest, question.case, counts) {
+            if is_answer(row, probe, pattern, rest, question.case, counts) {
                 return Some(m);
             }
         }

@@ -104,12 +104,13 @@ impl Walk {
         ensures same { self.new ≡ record self.old { latest = self.new.latest } }
         ensures latest { IsLatest self.new }
     {
-        self.latest = 0;
+        let mut latest: usize = 0;
         'nexts: for n in 1..self.count {
-            if self.nexts[n].is_after(self.nexts[self.latest]) {
-                self.latest = n;
+            if self.nexts[n].is_after(self.nexts[latest]) {
+                latest = n;
             }
         }
+        self.latest = latest;
     }
 
     /// The next place of a walk whose row passes, over rows that are chained from these heads on; over all rows in turn where there are

@@ -1,14 +1,15 @@
 -- A candidate is tested; those that were passed over don't pass.
-use Rattle.std.proofs.Common.{◌≡◌, ◌↔◌, ◌+◌, ◌<◌, ℕ, IsTrue, List, length, map, option_map, Some, refl, sym, subst, arith}
+use Rattle.std.proofs.Common.{◌≡◌, ◌↔◌, ◌+◌, ◌<◌, ℕ, IsTrue, List, get_or, length, map, option_map, Some, refl, sym, subst, arith}
 use Rattle.std.specs.Prelude.{slice_get}
 use Rattle.std.specs.Vec.{vec_items}
 use Rattle.std.proofs.lemmas.Bool.{iff_false}
 use Rattle.std.proofs.lemmas.List.{length-map}
-use Rattle.std.proofs.lemmas.Option.{slice_get_read}
+use Rattle.std.proofs.lemmas.Option.{slice_get-get_or}
 use Rattle.gix_glob.specs.Entries.{entry_of}
 use Rattle.gix_glob.specs.EntryLists.{entry_list_of}
 use Rattle.gix_glob.specs.PatternParts.{mode_of, text_of}
 use Rattle.gix_glob.proofs.lemmas.Elements.{slice_get-map_at}
+use Rattle.glob_lists.specs.declared.asks.row.Row.{Row}
 use Rattle.glob_lists.specs.Deciding.{AnswersAt, AnswersUnder}
 use Rattle.glob_lists.specs.Private.Asks.Rows.{Asks}
 use Rattle.glob_lists.specs.Private.Lists.Answering.{IsWalkOf, NoneAnswers, SpendsDown}
@@ -44,34 +45,43 @@ tested_text g c = rw (← c.index-mappings-m.is) at c.view-pattern.ensures.text
 tested_mode : (g : Over) (c : After-view-pattern g) → c.view-pattern.result.mode ≡ mode_of c.index-mappings-m.result.pattern
 tested_mode g c = rw (← c.index-mappings-m.is) at c.view-pattern.ensures.mode
 
+-- what stands for a row that isn't there
+abbrev blank : Row
+blank = record { asked = 0; before = record { 0 = 0 }; spare = 0; part = 0 }
+
 -- its row
-row_there : (g : Over) (c : After-view-pattern g) → slice_get c.args.self.now.rows.items c.in-Some.m ≡ Some c.index-row.result.now
-row_there g c = slice_get_read c.args.self.now.rows.items (length c.args.self.now.rows.items) c.in-Some.m c.index-row.result.now refl (row_within g c) c.index-row.ensures
+abbrev row_of : (g : Over) (c : After-view-pattern g) → Row
+row_of g c = get_or c.as_slice-rows.result.now c.in-Some.m blank
+
+row_there : (g : Over) (c : After-view-pattern g) → slice_get c.args.self.now.rows.items c.in-Some.m ≡ Some (row_of g c)
+row_there g c =
+    let rows = c.args.self.now.rows.items in
+    subst (λ (its : List Row). slice_get rows c.in-Some.m ≡ Some (get_or its c.in-Some.m blank)) (sym c.as_slice-rows.ensures.value) (slice_get-get_or rows c.in-Some.m blank (row_within g c))
 
 -- the row asks for what it does
-tested_row : (g : Over) (c : After-view-pattern g) → Asks c.view-pattern.result.text.now c.view-pattern.result.mode c.index-row.result.now
+tested_row : (g : Over) (c : After-view-pattern g) → Asks c.view-pattern.result.text.now c.view-pattern.result.mode (row_of g c)
 tested_row g c =
     let row = row_there g c in
-    let asks = c.requires.of.asked.each c.in-Some.m (entry_of g.T.Pattern.seen c.index-mappings-m.result) c.index-row.result.now (tested_entry g c) row in
-    subst (λ mode. Asks c.view-pattern.result.text.now mode c.index-row.result.now) (sym (tested_mode g c))
-    (subst (λ (text : List ℕ). Asks text (mode_of c.index-mappings-m.result.pattern) c.index-row.result.now) (sym (tested_text g c)) asks)
+    let asks = c.requires.of.asked.each c.in-Some.m (entry_of g.T.Pattern.seen c.index-mappings-m.result) (row_of g c) (tested_entry g c) row in
+    subst (λ mode. Asks c.view-pattern.result.text.now mode (row_of g c)) (sym (tested_mode g c))
+    (subst (λ (text : List ℕ). Asks text (mode_of c.index-mappings-m.result.pattern) (row_of g c)) (sym (tested_text g c)) asks)
 
 -- the walk has gone on
 walk_after : (g : Over) (c : After-next g) → IsWalkOf c.args.self.now c.args.question.now.probe c.next.new.self
 walk_after g c =
     let walk = c.candidates.invariant.walk in record {
-      inside = rw c.deref.ensures.value at c.next.ensures.inside;
-      other = rw c.deref-in-candidates.ensures.value at c.next.ensures.other;
-      over = rw (c.deref.ensures.value, c.deref-in-candidates.ensures.value) at (c.next.ensures.walk (rw (c.deref.ensures.value, c.deref-in-candidates.ensures.value) c.requires.of.chained)
-          (rw (c.deref.ensures.value, c.deref-in-candidates.ensures.value) walk.over));
+      inside = rw c.as_slice-rows.ensures.value at c.next.ensures.inside;
+      other = rw c.as_slice-heads.ensures.value at c.next.ensures.other;
+      over = rw (c.as_slice-rows.ensures.value, c.as_slice-heads.ensures.value) at (c.next.ensures.walk (rw (c.as_slice-rows.ensures.value, c.as_slice-heads.ensures.value) c.requires.of.chained)
+          (rw (c.as_slice-rows.ensures.value, c.as_slice-heads.ensures.value) walk.over));
     }
 
 -- the row passes, and none between it and where the walk was does
 next_row : (g : Over) (c : After-is_answer g) → PassesAt c.args.self.now.rows.items c.args.question.now.probe c.in-Some.m
     × NonePasses c.args.self.now.rows.items c.args.question.now.probe (c.in-Some.m + 1) c.candidates.walk.passed_from
 next_row g c =
-    rw c.deref.ensures.value at (c.in-Some.ensures.next (rw (c.deref.ensures.value, c.deref-in-candidates.ensures.value) c.requires.of.chained)
-    (rw (c.deref.ensures.value, c.deref-in-candidates.ensures.value) c.candidates.invariant.walk.over))
+    rw c.as_slice-rows.ensures.value at (c.in-Some.ensures.next (rw (c.as_slice-rows.ensures.value, c.as_slice-heads.ensures.value) c.requires.of.chained)
+    (rw (c.as_slice-rows.ensures.value, c.as_slice-heads.ensures.value) c.candidates.invariant.walk.over))
 
 -- the test says whether it answers
 told : (g : Over) (c : After-is_answer g) → IsTrue c.is_answer.result
@@ -83,7 +93,7 @@ told g c =
     let before = (goal.at.After-is_answer g c).After-view-pattern in
     AnswersUnder-tested base path.bytes path.is_dir c.args.question.now.case (entry_of g.T.Pattern.seen c.index-mappings-m.result) c.args.rest.now.bytes rest.left
     c.view-pattern.result.text.now c.view-pattern.result.mode c.args.rest.now.is_dir c.is_answer.result (tested_text g before) (tested_mode g before) rest.is_dir
-    (c.is_answer.ensures.exact ((next_row g c).0 c.index-row.result.now (row_there g before)) (tested_row g before) base path.bytes c.requires.folder c.requires.shows rest.left c.view-pattern.ensures.lawful)
+    (c.is_answer.ensures.exact ((next_row g c).0 (row_of g before) (row_there g before)) (tested_row g before) base path.bytes c.requires.folder c.requires.shows rest.left c.view-pattern.ensures.lawful)
 
 -- no mapping answers between the one that is tested and those that were passed
 none_between : (g : Over) (c : After-is_answer g) → NoneAnswers (entry_list_of g.T.Pattern.seen c.args.list.now) c.args.question.now.path.now c.args.question.now.case (c.next.new.self.passed_from + 1) c.args.walk.now.passed_from
@@ -155,8 +165,8 @@ returns-clause-next g c =
     let to = c.candidates.walk.passed_from in
     NoneAnswers-joined list path case 0 to c.args.walk.now.passed_from
     (NoneAnswers-passed list c.args.self.now.rows.items c.requires.of.asked path case c.args.question.now.probe c.answering_patterns_pass.ensures c.requires.shows 0 to
-    (rw c.deref.ensures.value at (c.in_default.ensures.next (rw (c.deref.ensures.value, c.deref-in-candidates.ensures.value) c.requires.of.chained)
-    (rw (c.deref.ensures.value, c.deref-in-candidates.ensures.value) c.candidates.invariant.walk.over))))
+    (rw c.as_slice-rows.ensures.value at (c.in_default.ensures.next (rw (c.as_slice-rows.ensures.value, c.as_slice-heads.ensures.value) c.requires.of.chained)
+    (rw (c.as_slice-rows.ensures.value, c.as_slice-heads.ensures.value) c.candidates.invariant.walk.over))))
     c.candidates.invariant.none
 
 pub returns-clause-spends : goal.returns-clause-spends
