@@ -3,7 +3,6 @@ ghost use Rattle.std.specs.Prelude.{◌≡◌};
 ghost use Rattle.globtree.specs.declared.fault.CheckFault.TheVariants.{Memory};
 
 use std::alloc::{AllocError, Global};
-use std::io;
 use thiserror::Error;
 use told_paths::LeadFault;
 
@@ -28,9 +27,10 @@ pub(crate) enum CheckFault {
     /// A folder above the path is a link.
     #[error("'{0}' is beyond a symbolic link")]
     BeyondLink(String),
-    /// Reading a file was interrupted, or would have had to wait.
-    #[error("'{0}' wasn't read to its end: {1}")]
-    Unready(String, io::Error),
+    /// Reading a file was interrupted, or would have had to wait. It is one text, that tells which file and why: so a fault takes few
+    /// bytes, and each answer that could be one.
+    #[error("{0}")]
+    Unready(String),
     /// A folder or a path that has to be looked at has a name that is no UTF-8 text.
     #[error("'{0}' is no UTF-8 text, so it can't be opened")]
     NotText(String),

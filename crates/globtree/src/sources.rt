@@ -142,7 +142,10 @@ pub(crate) fn file_list<T: search::Pattern, R: Files + Eprint>(
         Ok(Some(list)) => Ok(list),
         Ok(None) => Ok(List::empty(alloc)),
         Err(LoadFault::Memory) => Err(CheckFault::Memory),
-        Err(LoadFault::Read(error)) if is_passing(&error) => Err(CheckFault::Unready(name, error)),
+        Err(LoadFault::Read(error)) if is_passing(&error) => {
+            let text = format!(in alloc; "'{name}' wasn't read to its end: {error}")?;
+            Err(CheckFault::Unready(text))
+        }
         Err(LoadFault::Read(error)) => {
             bytes.clear();
             tell_unread(rt, alloc, name.as_str(), error)?;
