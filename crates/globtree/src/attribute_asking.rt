@@ -80,7 +80,7 @@ impl<'a, R: Files + Eprint> AttributeAsker<'a, R> {
     }
 
     /// Appends the states that are asked for.
-    #[tactic(auto, using(crate::proofs::lemmas::FrontLemmas::front_of_front))]
+    #[tactic(auto, using(crate::proofs::lemmas::AddedLemmas::front_of_front))]
     fn append_states(
         &self,
         text: &mut Vec<u8>,
@@ -101,7 +101,7 @@ impl<'a, R: Files + Eprint> AttributeAsker<'a, R> {
     }
 
     /// Appends the states of all attributes that have one.
-    #[tactic(auto, using(crate::proofs::lemmas::FrontLemmas::front_of_front))]
+    #[tactic(auto, using(crate::proofs::lemmas::AddedLemmas::front_of_front))]
     fn append_all(
         &self,
         text: &mut Vec<u8>,
@@ -120,7 +120,7 @@ impl<'a, R: Files + Eprint> AttributeAsker<'a, R> {
     }
 
     /// Appends that nothing is said of the attributes that are asked for.
-    #[tactic(auto, using(crate::proofs::lemmas::FrontLemmas::front_of_front))]
+    #[tactic(auto, using(crate::proofs::lemmas::AddedLemmas::front_of_front))]
     fn append_nothing(&self, text: &mut Vec<u8>, shown: &[u8]) -> Result<(), AllocError>
         ensures { StartsWith text.new.items text.old.items }
     {
