@@ -20,7 +20,7 @@ HERE = os.path.dirname(os.path.abspath(__file__))
 PROGRAM = os.path.join(os.path.dirname(HERE), "out", "globtree")
 
 # with paths in order: instructions a path at most, and the most of all trees by the least
-MOST_INSTRUCTIONS, SPREAD = 1500, 1.1
+MOST_INSTRUCTIONS, SPREAD = 1600, 1.1
 # the least that Git's seconds are to be of globtree's
 TIMES = {"random": 10, "sorted": 5}
 MOST_MEMORY = 50_000_000

@@ -1,8 +1,3 @@
-pub mod FrontLemmas
-pub mod LaneLemmas
-pub mod NameLemmas
-pub mod PathLemmas
+pub mod AddedLemmas
 pub mod PieceLemmas
 pub mod RecordLemmas
-pub mod SeenLemmas
-pub mod UsualLemmas

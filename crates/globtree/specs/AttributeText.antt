@@ -2,7 +2,7 @@
 use Rattle.std.specs.Prelude.{ℕ, Bool, if◌then◌else◌, List, [], ◌∷◌, ◌++◌, codes}
 use Rattle.glob_attributes.specs.Answers.{state_text}
 use Rattle.glob_attributes.specs.declared.assignment.State.{State}
-use Rattle.globtree.specs.Quoting.{quoted}
+use Rattle.told_paths.specs.Quoting.{quoted}
 
 -- the path as it is shown: as it was told, in lines in quotes where a byte is unusual
 abbrev pub path_text : Bool → List ℕ → List ℕ

@@ -7,9 +7,6 @@ pub mod FilesFlags
 pub mod Flags
 pub mod IndexHead
 pub mod Lines
-pub mod Paths
-pub mod Quoting
 pub mod RecordNames
 pub mod Telling
 pub mod Words
-pub mod Private

@@ -1,6 +1,6 @@
 -- What is written about a path.
 use Rattle.std.specs.Prelude.{ℕ, if◌then◌else◌, List}
-use Rattle.globtree.specs.Quoting.{quoted}
+use Rattle.told_paths.specs.Quoting.{quoted}
 use Rattle.globtree.specs.declared.flags.Flags.{Flags}
 
 -- a name: in quotes where a byte is unusual, but not where a NUL ends it

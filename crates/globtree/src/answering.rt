@@ -4,12 +4,12 @@ ghost use Rattle.gix_glob.specs.Watched.{has_failed};
 
 use crate::fault::CheckFault;
 use crate::record_names::RecordAnswerer;
-use crate::usual::are_usual_names;
 use anyhow::{Context, Result};
 use gix_glob::search::Watched;
 use record_streams::RecordStream;
 use std::alloc::Global;
 use std::io::{Read, Write};
+use told_paths::are_usual_names;
 
 /// What answers told paths.
 pub(crate) trait PathAnswerer: Drop {
@@ -17,7 +17,7 @@ pub(crate) trait PathAnswerer: Drop {
     ghost use Rattle.std.specs.Io.{StartsWith};
     ghost use Rattle.std.specs.List.{list_any};
     ghost use Rattle.glob_lists.specs.Paths.{IsPlainPath};
-    ghost use Rattle.globtree.specs.Quoting.{is_unusual};
+    ghost use Rattle.told_paths.specs.Quoting.{is_unusual};
 
     /// Whether the answers before a path that gets none are written, where the paths are those of the words.
     const KEEPS_ANSWERS: bool;

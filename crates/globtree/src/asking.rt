@@ -8,11 +8,11 @@ use crate::finding::Finder;
 use crate::flags::Flags;
 use crate::lines::{DecidingLine, append_line};
 use crate::sources::FolderFiles;
-use crate::standpoint::Standpoint;
 use glob_lines::IgnoreLines;
 use glob_trees::Tree;
 use std::alloc::Global;
 use std::rt::Files;
+use told_paths::Standpoint;
 
 /// What answers each told path by the tree.
 #[derive(Drop)]
@@ -62,7 +62,9 @@ impl<'a, R: Files + Eprint> Asker<'a, R> {
     /// The same, of a path that has to be led to.
     #[inline(never)]
     fn find_led(&mut self, told: &[u8]) -> Result<Option<(usize, usize)>, CheckFault> {
-        let is_folder = self.standpoint.lead(self.alloc, &mut self.path, told)?;
+        let alloc = self.alloc;
+        let led = self.standpoint.lead(alloc, &mut self.path, told);
+        let is_folder = led.map_err(|fault| CheckFault::of_lead(alloc, told, fault))?;
         self.finder.find_if_plain(&self.path, is_folder)
     }
 }

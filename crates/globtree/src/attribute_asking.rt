@@ -6,11 +6,11 @@ use crate::answering::PathAnswerer;
 use crate::attribute_text::{append_answer, append_label, path_text};
 use crate::fault::CheckFault;
 use crate::folder_attributes::FolderAttributes;
-use crate::standpoint::Standpoint;
 use glob_attributes::{Assignment, AttributeLines, PathAttributes, State};
 use glob_lists::{ListIndex, RepositoryPath, bases_are_folders};
 use std::alloc::{AllocError, Global};
 use std::rt::Files;
+use told_paths::Standpoint;
 
 /// What answers each told path by the states of its attributes.
 #[derive(Drop)]
@@ -49,7 +49,9 @@ impl<'a, R: Files + Eprint> AttributeAsker<'a, R> {
     fn lead(&mut self, told: &[u8]) -> Result<bool, CheckFault> {
         // no bytes lead nowhere else, as a dot does
         let told = if told.is_empty() { b"." } else { told };
-        let is_folder = self.standpoint.lead(self.alloc, &mut self.path, told)?;
+        let alloc = self.alloc;
+        let led = self.standpoint.lead(alloc, &mut self.path, told);
+        let is_folder = led.map_err(|fault| CheckFault::of_lead(alloc, told, fault))?;
         self.folders.go_to(&self.path)?;
         Ok(is_folder)
     }
@@ -78,7 +80,7 @@ impl<'a, R: Files + Eprint> AttributeAsker<'a, R> {
     }
 
     /// Appends the states that are asked for.
-    #[tactic(auto, using(crate::proofs::lemmas::FrontLemmas::front_of_front))]
+    #[tactic(auto, using(crate::proofs::lemmas::AddedLemmas::front_of_front))]
     fn append_states(
         &self,
         text: &mut Vec<u8>,
@@ -99,7 +101,7 @@ impl<'a, R: Files + Eprint> AttributeAsker<'a, R> {
     }
 
     /// Appends the states of all attributes that have one.
-    #[tactic(auto, using(crate::proofs::lemmas::FrontLemmas::front_of_front))]
+    #[tactic(auto, using(crate::proofs::lemmas::AddedLemmas::front_of_front))]
     fn append_all(
         &self,
         text: &mut Vec<u8>,
@@ -118,7 +120,7 @@ impl<'a, R: Files + Eprint> AttributeAsker<'a, R> {
     }
 
     /// Appends that nothing is said of the attributes that are asked for.
-    #[tactic(auto, using(crate::proofs::lemmas::FrontLemmas::front_of_front))]
+    #[tactic(auto, using(crate::proofs::lemmas::AddedLemmas::front_of_front))]
     fn append_nothing(&self, text: &mut Vec<u8>, shown: &[u8]) -> Result<(), AllocError>
         ensures { StartsWith text.new.items text.old.items }
     {

@@ -4,10 +4,9 @@ ghost use Rattle.std.specs.Io.{StartsWith};
 ghost use Rattle.glob_attributes.specs.Views.{state_with};
 ghost use Rattle.globtree.specs.AttributeText.{answer_of, label_of, path_text};
 
-use crate::quoting::append_quoted;
-use crate::unusual::has_unusual;
 use glob_attributes::{State, state_text};
 use std::alloc::AllocError;
+use told_paths::{append_quoted, has_unusual};
 
 /// A path as it stands before each of its attributes: as it was told, or, in lines, in quotes where a byte is unusual. `quoted` is
 /// where the quotes are written.

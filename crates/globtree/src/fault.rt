@@ -2,8 +2,9 @@
 ghost use Rattle.std.specs.Prelude.{◌≡◌};
 ghost use Rattle.globtree.specs.declared.fault.CheckFault.TheVariants.{Memory};
 
-use std::alloc::AllocError;
+use std::alloc::{AllocError, Global};
 use thiserror::Error;
+use told_paths::LeadFault;
 
 /// Why a path got no answer.
 #[derive(Debug, Drop, Error)]
@@ -40,5 +41,19 @@ impl From<AllocError> for CheckFault {
 
     fn from(_refused: AllocError) -> CheckFault {
         CheckFault::Memory
+    }
+}
+
+impl CheckFault {
+    /// The fault of a told path that leads nowhere.
+    pub(crate) fn of_lead(alloc: Global, told: &[u8], fault: LeadFault) -> CheckFault {
+        match fault {
+            LeadFault::Memory => CheckFault::Memory,
+            LeadFault::Empty => CheckFault::Empty,
+            LeadFault::Outside => match String::from_utf8_lossy(alloc, told) {
+                Ok(text) => CheckFault::Outside(text),
+                Err(_refused) => CheckFault::Memory,
+            },
+        }
     }
 }

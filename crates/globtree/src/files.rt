@@ -5,11 +5,8 @@ ghost use Rattle.globtree.specs.Files.{PutsInOrder};
 
 use crate::fault::CheckFault;
 use crate::finding::fault_of;
-use crate::paths::{enter, last_name};
-use crate::quoting::append_quoted;
 use crate::sources::FolderFiles;
 use crate::standing::folder_text;
-use crate::standpoint::Standpoint;
 use crate::telling::tell_line;
 use anyhow::{Context, Result};
 use gix_glob::search::Watched;
@@ -22,6 +19,7 @@ use std::fs::{DirEntry, FileType};
 use std::io::{ErrorKind, Write};
 use std::rt::Files;
 use std::{fs, io};
+use told_paths::{Standpoint, append_quoted, enter, last_name};
 
 /// From how many bytes on names are written although more follow.
 const MUCH: usize = 16 * 1024;
@@ -72,10 +70,10 @@ impl<'a, R: Files + Eprint + AllocGlobal + Clone + Drop> Lister<'a, R> {
 
     /// Begins with a folder, or a file, which is told from the current folder.
     fn begin(&mut self, told: &str) -> Result<(), CheckFault> {
-        let mut path = Vec::new(self.alloc);
-        let is_folder = self
-            .standpoint
-            .lead(self.alloc, &mut path, told.as_bytes())?;
+        let (alloc, told) = (self.alloc, told.as_bytes());
+        let mut path = Vec::new(alloc);
+        let led = self.standpoint.lead(alloc, &mut path, told);
+        let is_folder = led.map_err(|fault| CheckFault::of_lead(alloc, told, fault))?;
         if path.is_empty() {
             return self.push_files(&path);
         }

@@ -2,13 +2,13 @@
 
 use crate::attribute_files::AttributeReader;
 use crate::fault::CheckFault;
-use crate::paths::last_name;
 use gix_glob::search::pattern::List;
 use glob_attributes::{AttributeLines, MacroTable, keep_named};
 use memchr::memchr;
 use std::alloc::{AllocError, Global};
 use std::collections::BTreeMap;
 use std::rt::Files;
+use told_paths::last_name;
 
 /// The attribute files of the folders on the way to the path that was asked last, and what is known of each folder that was looked
 /// at. Each file is read once.

@@ -3,15 +3,15 @@ ghost use Rattle.std.specs.Prelude.{◌≡◌, ◌++◌, false, IsTrue, OnOk};
 ghost use Rattle.std.specs.Io.{StartsWith};
 ghost use Rattle.std.specs.List.{list_any};
 ghost use Rattle.globtree.specs.Lines.{name_of};
-ghost use Rattle.globtree.specs.Quoting.{is_unusual};
+ghost use Rattle.told_paths.specs.Quoting.{is_unusual};
 
 use crate::flags::Flags;
-use crate::quoting::append_quoted;
 use bitflags::Flags as _;
 use gix_glob::Pattern;
 use gix_glob::pattern::Mode;
 use itoa::Buffer;
 use std::alloc::AllocError;
+use told_paths::append_quoted;
 
 /// The line of a file that decides about a path.
 #[derive(Drop)]

@@ -6,13 +6,13 @@ use crate::excludes::users_file;
 use crate::fault::CheckFault;
 use crate::places::{go_to_folders, go_to_top};
 use crate::signs::{Concerns, tell_signs};
-use crate::standpoint::Standpoint;
 use crate::words::Options;
 use anyhow::Result;
 use gix_glob::search::pattern::List;
 use glob_attributes::{AttributeLines, AttributeNames, MacroTable};
 use std::alloc::{AllocError, Global};
 use std::rt::{Env, Files};
+use told_paths::Standpoint;
 
 /// The files that are read before any path is asked for.
 #[derive(Drop)]

@@ -1,11 +1,10 @@
 //! Going to the top of the work tree.
-use crate::paths::below_folder;
-use crate::standpoint::Standpoint;
 use crate::words::takes_value;
 use anyhow::{Context, Result, bail};
 use std::alloc::Global;
 use std::rt::{Env, Files};
 use std::{env, fs};
+use told_paths::{Standpoint, below_folder, leave};
 
 /// Goes to each folder that `-C` names among the words before the command, from the one before it.
 pub(crate) fn go_to_folders<R: Files + Env>(rt: &R, words: &[String]) -> Result<()> {
@@ -88,7 +87,7 @@ fn nearest_top<R: Files + Env>(rt: &R, alloc: Global, here: &[u8]) -> Result<Vec
         if top.is_empty() {
             break;
         }
-        crate::paths::leave(&mut top);
+        leave(&mut top);
         env::set_current_dir(rt, "..").context("the folder above")?;
     }
     bail!("not a git repository, nor a folder below one (--top DIR names a top)")

@@ -7,11 +7,11 @@ ghost use Rattle.globtree.specs.RecordNames.{is_zero};
 
 use crate::answering::PathAnswerer;
 use crate::fault::CheckFault;
-use crate::usual::are_usual_names;
 use glob_attributes::read_quoted;
 use memchr::memchr;
 use record_streams::Answerer;
 use std::alloc::Global;
+use told_paths::are_usual_names;
 
 /// What answers each line or record of the input.
 #[derive(Drop)]

@@ -4,7 +4,6 @@ use crate::excludes::{push_excludes, push_info};
 use crate::places::{go_to_folders, go_to_top};
 use crate::signs::{Concerns, tell_signs};
 use crate::sources::FolderFiles;
-use crate::standpoint::Standpoint;
 use crate::words::Options;
 use anyhow::{Context, Result};
 use gix_glob::pattern::Case;
@@ -12,6 +11,7 @@ use glob_lines::IgnoreLines;
 use glob_trees::Tree;
 use std::alloc::Global;
 use std::rt::{Env, Files};
+use told_paths::Standpoint;
 
 /// Goes to the top by the options: where paths are told from, and the work tree.
 pub(crate) fn tree_of<'a, R: Files + Env + Eprint + AllocGlobal>(

@@ -1,7 +1,7 @@
 use Rattle.std.proofs.Common.{arith}
 use Rattle.std.proofs.lemmas.Grind.{common_steps}
 use Rattle.std.specs.Io.{StartsWith}
-use Rattle.globtree.proofs.lemmas.FrontLemmas.{front_of_front}
+use Rattle.told_paths.proofs.lemmas.FrontLemmas.{front_of_front}
 use Rattle.globtree.proofs.lines.append_deciding.Goals as goal
 
 pub returns : goal.returns

@@ -1,4 +1,4 @@
-use Rattle.globtree.proofs.lemmas.FrontLemmas.{adds_something}
+use Rattle.globtree.proofs.lemmas.AddedLemmas.{adds_something}
 use Rattle.globtree.proofs.record_names.RecordAnswererAnswerer.answer.Goals as goal
 
 pub returns-then-are_usual_names-clause-written : goal.returns-then-are_usual_names-clause-written

@@ -1,8 +1,0 @@
-use Rattle.std.proofs.Common.{◌≡◌, false, take}
-use Rattle.std.specs.List.{list_any}
-use Rattle.globtree.specs.Quoting.{is_unusual}
-use Rattle.globtree.proofs.unusual.has_unusual_byte.Given as goal
-
--- none of the bytes so far is unusual
-abbrev pub invariant-bytes : goal.invariant-bytes
-invariant-bytes l = list_any is_unusual (take l.byte-index l.name) ≡ false

@@ -1,0 +1,4 @@
+pub mod Paths
+pub mod Private
+pub mod Quoting
+pub mod Standpoints
