@@ -1,9 +1,14 @@
+pub mod ConditionLemmas
+pub mod EntryLemmas
 pub mod FailLemmas
 pub mod FrontLemmas
+pub mod ItemLemmas
 pub mod KeyLemmas
 pub mod NumberLemmas
 pub mod PartLemmas
 pub mod PlaceLemmas
 pub mod QuoteLemmas
 pub mod ReadLemmas
+pub mod ScopeLemmas
+pub mod SettingLemmas
 pub mod TurnLemmas
