@@ -1,9 +1,12 @@
-//! The conditions of includes: where the git folder is, and which branch is checked out.
-ghost use Rattle.std.specs.Prelude.{◌≡◌, ◌↔◌, ◌++◌, IfOk, IsTrue, Some, if◌then◌else◌, option_map, MatchOption, take, drop, length, codes};
+//! The conditions of includes: where the git folder is, which branch is checked out, and which URLs remotes have.
+ghost use Rattle.std.specs.Prelude.{◌≡◌, ◌↔◌, ◌++◌, Any, IfOk, IsTrue, List, Some, ℕ, if◌then◌else◌, option_map, MatchOption, take, drop, length, codes};
 ghost use Rattle.std.specs.Option.{option_copied};
 ghost use Rattle.std.specs.Str.{bytes_eq};
-ghost use Rattle.git_config.specs.Includes.{Holds, InFolder, MatchesFolder, OnBranch, below, folder_pattern, pattern_of, rooted};
+ghost use Rattle.glob_matcher.specs.Matching.{Splits};
+ghost use Rattle.git_config.specs.Includes.{Holds, InFolder, MatchesFolder, below, folder_pattern};
 ghost use Rattle.git_config.specs.Numbers.{same_letters};
+ghost use Rattle.git_config.specs.Private.Places.{pattern_of, rooted};
+ghost use Rattle.git_config.specs.Private.Scopes.{OnBranch};
 
 use crate::booleans::same_letters;
 use crate::surroundings::{Surroundings, expanded, folder_of, is_absolute, joined, slice_of};
@@ -20,16 +23,38 @@ pub(crate) fn holds(
 ) -> Result<bool, AllocError>
     ensures { IfOk result (λ so. IsTrue so ↔ Holds around.now (option_copied real.entry) condition.now) }
 {
-    if let Some(told) = condition.strip_prefix(b"gitdir:") {
+    if let Some(told) = behind(condition, b"gitdir:") {
         return in_folder(alloc, around, real, false, told);
     }
-    if let Some(told) = condition.strip_prefix(b"gitdir/i:") {
+    if let Some(told) = behind(condition, b"gitdir/i:") {
         return in_folder(alloc, around, real, true, told);
     }
-    match condition.strip_prefix(b"onbranch:") {
-        Some(told) => on_branch(alloc, around, told),
+    if let Some(told) = behind(condition, b"onbranch:") {
+        return on_branch(alloc, around, told);
+    }
+    match behind(condition, b"hasconfig:remote.*.url:") {
+        Some(told) => Ok(has_url(around, told)),
         None => Ok(false),
     }
+}
+
+/// What stands behind a word, where this is in front.
+fn behind<'a>(condition: &'a [u8], word: &[u8]) -> Option<&'a [u8]>
+    ensures { MatchOption result ((told : List ℕ) → ¬ (condition.now ≡ word.now ++ told)) (λ told. condition.now ≡ word.now ++ told.now) }
+{
+    condition.strip_prefix(word)
+}
+
+/// Whether the URL of a remote matches a pattern.
+fn has_url(around: &Surroundings, told: &[u8]) -> bool
+    ensures { IsTrue result ↔ Any (λ url. Splits url.items told.now (record { 0 = 1 })) around.now.urls.items }
+{
+    for url in &around.urls {
+        if wildmatch(told, url, path_mode(false)) {
+            return true;
+        }
+    }
+    false
 }
 
 /// Whether the branch matches a pattern.

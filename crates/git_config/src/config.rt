@@ -1,8 +1,11 @@
 //! A configuration of several files and words.
-ghost use Rattle.std.specs.Prelude.{◌≡◌, ℕ, IfErr, IfOk, MatchResult, None, Ok, Err, map};
-ghost use Rattle.git_config.specs.Configuration.{FromSource, FromSources, IfTold, last_said, seen_setting, settings_of};
+ghost use Rattle.std.specs.Prelude.{◌≡◌, ℕ, IfOk, MatchResult, None, Ok, Err, Vec, map};
+ghost use Rattle.std.specs.declared.alloc.Global.{Global};
+ghost use Rattle.std.specs.declared.rc.Rc.{Rc};
+ghost use Rattle.git_config.specs.Configuration.{FromSource, FromSources, last_said, seen_fault, seen_setting, settings_of};
 ghost use Rattle.git_config.specs.Private.Settings.{Adds};
 ghost use Rattle.git_config.specs.declared.config.Source.TheVariants.{File, Word};
+ghost use Rattle.git_config.specs.declared.setting.SettingFault.{SettingFault};
 
 pub use crate::includes::ReadFault;
 
@@ -46,14 +49,14 @@ impl Config {
     ///
     /// # Errors
     /// The first fault, as Git tells it; [`ReadFault::File`] where a file can't be read, and [`ReadFault::Memory`] where memory was refused.
-    pub fn read<F: ConfigFiles>(
+    pub fn read<'a, F: ConfigFiles>(
         alloc: Global,
-        files: &F,
-        around: &Surroundings,
+        files: &'a F,
+        around: &'a Surroundings,
         sources: &[Source<'_>],
     ) -> Result<Config, ReadFault<F::Fault>>
         ensures settings { IfOk result (λ config. FromSources (F.shows files.now) around.now 1 sources.now (Ok (map seen_setting config.settings.items))) }
-        ensures fault { IfErr result (λ fault. IfTold fault (λ told. FromSources (F.shows files.now) around.now 1 sources.now (Err told))) }
+        ensures fault { (fault : SettingFault (Rc (Vec ℕ Global) Global) (Vec ℕ Global)) → result ≡ Err (ReadFault.Setting fault) → FromSources (F.shows files.now) around.now 1 sources.now (Err (seen_fault fault)) }
     {
         let reader = Reader {
             alloc,

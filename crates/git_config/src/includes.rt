@@ -1,17 +1,18 @@
 //! Reads a file of a configuration, with the files that it includes where they stand.
-ghost use Rattle.std.specs.Prelude.{◌≡◌, IfOk, Ok, Some, map, option_map};
+ghost use Rattle.std.specs.Prelude.{◌≡◌, ◌∷◌, [], IfOk, Ok, Some, map, option_map};
 ghost use Rattle.std.specs.Option.{option_copied};
 ghost use Rattle.std.specs.Vec.{vec_items};
-ghost use Rattle.git_config.specs.Configuration.{Asks, FromEntry, FromFile, Gives, Within, seen_setting};
+ghost use Rattle.git_config.specs.Configuration.{FromEntry, FromFile, FromPath, Then, Within, seen_setting};
 ghost use Rattle.git_config.specs.Includes.{included_path};
 ghost use Rattle.git_config.specs.Items.{found_with};
-ghost use Rattle.git_config.specs.Private.Settings.{Adds, IsScope, asked_as, fault_in};
+ghost use Rattle.git_config.specs.Private.Scopes.{IsScope};
+ghost use Rattle.git_config.specs.Private.Settings.{Adds, Asks, fault_in, path_asked};
 
 use crate::fault::ConfigFault;
 use crate::file::{next_item, skip_mark};
 use crate::files::{ConfigFiles, FoundFile};
 use crate::item::{Entry, Item};
-use crate::scope::{Inclusion, Scope};
+use crate::scope::Scope;
 use crate::setting::{ReadSetting, Setting, SettingFault, WrongSetting};
 use crate::surroundings::{Surroundings, expanded, folder_of, is_absolute, joined, slice_of};
 use crate::text::Text;
@@ -56,8 +57,8 @@ pub(crate) enum Asked {
     Nothing,
     /// The file at a path.
     File(Vec<u8>),
-    /// What can't be had, with the path that is told, where one is.
-    Wrong(WrongSetting, Option<Vec<u8>>),
+    /// What can't be had.
+    Wrong(WrongSetting),
 }
 
 /// Reads a configuration.
@@ -124,7 +125,7 @@ impl<'a, F: ConfigFiles> Reader<'a, F> {
                 out.push(setting)?;
                 Ok(())
             }
-            Asked::Wrong(what, path) => Err(wrong_at(setting, what, path)),
+            Asked::Wrong(what) => Err(wrong_at(setting, what, None)),
             Asked::File(path) => self.add_included(setting, path, left, out),
         }
     }
@@ -138,7 +139,7 @@ impl<'a, F: ConfigFiles> Reader<'a, F> {
         left: usize,
         out: &mut Vec<ReadSetting>,
     ) -> Result<(), ReadFault<F::Fault>>
-        ensures { Adds (Gives (F.shows self.now.files.now) self.now.around.now (Within (F.shows self.now.files.now) self.now.around.now left) (seen_setting setting) (Some (Ok path.items)))
+        ensures { Adds (Then (λ first. first ≡ Ok (seen_setting setting ∷ [])) (FromPath (F.shows self.now.files.now) self.now.around.now (Within (F.shows self.now.files.now) self.now.around.now left (seen_setting setting) path.items) path.items))
             (map seen_setting out.old.items) (map seen_setting out.new.items) result }
     {
         let found = match self.files.find(&path) {
@@ -184,15 +185,14 @@ fn asked_for(
 ) -> Result<Asked, AllocError>
     requires scope { IsScope around.now (option_copied real) scope.now }
     requires section { setting.now.section.value.items ≡ scope.now.section.value.items }
-    ensures { IfOk result (λ asked. Asks around.now (option_copied real.entry) (seen_setting setting.now) (asked_as asked)) }
+    ensures { IfOk result (λ asked. Asks around.now (option_copied real.entry) (seen_setting setting.now) asked) }
 {
-    match scope.inclusion(alloc, around, real, &setting.entry.name)? {
-        Inclusion::No => Ok(Asked::Nothing),
-        Inclusion::Refused => Ok(Asked::Wrong(WrongSetting::Condition, None)),
-        Inclusion::Yes => match &setting.entry.value {
-            Some(value) => included_path(alloc, around, file_of(setting), value),
-            None => Ok(Asked::Wrong(WrongSetting::NoPath, None)),
-        },
+    if !scope.has_include(alloc, around, real, &setting.entry.name)? {
+        return Ok(Asked::Nothing);
+    }
+    match &setting.entry.value {
+        Some(value) => included_path(alloc, around, file_of(setting), value),
+        None => Ok(Asked::Wrong(WrongSetting::NoPath)),
     }
 }
 
@@ -213,21 +213,17 @@ fn included_path(
     file: Option<&[u8]>,
     value: &[u8],
 ) -> Result<Asked, AllocError>
-    ensures { IfOk result (λ asked. asked_as asked ≡ Some (included_path around.now (option_copied file.entry) (Some value.now))) }
+    ensures { IfOk result (λ asked. path_asked asked ≡ Some (included_path around.now (option_copied file.entry) (Some value.now))) }
 {
     let Some(path) = expanded(alloc, around, slice_of(&around.home), value)? else {
-        let told = Vec::from_slice(alloc, value)?;
-        return Ok(Asked::Wrong(WrongSetting::NoFolder, Some(told)));
+        return Ok(Asked::Wrong(WrongSetting::NoFolder));
     };
     if is_absolute(&path) {
         return Ok(Asked::File(path));
     }
     match file {
         Some(name) => Ok(Asked::File(joined(alloc, folder_of(name), &path)?)),
-        None => {
-            let told = Vec::from_slice(alloc, value)?;
-            Ok(Asked::Wrong(WrongSetting::Relative, Some(told)))
-        }
+        None => Ok(Asked::Wrong(WrongSetting::Relative)),
     }
 }
 

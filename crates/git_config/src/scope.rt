@@ -1,28 +1,16 @@
-//! A section, and what its entries include: that is looked up once, since a condition can be long.
+//! A section, and whether its entries include files: that is looked up once, since a condition can be long.
 ghost use Rattle.std.specs.Prelude.{◌≡◌, ◌↔◌, ◌⊎◌, ◌==◌, ◌++◌, IfOk, IsTrue, ℕ, List, MatchOption, codes, false, nat_eq, true};
 ghost use Rattle.std.specs.List.{ends_with, list_any};
 ghost use Rattle.std.specs.Option.{option_copied};
 ghost use Rattle.git_config.specs.Grammar.{before_zero};
-ghost use Rattle.git_config.specs.Includes.{Includes, Refuses, conditional};
-ghost use Rattle.git_config.specs.Private.Scopes.{Decides};
-ghost use Rattle.git_config.specs.Private.Settings.{IsScope};
+ghost use Rattle.git_config.specs.Includes.{Includes};
+ghost use Rattle.git_config.specs.Private.Scopes.{IsScope, conditional};
 
 use crate::conditions::holds;
 use crate::keys::{has_zero, until_zero};
 use crate::surroundings::{Surroundings, joined};
 use std::alloc::{AllocError, Global};
 use std::rc::Rc;
-
-/// What an entry includes.
-#[derive(Debug, Clone, Copy, PartialEq, Eq)]
-pub(crate) enum Inclusion {
-    /// Nothing.
-    No,
-    /// A file.
-    Yes,
-    /// A file, if a condition holds that can't be looked at.
-    Refused,
-}
 
 /// A section.
 #[derive(Drop)]
@@ -31,8 +19,8 @@ pub(crate) struct Scope {
     pub(crate) section: Rc<Vec<u8>>,
     /// Whether a byte 0 in it ends each key.
     is_cut: bool,
-    /// What its entries of the name `path` include, and where it is cut all others too.
-    includes: Inclusion,
+    /// Whether its entries of the name `path` include a file, and where it is cut all others too.
+    includes: bool,
 }
 
 impl Scope {
@@ -48,7 +36,7 @@ impl Scope {
     {
         let is_cut = has_zero(&section);
         let key = joined(alloc, &section, b"path")?;
-        let includes = inclusion_of(alloc, around, real, until_zero(&key))?;
+        let includes = includes(alloc, around, real, until_zero(&key))?;
         Ok(Scope {
             section: Rc::new(alloc, section)?,
             is_cut,
@@ -56,16 +44,16 @@ impl Scope {
         })
     }
 
-    /// What its entry of a name includes.
-    pub(crate) fn inclusion(
+    /// Whether its entry of a name includes a file.
+    pub(crate) fn has_include(
         &self,
         alloc: Global,
         around: &Surroundings,
         real: Option<&[u8]>,
         name: &[u8],
-    ) -> Result<Inclusion, AllocError>
+    ) -> Result<bool, AllocError>
         requires { IsScope around.now (option_copied real) self.now }
-        ensures { IfOk result (λ includes. Decides around.now (option_copied real.entry) (before_zero (self.now.section.value.items ++ name.now)) includes) }
+        ensures { IfOk result (λ so. IsTrue so ↔ Includes around.now (option_copied real.entry) (before_zero (self.now.section.value.items ++ name.now))) }
     {
         let told = until_zero(name);
         if self.is_cut {
@@ -75,10 +63,10 @@ impl Scope {
             return Ok(self.includes);
         }
         if ends_section(&self.section, told) {
-            return Ok(Inclusion::No);
+            return Ok(false);
         }
         let key = joined(alloc, &self.section, name)?;
-        inclusion_of(alloc, around, real, until_zero(&key))
+        includes(alloc, around, real, until_zero(&key))
     }
 }
 
@@ -103,28 +91,21 @@ fn has_stop(bytes: &[u8]) -> bool
     bytes.contains(&b'.')
 }
 
-/// What an entry of a key includes.
-fn inclusion_of(
+/// Whether an entry of a key includes a file.
+fn includes(
     alloc: Global,
     around: &Surroundings,
     real: Option<&[u8]>,
     key: &[u8],
-) -> Result<Inclusion, AllocError>
-    ensures { IfOk result (λ includes. Decides around.now (option_copied real.entry) key.now includes) }
+) -> Result<bool, AllocError>
+    ensures { IfOk result (λ so. IsTrue so ↔ Includes around.now (option_copied real.entry) key.now) }
 {
     if is_same(key, b"include.path") {
-        return Ok(Inclusion::Yes);
+        return Ok(true);
     }
-    let Some(condition) = condition_of(key) else {
-        return Ok(Inclusion::No);
-    };
-    if condition.starts_with(b"hasconfig:remote.*.url:") {
-        return Ok(Inclusion::Refused);
-    }
-    if holds(alloc, around, real, condition)? {
-        Ok(Inclusion::Yes)
-    } else {
-        Ok(Inclusion::No)
+    match condition_of(key) {
+        Some(condition) => holds(alloc, around, real, condition),
+        None => Ok(false),
     }
 }
 

@@ -42,9 +42,6 @@ pub enum WrongSetting {
     /// A file would be included more than ten files deep.
     #[error("files are included too deep")]
     TooDeep,
-    /// The condition asks for the URLs of remotes, which needs all files first.
-    #[error("a condition on the URLs of remotes")]
-    Condition,
 }
 
 /// The first fault of a configuration. `S` and `B` hold bytes.
@@ -56,6 +53,6 @@ pub struct SettingFault<S, B> {
     pub line: usize,
     /// What is wrong.
     pub what: WrongSetting,
-    /// The path of an include that is wrong: as it is told, and as it was looked for where it is too deep.
+    /// The path of the file that is included too deep; else `None`.
     pub path: Option<B>,
 }

@@ -1,9 +1,9 @@
 //! What paths and conditions of a configuration are told from.
-ghost use Rattle.std.specs.Prelude.{◌≡◌, ◌++◌, ◌≤◌, IfOk, find, length, option_map};
+ghost use Rattle.std.specs.Prelude.{◌≡◌, ◌++◌, ◌≤◌, IfOk, Some, codes, find, if◌then◌else◌, length, option_map};
 ghost use Rattle.std.specs.Option.{option_copied};
 ghost use Rattle.std.specs.Str.{bytes_eq};
 ghost use Rattle.std.specs.Vec.{vec_items};
-ghost use Rattle.git_config.specs.Includes.{expanded, folder_of, installed_path, is_absolute, user_folder};
+ghost use Rattle.git_config.specs.Includes.{expanded, folder_of, is_absolute, user_folder};
 ghost use Rattle.git_config.specs.Private.Places.{folder_end};
 
 use crate::path::{ConfigPath, config_path};
@@ -33,6 +33,8 @@ pub struct Surroundings {
     pub git_folders: Vec<Vec<u8>>,
     /// The branch that `HEAD` leads to: what follows `refs/heads/`.
     pub branch: Option<Vec<u8>>,
+    /// The URLs of remotes that all files tell, which a reading before this one gives.
+    pub urls: Vec<Vec<u8>>,
 }
 
 /// The bytes of a folder.
@@ -68,7 +70,7 @@ fn installed_path(
     around: &Surroundings,
     path: &[u8],
 ) -> Result<Option<Vec<u8>>, AllocError>
-    ensures { IfOk result (λ found. option_map vec_items found ≡ installed_path around.now path.now) }
+    ensures { IfOk result (λ found. option_map vec_items found ≡ (if is_absolute path.now then Some path.now else option_map (λ folder. (folder.items ++ codes "/") ++ path.now) around.now.installed)) }
 {
     if is_absolute(path) {
         return Ok(Some(Vec::from_slice(alloc, path)?));

@@ -1,21 +1,19 @@
 -- Keys of sections, and what they include.
-use Rattle.std.proofs.Common.{◌≡◌, ◌⊎◌, ⊎_elim, ℕ, ◌+◌, ◌-◌, Bool, true, false, List, [], ◌∷◌, ◌++◌, length, take, drop, Option, None, Some, Bor, refl, sym, ap, subst, ◌∙◌, inl, inr, append_assoc, arith}
-use Rattle.std.specs.Prelude.{◌||◌, ◌==◌, MatchOption, codes, nat_eq}
-use Rattle.std.specs.List.{ends_with, list_any, starts_with}
+use Rattle.std.proofs.Common.{◌≡◌, ◌⊎◌, ⊎_elim, ℕ, ◌+◌, ◌-◌, Bool, true, false, List, [], ◌∷◌, ◌++◌, length, take, drop, Option, None, Some, Bor, Result, Ok, Err, refl, sym, ap, subst, ◌∙◌, inl, inr, append_assoc, arith}
+use Rattle.std.specs.Prelude.{◌↔◌, ◌||◌, ◌==◌, IfOk, IsTrue, MatchOption, codes, nat_eq}
+use Rattle.std.specs.List.{ends_with, list_any}
+use Rattle.std.specs.declared.alloc.AllocError.{AllocError}
 use Rattle.std.proofs.lemmas.Bool.{false≢true}
 use Rattle.std.proofs.lemmas.List.{append_cancel_left, append_cancel_right, length-append, take-append-drop}
 use Rattle.git_config.specs.declared.surroundings.Surroundings.{Surroundings}
 use Rattle.git_config.specs.Grammar.{before_zero}
-use Rattle.git_config.specs.Includes.{Holds, Includes, Refuses, conditional}
-use Rattle.git_config.proofs.lemmas.ConditionLemmas.{stripped}
+use Rattle.git_config.specs.Includes.{Holds, Includes}
+use Rattle.git_config.specs.Private.Scopes.{conditional}
+use Rattle.git_config.proofs.lemmas.ConditionLemmas.{drop_front, stripped}
 use Rattle.git_config.proofs.lemmas.KeyLemmas.{with_zero, without_zero}
 use lib.Pointwise.{bytes_decides, pointwise}
 
 -- ---- conditions
-
-drop_front : (c s : List ℕ) → drop (length c) (c ++ s) ≡ s
-drop_front [] s = refl
-drop_front (x ∷ c) s = drop_front c s
 
 pub other_front : (key : List ℕ) → pointwise nat_eq (take 10 key) (codes "includeif.") ≡ false → (c : List ℕ) → ¬ (key ≡ conditional c)
 other_front key h c e = false≢true (sym h ∙ ap (λ (k : List ℕ). pointwise nat_eq (take 10 k) (codes "includeif.")) e)
@@ -48,26 +46,26 @@ same_condition a b e = append_cancel_right a b (codes ".path") (append_cancel_le
 
 -- ---- what a key includes
 
+pub no_condition : (around : Surroundings) (real : Option (List ℕ)) (key : List ℕ) → ¬ (key ≡ codes "include.path") → ((c : List ℕ) → ¬ (key ≡ conditional c)) → ¬ Includes around real key
+no_condition around real key plain none i =
+    ⊎_elim (λ (e : key ≡ codes "include.path"). plain e) (λ (h : (c : List ℕ) × (key ≡ conditional c) × Holds around real c). none h.0 h.1) i
 
-pub refused : (key c : List ℕ) → key ≡ conditional c → starts_with nat_eq c (codes "hasconfig:remote.*.url:") ≡ true → Refuses key
-refused key c e h =
-    let front = codes "hasconfig:remote.*.url:" in
-    let is : c ≡ front ++ drop 23 c = sym (take-append-drop 23 c) ∙ ap (λ (l : List ℕ). l ++ drop 23 c) (sym ((bytes_decides front (take 23 c)).0 h)) in
-    (drop 23 c, e ∙ ap (λ (l : List ℕ). conditional l) is)
+pub by_condition : (around : Surroundings) (real : Option (List ℕ)) (key c : List ℕ) (r : Result Bool AllocError) → ¬ (key ≡ codes "include.path") → key ≡ conditional c
+    → IfOk r (λ so. IsTrue so ↔ Holds around real c) → IfOk r (λ so. IsTrue so ↔ Includes around real key)
+by_condition around real key c (Ok so) plain e h =
+    (λ t. inr (c, e, h.0 t),
+    λ i. ⊎_elim (λ (p : key ≡ codes "include.path"). absurd (plain p))
+    (λ (w : (x : List ℕ) × (key ≡ conditional x) × Holds around real x). h.1 (subst (λ (x : List ℕ). Holds around real x) (same_condition w.0 c (sym w.1 ∙ e)) w.2)) i)
+by_condition around real key c (Err fault) plain e h = tt
 
-not_refused : (key c : List ℕ) → key ≡ conditional c → starts_with nat_eq c (codes "hasconfig:remote.*.url:") ≡ false → ¬ Refuses key
-not_refused key c e h (told, r) =
-    let is : c ≡ codes "hasconfig:remote.*.url:" ++ told = same_condition c (codes "hasconfig:remote.*.url:" ++ told) (sym e ∙ r) in
-    false≢true (sym h ∙ ap (λ (l : List ℕ). starts_with nat_eq l (codes "hasconfig:remote.*.url:")) is)
+-- an equal key includes the same
+pub as_key : (around : Surroundings) (real : Option (List ℕ)) (so : Bool) (a b : List ℕ) → a ≡ b → (IsTrue so ↔ Includes around real b) → IsTrue so ↔ Includes around real a
+as_key around real so a b e h = subst (λ (l : List ℕ). IsTrue so ↔ Includes around real l) (sym e) h
 
-pub no_condition : (around : Surroundings) (real : Option (List ℕ)) (key : List ℕ) → ¬ (key ≡ codes "include.path") → ((c : List ℕ) → ¬ (key ≡ conditional c))
-    → (¬ Includes around real key) × (¬ Refuses key)
-no_condition around real key plain none = (λ i. ⊎_elim (λ (e : key ≡ codes "include.path"). plain e) (λ (h : (c : List ℕ) × (key ≡ conditional c) × Holds around real c). none h.0 h.1) i, λ r. none (codes "hasconfig:remote.*.url:" ++ r.0) r.1)
-
-pub fails_condition : (around : Surroundings) (real : Option (List ℕ)) (key c : List ℕ) → ¬ (key ≡ codes "include.path") → key ≡ conditional c
-    → starts_with nat_eq c (codes "hasconfig:remote.*.url:") ≡ false → ¬ Holds around real c → (¬ Includes around real key) × (¬ Refuses key)
-fails_condition around real key c plain e h no =
-    (λ i. ⊎_elim (λ (p : key ≡ codes "include.path"). plain p) (λ (w : (x : List ℕ) × (key ≡ conditional x) × Holds around real x). no (subst (λ (x : List ℕ). Holds around real x) (same_condition w.0 c (sym w.1 ∙ e)) w.2)) i, not_refused key c e h)
+pub as_key_of : (around : Surroundings) (real : Option (List ℕ)) (r : Result Bool AllocError) (a b : List ℕ) → a ≡ b → IfOk r (λ so. IsTrue so ↔ Includes around real b)
+    → IfOk r (λ so. IsTrue so ↔ Includes around real a)
+as_key_of around real (Ok so) a b e h = as_key around real so a b e h
+as_key_of around real (Err fault) a b e h = tt
 
 -- ---- names in a section
 
@@ -102,14 +100,14 @@ named_same section name h e = without_zero section name h ∙ ap (λ (l : List �
 -- a section that ends in a full stop has no include of another name
 pub other_name : (around : Surroundings) (real : Option (List ℕ)) (section name : List ℕ) → list_any (λ b. b == 0) section ≡ false → ends_with nat_eq section (codes ".") ≡ true
     → list_any (λ b. b == 46) (before_zero name) ≡ false → ¬ (before_zero name ≡ codes "path")
-    → (¬ Includes around real (before_zero (section ++ name))) × (¬ Refuses (before_zero (section ++ name)))
+    → ¬ Includes around real (before_zero (section ++ name))
 other_name around real section name zero ends stops other =
     let k = length section - 1 in let told = before_zero name in
     let dot : codes "." ≡ drop k section = (bytes_decides (codes ".") (drop k section)).0 ends in
     let parts : section ≡ take k section ++ codes "." = sym (take-append-drop k section) ∙ ap (λ (l : List ℕ). take k section ++ l) (sym dot) in
     let key : before_zero (section ++ name) ≡ take k section ++ 46 ∷ told =
         without_zero section name zero ∙ ap (λ (l : List ℕ). l ++ told) parts ∙ append_assoc (take k section) (codes ".") told in
-    let no : (front : List ℕ) → ¬ (before_zero (section ++ name) ≡ front ++ 46 ∷ codes "path") =
+    let another : (front : List ℕ) → ¬ (before_zero (section ++ name) ≡ front ++ 46 ∷ codes "path") =
         λ front e. other (last_part (take k section) front told (codes "path") stops refl (sym key ∙ e)) in
-    no_condition around real (before_zero (section ++ name)) (λ e. no (codes "include") e)
-    (λ c e. no (codes "includeif." ++ c) (e ∙ sym (append_assoc (codes "includeif.") c (codes ".path"))))
+    no_condition around real (before_zero (section ++ name)) (λ e. another (codes "include") e)
+    (λ c e. another (codes "includeif." ++ c) (e ∙ sym (append_assoc (codes "includeif.") c (codes ".path"))))
