@@ -1,3 +1,4 @@
+pub mod AskLemmas
 pub mod ConditionLemmas
 pub mod EntryLemmas
 pub mod FailLemmas

@@ -1,5 +1,6 @@
 -- Parts of a configuration that are read one after the other.
 use Rattle.std.proofs.Common.{◌≡◌, ℕ, List, [], ◌∷◌, ◌++◌, Option, None, Some, Result, Ok, Err, refl, sym, ap, subst, ◌∙◌, append_assoc, inl, inr}
+use Rattle.std.specs.Prelude.{IsErrAnd}
 use Rattle.std.proofs.lemmas.List.{append-nil}
 use Rattle.git_config.specs.declared.includes.ReadFault.{ReadFault}
 use Rattle.git_config.specs.declared.includes.ReadFault.TheVariants as read
@@ -56,3 +57,8 @@ adds_as R Q old new (Ok _) f (more, h, is) = (more, f (Ok more) h, is)
 adds_as R Q old new (Err read.Memory) f h = tt
 adds_as R Q old new (Err (read.File fault)) f h = tt
 adds_as R Q old new (Err (read.Setting fault)) f h = f (Err (seen_fault fault)) h
+
+-- the fault is handed on
+pub passed : {F : Type 0} (R : Outcome → Type 0) (old new : List Seen) (fault : ReadFault F) (r : Result (Unit {0}) (ReadFault F)) → IsErrAnd r (λ e. e ≡ fault) → Adds R old new (Err fault) → Adds R old new r
+passed R old new fault (Ok _) h a = absurd h
+passed {F} R old new fault (Err e) h a = subst (λ (x : ReadFault F). Adds R old new (Err x)) (sym h) a

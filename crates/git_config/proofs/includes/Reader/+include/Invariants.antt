@@ -3,7 +3,8 @@ use Rattle.std.specs.Vec.{vec_items}
 use Rattle.git_config.specs.Configuration.{FromFile, FromItems, Within, seen_setting}
 use Rattle.git_config.specs.Grammar.{between, read, text_of}
 use Rattle.git_config.specs.Items.{found_with}
-use Rattle.git_config.specs.Private.Settings.{Continues, IsScope}
+use Rattle.git_config.specs.Private.Scopes.{IsScope}
+use Rattle.git_config.specs.Private.Settings.{Continues}
 use Rattle.git_config.proofs.includes.Reader.+include.Given as goal
 
 abbrev pub decreases-add_file : goal.decreases-add_file
