@@ -12,4 +12,5 @@ pub mod QuoteLemmas
 pub mod ReadLemmas
 pub mod ScopeLemmas
 pub mod SettingLemmas
+pub mod SourceLemmas
 pub mod TurnLemmas

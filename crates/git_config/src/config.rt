@@ -1,5 +1,7 @@
 //! A configuration of several files and words.
-ghost use Rattle.std.specs.Prelude.{◌≡◌, ℕ, IfOk, MatchResult, None, Ok, Err, Vec, map};
+ghost use Rattle.std.specs.Prelude.{◌≡◌, ℕ, IfOk, MatchResult, None, Ok, Err, Vec, map, option_map};
+ghost use Rattle.std.specs.Option.{option_copied};
+ghost use Rattle.std.specs.Vec.{vec_items};
 ghost use Rattle.std.specs.declared.alloc.Global.{Global};
 ghost use Rattle.std.specs.declared.rc.Rc.{Rc};
 ghost use Rattle.git_config.specs.Configuration.{FromSource, FromSources, last_said, seen_fault, seen_setting, settings_of};
@@ -64,12 +66,10 @@ impl Config {
             around,
         };
         let mut settings = Vec::new(alloc);
-        let mut place = 1;
-        let mut rest = sources;
-        'sources: while let Some((source, more)) = rest.split_first() {
-            rest = more;
-            add_source(&reader, source, place, &mut settings)?;
+        let mut place = 0;
+        for source in sources {
             place += 1;
+            add_source(&reader, source, place, &mut settings)?;
         }
         Ok(Config { settings })
     }
@@ -170,10 +170,7 @@ fn add_word<F: ConfigFiles>(
             path: None,
         }));
     };
-    let value = match value {
-        Some(bytes) => Some(Vec::from_slice(alloc, bytes)?),
-        None => None,
-    };
+    let value = owned(alloc, value)?;
     let scope = Scope::new(alloc, reader.around, None, Vec::new(alloc))?;
     let setting = Setting {
         file: None,
@@ -185,4 +182,14 @@ fn add_word<F: ConfigFiles>(
         },
     };
     reader.add_entry(&scope, None, setting, DEEPEST, out)
+}
+
+/// A copy of the bytes, where there are any.
+fn owned(alloc: Global, bytes: Option<&[u8]>) -> Result<Option<Vec<u8>>, AllocError>
+    ensures { IfOk result (λ copy. option_map vec_items copy ≡ option_copied bytes.entry) }
+{
+    match bytes {
+        Some(bytes) => Ok(Some(Vec::from_slice(alloc, bytes)?)),
+        None => Ok(None),
+    }
 }
