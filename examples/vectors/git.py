@@ -130,6 +130,7 @@ COMPLAINTS = (
     (rb"exceeded maximum include depth \(10\) while including\n\t.*\nfrom\n\t(.*)", b"too deep \\1"),
     (rb"relative config includes must come from files", b"relative word"),
     (rb"unable to parse command-line config", b"bad word"),
+    (rb"remote URLs cannot be configured in file directly or indirectly included", b"url in an included file"),
 )
 # The files that Git reads by itself, which have this place in a row.
 READ = {b"/top/sys", b"/top/home/.config/git/config", b"/top/home/.gitconfig", b"/top/r/.git/config"}

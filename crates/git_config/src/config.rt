@@ -9,9 +9,8 @@ ghost use Rattle.git_config.specs.Private.Settings.{Adds};
 ghost use Rattle.git_config.specs.declared.config.Source.TheVariants.{File, Word};
 ghost use Rattle.git_config.specs.declared.setting.SettingFault.{SettingFault};
 
-pub use crate::includes::ReadFault;
-
 use crate::files::ConfigFiles;
+pub use crate::includes::ReadFault;
 use crate::includes::Reader;
 use crate::item::Entry;
 use crate::keys::{boolean_said, is_key};

@@ -92,7 +92,10 @@ fn skip_mark_byte(text: &mut Text<'_>, wanted: u8) -> Result<(), ConfigFault>
 }
 
 /// Takes the next item off a text, where one is left.
-pub(crate) fn next_item(alloc: Global, text: &mut Text<'_>) -> Result<Option<Item<Vec<u8>>>, ConfigFault>
+pub(crate) fn next_item(
+    alloc: Global,
+    text: &mut Text<'_>,
+) -> Result<Option<Item<Vec<u8>>>, ConfigFault>
     ensures reads { Reads (λ item. before_some (option_map (item_with vec_items) item) (read (text_of text.new.rest.now) text.new.line between)) result
         (read (text_of text.old.rest.now) text.old.line between) }
     ensures fewer { IfOk result (λ item. IsSome item → length text.new.rest.now < length text.old.rest.now) }

@@ -243,7 +243,11 @@ fn fault_in<F>(fault: ConfigFault, path: Rc<Vec<u8>>) -> ReadFault<F>
 }
 
 /// The fault of an entry.
-pub(crate) fn wrong_at<F>(setting: ReadSetting, what: WrongSetting, path: Option<Vec<u8>>) -> ReadFault<F>
+pub(crate) fn wrong_at<F>(
+    setting: ReadSetting,
+    what: WrongSetting,
+    path: Option<Vec<u8>>,
+) -> ReadFault<F>
     ensures { result ≡ ReadFault.Setting (record { file = setting.file; line = setting.entry.line; what = what; path = path }) }
 {
     ReadFault::Setting(SettingFault {

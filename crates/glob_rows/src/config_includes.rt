@@ -47,8 +47,11 @@ pub(crate) fn config_includes(
         alloc,
         fields: question.fields.get(4..).ok_or(RowFault::Field("there"))?,
     };
-    let around = surroundings(alloc, question)?;
+    let mut around = surroundings(alloc, question)?;
     let sources = sources_of(alloc, question.bytes(2)?, question.bytes(3)?)?;
+    if let Ok(config) = Config::read(alloc, &files, &around, &sources) {
+        around.urls = urls_of(alloc, &config)?;
+    }
     let text = match Config::read(alloc, &files, &around, &sources) {
         Ok(config) => text_of(alloc, &config)?,
         Err(fault) => fault_text(alloc, fault)?,
@@ -73,7 +76,24 @@ fn surroundings(alloc: Global, question: &Question) -> Result<Surroundings, RowF
         users: Vec::new(alloc),
         git_folders,
         branch,
+        urls: Vec::new(alloc),
     })
+}
+
+/// The URLs of remotes.
+fn urls_of(alloc: Global, config: &Config) -> Result<Vec<Vec<u8>>, AllocError> {
+    let mut urls = Vec::new(alloc);
+    for setting in &config.settings {
+        let mut key = Vec::from_slice(alloc, &setting.section)?;
+        key.extend_from_slice(&setting.entry.name)?;
+        if let Some(name) = key.strip_prefix(b"remote.")
+            && name.ends_with(b".url")
+            && let Some(url) = &setting.entry.value
+        {
+            urls.push(Vec::from_slice(alloc, url)?)?;
+        }
+    }
+    Ok(urls)
 }
 
 /// The files of some lines, and then the words of others.
@@ -142,7 +162,7 @@ fn fault_text<F: Drop>(alloc: Global, fault: ReadFault<F>) -> Result<Vec<u8>, Ro
 
 /// Whether Git tells the line of a fault in a file.
 fn has_line(what: WrongSetting) -> bool {
-    !matches!(what, WrongSetting::TooDeep | WrongSetting::Condition)
+    !matches!(what, WrongSetting::TooDeep)
 }
 
 /// The word for what is wrong.
@@ -153,6 +173,5 @@ fn word_of(what: WrongSetting) -> &'static [u8] {
         WrongSetting::NoFolder => b"no folder",
         WrongSetting::Relative => b"relative",
         WrongSetting::TooDeep => b"too deep",
-        WrongSetting::Condition => b"condition",
     }
 }

@@ -52,10 +52,11 @@ no_condition around real key plain none i =
 
 pub by_condition : (around : Surroundings) (real : Option (List ℕ)) (key c : List ℕ) (r : Result Bool AllocError) → ¬ (key ≡ codes "include.path") → key ≡ conditional c
     → IfOk r (λ so. IsTrue so ↔ Holds around real c) → IfOk r (λ so. IsTrue so ↔ Includes around real key)
-by_condition around real key c (Ok so) plain e h =
-    (λ t. inr (c, e, h.0 t),
-    λ i. ⊎_elim (λ (p : key ≡ codes "include.path"). absurd (plain p))
-    (λ (w : (x : List ℕ) × (key ≡ conditional x) × Holds around real x). h.1 (subst (λ (x : List ℕ). Holds around real x) (same_condition w.0 c (sym w.1 ∙ e)) w.2)) i)
+by_condition around real key c (Ok so) plain e h = (
+  λ t. inr (c, e, h.0 t),
+  λ i. ⊎_elim (λ (p : key ≡ codes "include.path"). absurd (plain p))
+      (λ (w : (x : List ℕ) × (key ≡ conditional x) × Holds around real x). h.1 (subst (λ (x : List ℕ). Holds around real x) (same_condition w.0 c (sym w.1 ∙ e)) w.2)) i,
+)
 by_condition around real key c (Err fault) plain e h = tt
 
 -- an equal key includes the same
@@ -106,8 +107,8 @@ other_name around real section name zero ends stops other =
     let dot : codes "." ≡ drop k section = (bytes_decides (codes ".") (drop k section)).0 ends in
     let parts : section ≡ take k section ++ codes "." = sym (take-append-drop k section) ∙ ap (λ (l : List ℕ). take k section ++ l) (sym dot) in
     let key : before_zero (section ++ name) ≡ take k section ++ 46 ∷ told =
-        without_zero section name zero ∙ ap (λ (l : List ℕ). l ++ told) parts ∙ append_assoc (take k section) (codes ".") told in
+    without_zero section name zero ∙ ap (λ (l : List ℕ). l ++ told) parts ∙ append_assoc (take k section) (codes ".") told in
     let another : (front : List ℕ) → ¬ (before_zero (section ++ name) ≡ front ++ 46 ∷ codes "path") =
-        λ front e. other (last_part (take k section) front told (codes "path") stops refl (sym key ∙ e)) in
+    λ front e. other (last_part (take k section) front told (codes "path") stops refl (sym key ∙ e)) in
     no_condition around real (before_zero (section ++ name)) (λ e. another (codes "include") e)
     (λ c e. another (codes "includeif." ++ c) (e ∙ sym (append_assoc (codes "includeif.") c (codes ".path"))))

@@ -9,6 +9,6 @@ returns-then-matches_folder c =
     let items = c.deref-path-items.ensures.value in
     let lt : c.loop-path.path-index < length c.args.around.now.git_folders.items = omega (arith, ap length items, c.loop-path-test.true) in
     let is : slice_index_or c.args.around.now.git_folders.items c.loop-path.path-index c.path-item.result ≡ c.path-item.result =
-        sym (c.path-item.is ∙ ap (λ xs. slice_index_or xs c.loop-path.path-index c.path-item.result) items) in
+    sym (c.path-item.is ∙ ap (λ xs. slice_index_or xs c.loop-path.path-index c.path-item.result) items) in
     let matches = subst (λ l. MatchesFolder c.args.fold (c.in-Some.split.front.items, c.in-Some.split.pattern.items) l) c.deref.ensures.value (c.matches_folder.ensures.0 c.if-matches_folder.true) in
     (λ _. rw e (c.loop-path.path-index, c.path-item.result, lt, is, matches), λ _. refl)

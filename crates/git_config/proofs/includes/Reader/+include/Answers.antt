@@ -53,7 +53,7 @@ add_file-items-preserved g t c =
     let setting = c.in_ok-setting-in-Ok-Some-Sets in
     let rest = read (text_of c.next_item.new.text.rest.now) c.next_item.new.text.line between in
     let item = c.in-Ok-Some-Sets.ensures.reads
-        ∙ ap (λ it. before_some (option_map (item_with vec_items) it) rest) (c.in-Ok-Some-Sets.field-0-is ∙ ap (λ it. let o : Option (Item (Vec ℕ Global)) = Some it in o) c.in-Ok-Some-Sets.field-0-0-is) in
+    ∙ ap (λ it. before_some (option_map (item_with vec_items) it) rest) (c.in-Ok-Some-Sets.field-0-is ∙ ap (λ it. let o : Option (Item (Vec ℕ Global)) = Some it in o) c.in-Ok-Some-Sets.field-0-0-is) in
     let is = setting_as setting.setting c.args.path.value.items c.items.scope.section.value.items c.in-Ok-Some-Sets.entry setting.ensures.file setting.ensures.section setting.ensures.entry in
     record {
       scope = c.items.invariant.scope;
@@ -67,7 +67,7 @@ add_file-returns-in_err-add_entry-in-Ok-Some-Sets g t c =
     let setting = c.in_ok-setting-in-Ok-Some-Sets in
     let rest = read (text_of c.next_item.new.text.rest.now) c.next_item.new.text.line between in
     let item = c.in-Ok-Some-Sets.ensures.reads
-        ∙ ap (λ it. before_some (option_map (item_with vec_items) it) rest) (c.in-Ok-Some-Sets.field-0-is ∙ ap (λ it. let o : Option (Item (Vec ℕ Global)) = Some it in o) c.in-Ok-Some-Sets.field-0-0-is) in
+    ∙ ap (λ it. before_some (option_map (item_with vec_items) it) rest) (c.in-Ok-Some-Sets.field-0-is ∙ ap (λ it. let o : Option (Item (Vec ℕ Global)) = Some it in o) c.in-Ok-Some-Sets.field-0-0-is) in
     let is = setting_as setting.setting c.args.path.value.items c.items.scope.section.value.items c.in-Ok-Some-Sets.entry setting.ensures.file setting.ensures.section setting.ensures.entry in
     let Whole = FromFile Shows around (Within Shows around c.args.left) c.args.path.value.items (found_with vec_items c.args.found) in
     let old = map seen_setting c.args.out.now.items in let now = map seen_setting c.items.out.items in let new = map seen_setting c.add_entry.new.out.items in
