@@ -5,7 +5,9 @@ pub mod FailLemmas
 pub mod FrontLemmas
 pub mod ItemLemmas
 pub mod KeyLemmas
+pub mod LastLemmas
 pub mod NumberLemmas
+pub mod OneReadingLemmas
 pub mod PartLemmas
 pub mod PlaceLemmas
 pub mod QuoteLemmas

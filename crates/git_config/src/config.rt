@@ -1,10 +1,10 @@
 //! A configuration of several files and words.
-ghost use Rattle.std.specs.Prelude.{◌≡◌, ℕ, IfOk, MatchResult, None, Ok, Err, Vec, map, option_map};
+ghost use Rattle.std.specs.Prelude.{◌≡◌, ◌++◌, ◌∷◌, [], ℕ, IfOk, List, MatchOption, MatchResult, None, Ok, Err, Vec, map, option_map};
 ghost use Rattle.std.specs.Option.{option_copied};
 ghost use Rattle.std.specs.Vec.{vec_items};
 ghost use Rattle.std.specs.declared.alloc.Global.{Global};
 ghost use Rattle.std.specs.declared.rc.Rc.{Rc};
-ghost use Rattle.git_config.specs.Configuration.{FromSource, FromSources, last_said, seen_fault, seen_setting, settings_of};
+ghost use Rattle.git_config.specs.Configuration.{FromSource, FromSources, Seen, last_said, seen_fault, seen_setting, settings_of};
 ghost use Rattle.git_config.specs.Private.Settings.{Adds};
 ghost use Rattle.git_config.specs.declared.config.Source.TheVariants.{File, Word};
 ghost use Rattle.git_config.specs.declared.setting.SettingFault.{SettingFault};
@@ -91,6 +91,22 @@ impl Config {
             }
         }
         Ok(found)
+    }
+
+    /// The last entry of a key, which counts; `None` where there is none.
+    pub fn last_of(&self, key: &[u8]) -> Option<&ReadSetting>
+        ensures { MatchOption result
+            (settings_of key.now (map seen_setting self.now.settings.items) ≡ [])
+            (λ last. (front : List Seen) × (settings_of key.now (map seen_setting self.now.settings.items) ≡ front ++ seen_setting last.now ∷ [])) }
+    {
+        let mut rest = self.settings.as_slice();
+        'settings: while let Some((setting, front)) = rest.split_last() {
+            if is_key(&setting.section, &setting.entry.name, key) {
+                return Some(setting);
+            }
+            rest = front;
+        }
+        None
     }
 
     /// The boolean of the last entry of a key, as [`boolean`](crate::boolean) reads it; `None` where there is none. Each is looked at.
