@@ -31,7 +31,7 @@ use std::process::ExitCode;
 use std::rt::Files;
 
 /// The subjects of the rows. Each has a file of its name.
-const SUBJECTS: [&str; 45] = [
+const SUBJECTS: [&str; 46] = [
     "matching",
     "starts",
     "attempts",
