@@ -1,8 +1,7 @@
 -- What an entry asks for.
-use Rattle.std.proofs.Common.{◌≡◌, ℕ, Bool, true, false, not, List, Option, None, Some, Result, Ok, Err, refl, sym, subst, ◌∙◌}
+use Rattle.std.proofs.Common.{◌≡◌, ℕ, Bool, true, List, Option, None, Some, Result, Ok, Err, sym, subst, ◌∙◌}
 use Rattle.std.specs.Prelude.{◌↔◌, IfOk, IsTrue}
 use Rattle.std.specs.declared.alloc.AllocError.{AllocError}
-use Rattle.std.proofs.lemmas.Bool.{false≢true}
 use Rattle.git_config.specs.declared.includes.Asked.{Asked}
 use Rattle.git_config.specs.declared.includes.Asked.TheVariants as asked
 use Rattle.git_config.specs.declared.setting.WrongSetting.{WrongSetting}

@@ -1,6 +1,6 @@
 -- What an entry adds, and the file that it asks for.
 use Rattle.std.proofs.Common.{◌≡◌, ℕ, zero, suc, ◌-◌, List, [], ◌∷◌, ◌++◌, Option, None, Some, Result, Ok, Err, refl, sym, ap, subst, ◌∙◌, append_assoc, arith, inl, inr}
-use Rattle.std.specs.Prelude.{MatchOption, MatchResult, Vec}
+use Rattle.std.specs.Prelude.{MatchResult, Vec}
 use Rattle.std.specs.declared.alloc.Global.{Global}
 use Rattle.std.specs.declared.rc.Rc.{Rc}
 use Rattle.git_config.specs.declared.files.FoundFile.{FoundFile}
@@ -12,7 +12,6 @@ use Rattle.git_config.specs.declared.setting.WrongSetting.{WrongSetting}
 use Rattle.git_config.specs.declared.setting.WrongSetting.TheVariants.{TooDeep}
 use Rattle.git_config.specs.declared.surroundings.Surroundings.{Surroundings}
 use Rattle.git_config.specs.Configuration.{Deep, FromEntry, FromFile, FromInclude, FromPath, Outcome, Seen, Then, Within, seen_fault, wrong_at}
-use Rattle.git_config.specs.Includes.{included_path}
 use Rattle.git_config.specs.Private.Settings.{Adds, Asks}
 use Rattle.git_config.proofs.lemmas.SettingLemmas.{adds_as}
 

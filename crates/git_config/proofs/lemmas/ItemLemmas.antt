@@ -1,5 +1,5 @@
 -- The items of a file, one after the other.
-use Rattle.std.proofs.Common.{◌≡◌, ℕ, List, [], ◌∷◌, ◌++◌, Option, None, Some, Result, Ok, Err, Vec, option_map, refl, sym, ap, subst, ◌∙◌}
+use Rattle.std.proofs.Common.{◌≡◌, ℕ, List, [], ◌++◌, Option, None, Some, Result, Ok, Err, Vec, option_map, refl, sym, ap, subst, ◌∙◌}
 use Rattle.std.specs.Vec.{vec_items}
 use Rattle.std.specs.declared.alloc.Global.{Global}
 use Rattle.std.specs.declared.rc.Rc.{Rc}
@@ -10,7 +10,6 @@ use Rattle.git_config.specs.declared.includes.ReadFault.{ReadFault}
 use Rattle.git_config.specs.declared.item.Entry.{Entry}
 use Rattle.git_config.specs.declared.item.Item.TheVariants.{Section, Sets}
 use Rattle.git_config.specs.declared.setting.Setting.{Setting}
-use Rattle.git_config.specs.declared.setting.SettingFault.{SettingFault}
 use Rattle.git_config.specs.declared.setting.WrongSetting.TheVariants.{Text}
 use Rattle.git_config.specs.declared.surroundings.Surroundings.{Surroundings}
 use Rattle.git_config.specs.Configuration.{Deep, FromEntry, FromFile, FromItems, Outcome, Seen, Then, seen_setting}

@@ -1,5 +1,5 @@
 -- A configuration has one reading.
-use Rattle.std.proofs.Common.{◌≡◌, ℕ, zero, suc, ◌+◌, List, [], ◌∷◌, ◌++◌, Option, None, Some, Result, Ok, Err, refl, sym, ap, subst, ◌∙◌, inl, inr}
+use Rattle.std.proofs.Common.{◌≡◌, ℕ, zero, suc, ◌+◌, List, [], ◌∷◌, Option, None, Some, Result, Ok, Err, sym, subst, ◌∙◌, inl, inr}
 use Rattle.std.specs.Prelude.{MatchOption, MatchResult}
 use Rattle.git_config.specs.declared.config.Source.{Source}
 use Rattle.git_config.specs.declared.config.Source.TheVariants.{File, Word}
@@ -7,7 +7,6 @@ use Rattle.git_config.specs.declared.files.FoundFile.{FoundFile}
 use Rattle.git_config.specs.declared.fault.Wrong.{Wrong}
 use Rattle.git_config.specs.declared.item.Item.{Item}
 use Rattle.git_config.specs.declared.item.Item.TheVariants.{Section, Sets}
-use Rattle.git_config.specs.declared.setting.WrongSetting.{WrongSetting}
 use Rattle.git_config.specs.declared.surroundings.Surroundings.{Surroundings}
 use Rattle.git_config.specs.Configuration.{Deep, FromEntry, FromFile, FromInclude, FromItems, FromPath, FromSource, FromSources, Outcome, Seen, Then, Within}
 use Rattle.git_config.specs.Grammar.{items_of}

@@ -1,5 +1,5 @@
 -- Keys of sections, and what they include.
-use Rattle.std.proofs.Common.{◌≡◌, ◌⊎◌, ⊎_elim, ℕ, ◌+◌, ◌-◌, Bool, true, false, List, [], ◌∷◌, ◌++◌, length, take, drop, Option, None, Some, Bor, Result, Ok, Err, refl, sym, ap, subst, ◌∙◌, inl, inr, append_assoc, arith}
+use Rattle.std.proofs.Common.{◌≡◌, ⊎_elim, ℕ, ◌+◌, ◌-◌, Bool, true, false, List, [], ◌∷◌, ◌++◌, length, take, drop, Option, None, Some, Bor, Result, Ok, Err, refl, sym, ap, subst, ◌∙◌, inr, append_assoc, arith}
 use Rattle.std.specs.Prelude.{◌↔◌, ◌||◌, ◌==◌, IfOk, IsTrue, MatchOption, codes, nat_eq}
 use Rattle.std.specs.List.{ends_with, list_any}
 use Rattle.std.specs.declared.alloc.AllocError.{AllocError}

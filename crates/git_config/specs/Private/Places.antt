@@ -1,5 +1,5 @@
 -- Parts of paths and of patterns.
-use Rattle.std.specs.Prelude.{ℕ, ◌-◌, ◌++◌, List, Option, codes, if◌then◌else◌, length, not, option_map}
+use Rattle.std.specs.Prelude.{ℕ, ◌-◌, ◌++◌, List, codes, if◌then◌else◌, length, not, option_map}
 use Rattle.std.specs.List.{suffix_len}
 use Rattle.std.specs.Option.{unwrap_or}
 use Rattle.std.specs.Vec.{vec_items}

@@ -1,5 +1,5 @@
 -- What the reader of a configuration says of its own values.
-use Rattle.std.specs.Prelude.{◌≡◌, ℕ, ◌++◌, List, option_map, Option, Some, None, Result, Ok, Err, Vec}
+use Rattle.std.specs.Prelude.{◌≡◌, ℕ, ◌++◌, List, Option, Some, None, Result, Ok, Err, Vec}
 use Rattle.std.specs.declared.alloc.Global.{Global}
 use Rattle.std.specs.declared.rc.Rc.{Rc}
 use Rattle.git_config.specs.declared.fault.ConfigFault.{ConfigFault}

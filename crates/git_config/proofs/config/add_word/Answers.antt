@@ -1,7 +1,6 @@
 -- The word is an entry of no section.
-use Rattle.std.proofs.Common.{◌≡◌, List, [], ℕ, Option, None, option_map, map, sym, ap, ◌∙◌}
+use Rattle.std.proofs.Common.{List, [], ℕ, Option, None, option_map, sym, ap, ◌∙◌}
 use Rattle.std.specs.Vec.{vec_items}
-use Rattle.git_config.specs.declared.setting.Setting.{Setting}
 use Rattle.git_config.specs.Configuration.{Seen}
 use Rattle.git_config.proofs.lemmas.SourceLemmas.{word_adds}
 use Rattle.git_config.proofs.config.add_word.Goals as goal

@@ -1,5 +1,5 @@
 -- The value tells the path.
-use Rattle.std.proofs.Common.{◌≡◌, ◌++◌, List, ℕ, Some, Option, option_map, sym, ap, ◌∙◌}
+use Rattle.std.proofs.Common.{◌++◌, Some, option_map, sym, ap, ◌∙◌}
 use Rattle.std.specs.Option.{option_copied}
 use Rattle.std.specs.Vec.{vec_items}
 use Rattle.git_config.specs.Configuration.{seen_setting}

@@ -1,5 +1,5 @@
 -- Both ends are taken off.
-use Rattle.git_config.proofs.lemmas.ScopeLemmas.{condition_as, other_front}
+use Rattle.git_config.proofs.lemmas.ScopeLemmas.{condition_as}
 use Rattle.git_config.proofs.scope.condition_of.Goals as goal
 
 pub returns : goal.returns

@@ -1,10 +1,7 @@
 -- What the sources come to.
-use Rattle.std.proofs.Common.{◌≡◌, ◌+◌, ◌<◌, [], List, Result, Ok, Err, Vec, Global, drop, length, map, refl, sym, ap, subst, ◌∙◌, arith}
+use Rattle.std.proofs.Common.{◌+◌, [], drop, map, arith}
 use Rattle.std.proofs.lemmas.List.{drop_all, drop_more}
-use Rattle.git_config.specs.declared.config.Config.{Config}
-use Rattle.git_config.specs.declared.includes.ReadFault.TheVariants as read
-use Rattle.git_config.specs.Configuration.{FromSource, FromSources, seen_fault, seen_setting}
-use Rattle.git_config.specs.Private.Settings.{Adds}
+use Rattle.git_config.specs.Configuration.{FromSources, seen_setting}
 use Rattle.git_config.proofs.lemmas.SourceLemmas.{source_fails, source_more, sources_end, told_by}
 use Rattle.git_config.proofs.config.Config.read.Goals as goal
 

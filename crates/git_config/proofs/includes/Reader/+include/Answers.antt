@@ -1,10 +1,9 @@
 -- What the parts of a file come to.
-use Rattle.std.proofs.Common.{◌≡◌, ℕ, ◌-◌, List, [], ◌∷◌, ◌++◌, Option, Some, None, Result, Ok, Err, Vec, Global, map, option_map, refl, sym, ap, subst, ◌∙◌}
+use Rattle.std.proofs.Common.{ℕ, ◌-◌, [], ◌∷◌, Option, Some, None, Err, Vec, Global, map, option_map, sym, ap, subst, ◌∙◌}
 use Rattle.std.specs.Option.{option_copied}
 use Rattle.std.specs.Vec.{vec_items}
 use Rattle.std.proofs.lemmas.List.{map-append}
 use Rattle.git_config.specs.declared.item.Item.{Item}
-use Rattle.git_config.specs.declared.item.Item.TheVariants.{Sets}
 use Rattle.git_config.specs.declared.setting.WrongSetting.TheVariants.{TooDeep}
 use Rattle.git_config.specs.Configuration.{FromEntry, FromFile, FromInclude, FromPath, Then, Within, seen_setting}
 use Rattle.git_config.specs.Grammar.{between, front, read, text_of}

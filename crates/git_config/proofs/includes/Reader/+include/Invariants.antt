@@ -1,4 +1,4 @@
-use Rattle.std.proofs.Common.{◌≡◌, ◌+◌, ◌*◌, Option, Some, length, map}
+use Rattle.std.proofs.Common.{◌+◌, ◌*◌, Some, length, map}
 use Rattle.std.specs.Vec.{vec_items}
 use Rattle.git_config.specs.Configuration.{FromFile, FromItems, Within, seen_setting}
 use Rattle.git_config.specs.Grammar.{between, read, text_of}

@@ -1,10 +1,10 @@
 -- What was looked up before holds, and in a section that ends in a full stop another name includes nothing.
-use Rattle.std.proofs.Common.{◌≡◌, List, ℕ, Bool, true, false, sym, ap, subst, ◌∙◌}
+use Rattle.std.proofs.Common.{◌≡◌, true, false, sym, ap, subst, ◌∙◌}
 use Rattle.std.specs.Prelude.{◌==◌, codes, nat_eq}
 use Rattle.std.specs.List.{ends_with, list_any}
 use Rattle.std.proofs.lemmas.Bool.{false≢true}
 use Rattle.std.specs.Option.{option_copied}
-use Rattle.git_config.proofs.lemmas.ScopeLemmas.{as_key, as_key_of, cut_same, named_same, other_name}
+use Rattle.git_config.proofs.lemmas.ScopeLemmas.{as_key, cut_same, named_same, other_name}
 use Rattle.git_config.proofs.scope.Scope.has_include.Goals as goal
 
 pub returns-then-self : goal.returns-then-self
