@@ -122,6 +122,67 @@ def config_files(text):
     return [b"bad " + line[1] if line else b"".join(entry.replace(b"\n", b"=", 1) + b"\n" for entry in listed.split(b"\0")[:-1])]
 
 
+# What Git complains of where a file or a word includes what can't be had, or is wrong, and the words for it.
+COMPLAINTS = (
+    (rb"missing value for 'include.path'\n.*line (\d+) in file (.*)", b"no path \\1 \\2"),
+    (rb"could not expand include path .*\n.*line (\d+) in file (.*)", b"no folder \\1 \\2"),
+    (rb"bad config line (\d+) in file (.*)", b"bad \\1 \\2"),
+    (rb"exceeded maximum include depth \(10\) while including\n\t.*\nfrom\n\t(.*)", b"too deep \\1"),
+    (rb"relative config includes must come from files", b"relative word"),
+    (rb"unable to parse command-line config", b"bad word"),
+    (rb"remote URLs cannot be configured in file directly or indirectly included", b"url in an included file"),
+)
+# The files that Git reads by itself, which have this place in a row.
+READ = {b"/top/sys", b"/top/home/.config/git/config", b"/top/home/.gitconfig", b"/top/r/.git/config"}
+
+
+def make_git_folder(git_folder, branch):
+    """Makes a git folder, that of a linked work tree or one of its own, and tells a folder that Git finds it from."""
+    head = b"ref: refs/heads/" + branch if branch else b"1" * 40
+    main, _, linked = git_folder.partition(b"/worktrees/")
+    for name in (b"objects/x", b"refs/x"):
+        rows.write(os.path.join(main, name), b"")
+    rows.write(main + b"/HEAD", head + b"\n")
+    if not linked:
+        return os.path.dirname(git_folder)
+    rows.write(git_folder + b"/HEAD", head + b"\n")
+    rows.write(git_folder + b"/commondir", b"../..\n")
+    work_tree = os.path.join(os.path.dirname(os.path.dirname(main)), linked)
+    rows.write(work_tree + b"/.git", b"gitdir: " + git_folder + b"\n")
+    return work_tree
+
+
+def config_includes(git_folder, branch, sources, words, *fields):
+    """What files and words say with what they include, in a folder that stands for `/top`."""
+    if not IS_GIT or not set(sources.split()) <= READ:
+        return ()
+    with rows.folder_of([]) as folder:
+        top = os.path.realpath(os.fsencode(folder))
+        here = [None if it is None else it.replace(b"/top", top) for it in (git_folder, words, *fields)]
+        for path, text in zip(here[2::2], here[3::2]):
+            rows.write(path, text)
+        start = make_git_folder(here[0], branch) if here[0] else top
+        is_told = b"/top/sys" in sources
+        environment = {**ALONE, "HOME": os.fsdecode(top + b"/home"), "GIT_CONFIG_NOSYSTEM": str(int(not is_told)), "GIT_CONFIG_SYSTEM": os.fsdecode(top + b"/sys")}
+        options = [part for word in here[1].split(b"\n") if word for part in (b"-c", word)]
+        ran = subprocess.run(["git", *options, "config", "--list", "--show-origin", "-z"], cwd=start, env=environment, capture_output=True, check=False)
+        return [listed(ran, start).replace(top, b"/top")]
+
+
+def listed(ran, start):
+    """The entries that Git listed, or what it complained of."""
+    for complaint, words in COMPLAINTS:
+        if found := re.search(complaint, ran.stderr):
+            return found.expand(words) + b"\n"
+    told = ran.stdout.split(b"\0")[:-1]
+    lines = []
+    for origin, entry in zip(told[::2], told[1::2]):
+        kind, _, path = origin.partition(b":")
+        name = os.path.normpath(os.path.join(start, path)) if kind == b"file" else b""
+        lines.append(name + b" " + entry.replace(b"\n", b"=", 1) + b"\n")
+    return b"".join(lines)
+
+
 def config_booleans(value):
     if not IS_GIT:
         return ()
@@ -199,4 +260,5 @@ def exclude_names(current, words, *fields):
 
 
 OF_PATTERNS = (matching, trees, trees_told, attribute_states, all_states, attribute_streams, attribute_names)
-rows.answer({it.__name__: it for it in (*OF_PATTERNS, config_files, config_booleans, repositories, work_trees, exclude_names)})
+OF_CONFIGURATION = (config_files, config_includes, config_booleans)
+rows.answer({it.__name__: it for it in (*OF_PATTERNS, *OF_CONFIGURATION, repositories, work_trees, exclude_names)})

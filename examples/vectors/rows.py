@@ -53,16 +53,20 @@ def is_plain(path):
     return not {b"", b".", b".."} & set(path.removesuffix(b"/").split(b"/"))
 
 
+def write(path, text):
+    """Writes a file, and makes the folders above it."""
+    os.makedirs(os.path.dirname(path), exist_ok=True)
+    with open(path, "wb") as it:
+        it.write(text)
+
+
 @contextlib.contextmanager
 def folder_of(files):
     """A folder with these files, each a name and its bytes."""
     with tempfile.TemporaryDirectory() as top:
         for name, text in files:
             assert is_plain(name), name
-            path = os.path.join(os.fsencode(top), name)
-            os.makedirs(os.path.dirname(path), exist_ok=True)
-            with open(path, "wb") as it:
-                it.write(text)
+            write(os.path.join(os.fsencode(top), name), text)
         yield top
 
 

@@ -1,10 +1,8 @@
 -- How a configuration file is read: each byte of its text in turn, by the place where it stands.
-use Rattle.std.specs.Prelude.{ℕ, ◌+◌, Bool, true, false, not, ◌&&◌, ◌||◌, ◌==◌, nat_eq, if◌then◌else◌, List, [], ◌∷◌, ◌++◌, length, replicate, Option, Some, None, Result, Ok, Err}
+use Rattle.std.specs.Prelude.{ℕ, ◌+◌, Bool, true, false, not, ◌&&◌, ◌||◌, ◌==◌, nat_eq, if◌then◌else◌, List, [], ◌∷◌, ◌++◌, length, replicate, Option, Some, None}
 use Rattle.std.specs.Char.{is_ascii_alphabetic, is_ascii_alphanumeric, to_ascii_lowercase}
 use Rattle.std.specs.List.{before_first, starts_with}
 use Rattle.std.specs.Str.{byte}
-use Rattle.git_config.specs.declared.fault.ConfigFault.{ConfigFault}
-use Rattle.git_config.specs.declared.fault.ConfigFault.TheVariants.{Line}
 use Rattle.git_config.specs.declared.fault.Wrong.{Wrong}
 use Rattle.git_config.specs.declared.fault.Wrong.TheVariants.{Mark, Outside, Head, Subsection, Name, Quote, Escape}
 use Rattle.git_config.specs.declared.item.Item.{Item}
@@ -153,36 +151,44 @@ turn line (in_tail name bytes) b = if b == 10 then gives (entry_of name (Some (b
 
 -- ---- the end of the file, and the whole
 
-abbrev pub value_ended : ℕ → List ℕ → Part → Result (List (Item (List ℕ))) ConfigFault
-value_ended line name part = if part.quoted then Err (Line line Quote) else Ok (entry_of name (Some (before_zero part.bytes)) line ∷ [])
+-- what is read: the items up to the end of the file or the first fault, and where one comes its line and what is wrong
+abbrev pub Reading : Type 0
+Reading = List (Item (List ℕ)) × Option (ℕ × Wrong)
+
+abbrev pub stop : ℕ → Wrong → Reading
+stop line what = ([], Some (line, what))
+
+abbrev pub before : Item (List ℕ) → Reading → Reading
+before item rest = (item ∷ rest.0, rest.1)
+
+abbrev pub nothing : Reading
+nothing = ([], None)
 
 -- what the end of the file on this line leaves to say: as at a line feed, but that a fault in the name of a section is the next line's
-abbrev pub ended : ℕ → Place → Result (List (Item (List ℕ))) ConfigFault
-ended line (behind_mark _) = Err (Line (line + 1) Mark)
-ended line (in_head name) = Err (Line (line + 1) Head)
-ended line (in_gap name) = Err (Line line Head)
-ended line (in_quotes _ key) = Err (Line line Subsection)
-ended line (behind_quotes key) = Err (Line (line + 1) Head)
-ended line (in_name _ name) = Ok (entry_of name None line ∷ [])
+abbrev pub value_ended : ℕ → List ℕ → Part → Reading
+value_ended line name part = if part.quoted then stop line Quote else before (entry_of name (Some (before_zero part.bytes)) line) nothing
+
+abbrev pub ended : ℕ → Place → Reading
+ended line (behind_mark _) = stop (line + 1) Mark
+ended line (in_head name) = stop (line + 1) Head
+ended line (in_gap name) = stop line Head
+ended line (in_quotes _ key) = stop line Subsection
+ended line (behind_quotes key) = stop (line + 1) Head
+ended line (in_name _ name) = before (entry_of name None line) nothing
 ended line (in_value name part) = value_ended line name part
 ended line (in_escape name part) = value_ended (line + 1) name part
-ended line (in_tail name bytes) = Ok (entry_of name (Some (before_zero bytes)) line ∷ [])
-ended line _ = Ok []
+ended line (in_tail name bytes) = before (entry_of name (Some (before_zero bytes)) line) nothing
+ended line _ = nothing
 
--- an item before others, where those can be read
-abbrev pub before : Item (List ℕ) → Result (List (Item (List ℕ))) ConfigFault → Result (List (Item (List ℕ))) ConfigFault
-before item (Ok items) = Ok (item ∷ items)
-before item (Err fault) = Err fault
-
--- the items of a text that begins on this line at this place, or the first fault
-unfoldable pub read : List ℕ → ℕ → Place → Result (List (Item (List ℕ))) ConfigFault
+-- what is read of a text that begins on this line at this place
+unfoldable pub read : List ℕ → ℕ → Place → Reading
 read [] line place = ended line place
 read (b ∷ text) line place = elim (turn line place b) [
   | goes next ↦ read text (line_behind line b) next
   | gives item ↦ before item (read text (line_behind line b) between)
-  | fails what at ↦ Err (Line at what)
+  | fails what at ↦ stop at what
 ]
 
--- the items of a file, or the first fault
-abbrev pub items_of : List ℕ → Result (List (Item (List ℕ))) ConfigFault
+-- what is read of a file
+abbrev pub items_of : List ℕ → Reading
 items_of bytes = read (text_of bytes) 1 front

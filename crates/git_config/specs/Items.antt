@@ -2,11 +2,12 @@
 use Rattle.std.specs.Prelude.{ℕ, List, map, option_map, Vec}
 use Rattle.std.specs.Vec.{vec_items}
 use Rattle.std.specs.declared.alloc.Global.{Global}
+use Rattle.git_config.specs.declared.files.FoundFile.{FoundFile}
 use Rattle.git_config.specs.declared.item.Entry.{Entry}
 use Rattle.git_config.specs.declared.item.Item.{Item}
 use Rattle.git_config.specs.declared.item.Item.TheVariants.{Section, Sets}
 
--- the same entry or item with other bytes
+-- the same entry, item or file with other bytes
 abbrev pub entry_with : {A B : Type 0} → (A → B) → Entry A → Entry B
 entry_with see entry = record { name = see entry.name; value = option_map see entry.value; line = entry.line }
 
@@ -19,3 +20,6 @@ seen_entry entry = entry_with vec_items entry
 
 abbrev pub seen_items : List (Item (Vec ℕ Global)) → List (Item (List ℕ))
 seen_items items = map (item_with vec_items) items
+
+abbrev pub found_with : {A B : Type 0} → (A → B) → FoundFile A → FoundFile B
+found_with see found = record { bytes = see found.bytes; real_path = see found.real_path }

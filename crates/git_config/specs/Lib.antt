@@ -1,4 +1,6 @@
+pub mod Configuration
 pub mod Grammar
+pub mod Includes
 pub mod Items
 pub mod Keys
 pub mod Numbers

@@ -2,3 +2,6 @@
 pub mod Taking
 pub mod Parts
 pub mod Values
+pub mod Places
+pub mod Scopes
+pub mod Settings

@@ -42,7 +42,7 @@ fn says_no(text: &[u8]) -> bool
 }
 
 /// Whether two texts are the same but for the case of letters.
-fn same_letters(a: &[u8], b: &[u8]) -> bool
+pub(crate) fn same_letters(a: &[u8], b: &[u8]) -> bool
     ensures { result ≡ same_letters a.now b.now }
 {
     a.eq_ignore_ascii_case(b)

@@ -1,10 +1,10 @@
 //! A configuration file.
-ghost use Rattle.std.specs.Prelude.{◌≡◌, ◌⊎◌, ◌<◌, ◌≤◌, ◌+◌, ◌∷◌, [], ℕ, false, length, nat_eq, option_map, IfErr, IfOk, IsSome};
+ghost use Rattle.std.specs.Prelude.{◌≡◌, ◌⊎◌, ◌<◌, ◌≤◌, ◌+◌, ◌∷◌, [], ℕ, false, length, nat_eq, option_map, IfErr, IfOk, IsSome, MatchResult, None, Some};
 ghost use Rattle.std.specs.List.{starts_with};
 ghost use Rattle.std.specs.Vec.{vec_items};
-ghost use Rattle.git_config.specs.Grammar.{Place, before, between, ended, front, is_blank, is_mark, items_of, read, text_of, turn};
+ghost use Rattle.git_config.specs.Grammar.{Place, before, between, ended, front, is_blank, is_mark, items_of, read, stop, text_of, turn};
 ghost use Rattle.git_config.specs.Items.{item_with, seen_items};
-ghost use Rattle.git_config.specs.Private.Taking.{Reads, before_some, turn_mark};
+ghost use Rattle.git_config.specs.Private.Taking.{FailsBehind, Reads, before_some, turn_mark};
 ghost use Rattle.git_config.specs.declared.fault.ConfigFault.TheVariants.{Line};
 ghost use Rattle.git_config.specs.declared.fault.Wrong.TheVariants.{Mark};
 
@@ -29,8 +29,8 @@ impl ConfigFile {
     /// # Errors
     /// The first fault of the file, as Git tells it; [`ConfigFault::Memory`] where memory was refused.
     pub fn from_bytes(alloc: Global, bytes: &[u8]) -> Result<ConfigFile, ConfigFault>
-        ensures items { IfOk result (λ file. items_of bytes.now ≡ Ok (seen_items file.items.items)) }
-        ensures fault { IfErr result (λ fault. (fault ≡ ConfigFault.Memory) ⊎ (items_of bytes.now ≡ Err fault)) }
+        ensures items { IfOk result (λ file. items_of bytes.now ≡ (seen_items file.items.items, None)) }
+        ensures fault { IfErr result (λ fault. (fault ≡ ConfigFault.Memory) ⊎ (option_map (λ at. Line at.0 at.1) (items_of bytes.now).1 ≡ Some fault)) }
     {
         let items = read_items(alloc, bytes)?;
         Ok(ConfigFile { items })
@@ -39,7 +39,7 @@ impl ConfigFile {
 
 /// The items of a file, in order.
 fn read_items(alloc: Global, bytes: &[u8]) -> Result<Vec<Item<Vec<u8>>>, ConfigFault>
-    ensures { Reads (λ items. Ok (seen_items items.items)) result (items_of bytes.now) }
+    ensures { MatchResult result (λ items. items_of bytes.now ≡ (seen_items items.items, None)) (λ fault. FailsBehind fault (items_of bytes.now)) }
 {
     let mut text = Text::new(bytes);
     skip_mark(&mut text)?;
@@ -51,7 +51,7 @@ fn read_items(alloc: Global, bytes: &[u8]) -> Result<Vec<Item<Vec<u8>>>, ConfigF
 }
 
 /// Passes a byte order mark over, where one begins here.
-fn skip_mark(text: &mut Text<'_>) -> Result<(), ConfigFault>
+pub(crate) fn skip_mark(text: &mut Text<'_>) -> Result<(), ConfigFault>
     ensures { Reads (λ _. read (text_of text.new.rest.now) text.new.line between) result (read (text_of text.old.rest.now) text.old.line front) }
 {
     if !begins_with_mark(text.rest) {
@@ -72,7 +72,7 @@ fn begins_with_mark(bytes: &[u8]) -> bool
 /// Passes this byte of a byte order mark over.
 fn skip_mark_byte(text: &mut Text<'_>, wanted: u8) -> Result<(), ConfigFault>
     ensures { (place next : Place) → ((b : ℕ) → turn text.old.line place b ≡ turn_mark text.old.line wanted next b)
-        → ended text.old.line place ≡ Err (Line (text.old.line + 1) Mark)
+        → ended text.old.line place ≡ stop (text.old.line + 1) Mark
         → Reads (λ _. read (text_of text.new.rest.now) text.new.line next) result (read (text_of text.old.rest.now) text.old.line place) }
 {
     let line = text.line;
@@ -92,7 +92,10 @@ fn skip_mark_byte(text: &mut Text<'_>, wanted: u8) -> Result<(), ConfigFault>
 }
 
 /// Takes the next item off a text, where one is left.
-fn next_item(alloc: Global, text: &mut Text<'_>) -> Result<Option<Item<Vec<u8>>>, ConfigFault>
+pub(crate) fn next_item(
+    alloc: Global,
+    text: &mut Text<'_>,
+) -> Result<Option<Item<Vec<u8>>>, ConfigFault>
     ensures reads { Reads (λ item. before_some (option_map (item_with vec_items) item) (read (text_of text.new.rest.now) text.new.line between)) result
         (read (text_of text.old.rest.now) text.old.line between) }
     ensures fewer { IfOk result (λ item. IsSome item → length text.new.rest.now < length text.old.rest.now) }

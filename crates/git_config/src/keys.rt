@@ -58,7 +58,7 @@ pub fn last_boolean(entries: &[&Entry<Vec<u8>>]) -> Result<Option<bool>, WrongVa
 }
 
 /// The boolean of an entry.
-fn boolean_said(entry: &Entry<Vec<u8>>) -> Option<bool>
+pub(crate) fn boolean_said(entry: &Entry<Vec<u8>>) -> Option<bool>
     ensures { result ≡ value_said (seen_entry entry.now) }
 {
     match &entry.value {
@@ -68,7 +68,7 @@ fn boolean_said(entry: &Entry<Vec<u8>>) -> Option<bool>
 }
 
 /// Whether an entry of this name has a key, in the section whose keys begin so.
-fn is_key(section: &[u8], name: &[u8], key: &[u8]) -> bool
+pub(crate) fn is_key(section: &[u8], name: &[u8], key: &[u8]) -> bool
     ensures { result ≡ bytes_eq (before_zero (section.now ++ name.now)) key.now }
 {
     if has_zero(section) {
@@ -81,14 +81,14 @@ fn is_key(section: &[u8], name: &[u8], key: &[u8]) -> bool
 }
 
 /// Whether a byte 0 is among the bytes.
-fn has_zero(bytes: &[u8]) -> bool
+pub(crate) fn has_zero(bytes: &[u8]) -> bool
     ensures { result ≡ list_any (λ b. b == 0) bytes.now }
 {
     bytes.contains(&0)
 }
 
 /// What stands before the first byte 0.
-fn until_zero(bytes: &[u8]) -> &[u8]
+pub(crate) fn until_zero(bytes: &[u8]) -> &[u8]
     ensures { result.now ≡ before_zero bytes.now }
 {
     match first_zero(bytes) {

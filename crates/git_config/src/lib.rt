@@ -3,16 +3,23 @@
 
 mod booleans;
 mod bytes;
+mod conditions;
+mod config;
 mod entry;
 mod fault;
 mod file;
+mod files;
 mod head;
+mod includes;
 mod item;
 mod keys;
 pub mod laws;
 mod number;
 mod path;
 mod quoting;
+mod scope;
+mod setting;
+mod surroundings;
 #[cfg(test)]
 mod tests;
 mod text;
@@ -20,11 +27,15 @@ mod value;
 mod words;
 
 pub use booleans::boolean;
+pub use config::{Config, ReadFault, Source};
 pub use fault::{ConfigFault, Wrong, WrongValue};
 pub use file::ConfigFile;
+pub use files::{ConfigFiles, FoundFile};
 pub use item::{Entry, Item};
 pub use keys::last_boolean;
 pub use number::integer;
 pub use path::{ConfigPath, config_path};
 pub use quoting::quoted;
+pub use setting::{ReadSetting, Setting, SettingFault, WrongSetting};
+pub use surroundings::{Surroundings, UserFolder};
 pub use words::{canonical_key, split_word};

@@ -1,4 +1,4 @@
-//! A key of a file, a word that names it, and a value that is written.
+//! A key of a file and of words, a word that names it, and a value that is written.
 use super::*;
 use std::test::Fail;
 
@@ -23,5 +23,59 @@ fn the_last_value_of_a_key_counts(rt: HostRuntime) -> Result<(), Fail> {
     assert!(rt; last_boolean(&entries) == Ok(Some(false)));
     let entries = file.entries_of(rt.alloc(), b"a.s.b")?;
     assert!(rt; last_boolean(&entries) == Err(WrongValue { line: 5 }));
+    Ok(())
+}
+
+/// A source in which there is no file.
+#[derive(Drop)]
+struct NoFiles;
+
+impl ConfigFiles for NoFiles {
+    ghost use Rattle.std.specs.Prelude.{◌≡◌, None};
+
+    type Fault = ();
+
+    ghost shows = { λ _ _ found. found ≡ None };
+
+    fn find(&self, _path: &[u8]) -> Result<Option<FoundFile<Vec<u8>>>, ()> {
+        Ok(None)
+    }
+}
+
+#[test]
+fn the_last_of_several_words_counts(rt: HostRuntime) -> Result<(), Fail> {
+    let around = Surroundings {
+        home: None,
+        real_home: None,
+        installed: None,
+        users: Vec::new(rt.alloc()),
+        git_folders: Vec::new(rt.alloc()),
+        branch: None,
+        urls: Vec::new(rt.alloc()),
+    };
+    let words = [
+        Source::File(b"/nowhere"),
+        Source::Word {
+            key: b"A.b",
+            value: Some(b"maybe"),
+        },
+        Source::Word {
+            key: b"a.c",
+            value: Some(b"no"),
+        },
+        Source::Word {
+            key: b"a.c",
+            value: None,
+        },
+    ];
+    let config = Config::read(rt.alloc(), &NoFiles, &around, &words).map_err(|_fault| "a fault")?;
+    assert!(rt; config.entries_of(rt.alloc(), b"a.c")?.len() == 2);
+    assert!(rt; config.boolean(b"a.c") == Ok(Some(true)));
+    assert!(rt; config.boolean(b"a.b").is_err());
+    assert!(rt;
+        config
+            .last_of(b"a.c")
+            .is_some_and(|last| last.entry.line == 4)
+    );
     Ok(())
 }

@@ -1,6 +1,6 @@
 //! The value of an entry.
 ghost use Rattle.std.specs.Prelude.{◌≡◌, ◌==◌, ◌&&◌, ◌<◌, ◌≤◌, ◌+◌, ◌^◌, ◌++◌, ◌∷◌, [], OnOk, ℕ, List, length, not, position};
-ghost use Rattle.git_config.specs.Grammar.{before, before_zero, between, entry_of, filled, in_escape, in_value, is_blank, is_mark, no_part, place_behind, read, text_of, value_ended, with_blank};
+ghost use Rattle.git_config.specs.Grammar.{before, before_zero, between, entry_of, filled, in_escape, in_value, is_blank, is_mark, no_part, nothing, place_behind, read, text_of, value_ended, with_blank};
 ghost use Rattle.git_config.specs.Items.{seen_entry};
 ghost use Rattle.git_config.specs.Private.Parts.{part_of};
 ghost use Rattle.git_config.specs.Private.Taking.{Reads};
@@ -140,7 +140,7 @@ fn fill(part: &mut Part) -> Result<(), AllocError>
 
 /// The entry whose value ends on this line, unless a quote is open.
 fn end_value(name: Vec<u8>, part: Part, line: usize) -> Result<Entry<Vec<u8>>, ConfigFault>
-    ensures { Reads (λ entry. Ok (Sets (seen_entry entry) ∷ [])) result (value_ended line name.items (part_of part)) }
+    ensures { Reads (λ entry. before (Sets (seen_entry entry)) nothing) result (value_ended line name.items (part_of part)) }
 {
     if part.quoted {
         return Err(ConfigFault::Line {

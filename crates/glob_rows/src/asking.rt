@@ -4,8 +4,8 @@ use crate::answer::Answer;
 use crate::fault::RowFault;
 use crate::question::Question;
 use crate::{
-    attempts, attribute_files, attribute_states, bases, config_files, index_files, lines, lists,
-    matching, patterns, repositories, streams, trees,
+    attempts, attribute_files, attribute_states, bases, config_files, config_includes, index_files,
+    lines, lists, matching, patterns, repositories, streams, trees,
 };
 use std::alloc::Global;
 
@@ -35,6 +35,7 @@ pub(crate) fn ask(alloc: Global, subject: &str, question: &Question) -> Result<A
         "trees_asked" => trees::trees_asked(alloc, question, &mut answer)?,
         "records" => streams::records(alloc, question, &mut answer)?,
         "config_files" => config_files::config_files(alloc, question, &mut answer)?,
+        "config_includes" => config_includes::config_includes(alloc, question, &mut answer)?,
         "config_booleans" => config_files::config_booleans(question, &mut answer)?,
         "index_files" => index_files::index_files(alloc, question, &mut answer)?,
         "index_paths" => index_files::index_paths(alloc, question, &mut answer)?,

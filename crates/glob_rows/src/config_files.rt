@@ -35,7 +35,7 @@ fn push_items(alloc: Global, items: &[Item<Vec<u8>>], answer: &mut Answer) -> Re
 }
 
 /// Adds a line: a key up to its first byte 0, as Git has it, and where there is a value an equals sign and the value.
-fn push_line(
+pub(crate) fn push_line(
     alloc: Global,
     text: &mut Vec<u8>,
     section: &[u8],

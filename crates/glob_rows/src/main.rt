@@ -8,6 +8,7 @@ mod attribute_files;
 mod attribute_states;
 mod bases;
 mod config_files;
+mod config_includes;
 mod fault;
 mod file_table;
 mod index_files;
@@ -30,7 +31,7 @@ use std::process::ExitCode;
 use std::rt::Files;
 
 /// The subjects of the rows. Each has a file of its name.
-const SUBJECTS: [&str; 45] = [
+const SUBJECTS: [&str; 46] = [
     "matching",
     "starts",
     "attempts",
@@ -71,6 +72,7 @@ const SUBJECTS: [&str; 45] = [
     "index_files",
     "index_paths",
     "config_files",
+    "config_includes",
     "config_booleans",
     "repositories",
     "work_trees",

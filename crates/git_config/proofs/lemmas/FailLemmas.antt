@@ -1,45 +1,47 @@
 -- What a call says of a whole reading.
-use Rattle.std.proofs.Common.{◌≡◌, ◌⊎◌, inl, inr, ℕ, Bool, true, false, cond, List, [], ◌∷◌, ◌++◌, Some, Result, Ok, Err, refl, sym, ap, subst, ◌∙◌}
-use Rattle.std.specs.Prelude.{Vec}
+use Rattle.std.proofs.Common.{◌≡◌, ◌⊎◌, inl, inr, ℕ, Bool, true, false, cond, List, [], ◌∷◌, ◌++◌, Option, None, Some, Result, Ok, Err, refl, sym, ap, subst, ◌∙◌}
+use Rattle.std.specs.Prelude.{Vec, option_map}
 use Rattle.std.specs.declared.alloc.Global.{Global}
 use Rattle.git_config.specs.declared.fault.ConfigFault.{ConfigFault}
 use Rattle.git_config.specs.declared.fault.ConfigFault.TheVariants.{Line, Memory}
+use Rattle.git_config.specs.declared.fault.Wrong.{Wrong}
 use Rattle.git_config.specs.declared.fault.Wrong.TheVariants.{Quote}
 use Rattle.git_config.specs.declared.item.Entry.{Entry}
 use Rattle.git_config.specs.declared.item.Item.{Item}
 use Rattle.git_config.specs.declared.item.Item.TheVariants.{Sets}
-use Rattle.git_config.specs.Grammar.{Part, before, before_zero, between, entry_of, in_value, read, text_of, turn, value_ended}
+use Rattle.git_config.specs.Grammar.{Part, Reading, before, before_zero, between, entry_of, in_value, nothing, read, stop, text_of, turn, value_ended}
 use Rattle.git_config.specs.Items.{seen_entry}
-use Rattle.git_config.specs.Private.Taking.{Fails, Reads, TakesByte}
-use Rattle.git_config.proofs.lemmas.ReadLemmas.{Read, fails_byte, gives_byte}
+use Rattle.git_config.specs.Private.Taking.{Fails, FailsBehind, Reads, TakesByte}
+use Rattle.git_config.proofs.lemmas.ReadLemmas.{fails_byte, gives_byte}
 
 -- ---- the end of a value
 
 abbrev pub EndsValue : Result (Entry (Vec ℕ Global)) ConfigFault → ℕ → List ℕ → Part → Type 0
-EndsValue r line name part = Reads (λ entry. Ok (Sets (seen_entry entry) ∷ [])) r (value_ended line name part)
+EndsValue r line name part = Reads (λ entry. before (Sets (seen_entry entry)) nothing) r (value_ended line name part)
 
-abbrev pub GoesOn : Result (Entry (Vec ℕ Global)) ConfigFault → Read → Read → Type 0
+abbrev pub GoesOn : Result (Entry (Vec ℕ Global)) ConfigFault → Reading → Reading → Type 0
 GoesOn r rest whole = Reads (λ entry. before (Sets (seen_entry entry)) rest) r whole
 
 -- where the file ends
-pub value_at_end : (r : Result (Entry (Vec ℕ Global)) ConfigFault) (rest whole : Read) (line : ℕ) (name : List ℕ) (part : Part)
-    → rest ≡ Ok [] → whole ≡ value_ended line name part → EndsValue r line name part → GoesOn r rest whole
+pub value_at_end : (r : Result (Entry (Vec ℕ Global)) ConfigFault) (rest whole : Reading) (line : ℕ) (name : List ℕ) (part : Part)
+    → rest ≡ nothing → whole ≡ value_ended line name part → EndsValue r line name part → GoesOn r rest whole
 value_at_end (Ok entry) rest whole line name part none is h = is ∙ h ∙ ap (λ left. before (Sets (seen_entry entry)) left) (sym none)
 value_at_end (Err Memory) rest whole line name part none is h = tt
 value_at_end (Err (Line at what)) rest whole line name part none is h = is ∙ h
 
 -- what a line feed makes of a value
-abbrev pub value_fed : ℕ → List ℕ → Bool → List ℕ → Read → Read
-value_fed line name quoted bytes rest = cond quoted (Err (Line line Quote)) (before (entry_of name (Some (before_zero bytes)) line) rest)
+abbrev pub value_fed : ℕ → List ℕ → Bool → List ℕ → Reading → Reading
+value_fed line name quoted bytes rest = cond quoted (stop line Quote) (before (entry_of name (Some (before_zero bytes)) line) rest)
 
-fed : (r : Result (Entry (Vec ℕ Global)) ConfigFault) (rest : Read) (line : ℕ) (name : List ℕ) (quoted : Bool) (blanks : ℕ) (bytes : List ℕ)
+fed : (r : Result (Entry (Vec ℕ Global)) ConfigFault) (rest : Reading) (line : ℕ) (name : List ℕ) (quoted : Bool) (blanks : ℕ) (bytes : List ℕ)
     → EndsValue r line name (record { quoted = quoted; blanks = blanks; bytes = bytes }) → GoesOn r rest (value_fed line name quoted bytes rest)
-fed (Ok entry) rest line name true blanks bytes h = absurd (cc)
+fed (Ok entry) rest line name true blanks bytes h = absurd (let told : Some (line, Quote) ≡ None = ap (λ (r : Reading). r.1) h in cc)
 fed (Err Memory) rest line name true blanks bytes h = tt
 fed (Err (Line at what)) rest line name true blanks bytes h = h
-fed (Ok entry) rest line name false blanks bytes h = let same : entry_of name (Some (before_zero bytes)) line ≡ Sets (seen_entry entry) = cc in ap (λ item. before item rest) same
+fed (Ok entry) rest line name false blanks bytes h = let one : entry_of name (Some (before_zero bytes)) line ∷ [] ≡ Sets (seen_entry entry) ∷ [] = ap (λ (r : Reading). r.0) h in
+    let same : entry_of name (Some (before_zero bytes)) line ≡ Sets (seen_entry entry) = cc in ap (λ item. before item rest) same
 fed (Err Memory) rest line name false blanks bytes h = tt
-fed (Err (Line at what)) rest line name false blanks bytes h = absurd (cc)
+fed (Err (Line at what)) rest line name false blanks bytes h = absurd (let told : ◌≡◌ {A = Option (ℕ × Wrong)} None (Some (at, what)) = ap (λ (r : Reading). r.1) h in cc)
 
 at_feed : {old new : List ℕ} {old_line new_line b : ℕ} (name : List ℕ) (quoted : Bool) (blanks : ℕ) (bytes : List ℕ) → TakesByte old new old_line new_line b → b ≡ 10
     → read (text_of old) old_line (in_value name (record { quoted = quoted; blanks = blanks; bytes = bytes })) ≡ value_fed old_line name quoted bytes (read (text_of new) new_line between)
@@ -51,7 +53,7 @@ at_feed {old} {new} {old_line} {new_line} {b} name false blanks bytes t e =
     gives_byte place (entry_of name (Some (before_zero bytes)) old_line) t (ap (λ (x : ℕ). turn old_line place x) e)
 
 -- where a line feed is taken
-pub value_at_feed : {old new : List ℕ} {old_line new_line b : ℕ} (r : Result (Entry (Vec ℕ Global)) ConfigFault) (whole : Read) (name : List ℕ) (part : Part)
+pub value_at_feed : {old new : List ℕ} {old_line new_line b : ℕ} (r : Result (Entry (Vec ℕ Global)) ConfigFault) (whole : Reading) (name : List ℕ) (part : Part)
     → TakesByte old new old_line new_line b → b ≡ 10 → whole ≡ read (text_of old) old_line (in_value name part) → EndsValue r old_line name part
     → GoesOn r (read (text_of new) new_line between) whole
 value_at_feed {old} {new} {old_line} {new_line} {b} r whole name part t e is h =
@@ -60,30 +62,30 @@ value_at_feed {old} {new} {old_line} {new_line} {b} r whole name part t e is h =
 
 -- ---- items before others
 
-abbrev pub before_all : List (Item (List ℕ)) → Read → Read
+abbrev pub before_all : List (Item (List ℕ)) → Reading → Reading
 before_all [] rest = rest
 before_all (item ∷ items) rest = before item (before_all items rest)
 
 -- one more
-pub before_all-push : (items : List (Item (List ℕ))) (item : Item (List ℕ)) (rest : Read) → before_all (items ++ item ∷ []) rest ≡ before_all items (before item rest)
+pub before_all-push : (items : List (Item (List ℕ))) (item : Item (List ℕ)) (rest : Reading) → before_all (items ++ item ∷ []) rest ≡ before_all items (before item rest)
 before_all-push [] item rest = refl
 before_all-push (first ∷ items) item rest = ap (λ r. before first r) (before_all-push items item rest)
 
 -- no other, and a fault
-pub before_all-none : (items : List (Item (List ℕ))) → before_all items (Ok []) ≡ Ok items
+pub before_all-none : (items : List (Item (List ℕ))) → before_all items nothing ≡ (items, None)
 before_all-none [] = refl
 before_all-none (first ∷ items) = ap (λ r. before first r) (before_all-none items)
 
-pub before_all-fault : (items : List (Item (List ℕ))) (fault : ConfigFault) → before_all items (Err fault) ≡ Err fault
-before_all-fault [] fault = refl
-before_all-fault (first ∷ items) fault = ap (λ r. before first r) (before_all-fault items fault)
+pub before_all-stop : (items : List (Item (List ℕ))) (line : ℕ) (what : Wrong) → (before_all items (stop line what)).1 ≡ Some (line, what)
+before_all-stop [] line what = refl
+before_all-stop (first ∷ items) line what = before_all-stop items line what
 
 -- a fault of what is left
-pub fault_of_rest : (items : List (Item (List ℕ))) (fault : ConfigFault) (whole rest : Read) → whole ≡ before_all items rest → Fails fault rest → Fails fault whole
+pub fault_of_rest : (items : List (Item (List ℕ))) (fault : ConfigFault) (whole rest : Reading) → whole ≡ before_all items rest → Fails fault rest → FailsBehind fault whole
 fault_of_rest items Memory whole rest is h = tt
-fault_of_rest items (Line at what) whole rest is h = is ∙ ap (λ r. before_all items r) h ∙ before_all-fault items (Line at what)
+fault_of_rest items (Line at what) whole rest is h = ap (λ (r : Reading). r.1) (is ∙ ap (λ r. before_all items r) h) ∙ before_all-stop items at what
 
 -- a fault is want of memory, or the whole's
-pub told_fault : (fault : ConfigFault) (whole : Read) → Fails fault whole → (fault ≡ Memory) ⊎ (whole ≡ Err fault)
+pub told_fault : (fault : ConfigFault) (whole : Reading) → FailsBehind fault whole → (fault ≡ Memory) ⊎ (option_map (λ at. Line at.0 at.1) whole.1 ≡ Some fault)
 told_fault Memory whole h = inl refl
-told_fault (Line at what) whole h = inr h
+told_fault (Line at what) whole h = inr (ap (λ (o : Option (ℕ × Wrong)). option_map (λ at. Line at.0 at.1) o) h)

@@ -1,0 +1,193 @@
+//! The conditions of includes: where the git folder is, which branch is checked out, and which URLs remotes have.
+ghost use Rattle.std.specs.Prelude.{◌≡◌, ◌↔◌, ◌++◌, Any, IfOk, IsTrue, List, Some, ℕ, if◌then◌else◌, option_map, MatchOption, take, drop, length, codes};
+ghost use Rattle.std.specs.Option.{option_copied};
+ghost use Rattle.std.specs.Str.{bytes_eq};
+ghost use Rattle.glob_matcher.specs.Matching.{Splits};
+ghost use Rattle.git_config.specs.Includes.{Holds, InFolder, MatchesFolder, below, folder_pattern};
+ghost use Rattle.git_config.specs.Numbers.{same_letters};
+ghost use Rattle.git_config.specs.Private.Places.{pattern_of, rooted};
+ghost use Rattle.git_config.specs.Private.Scopes.{OnBranch};
+
+use crate::booleans::same_letters;
+use crate::surroundings::{Surroundings, expanded, folder_of, is_absolute, joined, slice_of};
+use bitflags::Flags;
+use glob_matcher::wildmatch::{Mode, wildmatch};
+use std::alloc::{AllocError, Global};
+
+/// Whether a condition holds. `real` is the real path of the file that has it.
+pub(crate) fn holds(
+    alloc: Global,
+    around: &Surroundings,
+    real: Option<&[u8]>,
+    condition: &[u8],
+) -> Result<bool, AllocError>
+    ensures { IfOk result (λ so. IsTrue so ↔ Holds around.now (option_copied real.entry) condition.now) }
+{
+    if let Some(told) = behind(condition, b"gitdir:") {
+        return in_folder(alloc, around, real, false, told);
+    }
+    if let Some(told) = behind(condition, b"gitdir/i:") {
+        return in_folder(alloc, around, real, true, told);
+    }
+    if let Some(told) = behind(condition, b"onbranch:") {
+        return on_branch(alloc, around, told);
+    }
+    match behind(condition, b"hasconfig:remote.*.url:") {
+        Some(told) => Ok(has_url(around, told)),
+        None => Ok(false),
+    }
+}
+
+/// What stands behind a word, where this is in front.
+fn behind<'a>(condition: &'a [u8], word: &[u8]) -> Option<&'a [u8]>
+    ensures { MatchOption result ((told : List ℕ) → ¬ (condition.now ≡ word.now ++ told)) (λ told. condition.now ≡ word.now ++ told.now) }
+{
+    condition.strip_prefix(word)
+}
+
+/// Whether the URL of a remote matches a pattern.
+fn has_url(around: &Surroundings, told: &[u8]) -> bool
+    ensures { IsTrue result ↔ Any (λ url. Splits url.items told.now (record { 0 = 1 })) around.now.urls.items }
+{
+    for url in &around.urls {
+        if wildmatch(told, url, path_mode(false)) {
+            return true;
+        }
+    }
+    false
+}
+
+/// Whether the branch matches a pattern.
+fn on_branch(alloc: Global, around: &Surroundings, told: &[u8]) -> Result<bool, AllocError>
+    ensures { IfOk result (λ so. IsTrue so ↔ OnBranch around.now told.now) }
+{
+    let Some(name) = &around.branch else {
+        return Ok(false);
+    };
+    let pattern = below(alloc, told)?;
+    Ok(wildmatch(&pattern, name, path_mode(false)))
+}
+
+/// Whether a path of the git folder matches a pattern.
+fn in_folder(
+    alloc: Global,
+    around: &Surroundings,
+    real: Option<&[u8]>,
+    fold: bool,
+    told: &[u8],
+) -> Result<bool, AllocError>
+    ensures { IfOk result (λ so. IsTrue so ↔ InFolder around.now (option_copied real.entry) fold told.now) }
+{
+    let Some(split) = folder_pattern(alloc, around, real, told)? else {
+        return Ok(false);
+    };
+    for path in &around.git_folders {
+        if matches_folder(&split, path, fold) {
+            return Ok(true);
+        }
+    }
+    Ok(false)
+}
+
+/// A pattern, behind a front that counts as it stands.
+#[derive(Drop)]
+pub(crate) struct FolderPattern {
+    /// The front.
+    front: Vec<u8>,
+    /// The pattern of what follows it.
+    pattern: Vec<u8>,
+}
+
+/// The pattern that a condition tells; `None` where it is told from the folder of a file, and there is none.
+fn folder_pattern(
+    alloc: Global,
+    around: &Surroundings,
+    real: Option<&[u8]>,
+    told: &[u8],
+) -> Result<Option<FolderPattern>, AllocError>
+    ensures { IfOk result (λ found. option_map (λ split. (split.front.items, split.pattern.items)) found ≡ folder_pattern around.now (option_copied real.entry) told.now) }
+{
+    let pattern = pattern_of(alloc, around, told)?;
+    if !pattern.starts_with(b"./") {
+        let front = Vec::new(alloc);
+        let rooted = rooted(alloc, &pattern)?;
+        let pattern = below(alloc, &rooted)?;
+        return Ok(Some(FolderPattern { front, pattern }));
+    }
+    let Some(path) = real else {
+        return Ok(None);
+    };
+    let front = Vec::from_slice(alloc, folder_of(path))?;
+    let rest = below(alloc, &pattern[1..])?;
+    let pattern = without_first(alloc, &rest)?;
+    Ok(Some(FolderPattern { front, pattern }))
+}
+
+/// What follows the first byte.
+fn without_first(alloc: Global, text: &[u8]) -> Result<Vec<u8>, AllocError>
+    ensures { IfOk result (λ rest. rest.items ≡ drop 1 text.now) }
+{
+    match text.split_first() {
+        Some((_, rest)) => Vec::from_slice(alloc, rest),
+        None => Ok(Vec::new(alloc)),
+    }
+}
+
+/// A pattern with the folder that it begins with, where that is known, and else as it is told.
+fn pattern_of(alloc: Global, around: &Surroundings, told: &[u8]) -> Result<Vec<u8>, AllocError>
+    ensures { IfOk result (λ pattern. pattern.items ≡ pattern_of around.now told.now) }
+{
+    match expanded(alloc, around, slice_of(&around.real_home), told)? {
+        Some(pattern) => Ok(pattern),
+        None => Vec::from_slice(alloc, told),
+    }
+}
+
+/// A pattern that may stand anywhere, unless it is absolute.
+fn rooted(alloc: Global, pattern: &[u8]) -> Result<Vec<u8>, AllocError>
+    ensures { IfOk result (λ text. text.items ≡ rooted pattern.now) }
+{
+    if is_absolute(pattern) {
+        Vec::from_slice(alloc, pattern)
+    } else {
+        joined(alloc, b"**/", pattern)
+    }
+}
+
+/// A pattern that matches what is below, where it ends in a slash.
+fn below(alloc: Global, pattern: &[u8]) -> Result<Vec<u8>, AllocError>
+    ensures { IfOk result (λ text. text.items ≡ below pattern.now) }
+{
+    if pattern.ends_with(b"/") {
+        joined(alloc, pattern, b"**")
+    } else {
+        Vec::from_slice(alloc, pattern)
+    }
+}
+
+/// Whether a path begins with the front and goes on as the pattern says.
+fn matches_folder(split: &FolderPattern, path: &[u8], fold: bool) -> bool
+    ensures { IsTrue result ↔ MatchesFolder fold (split.now.front.items, split.now.pattern.items) path.now }
+{
+    let cut = split.front.len().min(path.len());
+    let (head, rest) = path.split_at(cut);
+    is_alike(head, &split.front, fold) && wildmatch(&split.pattern, rest, path_mode(fold))
+}
+
+/// Whether two texts are the same, but for the case of letters where that doesn't count.
+fn is_alike(a: &[u8], b: &[u8], fold: bool) -> bool
+    ensures { result ≡ (if fold then same_letters a.now b.now else bytes_eq a.now b.now) }
+{
+    if fold { same_letters(a, b) } else { a == b }
+}
+
+/// The mode of patterns of paths.
+fn path_mode(fold: bool) -> Mode
+    ensures { result ≡ record { 0 = if fold then 3 else 1 } }
+{
+    if fold {
+        Mode::NO_MATCH_SLASH_LITERAL.union(Mode::IGNORE_CASE)
+    } else {
+        Mode::NO_MATCH_SLASH_LITERAL
+    }
+}
