@@ -9,7 +9,7 @@ use Rattle.glob_trees.specs.Ways.{folder_before, folders_from, folders_to}
 use Rattle.glob_trees.proofs.lemmas.Folders.{above_is_shorter}
 use Rattle.glob_trees.proofs.lemmas.WayLemmas.{before_other, folders_more, further}
 
-none_contained : {X : Type 0} (x : X) → ¬ Contains [] x
+pub none_contained : {X : Type 0} (x : X) → ¬ Contains [] x
 none_contained x h = omega (arith, h.1)
 
 pub on_way_more : (front more folder : List ℕ) → Contains (folders_to front) folder → Contains (folders_to (front ++ more)) folder
