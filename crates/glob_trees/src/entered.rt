@@ -70,12 +70,12 @@ impl<T: search::Pattern, S: FolderLists<T>> Entered<T, S> {
         requires ready { IsReady (S.shows T.Seen) S.gave T.seen self.now }
         ensures { IsTrue result → IsUnderWay (S.shows T.Seen) S.gave T.seen self.now path.now.bytes }
     {
-        if self.way.is_empty() {
+        if self.way.as_slice().is_empty() {
             return false;
         }
         match path.basename_start() {
             Some(start) => self.folder.len() == start && path.bytes().starts_with(&self.folder),
-            None => self.folder.is_empty(),
+            None => self.folder.as_slice().is_empty(),
         }
     }
 
@@ -158,7 +158,7 @@ impl<T: search::Pattern, S: FolderLists<T>> Entered<T, S> {
         ensures keeps { KeepsOn (S.shows T.Seen) self.old self.new }
         ensures asks { GivesOnly (λ folder. folder ≡ []) (S.gave self.old.source) (S.gave self.new.source) }
     {
-        if !self.way.is_empty() {
+        if !self.way.as_slice().is_empty() {
             return Ok(());
         }
         self.ask_for_top()

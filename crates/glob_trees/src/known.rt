@@ -53,7 +53,7 @@ impl KnownFolders {
         requires { outer < length self.old.inner.items }
         ensures { IfOk result (AddsFolder self.old.inner.items self.new.inner.items outer name.now) }
     {
-        let place = self.inner.len();
+        let place = self.inner.as_slice().len();
         let name = Vec::from_slice(self.alloc, name)?;
         self.inner.push(BTreeMap::new(self.alloc))?;
         self.inner[outer].insert(name, place)?;

@@ -4,6 +4,7 @@ use Rattle.std.specs.Prelude.{◌↔◌, IsTrue, eqb, is_some, option_to_list, r
 use Rattle.std.specs.List.{AllZip, Contains}
 use Rattle.std.specs.BTreeMap.{BTreeMap}
 use Rattle.std.specs.Bool.{Decides}
+use Rattle.std.proofs.Math.Seq.{drop-length}
 use Rattle.std.proofs.lemmas.Bool.{cases_eq, false≢true, false_from_ne_true}
 use Rattle.std.proofs.lemmas.Bool.Decides.{Decides-eqb}
 use Rattle.std.proofs.lemmas.List.{length-set, map-append, take-append-drop, take-append-le, drop-append-le}
@@ -14,12 +15,13 @@ use Rattle.gix_glob.specs.declared.pattern.Case.{Case}
 use Rattle.gix_glob.specs.declared.search.pattern.list.List as patterns
 use Rattle.gix_glob.specs.Bytes.{HasByte, slash}
 use Rattle.gix_glob.specs.EntryLists.{EntryList, entry_list_of}
+use Rattle.glob_lists.specs.Deciding.{BasesAreFolders}
 use Rattle.glob_trees.specs.declared.on_way.FolderOnWay.{FolderOnWay}
-use Rattle.glob_trees.specs.Private.Entered.{AreAtHand, AreEntered, AreKnown, AreUnderWay, EndsIn, Facts, HoldsOwn, IsInner, IsKnown, IsOnWay, lists_to, own_lists, places_of}
+use Rattle.glob_trees.specs.Private.Entered.{AreAtHand, AreEntered, AreKnown, AreUnderWay, EndsIn, Facts, HoldsOwn, IsInner, IsKnown, IsOnWay, gave_but, lists_to, own_lists, places_of}
 use Rattle.glob_trees.specs.Private.Known.{AddsFolder, ArePlaces, link, name_in, named_in}
 use Rattle.glob_trees.specs.Trees.{Ignores}
 use Rattle.glob_trees.specs.Ways.{Folder, IsListOf, folders_to, start_of, unless_empty}
-use Rattle.glob_trees.proofs.lemmas.Entering.{entered_folder, entered_left, entered_stays, name_follows}
+use Rattle.glob_trees.proofs.lemmas.Entering.{entered_folder, entered_left, entered_stays, entered_top, name_follows}
 use Rattle.glob_trees.proofs.lemmas.OnWay.{none_contained, not_on_own_way}
 use Rattle.glob_trees.proofs.lemmas.Places.{named, places_less, places_more, places_stay}
 use Rattle.glob_trees.proofs.lemmas.Stepping.{passing, passing_way}
@@ -32,6 +34,12 @@ cases_by false P d = inr (λ p. false≢true (d.1 p))
 
 cases_bytes : (xs ys : List ℕ) → (xs ≡ ys) ⊎ (xs ≡ ys → ⊥)
 cases_bytes xs ys = cases_by _ (xs ≡ ys) (bytes_eq-Decides xs ys)
+
+pub but_one : {S : Type 0} (gave : S → Folder → Type 0) (source : S) (one folder : Folder) → ¬ gave_but gave one source folder → gave source folder → folder ≡ one
+but_one gave source one folder none given = ⊎_elim
+    (λ (same : folder ≡ one). same)
+    (λ (apart : folder ≡ one → ⊥). absurd (none (given, apart)))
+    (cases_bytes folder one)
 
 -- ---- folders that are found
 
@@ -138,9 +146,52 @@ view_kept : {T X V : Type 0} (seen : X → V) (way : List ℕ) (place : ℕ) (ow
     → (map (entry_list_of seen) (option_to_list o) ≡ unless_empty own) × (IsTrue (is_some o) ↔ (unless_empty own ≡ own ∷ []))
 view_kept seen way place own off None h = ⊎_elim
     (λ (on_way : Contains way place). absurd (off on_way))
-    (λ (empty : unless_empty own ≡ []). (sym empty, (λ never. absurd (cc)), (λ some. absurd (not_both own empty some))))
+    (λ (empty : unless_empty own ≡ []). (sym empty, ((λ never. absurd (false≢true never)), (λ some. absurd (not_both own empty some)))))
     h
-view_kept seen way place own off (Some list) h = (ap (λ l. l ∷ []) h.0 ∙ sym h.1, (λ _. h.1), (λ _. refl))
+view_kept seen way place own off (Some list) h = (ap (λ l. l ∷ []) h.0 ∙ sym h.1, ((λ _. h.1), (λ _. refl)))
+
+-- ---- the top
+
+pub at_top : {T X V Z : Type 0} (shows : Folder → EntryList V → Type 0) (gave : Folder → Type 0) (seen : X → V) (n : ℕ) (case : Case) (lists : List (EntryList V)) (list : EntryList V) (inner : List (BTreeMap (Vec ℕ Z) ℕ)) (has_list : Bool)
+    → length lists ≡ n → BasesAreFolders lists → IsListOf shows [] list → ((folder : Folder) → gave folder → folder ≡ []) → length inner ≡ 1 → ((outer : ℕ) (name : List ℕ) → link inner outer name ≡ None) → (IsTrue has_list ↔ (unless_empty list ≡ list ∷ []))
+    → AreUnderWay {T = T} {X = X} shows gave seen n case (lists ++ unless_empty list) [] ((record { place = 0; length = 0; has_list = has_list }) ∷ []) inner (None ∷ []) []
+at_top {T} {X} {V} {Z} shows gave seen n case lists list inner has_list count bases of given one none listed =
+    let top : Facts V = record { folder = []; above = []; own = list } in
+    let past : drop n lists ≡ [] = subst (λ k. drop k lists ≡ []) count (drop-length lists) in
+    record {
+      facts = λ _. top;
+      known = record {
+        count = one;
+        links = λ outer name place found. let clash : None ≡ Some place = sym (none outer name) ∙ found in absurd (cc);
+        known = λ place inside. record { of = of; unignored = λ deep. absurd (deep refl) };
+        kept = held_at_top;
+      };
+      stands = entered_top shows case n lists list count bases of;
+      on_way = (record { inside = omega (arith); named = refl; long = refl; listed = listed }, tt);
+      places = refl;
+      ends = record {
+        above = [];
+        last = record { place = 0; length = 0; has_list = has_list };
+        joined = refl;
+        starts = refl;
+        listed = drop-append-le n lists (unless_empty list) (omega (arith, count)) ∙ ap (λ ls. ls ++ unless_empty list) past;
+      };
+      at_hand = λ folder was. (0 ∷ [], subst (λ f. ArePlaces (link inner) (reverse (folders_to (start_of f))) (0 ∷ [])) (sym (given folder was)) refl);
+    }
+  where
+    held_at_top : (place : ℕ) (o : Option (patterns.List T X)) → slice_get (None ∷ []) place ≡ Some o → HoldsOwn seen (0 ∷ []) place list o
+    held_at_top zero o is = subst (HoldsOwn seen (0 ∷ []) 0 list) (same_Some None o is) (inl (Contains-push [] 0))
+    held_at_top (suc place) o is = absurd (cc)
+
+-- ---- the same, with what calls leave
+
+pub moved : {T X V Z : Type 0} (shows : Folder → EntryList V → Type 0) (gave : Folder → Type 0) (seen : X → V) (n : ℕ) (case : Case) (lists new_lists : List (EntryList V)) (start new_start : List ℕ) (way new_way : List FolderOnWay) (inner : List (BTreeMap (Vec ℕ Z) ℕ)) (held new_held : List (Option (patterns.List T X))) (front : List ℕ)
+    → new_lists ≡ lists → new_start ≡ start → new_way ≡ way → new_held ≡ held → AreUnderWay shows gave seen n case lists start way inner held front → AreUnderWay shows gave seen n case new_lists new_start new_way inner new_held front
+moved shows gave seen n case lists new_lists start new_start way new_way inner held new_held front same_lists same_start same_way same_held under =
+    subst (λ l. AreUnderWay shows gave seen n case l new_start new_way inner new_held front) (sym same_lists)
+    (subst (λ s. AreUnderWay shows gave seen n case lists s new_way inner new_held front) (sym same_start)
+    (subst (λ w. AreUnderWay shows gave seen n case lists start w inner new_held front) (sym same_way)
+    (subst (λ h. AreUnderWay shows gave seen n case lists start way inner h front) (sym same_held) under)))
 
 -- ---- the last folder
 
@@ -310,10 +361,10 @@ module _ {T X V Z : Type 0} (shows : Folder → EntryList V → Type 0) (gave : 
     -- ---- it was just asked for
 
     module _ (list : EntryList V) (of : IsListOf shows (x ∷ xs) list) (unignored : (pair : ℕ × ℕ) → ¬ Ignores lists case (x ∷ xs) pair) (more : List (BTreeMap (Vec ℕ Z) ℕ)) (place : ℕ) (adds : AddsFolder inner more under.ends.last.place (drop under.ends.last.length (x ∷ xs)) place) (none : link inner under.ends.last.place (drop under.ends.last.length (x ∷ xs)) ≡ None) where
-      asked : Facts V
+      abbrev asked : Facts V
       asked = record { folder = x ∷ xs; above = drop n lists; own = list }
 
-      facts_then : ℕ → Facts V
+      abbrev facts_then : ℕ → Facts V
       facts_then = facts_with under.facts place asked
 
       at_end : place ≡ length held

@@ -1,5 +1,5 @@
 -- What one call does to the folders that are entered, and what they then say of a path.
-use Rattle.std.proofs.Common.{◌≡◌, inl, inr, ⊎_elim, ℕ, ◌+◌, ◌<◌, ◌≤◌, Bool, true, false, if◌then◌else◌, Result, Ok, Err, OnErr, List, [], ◌∷◌, ◌++◌, length, take, drop, refl, sym, ap, subst, ◌∙◌, append_assoc, append-nil, length-take-le, take-suc, add-one, arith, slice_index}
+use Rattle.std.proofs.Common.{◌≡◌, inl, inr, ⊎_elim, ℕ, ◌+◌, ◌<◌, ◌≤◌, Bool, true, false, if◌then◌else◌, Result, Ok, Err, OnErr, OnOk, List, [], ◌∷◌, ◌++◌, length, take, drop, refl, sym, ap, subst, ◌∙◌, append_assoc, append-nil, length-take-le, take-suc, add-one, arith, slice_index}
 use Rattle.std.specs.List.{AllZip, Contains}
 use Rattle.std.proofs.lemmas.Bool.{cases_eq}
 use Rattle.gix_glob.specs.declared.pattern.Case.{Case}
@@ -78,6 +78,15 @@ module _ {V : Type 0} (shows : Folder → EntryList V → Type 0) (n : ℕ) (lis
 pub on_err : {A E : Type 0} (result : Result A E) (P : Type 0) → P → OnErr result P
 on_err (Ok a) P holds = tt
 on_err (Err e) P holds = holds
+
+-- what holds where a call succeeds gives another fact there
+pub ok_gives : {A E : Type 0} (result : Result A E) (P Q : Type 0) → (P → Q) → OnOk result P → OnOk result Q
+ok_gives (Ok a) P Q gives holds = gives holds
+ok_gives (Err e) P Q gives holds = tt
+
+pub err_gives : {A E : Type 0} (result : Result A E) (P Q : Type 0) → (P → Q) → OnErr result P → OnErr result Q
+err_gives (Ok a) P Q gives holds = tt
+err_gives (Err e) P Q gives holds = gives holds
 
 pub pushed : {X : Type 0} (ok : Bool) (old new more : List X) → ok ≡ true → new ≡ (if ok then more else old) → new ≡ more
 pushed true old new more is items = items
