@@ -3,14 +3,14 @@ ghost use Rattle.std.specs.Prelude.{◌≡◌, ◌+◌, ◌<◌, ◌≤◌, ℕ,
 ghost use Rattle.std.specs.List.{Contains};
 ghost use Rattle.gix_glob.specs.Bytes.{HasByte, slash};
 ghost use Rattle.gix_glob.specs.EntryLists.{entry_list_of};
-ghost use Rattle.glob_trees.specs.Private.Entered.{HasFronts, IsFresh, IsNamed, IsReady, IsSomewhere, IsUnderWay, KeepsLast, KeepsOn, PutsOnWay, gave_but};
+ghost use Rattle.glob_trees.specs.Private.Entered.{EndsWith, HasFronts, IsFresh, IsNamed, IsReady, IsSomewhere, IsUnderWay, KeepsOn, gave_but};
 ghost use Rattle.glob_trees.specs.Trees.{DecidesInTree, Ignores};
 ghost use Rattle.glob_trees.specs.Ways.{AreOnTheWay, GivesOnly, GoesOn, IsAskedFor, IsListOf, folders_to};
 
 use crate::deciding::ignoring;
 use crate::fault::TreeFault;
 use crate::folders::FolderLists;
-use crate::keeping::{bytes_of, prepared_if_any};
+use crate::keeping::{bytes_of, keep_last, prepared_if_any, put_on_way, take_out};
 use crate::known::KnownFolders;
 use crate::on_way::{FolderOnWay, common_length};
 use gix_glob::pattern::Case;
@@ -201,7 +201,12 @@ impl<T: search::Pattern, S: FolderLists<T>> Entered<T, S> {
         self.known.add_top()?;
         self.kept.push(None)?;
         let list = prepared_if_any(self.alloc, list);
-        self.put_on_way(0, list)
+        let top = FolderOnWay {
+            place: 0,
+            length: 0,
+            has_list: list.is_some(),
+        };
+        put_on_way(&mut self.way, &mut self.lists, top, list)
     }
 
     /// Enters the folder that stands before the slash at a place of a path, where it is known. It answers whether it is.
@@ -241,8 +246,19 @@ impl<T: search::Pattern, S: FolderLists<T>> Entered<T, S> {
         requires under { IsUnderWay (S.shows T.Seen) S.gave T.seen self.now (take place path.now) }
         ensures { IsNamed self.now path.now place result }
     {
-        let outer = self.way.last()?;
-        self.known.place_in(outer.place, &path[outer.length..place])
+        let outer = self.last_on_way();
+        let name = &path[..place][outer.length..];
+        self.known.place_in(outer.place, name)
+    }
+
+    /// The folder entered last.
+    fn last_on_way(&self) -> FolderOnWay
+        ensures { EndsWith self.now.way.items result }
+    {
+        match self.way.last() {
+            Some(last) => *last,
+            None => FolderOnWay::TOP,
+        }
     }
 
     /// Enters a folder that is known.
@@ -259,33 +275,15 @@ impl<T: search::Pattern, S: FolderLists<T>> Entered<T, S> {
         ensures keeps { KeepsOn (S.shows T.Seen) self.old self.new }
         ensures source { self.new.source ≡ self.old.source }
     {
-        let start = self.folder.len();
-        let list = match self.kept.get_mut(known) {
-            Some(kept) => kept.take(),
-            None => None,
-        };
-        self.folder.extend_from_slice(&path[start..place + 1])?;
-        self.put_on_way(known, list)
-    }
-
-    /// Puts a folder behind the others on the way, and its list where it has patterns. What names it stands in `folder`.
-    ///
-    /// # Errors
-    /// Only where memory was refused.
-    fn put_on_way(&mut self, place: usize, list: Option<PreparedList<T>>) -> Result<(), AllocError>
-        ensures entered { OnOk result (PutsOnWay place list self.old self.new) }
-        ensures fails { OnErr result (self.new.lists.items ≡ self.old.lists.items) }
-        ensures stays { self.new ≡ record self.old { way = self.new.way; lists = self.new.lists } }
-    {
-        self.way.push(FolderOnWay {
-            place,
-            length: self.folder.len(),
+        let start = self.folder.as_slice().len();
+        let list = take_out(&mut self.kept, known);
+        self.folder.extend_from_slice(&path[..place + 1][start..])?;
+        let there = FolderOnWay {
+            place: known,
+            length: self.folder.as_slice().len(),
             has_list: list.is_some(),
-        })?;
-        if let Some(list) = list {
-            self.lists.push(list)?;
-        }
-        Ok(())
+        };
+        put_on_way(&mut self.way, &mut self.lists, there, list)
     }
 
     /// Asks for the list of the folder that stands before the slash at a place of a path, and enters it. It wasn't known.
@@ -336,17 +334,19 @@ impl<T: search::Pattern, S: FolderLists<T>> Entered<T, S> {
         ensures keeps { KeepsOn (S.shows T.Seen) self.old self.new }
         ensures source { self.new.source ≡ self.old.source }
     {
-        let start = self.folder.len();
-        let outer = match self.way.last() {
-            Some(outer) => outer.place,
-            None => 0,
-        };
-        let known = self.known.add(outer, &path[start..place])?;
+        let outer = self.last_on_way();
+        let name = &path[..place][outer.length..];
+        let known = self.known.add(outer.place, name)?;
         self.kept.push(None)?;
-        self.bytes = self.bytes.saturating_add(bytes_of(place - start, &list));
-        self.folder.extend_from_slice(&path[start..place + 1])?;
+        self.bytes = self.bytes.saturating_add(bytes_of(name.len(), &list));
+        self.folder.extend_from_slice(&path[..place + 1][outer.length..])?;
         let list = prepared_if_any(self.alloc, list);
-        self.put_on_way(known, list)
+        let there = FolderOnWay {
+            place: known,
+            length: self.folder.as_slice().len(),
+            has_list: list.is_some(),
+        };
+        put_on_way(&mut self.way, &mut self.lists, there, list)
     }
 
     /// Leaves the folders that aren't on the way to a path. The answer is how many of the path's bytes name the folder that is
@@ -378,27 +378,10 @@ impl<T: search::Pattern, S: FolderLists<T>> Entered<T, S> {
         let Some(left) = self.way.pop() else {
             return;
         };
-        let length = match self.way.last() {
-            Some(outer) => outer.length,
-            None => 0,
-        };
-        self.folder.truncate(length);
+        let outer = self.last_on_way();
+        self.folder.truncate(outer.length);
         if left.has_list {
-            self.keep_last_list(left.place);
-        }
-    }
-
-    /// Puts the last list to a place.
-    fn keep_last_list(&mut self, place: usize)
-        requires place { place < length self.old.kept.items }
-        requires some { 0 < length self.old.lists.items }
-        ensures keeps { KeepsLast place self.old self.new }
-        ensures stays { self.new ≡ record self.old { kept = self.new.kept; lists = self.new.lists } }
-    {
-        if let Some(list) = self.lists.pop()
-            && let Some(kept) = self.kept.get_mut(place)
-        {
-            *kept = Some(list);
+            keep_last(&mut self.lists, &mut self.kept, left.place);
         }
     }
 }

@@ -12,6 +12,15 @@ pub(crate) struct FolderOnWay {
     pub(crate) has_list: bool,
 }
 
+impl FolderOnWay {
+    /// The top, with no list on the way.
+    pub(crate) const TOP: FolderOnWay = FolderOnWay {
+        place: 0,
+        length: 0,
+        has_list: false,
+    };
+}
+
 /// How many bytes from the front two texts have alike.
 pub(crate) fn common_length(left: &[u8], right: &[u8]) -> usize
     ensures left { result ≤ length left.now }

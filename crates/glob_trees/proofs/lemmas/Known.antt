@@ -1,5 +1,5 @@
 -- What is known of folders stays known where one is entered again, asked for, or left.
-use Rattle.std.proofs.Common.{◌≡◌, ◌⊎◌, inl, inr, ⊎_elim, ℕ, zero, suc, ◌+◌, ◌<◌, ◌≤◌, Bool, true, false, cond, List, [], ◌∷◌, ◌++◌, length, map, take, drop, Option, None, Some, Vec, refl, sym, ap, subst, ◌∙◌, append-nil, length-append, take_all, slice_index, arith}
+use Rattle.std.proofs.Common.{◌≡◌, ◌⊎◌, inl, inr, ⊎_elim, ℕ, zero, suc, ◌+◌, ◌<◌, ◌≤◌, Bool, true, false, cond, List, [], ◌∷◌, ◌++◌, length, map, take, drop, Option, None, Some, Vec, refl, sym, ap, subst, ◌∙◌, append_assoc, length-append, take_all, slice_index, arith}
 use Rattle.std.specs.Prelude.{◌↔◌, IsTrue, eqb, is_some, option_to_list, reverse, slice_get, slice_set}
 use Rattle.std.specs.List.{AllZip, Contains}
 use Rattle.std.specs.BTreeMap.{BTreeMap}
@@ -17,7 +17,7 @@ use Rattle.gix_glob.specs.Bytes.{HasByte, slash}
 use Rattle.gix_glob.specs.EntryLists.{EntryList, entry_list_of}
 use Rattle.glob_lists.specs.Deciding.{BasesAreFolders}
 use Rattle.glob_trees.specs.declared.on_way.FolderOnWay.{FolderOnWay}
-use Rattle.glob_trees.specs.Private.Entered.{AreAtHand, AreEntered, AreKnown, AreUnderWay, EndsIn, Facts, HoldsOwn, IsInner, IsKnown, IsOnWay, gave_but, lists_to, own_lists, places_of}
+use Rattle.glob_trees.specs.Private.Entered.{AreAtHand, AreEntered, AreKnown, AreUnderWay, EndsIn, EndsWith, Facts, HoldsOwn, IsInner, IsKnown, IsOnWay, gave_but, lists_to, own_lists, places_of}
 use Rattle.glob_trees.specs.Private.Known.{AddsFolder, ArePlaces, link, name_in, named_in}
 use Rattle.glob_trees.specs.Trees.{Ignores}
 use Rattle.glob_trees.specs.Ways.{Folder, IsListOf, folders_to, start_of, unless_empty}
@@ -248,6 +248,21 @@ module _ {T X V Z : Type 0} (shows : Folder → EntryList V → Type 0) (gave : 
 
     some : ¬ ((x ∷ xs) ≡ [])
     some none = absurd (cc)
+
+    -- how it begins, and how what lies in it does
+    pub start_here : start ++ drop (length start) (x ∷ xs) ≡ x ∷ xs
+    start_here =
+        let zips = zips_last (x ∷ xs) under in
+        ap (λ s. s ++ drop (length s) (x ∷ xs)) (starts_as (x ∷ xs) under) ∙ name_follows (x ∷ xs) zips.init zips.last zips.joined
+
+    pub last_long : under.ends.last.length ≡ length start
+    last_long = let here = (zips_last (x ∷ xs) under).here in here.long ∙ ap length (sym (starts_as (x ∷ xs) under))
+
+    pub start_fits : length start ≤ length (x ∷ xs)
+    start_fits = omega (arith, ap length start_here, length-append start (drop (length start) (x ∷ xs)))
+
+    pub start_then : start ++ drop (length start) ((x ∷ xs) ++ slash ∷ []) ≡ (x ∷ xs) ++ slash ∷ []
+    start_then = ap (λ t. start ++ t) (drop-append-le (length start) (x ∷ xs) (slash ∷ []) start_fits) ∙ sym (append_assoc start (drop (length start) (x ∷ xs)) (slash ∷ [])) ∙ ap (λ t. t ++ slash ∷ []) start_here
 
     last_places : reverse (places_of way) ≡ reverse (places_of under.ends.above ++ under.ends.last.place ∷ [])
     last_places = ap (λ w. reverse (places_of w)) under.ends.joined ∙ ap reverse (map-append (λ (there : FolderOnWay). there.place) under.ends.above (under.ends.last ∷ []))
@@ -488,3 +503,55 @@ module _ {T X V Z : Type 0} (shows : Folder → EntryList V → Type 0) (gave : 
                   (λ (apart : folder ≡ x ∷ xs → ⊥). let there = under.at_hand folder (given folder was apart) in (there.0, places_stay (link inner) (link more) stays (reverse (folders_to (start_of folder))) there.0 there.1))
                   (cases_bytes folder (x ∷ xs));
             }
+
+-- ---- the same, of a front that isn't the top
+
+module _ {T X V Z : Type 0} (shows : Folder → EntryList V → Type 0) (gave : Folder → Type 0) (seen : X → V) (n : ℕ) (case : Case) (lists : List (EntryList V)) (start : List ℕ) (way : List FolderOnWay) (inner : List (BTreeMap (Vec ℕ Z) ℕ)) (held : List (Option (patterns.List T X))) where
+  -- the name of what lies in the last folder
+  pub fits : (front : List ℕ) → ¬ (front ≡ []) → AreUnderWay shows gave seen n case lists start way inner held front → (last : FolderOnWay) → EndsWith way last → last.length ≤ length front
+  fits [] deep under last is = absurd (deep refl)
+  fits (x ∷ xs) deep under last is =
+      let long = last_long shows gave seen n case lists start way inner held x xs under in
+      let short = start_fits shows gave seen n case lists start way inner held x xs under in
+      subst (λ (w : FolderOnWay). w.length ≤ length (x ∷ xs)) (sym (is under.ends.above under.ends.last under.ends.joined)) (omega (arith, long, short))
+
+  pub start_within : (front : List ℕ) → ¬ (front ≡ []) → AreUnderWay shows gave seen n case lists start way inner held front → length start ≤ length front
+  start_within [] deep under = absurd (deep refl)
+  start_within (x ∷ xs) deep under = start_fits shows gave seen n case lists start way inner held x xs under
+
+  -- how what lies in it begins
+  pub start_next : (front : List ℕ) → ¬ (front ≡ []) → AreUnderWay shows gave seen n case lists start way inner held front → start ++ drop (length start) (front ++ slash ∷ []) ≡ start_of front
+  start_next [] deep under = absurd (deep refl)
+  start_next (x ∷ xs) deep under = start_then shows gave seen n case lists start way inner held x xs under
+
+  -- it was given once
+  pub once : (front : List ℕ) → ¬ (front ≡ []) → (under : AreUnderWay shows gave seen n case lists start way inner held front) → link inner under.ends.last.place (drop under.ends.last.length front) ≡ None → ¬ gave front
+  once [] deep under none given = absurd (deep refl)
+  once (x ∷ xs) deep under none given =
+      let found = found_once shows gave seen n case lists start way inner held x xs under given in
+      let clash : None ≡ Some found.0 = sym none ∙ found.1 in
+      absurd (cc)
+
+  pub entered_again : (front : List ℕ) → ¬ (front ≡ []) → (under : AreUnderWay shows gave seen n case lists start way inner held front) → (place : ℕ) → link inner under.ends.last.place (drop under.ends.last.length front) ≡ Some place → (kept : Option (patterns.List T X)) → slice_get held place ≡ Some kept
+      → AreUnderWay shows gave seen n case (lists ++ map (entry_list_of seen) (option_to_list kept)) (start_of front) (way ++ (record { place = place; length = length (start_of front); has_list = is_some kept }) ∷ []) inner (slice_set held place None) (front ++ slash ∷ [])
+  entered_again [] deep under = absurd (deep refl)
+  entered_again (x ∷ xs) deep under = again shows gave seen n case lists start way inner held x xs under
+
+  pub entered_anew : (front : List ℕ) → ¬ (front ≡ []) → (under : AreUnderWay shows gave seen n case lists start way inner held front) → (list : EntryList V) → IsListOf shows front list → ((pair : ℕ × ℕ) → ¬ Ignores lists case front pair)
+      → (more : List (BTreeMap (Vec ℕ Z) ℕ)) (place : ℕ) → AddsFolder inner more under.ends.last.place (drop under.ends.last.length front) place → link inner under.ends.last.place (drop under.ends.last.length front) ≡ None
+      → (real : Folder → Type 0) → ((folder : Folder) → real folder → ¬ (folder ≡ front) → gave folder) → (has_list : Bool) → (IsTrue has_list ↔ (unless_empty list ≡ list ∷ []))
+      → AreUnderWay shows real seen n case (lists ++ unless_empty list) (start_of front) (way ++ (record { place = place; length = length (start_of front); has_list = has_list }) ∷ []) more (held ++ None ∷ []) (front ++ slash ∷ [])
+  entered_anew [] deep under = absurd (deep refl)
+  entered_anew (x ∷ xs) deep under = anew shows gave seen n case lists start way inner held x xs under
+
+  -- the last folder is known
+  pub last_inside : (front : List ℕ) → (under : AreUnderWay shows gave seen n case lists start way inner held front) → under.ends.last.place < length inner
+  last_inside front under =
+      let here = (zips_last shows gave seen n case lists start way inner held front under).here in
+      let inside = here.inside in
+      omega (arith, inside, under.known.count)
+
+  pub long_as_start : (front : List ℕ) → (under : AreUnderWay shows gave seen n case lists start way inner held front) → (last : FolderOnWay) → EndsWith way last → last.length ≡ length start
+  long_as_start front under last is =
+      let here = (zips_last shows gave seen n case lists start way inner held front under).here in
+      ap (λ (w : FolderOnWay). w.length) (is under.ends.above under.ends.last under.ends.joined) ∙ here.long ∙ ap length (sym (starts_as shows gave seen n case lists start way inner held front under))

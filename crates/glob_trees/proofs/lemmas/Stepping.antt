@@ -2,6 +2,7 @@
 use Rattle.std.proofs.Common.{◌≡◌, inl, inr, ⊎_elim, ℕ, ◌+◌, ◌<◌, ◌≤◌, Bool, true, false, if◌then◌else◌, Result, Ok, Err, OnErr, OnOk, List, [], ◌∷◌, ◌++◌, length, take, drop, refl, sym, ap, subst, ◌∙◌, append_assoc, append-nil, length-take-le, take-suc, add-one, arith, slice_index}
 use Rattle.std.specs.List.{AllZip, Contains}
 use Rattle.std.proofs.lemmas.Bool.{cases_eq}
+use Rattle.std.proofs.lemmas.List.{take-append-le}
 use Rattle.gix_glob.specs.declared.pattern.Case.{Case}
 use Rattle.gix_glob.specs.Bytes.{HasByte, slash}
 use Rattle.gix_glob.specs.EntryLists.{EntryList}
@@ -83,6 +84,15 @@ on_err (Err e) P holds = holds
 pub ok_gives : {A E : Type 0} (result : Result A E) (P Q : Type 0) → (P → Q) → OnOk result P → OnOk result Q
 ok_gives (Ok a) P Q gives holds = gives holds
 ok_gives (Err e) P Q gives holds = tt
+
+pub ok_both : {A E : Type 0} (result : Result A E) (P Q R : Type 0) → (P → Q → R) → OnOk result P → OnOk result Q → OnOk result R
+ok_both (Ok a) P Q R gives first next = gives first next
+ok_both (Err e) P Q R gives first next = tt
+
+-- the lists that stand first stay, whether others were put behind them or not
+pub fronts_put : {A E L : Type 0} (result : Result A E) (n : ℕ) (old new more : List L) → n ≤ length old → OnOk result (new ≡ old ++ more) → OnErr result (new ≡ old) → take n new ≡ take n old
+fronts_put (Ok a) n old new more few put same = ap (take n) put ∙ take-append-le n old more few
+fronts_put (Err e) n old new more few put same = ap (take n) same
 
 pub err_gives : {A E : Type 0} (result : Result A E) (P Q : Type 0) → (P → Q) → OnErr result P → OnErr result Q
 err_gives (Ok a) P Q gives holds = tt

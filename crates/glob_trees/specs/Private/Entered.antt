@@ -115,6 +115,10 @@ module _ {S T X F V : Type 0} (shows : S → Folder → EntryList V → Type 0) 
   abbrev pub IsReady : Entered T S X F → Type 0
   IsReady entered = IsFresh entered ⊎ IsSomewhere entered
 
+-- this folder is the last one on the way, where one is
+abbrev pub EndsWith : List FolderOnWay → FolderOnWay → Type 0
+EndsWith way last = (above : List FolderOnWay) (there : FolderOnWay) → way ≡ above ++ there ∷ [] → last ≡ there
+
 -- the place of the folder that stands before a place of a path, in the folder that is entered last, as far as it is known
 abbrev pub IsNamed : {S T X F : Type 0} → Entered T S X F → List ℕ → ℕ → Option ℕ → Type 0
 IsNamed entered path place result = (above : List FolderOnWay) (last : FolderOnWay) → entered.way.items ≡ above ++ last ∷ []
@@ -128,17 +132,6 @@ gave_but gave folder source other = gave source other × ¬ (other ≡ folder)
 pub record HasFronts {S T X F V : Type 0} (seen : X → V) (entered : Entered T S X F) : Type 0 where
   pub many : entered.front_count ≤ length entered.lists.items
   pub bases : BasesAreFolders (map (entry_list_of seen) entered.lists.items)
-
--- one folder more is on the way, with its list where there is one
-pub record PutsOnWay {S T X F : Type 0} (place : ℕ) (list : Option (patterns.List T X)) (old new : Entered T S X F) : Type 0 where
-  pub way : new.way.items ≡ old.way.items ++ (record { place = place; length = length old.folder.items; has_list = is_some list }) ∷ []
-  pub lists : new.lists.items ≡ old.lists.items ++ option_to_list list
-
--- the last list is kept by this place
-pub record KeepsLast {S T X F : Type 0} (place : ℕ) (old new : Entered T S X F) : Type 0 where
-  pub list : patterns.List T X
-  pub lists : old.lists.items ≡ new.lists.items ++ list ∷ []
-  pub kept : new.kept.items ≡ slice_set old.kept.items place (Some list)
 
 -- what stays from call to call: the lists that stand before those of all folders, the case, and what the source showed
 pub record KeepsOn {S T X F V : Type 0} (shows : S → Folder → EntryList V → Type 0) (old new : Entered T S X F) : Type 0 where
