@@ -358,10 +358,10 @@ impl<T: search::Pattern, S: FolderLists<T>> Entered<T, S> {
         ensures source { self.new.source ≡ self.old.source }
     {
         let alike = common_length(&self.folder, path);
-        'folders: while self.folder.len() > alike {
+        'folders: while self.folder.as_slice().len() > alike {
             self.leave();
         }
-        self.folder.len()
+        self.folder.as_slice().len()
     }
 
     /// Leaves the folder entered last, which isn't the top, and keeps its list by its place.

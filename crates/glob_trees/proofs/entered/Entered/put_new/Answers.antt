@@ -45,16 +45,16 @@ slice_bounds-extend_from_slice-count g c = bound_next g (goal.at.slice_bounds-ex
 pub slice_bounds-extend_from_slice-start : goal.slice_bounds-extend_from_slice-start
 slice_bounds-extend_from_slice-start g c = bound_next g (goal.at.slice_bounds-extend_from_slice-start g c).After-last_on_way-outer
 
-pub add-known-requires : goal.add-known-requires
-add-known-requires g c =
+pub add-requires : goal.add-requires
+add-requires g c =
     let under = c.requires.under in
-    let at = (goal.at.add-known-requires g c).After-last_on_way-outer in
+    let at = (goal.at.add-requires g c).After-last_on_way-outer in
     subst (λ (there : FolderOnWay). there.place < length c.args.self.now.known.inner.items) (sym (outer g at)) (last_inside _ _ _ _ _ _ _ _ _ _ (take c.args.place c.args.path.now) under)
 
 pub returns-in_err-known-clause-fails : goal.returns-in_err-known-clause-fails
 returns-in_err-known-clause-fails g c =
     let under = c.requires.under in
-    on_err c.from_residual-in_err-known.result _ (record { many = many_fronts _ _ _ _ _ _ _ under.stands; bases = under.stands.bases })
+    on_err c.from_residual.result _ (record { many = many_fronts _ _ _ _ _ _ _ under.stands; bases = under.stands.bases })
 
 pub returns-in_err-push-clause-fails : goal.returns-in_err-push-clause-fails
 returns-in_err-push-clause-fails g c =
@@ -64,7 +64,7 @@ returns-in_err-push-clause-fails g c =
 pub returns-in_err-extend_from_slice-clause-fails : goal.returns-in_err-extend_from_slice-clause-fails
 returns-in_err-extend_from_slice-clause-fails g c =
     let under = c.requires.under in
-    on_err c.from_residual.result _ (record { many = many_fronts _ _ _ _ _ _ _ under.stands; bases = under.stands.bases })
+    on_err c.from_residual-in_err-extend_from_slice.result _ (record { many = many_fronts _ _ _ _ _ _ _ under.stands; bases = under.stands.bases })
 
 pub returns-clause-entered : goal.returns-clause-entered
 returns-clause-entered g c =
@@ -79,7 +79,7 @@ returns-clause-entered g c =
     let list = entry_list_of seen c.args.list in
     let kept = c.prepared_if_any-list.result in
     let next = slash_next path c.args.place c.requires.slash in
-    let more = c.add-known.new.self.inner.items in
+    let more = c.add.new.self.inner.items in
     let start = old.folder.items in
     let last = under.ends.last in
     let long : c.last_on_way-outer.result.length ≡ length start = long_as_start _ _ seen old.front_count old.case _ _ _ _ _ front under c.last_on_way-outer.result c.last_on_way-outer.ensures in
@@ -88,7 +88,9 @@ returns-clause-entered g c =
     ∙ ap (λ k. start ++ drop k (take (c.args.place + 1) path)) long
     ∙ ap (λ t. start ++ drop (length start) t) next
     ∙ start_next _ _ seen old.front_count old.case _ _ _ _ _ front (deep g at) under in
-    let adds : AddsFolder old.known.inner.items more last.place (drop last.length front) c.in_ok-known.known = ? in
+    let adds : AddsFolder old.known.inner.items more last.place (drop last.length front) c.in_ok-known.known =
+    subst (λ (there : FolderOnWay). AddsFolder old.known.inner.items more there.place (drop there.length front) c.in_ok-known.known) (outer g at)
+    (subst (λ t. AddsFolder old.known.inner.items more c.last_on_way-outer.result.place t c.in_ok-known.known) (tail c.last_on_way-outer.result.length front) c.in_ok-known.ensures) in
     let none = sym (c.requires.none under.ends.above last under.ends.joined) in
     let all = entered_anew _ _ seen old.front_count old.case _ _ _ _ _ front (deep g at) under list c.requires.of c.requires.kept more c.in_ok-known.known adds none gave (λ other given apart. (given, apart)) (is_some kept) (if_any_listed seen c.args.list kept c.prepared_if_any-list.ensures) in
     ok_both c.put_on_way.result _ _ _
