@@ -9,6 +9,7 @@ pub mod Ignoring
 pub mod InFolder
 pub mod InTree
 pub mod Known
+pub mod Leaving
 pub mod Links
 pub mod OnWay
 pub mod OneMore

@@ -87,13 +87,13 @@ module _ {V : Type 0} (facts : ℕ → Facts V) (place : ℕ) (new : Facts V) wh
 -- ---- what stands at a place
 
 module _ {X : Type 0} where
-  set_here : (xs : List X) (i : ℕ) (x y : X) → slice_get (slice_set xs i x) i ≡ Some y → y ≡ x
+  pub set_here : (xs : List X) (i : ℕ) (x y : X) → slice_get (slice_set xs i x) i ≡ Some y → y ≡ x
   set_here [] zero x y is = absurd (cc)
   set_here [] (suc i) x y is = absurd (cc)
   set_here (z ∷ xs) zero x y is = sym (same_Some x y is)
   set_here (z ∷ xs) (suc i) x y is = set_here xs i x y is
 
-  set_other : (xs : List X) (i j : ℕ) (x : X) → ¬ (j ≡ i) → slice_get (slice_set xs i x) j ≡ slice_get xs j
+  pub set_other : (xs : List X) (i j : ℕ) (x : X) → ¬ (j ≡ i) → slice_get (slice_set xs i x) j ≡ slice_get xs j
   set_other [] i j x apart = refl
   set_other (z ∷ xs) zero zero x apart = absurd (apart refl)
   set_other (z ∷ xs) zero (suc j) x apart = refl
@@ -118,7 +118,7 @@ module _ {T X V : Type 0} (seen : X → V) (way : List ℕ) (place : ℕ) (own :
   holds_more last (Some list) h = h
 
   -- a folder that isn't on the way any more is another one, or its list has no entries
-  holds_less : (last : ℕ) (o : Option (patterns.List T X)) → (place ≡ last → unless_empty own ≡ []) → HoldsOwn seen (way ++ last ∷ []) place own o → HoldsOwn seen way place own o
+  pub holds_less : (last : ℕ) (o : Option (patterns.List T X)) → (place ≡ last → unless_empty own ≡ []) → HoldsOwn seen (way ++ last ∷ []) place own o → HoldsOwn seen way place own o
   holds_less last None none h = ⊎_elim
       (λ (on_way : Contains (way ++ last ∷ []) place). ⊎_elim
       (λ (before : Contains way place). inl before)
