@@ -158,10 +158,10 @@ impl<T: search::Pattern, S: FolderLists<T>> Entered<T, S> {
         ensures keeps { KeepsOn (S.shows T.Seen) self.old self.new }
         ensures asks { GivesOnly (λ folder. folder ≡ []) (S.gave self.old.source) (S.gave self.new.source) }
     {
-        if !self.way.as_slice().is_empty() {
-            return Ok(());
+        if self.way.as_slice().is_empty() {
+            return self.ask_for_top();
         }
-        self.ask_for_top()
+        Ok(())
     }
 
     /// Asks for the list of the top, and enters it.

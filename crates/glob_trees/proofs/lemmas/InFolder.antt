@@ -8,7 +8,7 @@ use Rattle.gix_glob.specs.declared.pattern.Case.{Case}
 use Rattle.gix_glob.specs.declared.search.pattern.list.List as patterns
 use Rattle.gix_glob.specs.EntryLists.{EntryList, entry_list_of}
 use Rattle.glob_trees.specs.declared.entered.Entered.{Entered}
-use Rattle.glob_trees.specs.Private.Entered.{AreEntered, IsFresh, IsReady, IsSomewhere, IsUnderWay}
+use Rattle.glob_trees.specs.Private.Entered.{AreEntered, HasFronts, IsFresh, IsReady, IsSomewhere, IsUnderWay}
 use Rattle.glob_trees.specs.Ways.{Folder}
 use Rattle.glob_trees.proofs.lemmas.Known.{under_rest, under_start}
 
@@ -62,3 +62,8 @@ module _ {S T X F V : Type 0} (shows : S → Folder → EntryList V → Type 0) 
 module _ {T X V : Type 0} (seen : X → V) (shows : Folder → EntryList V → Type 0) (n : ℕ) (case : Case) (lists : List (patterns.List T X)) (front : List ℕ) (own : List (EntryList V)) (e : AreEntered shows n (map (entry_list_of seen) lists) case front own) where
   pub many_fronts : n ≤ length lists
   many_fronts = let many = e.many in omega (arith, length-map lists (entry_list_of seen))
+
+module _ {S T X F V : Type 0} (shows : S → Folder → EntryList V → Type 0) (gave : S → Folder → Type 0) (seen : X → V) (entered : Entered T S X F) where
+  pub have_fronts : IsReady shows gave seen entered → HasFronts seen entered
+  have_fronts (inl fresh) = record { many = let count = fresh.count in omega (arith, count); bases = fresh.bases }
+  have_fronts (inr some) = let stands = some.1.stands in record { many = many_fronts seen _ _ _ entered.lists.items _ _ stands; bases = stands.bases }
