@@ -21,7 +21,7 @@ use Rattle.glob_trees.specs.Private.Entered.{AreAtHand, AreEntered, AreKnown, Ar
 use Rattle.glob_trees.specs.Private.Known.{AddsFolder, ArePlaces, link, name_in, named_in}
 use Rattle.glob_trees.specs.Trees.{Ignores}
 use Rattle.glob_trees.specs.Ways.{Folder, IsListOf, folders_to, start_of, unless_empty}
-use Rattle.glob_trees.proofs.lemmas.Entering.{entered_folder, entered_left, entered_stays, entered_top, name_follows}
+use Rattle.glob_trees.proofs.lemmas.Entering.{entered_folder, entered_left, entered_slash, entered_stays, entered_top, name_follows}
 use Rattle.glob_trees.proofs.lemmas.OnWay.{none_contained, not_on_own_way}
 use Rattle.glob_trees.proofs.lemmas.Places.{named, places_less, places_more, places_stay}
 use Rattle.glob_trees.proofs.lemmas.Stepping.{passing, passing_way}
@@ -555,3 +555,41 @@ module _ {T X V Z : Type 0} (shows : Folder → EntryList V → Type 0) (gave : 
   long_as_start front under last is =
       let here = (zips_last shows gave seen n case lists start way inner held front under).here in
       ap (λ (w : FolderOnWay). w.length) (is under.ends.above under.ends.last under.ends.joined) ∙ here.long ∙ ap length (sym (starts_as shows gave seen n case lists start way inner held front under))
+
+  -- a path that begins with a slash enters no folder there
+  pub under_slash : (front : List ℕ) → front ≡ [] → AreUnderWay shows gave seen n case lists start way inner held front → ((pair : ℕ × ℕ) → ¬ Ignores lists case front pair) → AreUnderWay shows gave seen n case lists start way inner held (front ++ slash ∷ [])
+  under_slash [] none under kept = same_way shows gave seen n case lists start way inner held [] under (slash ∷ []) (entered_slash shows case n lists (own_lists under.facts way) under.stands kept) refl
+  under_slash (x ∷ xs) none under kept = absurd (cc)
+
+  -- what a source showed it shows on, and it gave no list more
+  module _ (shows_on : Folder → EntryList V → Type 0) (gave_then : Folder → Type 0) (goes_on : (folder : Folder) (list : EntryList V) → shows folder list → shows_on folder list) (gives : (folder : Folder) → gave_then folder → gave folder) where
+    list_goes_on : (folder : Folder) (list : EntryList V) → IsListOf shows folder list → IsListOf shows_on folder list
+    list_goes_on folder list of = record { shown = goes_on folder list of.shown; based = of.based }
+
+    zip_goes_on : (folders : List Folder) (own : List (EntryList V)) → AllZip (IsListOf shows) folders own → AllZip (IsListOf shows_on) folders own
+    zip_goes_on [] [] zip = tt
+    zip_goes_on [] (l ∷ own) zip = absurd zip
+    zip_goes_on (f ∷ folders) [] zip = absurd zip
+    zip_goes_on (f ∷ folders) (l ∷ own) zip = (list_goes_on f l zip.0, zip_goes_on folders own zip.1)
+
+    pub under_goes_on : (front : List ℕ) → AreUnderWay shows gave seen n case lists start way inner held front → AreUnderWay shows_on gave_then seen n case lists start way inner held front
+    under_goes_on front under = record {
+      facts = under.facts;
+      known = record {
+        count = under.known.count;
+        links = under.known.links;
+        known = λ place inside. let known = under.known.known place inside in record { of = list_goes_on (under.facts place).folder (under.facts place).own known.of; unignored = known.unignored };
+        kept = under.known.kept;
+      };
+      stands = record {
+        many = under.stands.many;
+        bases = under.stands.bases;
+        shown = zip_goes_on (folders_to front) (own_lists under.facts way) under.stands.shown;
+        standing = under.stands.standing;
+        none = under.stands.none;
+      };
+      on_way = under.on_way;
+      places = under.places;
+      ends = under.ends;
+      at_hand = λ folder given. under.at_hand folder (gives folder given);
+    }
