@@ -1,5 +1,5 @@
 //! The folders on the way to the path that was asked last, and what is kept of each folder that is known.
-ghost use Rattle.std.specs.Prelude.{◌≡◌, ◌+◌, ◌<◌, ◌≤◌, ℕ, [], None, Some, false, IfOk, IsTrue, OnErr, OnOk, length, map, take};
+ghost use Rattle.std.specs.Prelude.{◌≡◌, ◌⊎◌, ◌+◌, ◌<◌, ◌≤◌, ℕ, [], None, Some, false, IfOk, IsTrue, OnErr, OnOk, length, map, take};
 ghost use Rattle.std.specs.List.{Contains};
 ghost use Rattle.gix_glob.specs.Bytes.{HasByte, slash};
 ghost use Rattle.gix_glob.specs.EntryLists.{entry_list_of};
@@ -297,7 +297,7 @@ impl<T: search::Pattern, S: FolderLists<T>> Entered<T, S> {
         requires kept { (pair : ℕ × ℕ) → ¬ Ignores (map (entry_list_of T.seen) self.old.lists.items) self.old.case (take place path.now) pair }
         requires none { ¬ (place ≡ 0) → IsNamed self.old path.now place None }
         ensures entered { OnOk result (IsUnderWay (S.shows T.Seen) S.gave T.seen self.new (take (place + 1) path.now)) }
-        ensures ready { OnErr result (IsReady (S.shows T.Seen) S.gave T.seen self.new) }
+        ensures ready { OnErr result (IsFresh (S.shows T.Seen) S.gave T.seen self.new ⊎ IsUnderWay (S.shows T.Seen) S.gave T.seen self.new (take place path.now)) }
         ensures keeps { KeepsOn (S.shows T.Seen) self.old self.new }
         ensures asks { OnOk result (GivesOnly (Contains (folders_to (take (place + 1) path.now))) (S.gave self.old.source) (S.gave self.new.source)) }
         ensures fails { OnErr result (GivesOnly (λ _. ⊥) (S.gave self.old.source) (S.gave self.new.source)) }

@@ -31,12 +31,10 @@ returns-in_err-list-clause-ready g c =
     let old = c.args.self.now.source in
     let new = c.list_of.new.self in
     let fails : GivesOnly (λ _. ⊥) (gave old) (gave new) = search rules in
-    on_err c.from_residual.result _ (inr (
-      front,
-      under_goes_on _ _ _ _ _ _ _ _ _ _ (shows new) (gave new) c.list_of.ensures.goes_on
-          (λ folder given. ⊎_elim (λ (before : gave old folder). before) (λ (never : ⊥). absurd never) (fails folder given))
-          front c.requires.under,
-    ))
+    on_err c.from_residual.result _ (inr
+    (under_goes_on _ _ _ _ _ _ _ _ _ _ (shows new) (gave new) c.list_of.ensures.goes_on
+    (λ folder given. ⊎_elim (λ (before : gave old folder). before) (λ (never : ⊥). absurd never) (fails folder given))
+    front c.requires.under))
 
 pub put_new-requires-clause-under : goal.put_new-requires-clause-under
 put_new-requires-clause-under g c =
