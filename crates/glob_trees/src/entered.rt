@@ -339,7 +339,8 @@ impl<T: search::Pattern, S: FolderLists<T>> Entered<T, S> {
         let known = self.known.add(outer.place, name)?;
         self.kept.push(None)?;
         self.bytes = self.bytes.saturating_add(bytes_of(name.len(), &list));
-        self.folder.extend_from_slice(&path[..place + 1][outer.length..])?;
+        self.folder
+            .extend_from_slice(&path[..place + 1][outer.length..])?;
         let list = prepared_if_any(self.alloc, list);
         let there = FolderOnWay {
             place: known,

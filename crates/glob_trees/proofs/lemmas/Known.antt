@@ -414,11 +414,11 @@ module _ {T X V Z : Type 0} (shows : Folder → EntryList V → Type 0) (gave : 
           let same : other ≡ place = same_Some other place (sym found ∙ ap (λ k. link more k name) it.0 ∙ ap (link more under.ends.last.place) it.1 ∙ adds.here) in (
             omega (arith, one_more, same),
             subst (λ k. IsInner (facts_then k) name (facts_then other)) (sym it.0)
-            (subst (λ t. IsInner (facts_then under.ends.last.place) t (facts_then other)) (sym it.1)
-            (subst (λ k. IsInner (facts_then under.ends.last.place) (drop under.ends.last.length (x ∷ xs)) (facts_then k)) (sym same)
-            (subst (λ (k : Facts V). IsInner (facts_then under.ends.last.place) (drop under.ends.last.length (x ∷ xs)) k) (sym (facts_here under.facts place asked))
-            (subst (λ (k : Facts V). IsInner k (drop under.ends.last.length (x ∷ xs)) asked) (sym (facts_other under.facts place asked under.ends.last.place last_before))
-            (record { folder = sym name_here; above = under.ends.listed }))))),
+                (subst (λ t. IsInner (facts_then under.ends.last.place) t (facts_then other)) (sym it.1)
+                (subst (λ k. IsInner (facts_then under.ends.last.place) (drop under.ends.last.length (x ∷ xs)) (facts_then k)) (sym same)
+                (subst (λ (k : Facts V). IsInner (facts_then under.ends.last.place) (drop under.ends.last.length (x ∷ xs)) k) (sym (facts_here under.facts place asked))
+                (subst (λ (k : Facts V). IsInner k (drop under.ends.last.length (x ∷ xs)) asked) (sym (facts_other under.facts place asked under.ends.last.place last_before))
+                (record { folder = sym name_here; above = under.ends.listed }))))),
           )
 
       old_link : (outer : ℕ) (name : List ℕ) (other : ℕ) → link inner outer name ≡ Some other → (other < length (held ++ None ∷ [])) × IsInner (facts_then outer) name (facts_then other)
@@ -428,7 +428,7 @@ module _ {T X V Z : Type 0} (shows : Folder → EntryList V → Type 0) (gave : 
           let before = old.0 in (
             omega (arith, one_more, at_end),
             subst (λ (k : Facts V). IsInner k name (facts_then other)) (sym (facts_other under.facts place asked outer (omega (arith, at_end, under.known.count))))
-            (subst (λ (k : Facts V). IsInner (under.facts outer) name k) (sym (facts_other under.facts place asked other (omega (arith, at_end)))) old.1),
+                (subst (λ (k : Facts V). IsInner (under.facts outer) name k) (sym (facts_other under.facts place asked other (omega (arith, at_end)))) old.1),
           )
 
       known_at : (fronts : List (EntryList V)) → fronts ≡ take n lists → IsKnown shows fronts case asked

@@ -181,3 +181,29 @@ bytes-preserved g c =
       gives_further (gave c.args.self.now.source) (gave c.enter.new.self.source) (gave c.enter_known.new.self.source) (Contains (folders_to front)) (gives g at) (Contains (folders_to longer)) (way_grows path c.bytes.place here.inside)
           (subst (λ b. GivesOnly (Contains (folders_to (take (c.bytes.place + 1) b))) (gave c.enter_known.new.self.source) (gave c.enter.new.self.source)) c.bytes-bytes.ensures c.in_ok-enter.ensures.asks),
     )
+
+-- where entering failed, all is forgotten, or the folders above are entered as before
+pub returns-in_err-enter-clause-ready : goal.returns-in_err-enter-clause-ready
+returns-in_err-enter-clause-ready g c =
+    let shows = g.S.FolderLists.shows g.T.Pattern.Seen in
+    let self = c.enter.new.self in
+    let front = take c.bytes.place c.bytes-bytes.result.now in
+    ⊎_elim
+    (λ (fresh : IsFresh shows g.S.FolderLists.gave g.T.Pattern.seen self). inl fresh)
+    (λ (under : IsUnderWay shows g.S.FolderLists.gave g.T.Pattern.seen self front). inr (front, under))
+    c.in_err-enter.ensures.ready
+
+pub returns-in_err-enter-clause-asks : goal.returns-in_err-enter-clause-asks
+returns-in_err-enter-clause-asks g c = λ folder given.
+    let shows = g.S.FolderLists.shows g.T.Pattern.Seen in
+    let gave = g.S.FolderLists.gave in
+    let at = (goal.at.returns-in_err-enter-clause-asks g c).After-enter_known in
+    let self = c.enter.new.self in
+    ⊎_elim
+    (λ (fresh : IsFresh shows gave g.T.Pattern.seen self). absurd (fresh.none_given folder given))
+    (λ (under : IsUnderWay shows gave g.T.Pattern.seen self (take c.bytes.place c.bytes-bytes.result.now)).
+    asked g at self
+    (gives_no_more (gave c.args.self.now.source) (gave self.source) (gave c.enter_known.new.self.source) (Contains (folders_to (take c.bytes.place c.args.path.now.bytes))) (gives g at) c.in_err-enter.ensures.fails)
+    (subst (λ b. IsUnderWay shows gave g.T.Pattern.seen self (take c.bytes.place b)) c.bytes-bytes.ensures under)
+    folder given)
+    c.in_err-enter.ensures.ready
