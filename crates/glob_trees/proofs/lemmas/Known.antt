@@ -17,16 +17,16 @@ use Rattle.gix_glob.specs.Bytes.{HasByte, slash}
 use Rattle.gix_glob.specs.EntryLists.{EntryList, entry_list_of}
 use Rattle.glob_lists.specs.Deciding.{BasesAreFolders}
 use Rattle.glob_trees.specs.declared.on_way.FolderOnWay.{FolderOnWay}
-use Rattle.glob_trees.specs.Private.Entered.{AreAtHand, AreEntered, AreKnown, AreUnderWay, EndsIn, EndsWith, Facts, HoldsOwn, IsInner, IsKnown, IsOnWay, gave_but, lists_to, own_lists, places_of}
+use Rattle.glob_trees.specs.Private.Entered.{AreEntered, AreKnown, AreUnderWay, EndsWith, Facts, HoldsOwn, IsInner, IsKnown, IsOnWay, gave_but, lists_to, own_lists, places_of}
 use Rattle.glob_trees.specs.Private.Known.{AddsFolder, ArePlaces, link, name_in, named_in}
 use Rattle.glob_trees.specs.Trees.{Ignores}
 use Rattle.glob_trees.specs.Ways.{Folder, IsListOf, folders_to, start_of, unless_empty}
-use Rattle.glob_trees.proofs.lemmas.Entering.{entered_folder, entered_left, entered_slash, entered_stays, entered_top, name_follows}
+use Rattle.glob_trees.proofs.lemmas.Entering.{entered_folder, entered_slash, entered_stays, entered_top, name_follows}
 use Rattle.glob_trees.proofs.lemmas.OnWay.{none_contained, not_on_own_way}
-use Rattle.glob_trees.proofs.lemmas.Places.{named, places_less, places_more, places_stay}
+use Rattle.glob_trees.proofs.lemmas.Places.{named, places_more, places_stay}
 use Rattle.glob_trees.proofs.lemmas.Stepping.{passing, passing_way}
-use Rattle.glob_trees.proofs.lemmas.WayLemmas.{ZipsLast, folders_slash, last_same, zip_last, zip_more}
-use Rattle.glob_trees.proofs.lemmas.WithEntries.{empty_or_not, not_both}
+use Rattle.glob_trees.proofs.lemmas.WayLemmas.{ZipsLast, folders_slash, zip_last, zip_more}
+use Rattle.glob_trees.proofs.lemmas.WithEntries.{not_both}
 
 cases_by : (b : Bool) (P : Type 0) → Decides b P → P ⊎ (P → ⊥)
 cases_by true P d = inl (d.0 refl)

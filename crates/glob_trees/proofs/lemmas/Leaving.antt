@@ -1,17 +1,17 @@
 -- The folder entered last is left: the one above it is the last one then.
-use Rattle.std.proofs.Common.{◌≡◌, ◌⊎◌, inl, inr, ⊎_elim, ℕ, ◌+◌, ◌<◌, ◌≤◌, List, [], ◌∷◌, ◌++◌, length, map, take, drop, Option, None, Some, Vec, refl, sym, ap, subst, ◌∙◌, append_assoc, length-append, length-drop, arith}
+use Rattle.std.proofs.Common.{◌≡◌, ⊎_elim, ℕ, ◌<◌, ◌≤◌, List, [], ◌∷◌, ◌++◌, length, take, drop, Option, Some, Vec, refl, sym, ap, subst, ◌∙◌, append_assoc, length-append, length-drop, arith}
 use Rattle.std.specs.Prelude.{◌↔◌, IsTrue, reverse, slice_get, slice_set}
-use Rattle.std.specs.List.{AllZip, Contains}
+use Rattle.std.specs.List.{AllZip}
 use Rattle.std.specs.BTreeMap.{BTreeMap}
 use Rattle.std.proofs.Math.Seq.{take-append_seam}
 use Rattle.std.proofs.lemmas.Bool.{cases_eq}
-use Rattle.std.proofs.lemmas.List.{drop-append-le, length-set, map-append, take-append-drop, take-append-le}
+use Rattle.std.proofs.lemmas.List.{drop-append-le, map-append, take-append-drop, take-append-le}
 use Rattle.gix_glob.specs.declared.pattern.Case.{Case}
 use Rattle.gix_glob.specs.declared.search.pattern.list.List as patterns
 use Rattle.gix_glob.specs.Bytes.{slash}
 use Rattle.gix_glob.specs.EntryLists.{EntryList, entry_list_of}
 use Rattle.glob_trees.specs.declared.on_way.FolderOnWay.{FolderOnWay}
-use Rattle.glob_trees.specs.Private.Entered.{AreEntered, AreKnown, AreUnderWay, EndsWith, Facts, HoldsOwn, IsInner, IsKnown, IsOnWay, lists_to, own_lists, places_of}
+use Rattle.glob_trees.specs.Private.Entered.{AreEntered, AreUnderWay, EndsWith, HoldsOwn, IsInner, IsKnown, IsOnWay, lists_to, own_lists, places_of}
 use Rattle.glob_trees.specs.Private.Known.{ArePlaces, link, name_in}
 use Rattle.glob_trees.specs.Ways.{Folder, folders_to, start_of, unless_empty}
 use Rattle.glob_trees.proofs.lemmas.Entering.{entered_left, front_same, name_follows}

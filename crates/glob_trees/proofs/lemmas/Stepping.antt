@@ -1,6 +1,6 @@
 -- What one call does to the folders that are entered, and what they then say of a path.
-use Rattle.std.proofs.Common.{◌≡◌, inl, inr, ⊎_elim, ℕ, ◌+◌, ◌<◌, ◌≤◌, Bool, true, false, if◌then◌else◌, Result, Ok, Err, OnErr, OnOk, List, [], ◌∷◌, ◌++◌, length, take, drop, refl, sym, ap, subst, ◌∙◌, append_assoc, append-nil, length-take-le, take-suc, add-one, arith, slice_index}
-use Rattle.std.specs.List.{AllZip, Contains}
+use Rattle.std.proofs.Common.{◌≡◌, ⊎_elim, ℕ, ◌+◌, ◌<◌, ◌≤◌, Bool, true, false, if◌then◌else◌, Result, Ok, Err, OnErr, OnOk, List, [], ◌∷◌, ◌++◌, length, take, sym, ap, subst, ◌∙◌, append_assoc, append-nil, length-take-le, take-suc, add-one, arith, slice_index}
+use Rattle.std.specs.List.{Contains}
 use Rattle.std.proofs.lemmas.Bool.{cases_eq}
 use Rattle.std.proofs.lemmas.List.{take-append-le}
 use Rattle.gix_glob.specs.declared.pattern.Case.{Case}
@@ -9,7 +9,7 @@ use Rattle.gix_glob.specs.EntryLists.{EntryList}
 use Rattle.glob_trees.specs.declared.entered.Entered.{Entered}
 use Rattle.glob_trees.specs.Private.Entered.{AreEntered, KeepsOn}
 use Rattle.glob_trees.specs.Trees.{Ignores, IsAbove}
-use Rattle.glob_trees.specs.Ways.{AreOnTheWay, Folder, IsListOf, folder_before, folders_from, folders_to}
+use Rattle.glob_trees.specs.Ways.{AreOnTheWay, Folder, folder_before, folders_from, folders_to}
 use Rattle.glob_trees.proofs.lemmas.Asking.{asked_above, asked_to_path}
 use Rattle.glob_trees.proofs.lemmas.Entering.{entered_byte}
 use Rattle.glob_trees.proofs.lemmas.OnWay.{on_way_more}

@@ -1,5 +1,5 @@
 -- The folders that were entered, and what is kept of each folder.
-use Rattle.std.specs.Prelude.{◌≡◌, ◌⊎◌, ℕ, ◌+◌, ◌<◌, ◌≤◌, List, [], ◌∷◌, ◌++◌, drop, length, map, reverse, slice_get, slice_set, take, Option, None, Some, MatchOption, IsTrue, Vec, is_some, option_to_list, ◌↔◌}
+use Rattle.std.specs.Prelude.{◌≡◌, ◌⊎◌, ℕ, ◌<◌, ◌≤◌, List, [], ◌∷◌, ◌++◌, drop, length, map, reverse, slice_get, take, Option, Some, MatchOption, IsTrue, Vec, ◌↔◌}
 use Rattle.std.specs.List.{AllZip, Contains}
 use Rattle.std.specs.BTreeMap.{BTreeMap}
 use Rattle.gix_glob.specs.declared.pattern.Case.{Case}

@@ -1,9 +1,8 @@
 -- The folder wasn't known, so its list was never given.
-use Rattle.std.proofs.Common.{rules, ◌≡◌, ◌+◌, ◌++◌, ◌∷◌, [], inl, inr, ⊎_elim, Ok, OnOk, length, map, take, ap, refl, sym, subst, ◌∙◌}
+use Rattle.std.proofs.Common.{rules, ◌≡◌, ◌+◌, [], inr, ⊎_elim, Ok, OnOk, take, ap, sym, subst}
 use Rattle.std.specs.List.{Contains}
-use Rattle.gix_glob.specs.Bytes.{slash}
-use Rattle.glob_trees.specs.Private.Entered.{AreUnderWay, KeepsOn, gave_but}
-use Rattle.glob_trees.specs.Ways.{Folder, GivesOnly, folders_to}
+use Rattle.glob_trees.specs.Private.Entered.{AreUnderWay, gave_but}
+use Rattle.glob_trees.specs.Ways.{GivesOnly, folders_to}
 use Rattle.glob_trees.proofs.lemmas.Asking.{gives_allowed}
 use Rattle.glob_trees.proofs.lemmas.Known.{once, under_goes_on, under_slash}
 use Rattle.glob_trees.proofs.lemmas.OnWay.{on_way_to_own}

@@ -4,7 +4,7 @@ use Rattle.std.specs.List.{Contains}
 use Rattle.gix_glob.specs.Bytes.{HasByte, slash}
 use Rattle.gix_glob.specs.EntryLists.{entry_list_of}
 use Rattle.glob_trees.specs.declared.entered.Entered.{Entered}
-use Rattle.glob_trees.specs.Private.Entered.{AreEntered, IsFresh, IsUnderWay, KeepsOn, own_lists}
+use Rattle.glob_trees.specs.Private.Entered.{IsFresh, IsUnderWay, KeepsOn, own_lists}
 use Rattle.glob_trees.specs.Trees.{Ignores}
 use Rattle.glob_trees.specs.Ways.{GivesOnly, IsAskedFor, folders_to}
 use Rattle.glob_trees.proofs.lemmas.Asking.{asked_above, asked_to_path, gives_allowed, gives_further, gives_no_more, gives_same_way, gives_top}

@@ -1,5 +1,5 @@
 -- The lists that stand before those of all folders stay.
-use Rattle.std.proofs.Common.{length, map, take, sym, subst, ◌∙◌, ap, length-take-le}
+use Rattle.std.proofs.Common.{length, map, sym, subst, ◌∙◌, ap, length-take-le}
 use Rattle.std.proofs.lemmas.List.{take-map}
 use Rattle.std.proofs.lemmas.List.Elements.{All-take}
 use Rattle.gix_glob.specs.EntryLists.{entry_list_of}

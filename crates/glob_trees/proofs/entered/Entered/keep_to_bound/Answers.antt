@@ -1,5 +1,4 @@
 -- The fronts are there, whatever is entered.
-use Rattle.std.proofs.Common.{inl}
 use Rattle.glob_trees.proofs.lemmas.InFolder.{have_fronts}
 use Rattle.glob_trees.proofs.entered.Entered.keep_to_bound.Goals as goal
 

@@ -1,6 +1,6 @@
 -- The last folder isn't the top: its list is kept by its place, and the folder above it is the last one then.
-use Rattle.std.proofs.Common.{◌≡◌, ◌<◌, ◌≤◌, ◌++◌, ◌∷◌, [], Some, true, false, length, map, take, ap, refl, sym, subst, ◌∙◌, inl, inr, ⊎_elim, append-nil, arith}
-use Rattle.std.specs.Prelude.{◌⊎◌, slice_set}
+use Rattle.std.proofs.Common.{◌≡◌, ◌<◌, ◌++◌, ◌∷◌, [], Some, true, false, length, map, take, ap, refl, sym, subst, ◌∙◌, ⊎_elim, append-nil, arith}
+use Rattle.std.specs.Prelude.{slice_set}
 use Rattle.std.specs.Option.{option_to_list}
 use Rattle.std.proofs.lemmas.Bool.{false≢true}
 use Rattle.std.proofs.lemmas.List.{length-map, length-set, map-append, take-append-le}

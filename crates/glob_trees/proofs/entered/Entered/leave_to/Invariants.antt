@@ -1,4 +1,4 @@
-use Rattle.std.proofs.Common.{◌≡◌, ◌≤◌, length, take}
+use Rattle.std.proofs.Common.{◌≡◌, length, take}
 use Rattle.glob_trees.specs.Private.Entered.{IsSomewhere, KeepsOn}
 use Rattle.glob_trees.proofs.entered.Entered.leave_to.Given as goal
 

@@ -1,5 +1,5 @@
 -- The name of the folder in the one entered last.
-use Rattle.std.proofs.Common.{◌≡◌, ◌≤◌, drop, take, ap, sym, ◌∙◌}
+use Rattle.std.proofs.Common.{drop, take, ap, ◌∙◌}
 use Rattle.glob_trees.specs.declared.on_way.FolderOnWay.{FolderOnWay}
 use Rattle.glob_trees.specs.Private.Known.{link}
 use Rattle.glob_trees.proofs.lemmas.InFolder.{tail}

@@ -1,6 +1,6 @@
 -- The folder follows those above it on the way, and its list where one is kept.
 use Rattle.std.proofs.Common.{◌≡◌, ◌≤◌, ◌+◌, ◌++◌, ◌∷◌, [], Some, length, map, drop, take, ap, refl, sym, subst, ◌∙◌, length-append, arith}
-use Rattle.std.specs.Prelude.{is_some, option_to_list}
+use Rattle.std.specs.Prelude.{option_to_list}
 use Rattle.std.proofs.lemmas.List.{map-append}
 use Rattle.gix_glob.specs.Bytes.{slash}
 use Rattle.gix_glob.specs.EntryLists.{entry_list_of}

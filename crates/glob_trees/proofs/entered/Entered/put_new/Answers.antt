@@ -1,5 +1,5 @@
 -- The folder follows those above it on the way, and its list where it has entries; it is found by its name now.
-use Rattle.std.proofs.Common.{◌≡◌, ◌≤◌, ◌<◌, ◌+◌, ◌++◌, ◌∷◌, [], None, length, map, drop, take, ap, refl, sym, subst, ◌∙◌, length-append, arith}
+use Rattle.std.proofs.Common.{◌≡◌, ◌≤◌, ◌<◌, ◌+◌, ◌++◌, ◌∷◌, [], length, map, drop, take, ap, refl, sym, subst, ◌∙◌, length-append, arith}
 use Rattle.std.specs.Prelude.{is_some, option_to_list}
 use Rattle.std.proofs.lemmas.List.{map-append}
 use Rattle.gix_glob.specs.Bytes.{slash}
@@ -7,10 +7,10 @@ use Rattle.gix_glob.specs.EntryLists.{entry_list_of}
 use Rattle.glob_lists.specs.Deciding.{BasesAreFolders}
 use Rattle.glob_trees.specs.declared.on_way.FolderOnWay.{FolderOnWay}
 use Rattle.glob_trees.specs.Private.Entered.{AreUnderWay}
-use Rattle.glob_trees.specs.Private.Known.{AddsFolder, link}
-use Rattle.glob_trees.specs.Ways.{start_of, unless_empty}
+use Rattle.glob_trees.specs.Private.Known.{AddsFolder}
+use Rattle.glob_trees.specs.Ways.{start_of}
 use Rattle.glob_trees.proofs.lemmas.InFolder.{many_fronts, tail}
-use Rattle.glob_trees.proofs.lemmas.Known.{entered_anew, fits, last_inside, long_as_start, moved, start_next, start_within}
+use Rattle.glob_trees.proofs.lemmas.Known.{entered_anew, fits, last_inside, long_as_start, moved, start_next}
 use Rattle.glob_trees.proofs.lemmas.Stepping.{err_gives, fronts_put, ok_both, on_err, slash_next, some_front}
 use Rattle.glob_trees.proofs.lemmas.WithEntries.{if_any_listed, if_any_view}
 use Rattle.glob_trees.proofs.entered.Entered.put_new.Given.{Over}

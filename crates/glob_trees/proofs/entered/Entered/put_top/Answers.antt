@@ -1,6 +1,6 @@
 -- The top is on the way, and its list where it has entries.
-use Rattle.std.proofs.Common.{◌≡◌, ◌++◌, ◌∷◌, [], None, length, map, is_ok, ap, refl, sym, subst, ◌∙◌}
-use Rattle.std.specs.Prelude.{is_some, option_to_list}
+use Rattle.std.proofs.Common.{◌++◌, ◌∷◌, [], None, map, ap, ◌∙◌}
+use Rattle.std.specs.Prelude.{option_to_list}
 use Rattle.std.proofs.lemmas.List.{length-map, map-append}
 use Rattle.gix_glob.specs.EntryLists.{entry_list_of}
 use Rattle.glob_trees.specs.Ways.{unless_empty}
