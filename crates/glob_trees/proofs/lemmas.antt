@@ -13,6 +13,7 @@ pub mod Leaving
 pub mod Links
 pub mod OnWay
 pub mod OneMore
+pub mod OneWay
 pub mod Places
 pub mod Stepping
 pub mod Standing

@@ -72,6 +72,7 @@ pub record AreOnTheWay {V : Type 0} (shows : List ℕ → EntryList V → Type 0
   pub entered : List (List ℕ)
   pub further : List (List ℕ)
   pub joined : folders_to path ≡ entered ++ further
+  pub top : Contains entered []
   pub own : List (EntryList V)
   pub shown : AllZip (IsListOf shows) entered own
   pub standing : drop front_count lists ≡ with_entries own

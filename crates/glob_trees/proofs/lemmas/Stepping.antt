@@ -12,7 +12,7 @@ use Rattle.glob_trees.specs.Trees.{Ignores, IsAbove}
 use Rattle.glob_trees.specs.Ways.{AreOnTheWay, Folder, folder_before, folders_from, folders_to}
 use Rattle.glob_trees.proofs.lemmas.Asking.{asked_above, asked_to_path}
 use Rattle.glob_trees.proofs.lemmas.Entering.{entered_byte}
-use Rattle.glob_trees.proofs.lemmas.OnWay.{on_way_more}
+use Rattle.glob_trees.proofs.lemmas.OnWay.{on_way_more, top_on_way}
 use Rattle.glob_trees.proofs.lemmas.WayLemmas.{before_other, folders_more, folders_other, further}
 
 -- ---- paths and their slashes
@@ -55,6 +55,7 @@ module _ {V : Type 0} (shows : Folder → EntryList V → Type 0) (n : ℕ) (lis
     entered = folders_to front;
     further = further front (slash ∷ above.0);
     joined = ap folders_to above.1 ∙ folders_more front (slash ∷ above.0);
+    top = top_on_way front;
     own = own;
     shown = e.shown;
     standing = e.standing;
@@ -67,6 +68,7 @@ module _ {V : Type 0} (shows : Folder → EntryList V → Type 0) (n : ℕ) (lis
     entered = folders_to path;
     further = [];
     joined = sym (append-nil (folders_to path));
+    top = top_on_way path;
     own = own;
     shown = e.shown;
     standing = e.standing;
