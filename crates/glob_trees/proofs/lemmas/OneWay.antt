@@ -1,5 +1,5 @@
 -- The lists on the way to a path are told by what the source shows, and by nothing else.
-use Rattle.std.proofs.Common.{◌≡◌, ◌⊎◌, inl, inr, ⊎_elim, ℕ, ◌+◌, ◌<◌, ◌≤◌, List, [], ◌∷◌, ◌++◌, length, take, drop, refl, sym, ap, subst, ◌∙◌, append_assoc, append-nil, length-append, arith}
+use Rattle.std.proofs.Common.{◌≡◌, ◌⊎◌, inl, inr, ⊎_elim, ℕ, ◌<◌, ◌≤◌, List, [], ◌∷◌, ◌++◌, length, take, drop, refl, sym, ap, subst, ◌∙◌, append_assoc, append-nil, length-append, arith}
 use Rattle.std.specs.List.{AllZip, Contains}
 use Rattle.std.proofs.lemmas.Bool.{cases_eq}
 use Rattle.std.proofs.lemmas.List.{take-append-drop}
@@ -10,7 +10,7 @@ use Rattle.gix_glob.specs.EntryLists.{EntryList}
 use Rattle.gix_glob.specs.Stripping.{NothingLeft}
 use Rattle.glob_trees.specs.Laws.Kept.{ShowsOne}
 use Rattle.glob_trees.specs.Trees.{HasNoneIgnored, Ignores, IsAbove}
-use Rattle.glob_trees.specs.Ways.{AreOnTheWay, Folder, IsListOf, base_of_folder, folder_before, folders_from, folders_to, unless_empty, with_entries}
+use Rattle.glob_trees.specs.Ways.{AreOnTheWay, Folder, IsListOf, folder_before, folders_from, folders_to, unless_empty, with_entries}
 use Rattle.glob_trees.proofs.lemmas.Emptied.{nothing_left_shorter}
 use Rattle.glob_trees.proofs.lemmas.Entering.{ignores_with}
 use Rattle.glob_trees.proofs.lemmas.Folders.{above_is_shorter}
