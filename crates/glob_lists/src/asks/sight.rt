@@ -1,5 +1,5 @@
 //! What the rows of a list ask for together: where a path shows none of it, no row of the list passes.
-ghost use Rattle.std.specs.Prelude.{◌≡◌, ◌↔◌, ◌-◌, ◌<◌, ◌≤◌, IfSome, IsTrue};
+ghost use Rattle.std.specs.Prelude.{◌≡◌, ◌↔◌, ◌-◌, ◌<◌, ◌≤◌, IsTrue};
 ghost use Rattle.glob_lists.specs.Private.Asks.Literals.{without_bytes};
 ghost use Rattle.glob_lists.specs.Private.Asks.Showing.{HasAll};
 ghost use Rattle.glob_lists.specs.Private.Asks.Sights.{HasEnding, IsSeen, Lacks, Sees, SeesBytes, SeesAll, SeesEnd, end_bit, needs_of};
@@ -38,15 +38,24 @@ pub(crate) struct Sight {
 }
 
 impl Sight {
-    /// What all rows ask for together, as far as it is known.
-    pub(crate) fn of_all(rows: &[Row]) -> Option<Sight>
-        ensures { IfSome result (SeesAll rows.now) }
+    /// The sight of which each path shows something.
+    const ANY: Sight = Sight {
+        ends: u64::MAX,
+        other_ends: u64::MAX,
+        names: 0,
+        paths: 0,
+    };
+
+    /// What all rows ask for together; where it isn't known, the sight of which each path shows something.
+    #[tactic(auto, using(crate::proofs::lemmas::Asks::SightLemmas::SeesAll_any))]
+    pub(crate) fn of_all(rows: &[Row]) -> Sight
+        ensures { SeesAll rows.now result }
     {
         let sight = Sight::of(rows);
         if !sight.sees_all(rows) {
-            return None;
+            return Sight::ANY;
         }
-        Some(sight)
+        sight
     }
 
     /// What all rows ask for together. It isn't believed.

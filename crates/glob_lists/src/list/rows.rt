@@ -5,7 +5,6 @@ ghost use Rattle.gix_glob.specs.Stripping.{strip_looks};
 ghost use Rattle.glob_lists.specs.Deciding.{AnswersAt, HasFolder};
 ghost use Rattle.glob_lists.specs.Prepared.{AreAsked};
 ghost use Rattle.glob_lists.specs.Private.Asks.Showing.{Passes, Shows};
-ghost use Rattle.glob_lists.specs.Private.Asks.Sights.{IsUnseen};
 ghost use Rattle.glob_lists.specs.Private.Lists.Answering.{IsLastMatch, IsNextMatch, IsRest, IsWalkOf, NoneAnswers, Spends, SpendsDown};
 ghost use Rattle.glob_lists.specs.Private.Lists.Chains.{AreChained};
 ghost use Rattle.glob_lists.specs.Private.Lists.Prepared.{AreRowsOf};
@@ -32,8 +31,8 @@ use std::sync::ledger::Ledger;
 pub(crate) struct ListRows {
     /// What each pattern asks for, in order.
     rows: Vec<Row>,
-    /// What they ask for together; where it isn't known, no path passes over the list.
-    sight: Option<Sight>,
+    /// What they ask for together.
+    sight: Sight,
     /// The last row of each chain; none where the rows aren't chained.
     heads: Vec<Link>,
 }
@@ -54,19 +53,13 @@ impl ListRows {
 
     /// Whether a row needs some bytes or pairs of a path.
     pub(crate) fn has_open(&self) -> bool {
-        match &self.sight {
-            Some(sight) => sight.has_open(),
-            None => true,
-        }
+        self.sight.has_open()
     }
 
     /// Whether a row may need some bytes of a whole path.
     #[inline(always)]
     pub(crate) fn has_paths(&self) -> bool {
-        match &self.sight {
-            Some(sight) => sight.has_paths(),
-            None => true,
-        }
+        self.sight.has_paths()
     }
 
     /// How many rows from a place on ask for nothing that a path doesn't show.
@@ -115,7 +108,7 @@ impl ListRows {
     {
         // a law does nothing: it is called for what it ensures
         laws::answering_patterns_pass();
-        if self.is_passed_over(&question.probe) {
+        if !self.sight.is_seen(&question.probe) {
             return None;
         }
         question.path.under_with_counts(list, question.case, counts)
@@ -133,17 +126,6 @@ impl ListRows {
         ensures all { result.passed_from ≡ length self.now.rows.items }
     {
         Walk::down(&self.rows, &self.heads, &question.probe)
-    }
-
-    /// Whether a path shows nothing that the patterns ask for together.
-    #[inline(always)]
-    fn is_passed_over(&self, probe: &Probe) -> bool
-        ensures { IsTrue result → IsUnseen self.now.sight probe.now }
-    {
-        match &self.sight {
-            Some(sight) => !sight.is_seen(probe),
-            None => false,
-        }
     }
 
     /// The place of the next mapping that matches, below where a path has come. A mapping isn't tested where it asks for what the path

@@ -240,7 +240,7 @@ AsksForBits-free text set needs = record {
 
 -- ---- sets in sets
 
-inside_width : (n i : ℕ) → n < 2 ^ 64 → bit_at n i ≡ 1 → i < 64
+pub inside_width : (n i : ℕ) → n < 2 ^ 64 → bit_at n i ≡ 1 → i < 64
 inside_width n i fits is = ⊎_elim
     (λ (inside : i < 64). inside)
     (λ (past : 64 ≤ i). (let none = bit_at_above n 64 i fits past in absurd (omega arith)))

@@ -1,19 +1,21 @@
 -- A row that passes is seen: the path ends in its pair of bytes, or has the bytes that it needs.
-use Rattle.std.proofs.Common.{◌≡◌, inl, inr, ⊎_elim, ℕ, ◌+◌, ◌-◌, ◌*◌, ◌/◌, ◌%◌, ◌^◌, ◌<◌, ◌≤◌, Bool, true, false, List, Some, length, get_or, bit_and, bit_or, w64, sym, ap, subst, ◌∙◌, arith}
+use Rattle.std.proofs.Common.{◌≡◌, inl, inr, ⊎_elim, ℕ, ◌+◌, ◌-◌, ◌*◌, ◌/◌, ◌%◌, ◌^◌, ◌<◌, ◌≤◌, Bool, true, false, List, Some, length, get_or, bit_and, bit_or, w64, refl, sym, ap, subst, ◌∙◌, arith}
 use Rattle.std.specs.Prelude.{slice_get, if◌then◌else◌}
 use Rattle.std.specs.Int.{bit_at}
 use Rattle.std.proofs.lemmas.Bool.{cases_eq, cases_lt}
-use Rattle.std.proofs.lemmas.Nat.Bits.{bit_at-lt, bit_at-zero, bit_at_and, bit_at_or, bit_at_set_same}
+use Rattle.std.proofs.lemmas.Nat.Bits.{bit_at-lt, bit_at-zero, bit_at_ones, bit_at_and, bit_at_or, bit_at_set_same}
 use Rattle.std.proofs.lemmas.Option.{same_Some, slice_get-get_or, slice_get_within}
 use Rattle.glob_lists.specs.declared.asks.probe.Probe.{Probe}
 use Rattle.glob_lists.specs.declared.asks.row.Row.{Row}
 use Rattle.glob_lists.specs.declared.asks.sight.Sight.{Sight}
-use Rattle.glob_lists.specs.declared.asks.sight.TheConstants.{ENDS, NO_END}
+use Rattle.glob_lists.specs.declared.asks.sight.TheConstants.{ENDS, NO_END, OTHER_ENDS}
+use Rattle.glob_lists.specs.declared.asks.sight.TheConstants.Sight.{ANY}
 use Rattle.glob_lists.specs.Private.Asks.Literals.{without_bytes}
 use Rattle.glob_lists.specs.Private.Asks.Parts.{is_name, part_of}
 use Rattle.glob_lists.specs.Private.Asks.Rows.{length_of}
 use Rattle.glob_lists.specs.Private.Asks.Showing.{HasAll, HasEnd, Passes}
 use Rattle.glob_lists.specs.Private.Asks.Sights.{HasEnding, IsSeen, Lacks, Sees, SeesAll, SeesEnd, end_bit, end_place, needs_of}
+use Rattle.glob_lists.proofs.lemmas.Asks.BitLemmas.{inside_width}
 use Rattle.glob_lists.proofs.lemmas.Asks.EndNumbers.{without_both, without_bytes-shift}
 
 -- ---- a row that passes is seen
@@ -114,3 +116,21 @@ SeesUpTo-more rows m next is sight blank within here before k row below got = �
 
 pub SeesUpTo-all : (rows : List Row) (m : ℕ) (sight : Sight) → length rows ≤ m → SeesUpTo rows m sight → SeesAll rows sight
 SeesUpTo-all rows m sight all sees k row got = (let inside = slice_get_within rows k row got in sees k row (omega arith) got)
+
+-- ---- the sight of which each path shows something
+
+full : (set : ℕ) → set < 2 ^ 64 → HasAll (2 ^ 64 - 1) set
+full set low i is = bit_at_ones 64 i (inside_width set i low is)
+
+none_for : (held : ℕ) (is_name : Bool) → HasAll held (needs_of ANY is_name)
+none_for held true = none_needed held 0 refl
+none_for held false = none_needed held 0 refl
+
+any_ending : (end : ℕ) → HasEnding ANY end
+any_ending end = record { ends = full (end_bit ENDS end) (omega arith); other_ends = full (end_bit OTHER_ENDS end) (omega arith) }
+
+pub SeesAll_any : (rows : List Row) → SeesAll rows ANY
+SeesAll_any rows m row got = record {
+  bits = λ none. record { others = full NO_END (omega arith); needs = none_for row.asked (is_name (part_of row.part)) };
+  end = λ some. record { short = λ low. (refl, full NO_END (omega arith)); few = λ high low. any_ending _; many = λ high. any_ending _ };
+}

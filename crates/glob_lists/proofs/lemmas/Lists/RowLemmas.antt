@@ -17,7 +17,7 @@ use Rattle.glob_lists.specs.Paths.{Path}
 use Rattle.glob_lists.specs.Prepared.{AreAsked}
 use Rattle.glob_lists.specs.Private.Asks.Rows.{Asks, length_of}
 use Rattle.glob_lists.specs.Private.Asks.Showing.{Passes, Shows}
-use Rattle.glob_lists.specs.Private.Asks.Sights.{IsUnseen, SeesAll}
+use Rattle.glob_lists.specs.Private.Asks.Sights.{IsSeen, SeesAll}
 use Rattle.glob_lists.specs.Private.Lists.Answering.{NoneAnswers}
 use Rattle.glob_lists.specs.Private.Lists.Prepared.{AreRowsOf}
 use Rattle.glob_lists.specs.Private.Lists.Walking.{NonePasses}
@@ -74,15 +74,8 @@ module _ {V : Type 0} (list : EntryList V) (rows : List Row) (are : AreAsked lis
       none m at.0 low below at.1 at.2
 
   -- where a path shows nothing that the rows ask for together, no entry answers
-  pub none_seen_answers : (path : Path) (case : Case) (probe : Probe) (sight : Sight) → AnsweringPasses → Shows path.bytes probe → SeesAll rows sight → IsUnseen (Some sight) probe
+  pub none_seen_answers : (path : Path) (case : Case) (probe : Probe) (sight : Sight) → AnsweringPasses → Shows path.bytes probe → SeesAll rows sight → ¬ IsSeen sight probe
       → (m : ℕ) → ¬ AnswersAt list path.bytes path.is_dir case m
   none_seen_answers path case probe sight law shows sees unseen m answers =
       let at = row_passes path case probe law shows m answers in
       unseen (Passes-seen probe sight at.0 (rows_spare_bytes m at.0 at.1) (sees m at.0 at.1) at.2)
-
--- where it is known that a path shows nothing that the rows ask for together, no entry answers
-pub unseen_answers : {V : Type 0} (list : EntryList V) (rows : ListRows) → AreRowsOf list rows → (path : Path) (case : Case) (probe : Probe) (sight : Option Sight) → sight ≡ rows.sight → AnsweringPasses
-    → Shows path.bytes probe → IsUnseen sight probe → (m : ℕ) → ¬ AnswersAt list path.bytes path.is_dir case m
-unseen_answers list rows are path case probe None is law shows unseen m = absurd unseen
-unseen_answers list rows are path case probe (Some sight) is law shows unseen m =
-    none_seen_answers list rows.rows.items are.asked path case probe sight law shows (rw (← is) at are.seen) unseen m

@@ -1,5 +1,5 @@
 -- What the rows of a list ask for together.
-use Rattle.std.specs.Prelude.{◌≡◌, ◌⊎◌, ℕ, ◌-◌, ◌*◌, ◌/◌, ◌%◌, ◌^◌, ◌<◌, ◌≤◌, Bool, List, Option, None, Some, slice_get, if◌then◌else◌}
+use Rattle.std.specs.Prelude.{◌≡◌, ◌⊎◌, ℕ, ◌-◌, ◌*◌, ◌/◌, ◌%◌, ◌^◌, ◌<◌, ◌≤◌, Bool, List, Some, slice_get, if◌then◌else◌}
 use Rattle.glob_lists.specs.declared.asks.literals.TheConstants.{LONGEST_END}
 use Rattle.glob_lists.specs.declared.asks.probe.Probe.{Probe}
 use Rattle.glob_lists.specs.declared.asks.row.Row.{Row}
@@ -58,8 +58,3 @@ abbrev pub IsSeen : Sight → Probe → Type 0
 IsSeen sight probe =
     HasEnding sight (without_bytes probe.end (LONGEST_END - SHORT_END)) ⊎ (HasEnding sight (without_bytes probe.end (LONGEST_END - LONG_END))
     ⊎ (HasAll sight.ends NO_END × (HasAll probe.name_bytes sight.names ⊎ HasAll probe.bytes sight.paths)))
-
--- it is known that the path shows nothing of what the rows ask for together
-abbrev pub IsUnseen : Option Sight → Probe → Type 0
-IsUnseen None probe = ⊥
-IsUnseen (Some sight) probe = ¬ IsSeen sight probe
