@@ -4,6 +4,7 @@ use crate::answer::Answer;
 use crate::attribute_files::push_state;
 use crate::fault::RowFault;
 use crate::question::{Field, Question};
+use crate::texts::push_text;
 use gix_glob::pattern::Case;
 use gix_glob::search::has_file_part;
 use gix_glob::search::pattern::List;
@@ -152,9 +153,10 @@ pub(crate) fn attributes_kept(
     keep_named(&mut list, &names, &macros);
     let mut text = Vec::new(alloc);
     for mapping in &list.patterns {
-        let number = mapping.sequence_number;
-        let separator = if text.is_empty() { "" } else { " " };
-        text.extend_from_slice(format!(in alloc; "{separator}{number}")?.as_bytes())?;
+        if !text.is_empty() {
+            text.push(b' ')?;
+        }
+        push_text(alloc, &mut text, &mapping.sequence_number)?;
     }
     Ok(answer.push(&text)?)
 }

@@ -20,6 +20,7 @@ mod question;
 mod repositories;
 mod row;
 mod streams;
+mod texts;
 mod trees;
 
 use crate::asking::ask;

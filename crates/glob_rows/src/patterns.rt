@@ -5,6 +5,7 @@ ghost use Rattle.gix_glob.specs.Bytes.{HasByte, slash};
 use crate::answer::Answer;
 use crate::fault::RowFault;
 use crate::question::Question;
+use crate::texts::text_of;
 use bitflags::Flags;
 use gix_glob::parse;
 use gix_glob::pattern::{Mode, Pattern, PatternView, basename_start};
@@ -35,7 +36,7 @@ pub(crate) fn reading(
         }
         Some((text, mode, wildcard)) => {
             answer.push(text)?;
-            answer.push(format!(in alloc; "{bits}", bits = mode.bits())?.as_bytes())?;
+            answer.push(text_of(alloc, &mode.bits())?.as_bytes())?;
             answer.push_number(alloc, wildcard)?;
         }
     }
@@ -79,8 +80,7 @@ pub(crate) fn shown(
     answer: &mut Answer,
 ) -> Result<(), RowFault> {
     let pattern = pattern_of(alloc, question.bytes(0)?)?;
-    let text = format!(in alloc; "{pattern}")?;
-    Ok(answer.push(text.as_bytes())?)
+    Ok(answer.push(text_of(alloc, &pattern)?.as_bytes())?)
 }
 
 /// Whether the pattern of a line matches a value.

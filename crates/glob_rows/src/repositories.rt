@@ -4,6 +4,7 @@ use crate::answer::Answer;
 use crate::fault::RowFault;
 use crate::file_table::FileTable;
 use crate::question::Question;
+use crate::texts::text_of;
 use git_config::{
     ConfigFault, ConfigFile, Entry, Item, boolean, integer, last_boolean, split_word,
 };
@@ -83,7 +84,7 @@ fn push_fault(
 ) -> Result<(), RowFault> {
     match fault {
         FindFault::Memory => Err(RowFault::Memory),
-        other => Ok(answer.push(format!(in alloc; "{other}")?.as_bytes())?),
+        other => Ok(answer.push(text_of(alloc, &other)?.as_bytes())?),
     }
 }
 
@@ -191,7 +192,7 @@ impl<'a> Row<'a> {
         let config = self.config(alloc, &folders, RepositoryFile::Config)?;
         let version = version_of(alloc, &config)?;
         if let Err(fault) = check_format(version, &extensions_of(alloc, &config)?) {
-            return Err(Told::Text(format!(in alloc; "{fault}")?));
+            return Err(Told::Text(text_of(alloc, &fault)?));
         }
         let shared = config.entries_of(alloc, b"extensions.worktreeconfig")?;
         let has_worktree_config = last_boolean(&shared).unwrap_or(None).unwrap_or(false);
@@ -243,7 +244,7 @@ impl<'a> Row<'a> {
         match ConfigFile::from_bytes(alloc, bytes.as_deref().unwrap_or(b"")) {
             Ok(config) => Ok(config),
             Err(ConfigFault::Memory) => Err(Told::Found(FindFault::Memory)),
-            Err(fault) => Err(Told::Text(format!(in alloc; "{fault}")?)),
+            Err(fault) => Err(Told::Text(text_of(alloc, &fault)?)),
         }
     }
 }
