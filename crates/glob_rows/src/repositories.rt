@@ -154,15 +154,7 @@ impl<'a> Row<'a> {
     fn take(&mut self, alloc: Global, line: &'a [u8]) -> Result<(), RowFault> {
         let (key, value) = split_word(line);
         match key {
-            b"GIT_DIR" => self.words.git_dir = value,
-            b"GIT_WORK_TREE" => self.words.work_tree = value,
-            b"GIT_COMMON_DIR" => self.words.common_dir = value,
-            b"GIT_INDEX_FILE" => self.words.index_file = value,
-            b"GIT_OBJECT_DIRECTORY" => self.words.object_directory = value,
-            b"GIT_CEILING_DIRECTORIES" => self.words.ceiling_directories = value,
-            b"GIT_DISCOVERY_ACROSS_FILESYSTEM" => {
-                self.words.across_file_systems = boolean(value).unwrap_or(false);
-            }
+            _ if set_variable(&mut self.words, key, value) => {}
             b"GIT_TEST_ASSUME_DIFFERENT_OWNER" => self.table.is_ours = false,
             b"device" => self.table.device = value,
             b"safe.bareRepository" => self.bare_is_refused = value == Some(b"explicit"),
@@ -247,6 +239,27 @@ impl<'a> Row<'a> {
             Err(fault) => Err(Told::Text(text_of(alloc, &fault)?)),
         }
     }
+}
+
+/// Sets a variable of the environment that Git asks for. It answers whether the key is one of these.
+fn set_variable<'a>(
+    words: &mut Environment<&'a [u8]>,
+    key: &[u8],
+    value: Option<&'a [u8]>,
+) -> bool {
+    match key {
+        b"GIT_DIR" => words.git_dir = value,
+        b"GIT_WORK_TREE" => words.work_tree = value,
+        b"GIT_COMMON_DIR" => words.common_dir = value,
+        b"GIT_INDEX_FILE" => words.index_file = value,
+        b"GIT_OBJECT_DIRECTORY" => words.object_directory = value,
+        b"GIT_CEILING_DIRECTORIES" => words.ceiling_directories = value,
+        b"GIT_DISCOVERY_ACROSS_FILESYSTEM" => {
+            words.across_file_systems = boolean(value).unwrap_or(false);
+        }
+        _ => return false,
+    }
+    true
 }
 
 /// The entries of a key in two files, one behind the other.
