@@ -134,11 +134,15 @@ fn ask_repositories(
         RepositorySubject::IndexFiles => index_files::index_files(alloc, question, answer),
         RepositorySubject::IndexPaths => index_files::index_paths(alloc, question, answer),
         RepositorySubject::ConfigFiles => config_files::config_files(alloc, question, answer),
-        RepositorySubject::ConfigIncludes => config_includes::config_includes(alloc, question, answer),
+        RepositorySubject::ConfigIncludes => config_includes::config_includes(
+            alloc, question, answer,
+        ),
         RepositorySubject::ConfigBooleans => config_files::config_booleans(question, answer),
         RepositorySubject::Repositories => repositories::repositories(alloc, question, answer),
         RepositorySubject::WorkTrees => repositories::work_trees(alloc, question, answer),
         RepositorySubject::ExcludeNames => repositories::exclude_names(alloc, question, answer),
-        RepositorySubject::SafeDirectories => repositories::safe_directories(alloc, question, answer),
+        RepositorySubject::SafeDirectories => repositories::safe_directories(
+            alloc, question, answer,
+        ),
     }
 }

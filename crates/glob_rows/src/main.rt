@@ -36,7 +36,12 @@ use std::rt::Files;
 /// Asks all rows. The status is 1 where an answer is another one, or a row can't be read.
 fn main(rt: HostRuntime) -> Result<ExitCode> {
     let mut wrong = 0usize;
-    for file in FILES {
+    for (name, answers, subject) in FILES {
+        let file = RowFile {
+            name,
+            answers,
+            subject,
+        };
         let name = format!(in rt.alloc(); "{subject}.tsv", subject = file.name)?;
         let bytes = fs::read(&rt, name.as_str()).context(file.name)?;
         let tally = ask_rows(&rt, file, &bytes)?;
