@@ -1,5 +1,6 @@
 pub mod Folding
 pub mod Patterns
+pub mod GitLines
 pub mod PatternParts
 pub mod RepositoryPaths
 pub mod PatternLimits
