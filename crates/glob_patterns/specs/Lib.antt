@@ -3,6 +3,7 @@ pub mod Patterns
 pub mod GitLines
 pub mod PatternParts
 pub mod RepositoryPaths
+pub mod GitPaths
 pub mod PatternLimits
 pub mod Equations
 pub mod Laws

@@ -11,6 +11,7 @@ use std::alloc::{AllocError, Global};
 mod case;
 mod comparisons;
 mod display;
+mod git_paths;
 mod paths;
 mod view;
 

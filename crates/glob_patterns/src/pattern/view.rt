@@ -116,7 +116,7 @@ impl<'a> PatternView<'a> {
     /// Whether the text matches the value, as [`PatternView::matches_with_counts`] answers it. Where `is_bare`, the value has no
     /// slash.
     #[inline(always)]
-    fn decide<S: Ledger, L: Ledger>(
+    pub(super) fn decide<S: Ledger, L: Ledger>(
         self,
         value: &[u8],
         is_bare: bool,
