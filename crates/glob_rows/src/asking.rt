@@ -22,12 +22,16 @@ pub(crate) fn ask(alloc: Global, subject: &str, question: &Question) -> Result<A
         | "shown"
         | "values"
         | "basenames"
-        | "repository_paths" => ask_patterns(alloc, subject, question, &mut answer)?,
+        | "repository_paths"
+        | "git_reading"
+        | "git_paths" => ask_patterns(alloc, subject, question, &mut answer)?,
         "file_parts" | "bases" | "stripping" | "folders" | "decided" | "listed" | "answered" => {
             ask_lists(alloc, subject, question, &mut answer)?
         }
         "ignore_files" => lines::ignore_files(alloc, question, &mut answer)?,
         "ignore_lines" => lines::ignore_lines(question, &mut answer)?,
+        "git_files" => lines::git_files(alloc, question, &mut answer)?,
+        "git_lines" => lines::git_lines(question, &mut answer)?,
         "marks" => lines::marks(question, &mut answer)?,
         "labels" => lines::labels(alloc, question, &mut answer)?,
         "trees" => trees::trees(alloc, question, &mut answer)?,
@@ -65,6 +69,8 @@ fn ask_patterns(
         "shown" => patterns::shown(alloc, question, answer),
         "values" => patterns::values(alloc, question, answer),
         "basenames" => patterns::basenames(alloc, question, answer),
+        "git_reading" => patterns::git_reading(alloc, question, answer),
+        "git_paths" => patterns::git_paths(alloc, question, answer),
         _ => patterns::repository_paths(alloc, question, answer),
     }
 }

@@ -31,7 +31,7 @@ use std::process::ExitCode;
 use std::rt::Files;
 
 /// The subjects of the rows. Each has a file of its name.
-const SUBJECTS: [&str; 46] = [
+const SUBJECTS: [&str; 50] = [
     "matching",
     "starts",
     "attempts",
@@ -42,11 +42,15 @@ const SUBJECTS: [&str; 46] = [
     "values",
     "basenames",
     "repository_paths",
+    "git_reading",
+    "git_paths",
     "file_parts",
     "bases",
     "stripping",
     "ignore_files",
     "ignore_lines",
+    "git_files",
+    "git_lines",
     "marks",
     "labels",
     "answered",

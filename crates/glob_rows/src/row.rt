@@ -40,10 +40,11 @@ fn without_git(line: &[u8]) -> &[u8] {
 /// How many fields of a row are the answer.
 fn answer_count(subject: &str) -> usize {
     match subject {
-        "reading" => 3,
+        "reading" | "git_reading" => 3,
         "wildcards"
         | "stripping"
         | "ignore_lines"
+        | "git_lines"
         | "labels"
         | "trees_asked"
         | "index_paths"
