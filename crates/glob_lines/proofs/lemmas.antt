@@ -2,6 +2,7 @@ pub mod DecimalLemmas
 pub mod DecisionsLemmas
 pub mod EntriesLemmas
 pub mod FoundLemmas
+pub mod GitLineLemmas
 pub mod IgnoreLemmas
 pub mod LabelLemmas
 pub mod LinesLemmas

@@ -4,7 +4,7 @@ use Rattle.std.specs.Prelude.{◌≡◌, ◌≢◌, ◌⊎◌, ℕ, Bool, ◌==�
 use Rattle.std.specs.List.{AllByRecursion, concat, ends_with, starts_with}
 use Rattle.gix_glob.specs.Bytes.{backslash}
 use Rattle.glob_lines.specs.Lines.{CutsLine}
-use Rattle.glob_lines.specs.Entries.{Entries}
+use Rattle.glob_lines.specs.Entries.{Entries, ReadsLine}
 use Rattle.glob_lines.specs.Plain.{PlainEntry}
 
 -- ---- the bytes that hold the lines
@@ -50,7 +50,7 @@ pub record GivesTrimmed (line text : List ℕ) (value : Unit {0}) : Type 0 where
 -- The ignore entries of the bytes: for each line, numbered from 1, that is no comment and whose text without the spaces at its
 -- end has a reading, this reading and the number. A byte order mark at the front isn't of the lines.
 abbrev pub Ignore : List ℕ → List PlainEntry → Type 0
-Ignore bytes entries = Entries EndsIgnoreLine GivesTrimmed (without_mark bytes) entries
+Ignore bytes entries = Entries ReadsLine EndsIgnoreLine GivesTrimmed (without_mark bytes) entries
 
 -- ---- one line after the other
 

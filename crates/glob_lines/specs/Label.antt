@@ -2,7 +2,7 @@
 use Rattle.std.specs.Prelude.{◌≡◌, ◌⊎◌, ℕ, List, [], ◌∷◌, ◌++◌}
 use Rattle.gix_glob.specs.Entries.{Entry}
 use Rattle.glob_lines.specs.Lines.{EndsInFeed, HasNo}
-use Rattle.glob_lines.specs.Entries.{Entries}
+use Rattle.glob_lines.specs.Entries.{Entries, ReadsLine}
 
 -- a pattern with its label, and its number
 abbrev pub LabelEntry : Type 0
@@ -21,4 +21,4 @@ pub record GivesLabel (line text value : List ℕ) : Type 0 where
 -- The labelled entries of the bytes: for each line, numbered from 1, whose part before the first tab has a reading, this
 -- reading with the part after that tab, and the number.
 abbrev pub Label : List ℕ → List LabelEntry → Type 0
-Label bytes entries = Entries EndsInFeed GivesLabel bytes entries
+Label bytes entries = Entries ReadsLine EndsInFeed GivesLabel bytes entries

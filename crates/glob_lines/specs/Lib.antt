@@ -1,6 +1,7 @@
 pub mod Decisions
 pub mod Entries
 pub mod Ignore
+pub mod GitLines
 pub mod Label
 pub mod Lines
 pub mod Memory

@@ -1,7 +1,7 @@
 -- What the parser of plain lines means: the readings of the lines, with the numbers of the lines.
 use Rattle.std.specs.Prelude.{◌≡◌, ℕ, List}
 use Rattle.gix_glob.specs.Entries.{Entry}
-use Rattle.glob_lines.specs.Entries.{Entries}
+use Rattle.glob_lines.specs.Entries.{Entries, ReadsLine}
 use Rattle.glob_lines.specs.Lines.{EndsInFeed}
 
 -- a pattern without a value, and its number
@@ -14,4 +14,4 @@ GivesItself line text _ = text ≡ line
 
 -- The plain entries of the bytes: for each line, numbered from 1, that has a reading, this reading and the number.
 abbrev pub Plain : List ℕ → List PlainEntry → Type 0
-Plain bytes entries = Entries EndsInFeed GivesItself bytes entries
+Plain bytes entries = Entries ReadsLine EndsInFeed GivesItself bytes entries

@@ -2,4 +2,5 @@
 pub mod Answering
 pub mod Growing
 pub mod Indexing
+pub mod Reading
 pub mod Trimming

@@ -1,17 +1,19 @@
 //! One line of an ignore file after the other, without a copy.
 ghost use Rattle.std.specs.Prelude.{◌≡◌, ◌<◌, [], ◌++◌, length, IfSome, MatchOption};
 ghost use Rattle.std.specs.Option.{option_copied};
+ghost use Rattle.glob_lines.specs.GitLines.{return_of};
 ghost use Rattle.glob_lines.specs.Ignore.{BeginsWithLine, EndsIgnoreLine, Trims, is_comment, without_mark};
 ghost use Rattle.glob_lines.specs.Lines.{CutsLine};
 ghost use Rattle.glob_lines.specs.Memory.{end_of};
-ghost use Rattle.glob_lines.specs.Private.Trimming.{StandsBefore, is_open, return_of};
+ghost use Rattle.glob_lines.specs.Private.Trimming.{StandsBefore, is_open};
 
 use memchr::memchr;
 
 /// The first line of an ignore file's bytes, and what follows it.
 #[derive(Clone, Copy, Debug, PartialEq, Eq)]
 pub struct IgnoreLine<'a> {
-    /// The bytes that a pattern is read from, without the spaces at their end. `None` where the line is a comment.
+    /// The bytes that a pattern is read from, without the spaces at their end. `None` where the line is a comment; as Git reads it, also
+    /// where it has no byte.
     pub text: Option<&'a [u8]>,
     /// The bytes after the line and its ending. They lie at the end of the bytes that were given, also where none is left.
     pub rest: &'a [u8],
@@ -67,7 +69,7 @@ pub fn next_ended_line(bytes: &[u8]) -> Option<(&[u8], &[u8])>
 }
 
 /// Whether a line is a comment.
-fn is_comment(line: &[u8]) -> bool
+pub(crate) fn is_comment(line: &[u8]) -> bool
     ensures { result ≡ is_comment line.now }
 {
     line.starts_with(b"#")
@@ -86,7 +88,7 @@ fn split_ended_line(bytes: &[u8]) -> (&[u8], &[u8])
 }
 
 /// A line without one carriage return at its end.
-fn without_return(line: &[u8]) -> &[u8]
+pub(crate) fn without_return(line: &[u8]) -> &[u8]
     ensures { line.now ≡ result.now ++ return_of line.now }
 {
     match line.strip_suffix(b"\r") {
@@ -96,7 +98,7 @@ fn without_return(line: &[u8]) -> &[u8]
 }
 
 /// A line without the spaces at its end, but for one that a backslash escapes.
-fn without_trailing_spaces(line: &[u8]) -> &[u8]
+pub(crate) fn without_trailing_spaces(line: &[u8]) -> &[u8]
     ensures { Trims line.now result.now }
 {
     let front = without_trailing(line, b' ');

@@ -4,6 +4,8 @@ ghost use Rattle.gix_glob.specs.declared.pattern.Case.{Case};
 ghost use Rattle.gix_glob.specs.declared.wildmatch.Mode.{Mode};
 ghost use Rattle.gix_glob.specs.EntryLists.{EntryList};
 ghost use Rattle.glob_lines.specs.Decisions.{DecisionsText};
+ghost use Rattle.glob_lines.specs.GitLines.{BeginsWithGitLine, GitEntries};
+ghost use Rattle.glob_lines.specs.Equations.GitLines.{git_entries_of};
 ghost use Rattle.glob_lines.specs.Ignore.{BeginsWithLine, Ignore};
 ghost use Rattle.glob_lines.specs.Equations.Ignore.{ignore_of};
 ghost use Rattle.glob_lines.specs.Label.{Label, LabelEntry, tab};
@@ -16,7 +18,7 @@ ghost use Rattle.glob_lines.specs.Plain.{Plain, PlainEntry};
 ghost use Rattle.glob_lines.specs.Equations.Plain.{plain_of};
 ghost use Rattle.glob_lines.specs.Values.{ValuesText};
 
-use gix_glob::laws::readings_are_these;
+use gix_glob::laws::{git_readings_are_these, readings_are_these};
 use gix_glob::search;
 use glob_lists::laws::decides_one_pair;
 pub use glob_lists::laws::loaded_lists_have_folders;
@@ -45,6 +47,19 @@ pub fn ignore_entries_are_these()
     ensures { (bytes : List ℕ) (entries : List PlainEntry) → Ignore bytes entries ↔ (entries ≡ ignore_of bytes) }
 {
     readings_are_these();
+}
+
+/// As Git reads it, an ignore file begins with one line: what [`next_git_line`](crate::next_git_line) answers is determined by its bytes.
+pub fn bytes_begin_with_one_git_line()
+    ensures { (bytes rest left : List ℕ) (text other : Option (List ℕ))
+        → BeginsWithGitLine bytes text rest → BeginsWithGitLine bytes other left → (text ≡ other) × (rest ≡ left) }
+{}
+
+/// As Git reads them, bytes have one list of ignore entries, which the equations of `git_entries_of` give.
+pub fn git_entries_are_these()
+    ensures { (bytes : List ℕ) (entries : List PlainEntry) → GitEntries bytes entries ↔ (entries ≡ git_entries_of bytes) }
+{
+    git_readings_are_these();
 }
 
 /// Bytes have one list of labelled entries, which the equations of `label_of` give.

@@ -1,6 +1,9 @@
 pub mod Agreement
 pub mod BareNames
 pub mod ByteSearches
+pub mod FrontLemmas
+pub mod GitAgreement
+pub mod GitLineLemmas
 pub mod Insides
 pub mod LiteralLemmas
 pub mod LiteralBytes

@@ -1,7 +1,9 @@
 pub mod Folding
 pub mod Patterns
+pub mod GitLines
 pub mod PatternParts
 pub mod RepositoryPaths
+pub mod GitPaths
 pub mod PatternLimits
 pub mod Equations
 pub mod Laws

@@ -3,7 +3,8 @@
 mod patterns;
 
 pub use patterns::{
-    case_counts_by_default, flags_do_not_count, line_has_one_reading, literal_text_splits_itself,
+    both_readings_of_a_line_agree, case_counts_by_default, flags_do_not_count, git_line_is_shown,
+    git_readings_are_these, line_has_one_reading, literal_text_splits_itself,
     matched_values_end_as_the_text, matched_values_have_the_literal_bytes,
     matched_values_have_the_literal_pairs, order_agrees_with_equality, readings_are_these,
     sensitive_comes_before_fold, shown_line_is_read_back, two_answers_agree,

@@ -2,6 +2,7 @@
 ghost use Rattle.std.specs.Prelude.{◌≡◌, ◌↔◌, ◌+◌, ◌++◌, IsTrue, IsNone, IfOk, IsOkAnd, MatchOption, true, if◌then◌else◌, codes, nat_eq};
 ghost use Rattle.std.specs.List.{starts_with, ends_with};
 ghost use Rattle.std.specs.Str.{bytes_eq};
+ghost use Rattle.glob_patterns.specs.GitLines.{GitReads, negation_of};
 ghost use Rattle.glob_patterns.specs.Patterns.{Reads, HasReading, is_blank, without_negation, sign_of, slash_if, is_star_and_literal};
 ghost use Rattle.glob_patterns.specs.PatternParts.{IsReadFrom};
 ghost use Rattle.glob_matcher.specs.Bytes.{has_slash};
@@ -31,6 +32,20 @@ pub fn pattern(line: &[u8], may_alter: bool) -> Option<(&[u8], Mode, Option<usiz
     Some((text, mode, first_special(text)))
 }
 
+/// Reads a pattern line as Git does, without a copy, as [`pattern`] answers it. Each line is a pattern, also one without bytes.
+///
+/// A leading `!` is taken off and negates. Of what is left, one trailing slash is taken off, then one leading slash; a slash alone is the
+/// trailing one. No backslash is taken off. The rule is "reading as Git reads" in `docs/PATTERNS.md`.
+pub fn git_pattern(line: &[u8]) -> (&[u8], Mode, Option<usize>)
+    ensures { GitReads line.now result.0.now result.1 result.2 }
+{
+    let (rest, negative) = after_negation(line);
+    let (inner, must_be_dir) = before_tail(rest);
+    let (text, absolute) = after_lead(inner);
+    let mode = mode_of(text, negative, absolute, must_be_dir);
+    (text, mode, first_special(text))
+}
+
 /// Reads a pattern line, with its leading `!`, as [`Pattern::from_bytes`] does: `None` where it is blank. The error is
 /// want of memory for the text.
 pub fn parse(alloc: Global, line: &[u8]) -> Result<Option<Pattern>, AllocError>
@@ -55,6 +70,17 @@ fn after_sign(line: &[u8], may_alter: bool) -> (&[u8], bool)
         return (&line[1..], false);
     }
     (line, false)
+}
+
+/// What follows one leading `!` of a line, and whether there was one.
+fn after_negation(line: &[u8]) -> (&[u8], bool)
+    ensures rest { line.now ≡ negation_of line.now ++ result.0.now }
+    ensures negative { result.1 ≡ bytes_eq (negation_of line.now) (codes "!") }
+{
+    match line.strip_prefix(b"!") {
+        Some(rest) => (rest, true),
+        None => (line, false),
+    }
 }
 
 /// Whether there are no bytes, or ASCII whitespace alone.

@@ -11,6 +11,7 @@ use std::alloc::{AllocError, Global};
 mod case;
 mod comparisons;
 mod display;
+mod git_paths;
 mod paths;
 mod view;
 
@@ -35,6 +36,7 @@ pub struct Pattern {
 /// Making patterns, and taking them apart.
 impl Pattern {
     ghost use Rattle.std.specs.Prelude.{◌≡◌, IfOk, IfErr, IsOk, IsOkAnd, IsNone, MatchOption, IsTrue, true, false, ◌↔◌, if◌then◌else◌};
+    ghost use Rattle.glob_patterns.specs.GitLines.{GitReads};
     ghost use Rattle.glob_patterns.specs.Patterns.{HasReading, is_blank, without_negation};
     ghost use Rattle.glob_patterns.specs.PatternParts.{text_of, mode_of, place_of, IsReadFrom};
 
@@ -56,6 +58,20 @@ impl Pattern {
         ensures blank { IsOkAnd result IsNone ↔ IsTrue (is_blank line.now) }
     {
         Pattern::read(alloc, line, false)
+    }
+
+    /// Reads a pattern line as Git does: each is a pattern, also one without bytes. Only a leading `!` and one slash at each end are
+    /// taken off. The error is want of memory for the text.
+    pub fn from_git_line(alloc: Global, line: &[u8]) -> Result<Pattern, AllocError>
+        ensures { IfOk result (λ read. GitReads line.now (text_of read) (mode_of read) (place_of read)) }
+    {
+        let (text, mode, first_wildcard_pos) = parse::git_pattern(line);
+        let text = Vec::from_slice(alloc, text)?;
+        Ok(Pattern {
+            text,
+            mode,
+            first_wildcard_pos,
+        })
     }
 
     /// Reads a pattern line into memory of its own.

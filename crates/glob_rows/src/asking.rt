@@ -49,6 +49,8 @@ fn ask_patterns(
         PatternSubject::Values => patterns::values(alloc, question, answer),
         PatternSubject::Basenames => patterns::basenames(alloc, question, answer),
         PatternSubject::RepositoryPaths => patterns::repository_paths(alloc, question, answer),
+        PatternSubject::GitReading => patterns::git_reading(alloc, question, answer),
+        PatternSubject::GitPaths => patterns::git_paths(alloc, question, answer),
     }
 }
 
@@ -80,6 +82,8 @@ fn ask_lines(
     match subject {
         LineSubject::IgnoreFiles => lines::ignore_files(alloc, question, answer),
         LineSubject::IgnoreLines => lines::ignore_lines(question, answer),
+        LineSubject::GitFiles => lines::git_files(alloc, question, answer),
+        LineSubject::GitLines => lines::git_lines(question, answer),
         LineSubject::Marks => lines::marks(question, answer),
         LineSubject::Labels => lines::labels(alloc, question, answer),
         LineSubject::Records => streams::records(alloc, question, answer),

@@ -5,7 +5,10 @@ use crate::fault::RowFault;
 use crate::question::Question;
 use crate::texts::{push_text, text_of};
 use gix_glob::search::Pattern as _;
-use glob_lines::{IgnoreLines, LabelLines, next_ignore_line, without_byte_order_mark};
+use gix_glob::search::pattern::Mapping;
+use glob_lines::{
+    GitLines, IgnoreLines, LabelLines, next_git_line, next_ignore_line, without_byte_order_mark,
+};
 use std::alloc::Global;
 
 /// The patterns of an ignore file, each as it is shown behind the number of its line.
@@ -15,8 +18,27 @@ pub(crate) fn ignore_files(
     answer: &mut Answer,
 ) -> Result<(), RowFault> {
     let mappings = IgnoreLines.bytes_to_patterns(alloc, question.bytes(0)?, "")?;
+    push_patterns(alloc, &mappings, answer)
+}
+
+/// The same of an ignore file as Git reads it.
+pub(crate) fn git_files(
+    alloc: Global,
+    question: &Question,
+    answer: &mut Answer,
+) -> Result<(), RowFault> {
+    let mappings = GitLines.bytes_to_patterns(alloc, question.bytes(0)?, "")?;
+    push_patterns(alloc, &mappings, answer)
+}
+
+/// Adds patterns, each as it is shown behind the number of its line.
+fn push_patterns(
+    alloc: Global,
+    mappings: &[Mapping<()>],
+    answer: &mut Answer,
+) -> Result<(), RowFault> {
     let mut text = Vec::new(alloc);
-    for mapping in &mappings {
+    for mapping in mappings {
         push_text(alloc, &mut text, &mapping.sequence_number)?;
         text.push(b':')?;
         push_text(alloc, &mut text, &mapping.pattern)?;
@@ -28,6 +50,13 @@ pub(crate) fn ignore_files(
 /// What the first line of an ignore file gives, and what follows it.
 pub(crate) fn ignore_lines(question: &Question, answer: &mut Answer) -> Result<(), RowFault> {
     let line = next_ignore_line(question.bytes(0)?).ok_or(RowFault::Field("a line"))?;
+    answer.push_option(line.text)?;
+    Ok(answer.push(line.rest)?)
+}
+
+/// The same as Git reads it.
+pub(crate) fn git_lines(question: &Question, answer: &mut Answer) -> Result<(), RowFault> {
+    let line = next_git_line(question.bytes(0)?).ok_or(RowFault::Field("a line"))?;
     answer.push_option(line.text)?;
     Ok(answer.push(line.rest)?)
 }

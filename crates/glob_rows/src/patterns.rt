@@ -43,6 +43,25 @@ pub(crate) fn reading(
     Ok(())
 }
 
+/// What is read of a line as Git reads it.
+pub(crate) fn git_reading(
+    alloc: Global,
+    question: &Question,
+    answer: &mut Answer,
+) -> Result<(), RowFault> {
+    let line = question.bytes(0)?;
+    let (text, mode, wildcard) = parse::git_pattern(line);
+    let pattern = Pattern::from_git_line(alloc, line)?;
+    for view in [pattern.view(), PatternView::from_git_line(line)] {
+        if (view.text, view.mode, view.first_wildcard_pos) != (text, mode, wildcard) {
+            return Err(RowFault::Call("both readings differ"));
+        }
+    }
+    answer.push(text)?;
+    answer.push(text_of(alloc, &mode.bits())?.as_bytes())?;
+    Ok(answer.push_number(alloc, wildcard)?)
+}
+
 /// The pattern of a line.
 fn pattern_of(alloc: Global, line: &[u8]) -> Result<Pattern, RowFault> {
     Pattern::from_bytes(alloc, line)?.ok_or(RowFault::Field("a line with a pattern"))
@@ -148,6 +167,29 @@ pub(crate) fn repository_paths(
             return Err(RowFault::Field("where the last part begins"));
         }
         pattern.matches_repo_relative_path(path, found, kind, case, mode)
+    };
+    Ok(answer.push_bool(is_matched)?)
+}
+
+/// Whether the pattern of a line matches a path, as Git reads it.
+pub(crate) fn git_paths(
+    alloc: Global,
+    question: &Question,
+    answer: &mut Answer,
+) -> Result<(), RowFault> {
+    let case = question.case(0)?;
+    let (line, path) = (question.bytes(1)?, question.bytes(2)?);
+    let kind = kind_of(question, 4)?;
+    let pattern = Pattern::from_git_line(alloc, line)?;
+    let start = question.number(3)?;
+    let is_matched = if start.is_none() {
+        pattern.matches_path_as_git(path, None, kind, case)
+    } else {
+        let found = basename_start(path);
+        if found != start {
+            return Err(RowFault::Field("where the last part begins"));
+        }
+        pattern.matches_path_as_git(path, found, kind, case)
     };
     Ok(answer.push_bool(is_matched)?)
 }

@@ -34,6 +34,8 @@ pub(crate) enum PatternSubject {
     Values,
     Basenames,
     RepositoryPaths,
+    GitReading,
+    GitPaths,
 }
 
 /// What rows ask of lists, and of what the engines of lines write.
@@ -53,6 +55,8 @@ pub(crate) enum ListSubject {
 pub(crate) enum LineSubject {
     IgnoreFiles,
     IgnoreLines,
+    GitFiles,
+    GitLines,
     Marks,
     Labels,
     Records,
@@ -98,7 +102,7 @@ pub(crate) enum RepositorySubject {
 }
 
 /// All files of rows, in the order in which they are asked: the name of each, how many fields are the answer, and what is asked.
-pub(crate) const FILES: [(&str, usize, Subject); 46] = [
+pub(crate) const FILES: [(&str, usize, Subject); 50] = [
     ("matching", 1, Subject::Pattern(PatternSubject::Matching)),
     ("starts", 1, Subject::Pattern(PatternSubject::Starts)),
     ("attempts", 1, Subject::Pattern(PatternSubject::Attempts)),
@@ -113,11 +117,19 @@ pub(crate) const FILES: [(&str, usize, Subject); 46] = [
         1,
         Subject::Pattern(PatternSubject::RepositoryPaths),
     ),
+    (
+        "git_reading",
+        3,
+        Subject::Pattern(PatternSubject::GitReading),
+    ),
+    ("git_paths", 1, Subject::Pattern(PatternSubject::GitPaths)),
     ("file_parts", 1, Subject::List(ListSubject::FileParts)),
     ("bases", 1, Subject::List(ListSubject::Bases)),
     ("stripping", 2, Subject::List(ListSubject::Stripping)),
     ("ignore_files", 1, Subject::Line(LineSubject::IgnoreFiles)),
     ("ignore_lines", 2, Subject::Line(LineSubject::IgnoreLines)),
+    ("git_files", 1, Subject::Line(LineSubject::GitFiles)),
+    ("git_lines", 2, Subject::Line(LineSubject::GitLines)),
     ("marks", 1, Subject::Line(LineSubject::Marks)),
     ("labels", 2, Subject::Line(LineSubject::Labels)),
     ("answered", 1, Subject::List(ListSubject::Answered)),

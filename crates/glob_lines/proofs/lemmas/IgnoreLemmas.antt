@@ -10,7 +10,8 @@ use Rattle.std.proofs.lemmas.Bool.{cases_Bool, false≢true, ne_eqb}
 use Rattle.glob_lines.specs.Lines.{CutsLine, EndsInFeed, HasNo, line_feed}
 use Rattle.glob_lines.specs.Equations.Lines.{lines_of}
 use Rattle.glob_lines.specs.Equations.Entries.{LineContent}
-use Rattle.glob_lines.specs.Private.Trimming.{ends_in_return, return_of}
+use Rattle.glob_lines.specs.Private.Trimming.{ends_in_return}
+use Rattle.glob_lines.specs.GitLines.{return_of}
 use Rattle.glob_lines.specs.Ignore.{BeginsWithLine, EndsIgnoreLine, GivesTrimmed, Trims, is_comment, without_mark}
 use Rattle.glob_lines.specs.Equations.Ignore.{carriage_return, ignore_content, text_before_spaces, without_returns}
 use Rattle.glob_lines.proofs.lemmas.ListLemmas.{AllByRecursion-append_parts}
@@ -137,10 +138,10 @@ CutsLine-before_feed bytes line text rest h parts =
     })
     (cases_Bool (ends_in_return line))
 
-pub CutsLine-last : (bytes : List ℕ) → bytes ≢ [] → HasNo line_feed bytes → CutsLine EndsIgnoreLine bytes bytes []
+pub CutsLine-last : {Ends : List ℕ → List ℕ → Type 0} (bytes : List ℕ) → bytes ≢ [] → HasNo line_feed bytes → CutsLine Ends bytes bytes []
 CutsLine-last bytes some none = record { whole = none; ending = []; joined = sym (append-nil bytes); ended = inr (some, refl, refl) }
 
-before_return : (line : List ℕ) → (text : List ℕ) × (line ≡ text ++ return_of line)
+pub before_return : (line : List ℕ) → (text : List ℕ) × (line ≡ text ++ return_of line)
 before_return line =
     let front = take (length line - 1) line in
     ⊎_elim
@@ -257,7 +258,7 @@ length-without_returns-le (b ∷ bytes) =
     (λ no. rw no (omega arith))
     (cases_Bool (b == carriage_return && begins_with_feed bytes))
 
-length-without_mark-le : (bytes : List ℕ) → length (without_mark bytes) ≤ length bytes
+pub length-without_mark-le : (bytes : List ℕ) → length (without_mark bytes) ≤ length bytes
 length-without_mark-le bytes =
     ⊎_elim
     (λ yes. rw yes (omega (arith, length-drop 3 bytes)))

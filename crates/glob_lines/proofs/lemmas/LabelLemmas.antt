@@ -8,16 +8,17 @@ use Rattle.std.proofs.lemmas.List.{drop_all}
 use Rattle.memchr.specs.Find.{IsFirstByte, is_byte}
 use Rattle.gix_glob.specs.Equations.Entries.{entry_with}
 use Rattle.gix_glob.specs.Equations.Readings.{Reading, reading_of}
+use Rattle.glob_lines.specs.Entries.{ReadsLine}
 use Rattle.glob_lines.specs.Label.{GivesLabel, Label, tab}
 use Rattle.glob_lines.specs.Laws.Label.{entry_with_empty_label}
 use Rattle.glob_lines.specs.Equations.Label.{is_tab, label_of, label_content}
 use Rattle.glob_lines.specs.Lines.{EndsInFeed, HasNo, line_feed}
 use Rattle.glob_lines.specs.Equations.Lines.{lines_of}
-use Rattle.glob_lines.specs.Equations.Entries.{LineContent, entries_from, entry_of_content, entry_of_line}
+use Rattle.glob_lines.specs.Equations.Entries.{LineContent, entries_from, entry_of_content, entry_of_line, line_reading}
 use Rattle.glob_lines.specs.Plain.{GivesItself, Plain, PlainEntry}
 use Rattle.glob_lines.specs.Equations.Plain.{plain_content}
 use Rattle.glob_lines.proofs.lemmas.LinesLemmas.{HasNo-not_found, IsCutAt-found, TellsLines-lines_of}
-use Rattle.glob_lines.proofs.lemmas.EntriesLemmas.{Entries-are, Entries-only, ReadingsAreThese, Tells}
+use Rattle.glob_lines.proofs.lemmas.EntriesLemmas.{Entries-are, Entries-only, ReadingsAreThese, Tells, TellsReadings-line}
 use Rattle.glob_lines.proofs.lemmas.PlainLemmas.{Tells-plain_content}
 
 -- ---- the first tab
@@ -101,21 +102,21 @@ same_entry : (number : ℕ) (reading : Option Reading) → option_map (entry_wit
 same_entry number None = refl
 same_entry number (Some reading) = refl
 
-entry-none : (number : ℕ) (line : List ℕ) → HasNo tab line → entry_of_line label_content number line ≡ option_map entry_with_empty_label (entry_of_line plain_content number line)
+entry-none : (number : ℕ) (line : List ℕ) → HasNo tab line → entry_of_line line_reading label_content number line ≡ option_map entry_with_empty_label (entry_of_line line_reading plain_content number line)
 unfolding entry_of_line
 entry-none number line none =
-    ap (option_and_then (entry_of_content number)) (label_content-none line none) ∙ same_entry number (reading_of true line)
+    ap (option_and_then (entry_of_content line_reading number)) (label_content-none line none) ∙ same_entry number (reading_of true line)
 
 map-cons_option : (first : Option PlainEntry) (entries : List PlainEntry) → map entry_with_empty_label (cons_option first entries) ≡ cons_option (option_map entry_with_empty_label first) (map entry_with_empty_label entries)
 map-cons_option None entries = refl
 map-cons_option (Some entry) entries = refl
 
-entries-none : (number : ℕ) (lines : List (List ℕ)) → AllByRecursion (HasNo tab) lines → entries_from label_content number lines ≡ map entry_with_empty_label (entries_from plain_content number lines)
+entries-none : (number : ℕ) (lines : List (List ℕ)) → AllByRecursion (HasNo tab) lines → entries_from line_reading label_content number lines ≡ map entry_with_empty_label (entries_from line_reading plain_content number lines)
 entries-none number [] none = refl
 entries-none number (line ∷ lines) none =
-    ap (λ o. cons_option o (entries_from label_content (number + 1) lines)) (entry-none number line none.0)
-    ∙ ap (cons_option (option_map entry_with_empty_label (entry_of_line plain_content number line))) (entries-none (number + 1) lines none.1)
-    ∙ sym (map-cons_option (entry_of_line plain_content number line) (entries_from plain_content (number + 1) lines))
+    ap (λ o. cons_option o (entries_from line_reading label_content (number + 1) lines)) (entry-none number line none.0)
+    ∙ ap (cons_option (option_map entry_with_empty_label (entry_of_line line_reading plain_content number line))) (entries-none (number + 1) lines none.1)
+    ∙ sym (map-cons_option (entry_of_line line_reading plain_content number line) (entries_from line_reading plain_content (number + 1) lines))
 
 onto_first-none : (b : ℕ) (lines : List (List ℕ)) → b ≢ tab → AllByRecursion (HasNo tab) lines → AllByRecursion (HasNo tab) (onto_first b lines)
 onto_first-none b [] other none = ((other, tt), tt)
@@ -132,5 +133,5 @@ lines-none (b ∷ bytes) none =
 pub Label-without_tabs : ReadingsAreThese → (bytes : List ℕ) (entries : List PlainEntry) → HasNo tab bytes → Plain bytes entries → Label bytes (map entry_with_empty_label entries)
 Label-without_tabs readings bytes entries none plain =
     let is : map entry_with_empty_label entries ≡ label_of bytes =
-    ap (map entry_with_empty_label) (Entries-only GivesItself plain_content Tells-plain_content readings EndsInFeed lines_of TellsLines-lines_of bytes entries plain) ∙ sym (entries-none 1 (lines_of bytes) (lines-none bytes none)) in
-    subst (Label bytes) (sym is) (Entries-are GivesLabel label_content Tells-label_content readings EndsInFeed lines_of TellsLines-lines_of bytes)
+    ap (map entry_with_empty_label) (Entries-only GivesItself plain_content Tells-plain_content ReadsLine line_reading (TellsReadings-line readings) EndsInFeed lines_of TellsLines-lines_of bytes entries plain) ∙ sym (entries-none 1 (lines_of bytes) (lines-none bytes none)) in
+    subst (Label bytes) (sym is) (Entries-are GivesLabel label_content Tells-label_content ReadsLine line_reading (TellsReadings-line readings) EndsInFeed lines_of TellsLines-lines_of bytes)

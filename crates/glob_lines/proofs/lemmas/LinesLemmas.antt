@@ -111,7 +111,7 @@ module _ (Ends : List ℕ → List ℕ → Type 0) (bytes line rest : List ℕ) 
 
 -- ---- lines that end in a line feed
 
-first_line_cut : (bytes line rest : List ℕ) → CutsLine EndsInFeed bytes line rest → lines_of bytes ≡ line ∷ lines_of rest
+pub first_line_cut : (bytes line rest : List ℕ) → CutsLine EndsInFeed bytes line rest → lines_of bytes ≡ line ∷ lines_of rest
 first_line_cut bytes line rest cut =
     ⊎_elim
     (λ (feed : cut.ending ≡ line_feed ∷ []). ap lines_of (CutsLine-by EndsInFeed bytes line rest cut (line_feed ∷ []) feed) ∙ lines_of-line line rest cut.whole)

@@ -5,7 +5,7 @@ use Rattle.std.specs.Str.{bytes_eq}
 use Rattle.glob_lines.specs.Ignore.{is_comment, units_of, without_mark}
 use Rattle.glob_lines.specs.Lines.{line_feed}
 use Rattle.glob_lines.specs.Plain.{PlainEntry}
-use Rattle.glob_lines.specs.Equations.Entries.{LineContent, entries_of}
+use Rattle.glob_lines.specs.Equations.Entries.{LineContent, entries_of, line_reading}
 
 -- the byte of a carriage return
 abbrev pub carriage_return : ℕ
@@ -38,4 +38,4 @@ ignore_content line = if is_comment line then None else Some (record { text = te
 
 -- the ignore entries of the bytes
 abbrev pub ignore_of : List ℕ → List PlainEntry
-ignore_of bytes = entries_of ignore_content (without_returns (without_mark bytes))
+ignore_of bytes = entries_of line_reading ignore_content (without_returns (without_mark bytes))

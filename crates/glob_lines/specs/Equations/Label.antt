@@ -2,7 +2,7 @@
 use Rattle.std.specs.Prelude.{◌==◌, ℕ, Bool, List, Option, Some}
 use Rattle.std.specs.List.{after_first, before_first}
 use Rattle.glob_lines.specs.Label.{LabelEntry, tab}
-use Rattle.glob_lines.specs.Equations.Entries.{LineContent, entries_of}
+use Rattle.glob_lines.specs.Equations.Entries.{LineContent, entries_of, line_reading}
 
 -- whether a byte is a tab
 abbrev pub is_tab : ℕ → Bool
@@ -14,4 +14,4 @@ label_content line = Some (record { text = before_first is_tab line; value = aft
 
 -- the labelled entries of the bytes
 abbrev pub label_of : List ℕ → List LabelEntry
-label_of bytes = entries_of label_content bytes
+label_of bytes = entries_of line_reading label_content bytes

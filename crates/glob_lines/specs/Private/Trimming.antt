@@ -4,12 +4,9 @@ use Rattle.std.specs.List.{AllByRecursion, ends_with}
 use Rattle.gix_glob.specs.Bytes.{backslash}
 use Rattle.glob_lines.specs.Equations.Ignore.{carriage_return}
 
--- the carriage return that a line ends in
+-- whether a line ends in a carriage return
 abbrev pub ends_in_return : List ℕ → Bool
 ends_in_return line = ends_with nat_eq line (carriage_return ∷ [])
-
-abbrev pub return_of : List ℕ → List ℕ
-return_of line = if ends_in_return line then carriage_return ∷ [] else []
 
 -- the bytes are the front, which doesn't end in this byte, and then this byte alone
 pub record StandsBefore (byte : ℕ) (bytes front : List ℕ) : Type 0 where

@@ -65,7 +65,7 @@ AreAlike-from mode xs ys long each =
     (λ m below. let inside : m < length xs = omega (arith, length-map xs f) in
     get_or-map f xs m 0 0 inside ∙ each m inside ∙ sym (get_or-map f ys m 0 0 (omega (arith, long))))
 
-AreAlike-length : (mode : Mode) (xs ys : List ℕ) → AreAlike mode xs ys → length xs ≡ length ys
+pub AreAlike-length : (mode : Mode) (xs ys : List ℕ) → AreAlike mode xs ys → length xs ≡ length ys
 AreAlike-length mode xs ys same =
     let f : ℕ → ℕ = fold mode in
     sym (length-map xs f) ∙ ap (λ (zs : List ℕ). length zs) same ∙ length-map ys f

@@ -11,7 +11,7 @@ use Rattle.glob_patterns.specs.Equations.Readings.{Reading, before_tail, lead_of
 
 -- ---- a reading is that of the equation
 
-before_tail-append : (text tail : List ℕ) → tail ≡ tail_of (text ++ tail) → before_tail (text ++ tail) ≡ text
+pub before_tail-append : (text tail : List ℕ) → tail ≡ tail_of (text ++ tail) → before_tail (text ++ tail) ≡ text
 before_tail-append text tail is =
     let long : length (text ++ tail) - length (tail_of (text ++ tail)) ≡ length text =
     ap (λ (t : List ℕ). length (text ++ tail) - length t) (sym is) ∙ omega (arith, length-append text tail) in
@@ -52,7 +52,7 @@ reading_of-Reads may_alter line text mode place r =
 -- ---- the equation gives a reading
 
 -- a slash that the text begins with, and what follows it
-lead-rest : (rest : List ℕ) → rest ≡ lead_of rest ++ rest_after (lead_of rest) rest
+pub lead-rest : (rest : List ℕ) → rest ≡ lead_of rest ++ rest_after (lead_of rest) rest
 lead-rest rest =
     ⊎_elim
     (λ yes. let front = (starts_is Decides-eqb rest (codes "/") (starts_with nat_eq rest (codes "/")) refl).0 yes in
@@ -60,7 +60,7 @@ lead-rest rest =
     (λ none. rw none refl)
     (cases_Bool (starts_with nat_eq rest (codes "/")))
 
-text-tail : (inner : List ℕ) → inner ≡ before_tail inner ++ tail_of inner
+pub text-tail : (inner : List ℕ) → inner ≡ before_tail inner ++ tail_of inner
 text-tail inner =
     ⊎_elim
     (λ yes. let end = (ends_is Decides-eqb inner (codes "/") (ends_with nat_eq inner (codes "/")) refl).0 yes in

@@ -20,7 +20,7 @@ slash_if-again false = refl
 abbrev sign_if : Bool → List ℕ
 sign_if there = if there then codes "!" else []
 
-slash_if-lead : (l : List ℕ) (there : Bool) → l ≡ slash_if there → slash_if (bytes_eq l (codes "/")) ≡ l
+pub slash_if-lead : (l : List ℕ) (there : Bool) → l ≡ slash_if there → slash_if (bytes_eq l (codes "/")) ≡ l
 slash_if-lead l there e = ap (λ (x : List ℕ). slash_if (bytes_eq x (codes "/"))) e ∙ slash_if-again there ∙ sym e
 
 bytes_eq-sign_if : (there : Bool) → bytes_eq (sign_if there) (codes "!") ≡ there

@@ -1,5 +1,5 @@
 //! Laws of pattern lines and patterns.
-ghost use Rattle.std.specs.Prelude.{◌≡◌, ◌↔◌, ◌+◌, ◌||◌, ◌++◌, ℕ, Bool, true, false, IsTrue, List, Option, Some, None, codes, nat_eq};
+ghost use Rattle.std.specs.Prelude.{◌≡◌, ◌≢◌, ◌↔◌, ◌+◌, ◌||◌, ◌++◌, ℕ, Bool, true, false, IsTrue, List, Option, Some, None, codes, nat_eq};
 ghost use Rattle.std.specs.List.{list_any, starts_with};
 ghost use Rattle.std.specs.Str.{IsUtf8};
 ghost use Rattle.std.specs.declared.cmp.Ordering.TheVariants.{Equal, Less};
@@ -11,7 +11,9 @@ ghost use Rattle.glob_patterns.specs.Laws.LiteralBytes.{AreAlike, EndsAlike, Has
 ghost use Rattle.glob_matcher.specs.Bytes.{HasByte, is_special};
 ghost use Rattle.glob_matcher.specs.Matching.{Splits};
 ghost use Rattle.glob_patterns.specs.PatternParts.{text_of, SamePattern, pattern_cmp};
+ghost use Rattle.glob_patterns.specs.Equations.GitLines.{git_reading_of};
 ghost use Rattle.glob_patterns.specs.Equations.Readings.{reading_of};
+ghost use Rattle.glob_patterns.specs.GitLines.{GitReads, begins_with_escaped_sign};
 ghost use Rattle.glob_patterns.specs.Patterns.{HasReading, Reads, display_of, is_absolute, is_negative, shown_line};
 
 use crate::pattern::{Case, Pattern};
@@ -70,6 +72,24 @@ pub fn shown_line_is_read_back()
     ensures { (line text : List ℕ) (mode : pattern.Mode) (place : Option ℕ) → Reads line true text mode place
         → (IsTrue (starts_with nat_eq text (codes "!")) → IsTrue (is_negative mode || is_absolute mode))
         → Reads (shown_line mode text) true text mode place }
+{}
+
+/// As Git reads it, a line has the reading that the equations of `git_reading_of` give, and no other: each line has one.
+pub fn git_readings_are_these()
+    ensures { (line text : List ℕ) (mode : pattern.Mode) (place : Option ℕ)
+        → GitReads line text mode place ↔ (git_reading_of line ≡ record { text = text; mode = mode; place = place }) }
+{}
+
+/// What is shown of a reading as Git's is the line, byte for byte.
+pub fn git_line_is_shown()
+    ensures { (line text : List ℕ) (mode : pattern.Mode) (place : Option ℕ) → GitReads line text mode place → shown_line mode text ≡ line }
+{}
+
+/// A line that has a reading, doesn't begin with `\!` or `\#`, and isn't a slash alone, with a sign or without, has the same reading
+/// as Git reads it.
+pub fn both_readings_of_a_line_agree()
+    ensures { (line text : List ℕ) (mode : pattern.Mode) (place : Option ℕ) → begins_with_escaped_sign line ≡ false
+        → line ≢ codes "/" → line ≢ codes "!/" → Reads line true text mode place → GitReads line text mode place }
 {}
 
 /// A text that is UTF-8 is displayed byte for byte.

@@ -191,7 +191,7 @@ impl<'c, 'a, S: Ledger, L: Ledger, M: Texts> Comparison<'c, 'a, S, L, M> {
 
     /// Whether the value begins with the bytes of the text before a place, up to case where the mode folds.
     #[inline(always)]
-    fn begins_alike(&mut self, place: usize) -> bool
+    pub(super) fn begins_alike(&mut self, place: usize) -> bool
         ensures exact { IsTrue result ↔ BeginsAlike M.mode M.value (take place M.pattern) }
         ensures count { Takes self.old self.new 0 (2 * length M.pattern) }
     {

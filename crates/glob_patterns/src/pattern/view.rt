@@ -6,6 +6,7 @@ ghost use Rattle.glob_matcher.specs.Matching.{Splits};
 ghost use Rattle.glob_matcher.specs.Private.Takes.{Takes};
 ghost use Rattle.glob_matcher.specs.Steps.{IsBlankOf, NeverFall, step_limit};
 ghost use Rattle.glob_patterns.specs.PatternLimits.{pattern_look_limit};
+ghost use Rattle.glob_patterns.specs.GitLines.{GitReads};
 ghost use Rattle.glob_patterns.specs.Patterns.{HasReading, IsPattern, Reads, is_blank, without_negation};
 ghost use Rattle.glob_patterns.specs.RepositoryPaths.{Answers, IsAfterLastSlash};
 ghost use Rattle.glob_patterns.specs.Private.Asked.{IsAnswered};
@@ -48,6 +49,19 @@ impl<'a> PatternView<'a> {
             mode,
             first_wildcard_pos,
         })
+    }
+
+    /// Reads a pattern line as [`super::Pattern::from_git_line`] does, without a copy.
+    pub fn from_git_line(line: &'a [u8]) -> PatternView<'a>
+        ensures reads { GitReads line.now result.text.now result.mode result.first_wildcard_pos }
+        ensures lawful { IsPattern result.text.now result.mode result.first_wildcard_pos }
+    {
+        let (text, mode, first_wildcard_pos) = parse::git_pattern(line);
+        PatternView {
+            text,
+            mode,
+            first_wildcard_pos,
+        }
     }
 
     /// Whether the text matches the value, as [`super::Pattern::matches`] answers.
@@ -102,7 +116,7 @@ impl<'a> PatternView<'a> {
     /// Whether the text matches the value, as [`PatternView::matches_with_counts`] answers it. Where `is_bare`, the value has no
     /// slash.
     #[inline(always)]
-    fn decide<S: Ledger, L: Ledger>(
+    pub(super) fn decide<S: Ledger, L: Ledger>(
         self,
         value: &[u8],
         is_bare: bool,

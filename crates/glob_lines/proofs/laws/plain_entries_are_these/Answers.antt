@@ -3,9 +3,11 @@ use Rattle.glob_lines.specs.Equations.Plain.{plain_content}
 use Rattle.glob_lines.specs.Lines.{EndsInFeed}
 use Rattle.glob_lines.specs.Equations.Lines.{lines_of}
 use Rattle.glob_lines.proofs.lemmas.LinesLemmas.{TellsLines-lines_of}
-use Rattle.glob_lines.proofs.lemmas.EntriesLemmas.{entries_are_these}
+use Rattle.glob_lines.specs.Entries.{ReadsLine}
+use Rattle.glob_lines.specs.Equations.Entries.{line_reading}
+use Rattle.glob_lines.proofs.lemmas.EntriesLemmas.{TellsReadings-line, entries_are_these}
 use Rattle.glob_lines.proofs.lemmas.PlainLemmas.{Tells-plain_content}
 use Rattle.glob_lines.proofs.laws.plain_entries_are_these.Goals as goal
 
 pub returns : goal.returns
-returns c = entries_are_these GivesItself plain_content Tells-plain_content c.readings_are_these.ensures.some EndsInFeed lines_of TellsLines-lines_of
+returns c = entries_are_these GivesItself plain_content Tells-plain_content ReadsLine line_reading (TellsReadings-line c.readings_are_these.ensures.some) EndsInFeed lines_of TellsLines-lines_of

@@ -2,6 +2,7 @@
 use Rattle.std.proofs.Common.{◌+◌, length, ap, arith}
 use Rattle.glob_lines.specs.Equations.Ignore.{ignore_content}
 use Rattle.glob_lines.proofs.lemmas.IgnoreLemmas.{BeginsWithLine-lines, ignore_content-is, length-ignore_lines-le}
+use Rattle.glob_lines.specs.Equations.Entries.{line_reading}
 use Rattle.glob_lines.proofs.lemmas.EntriesLemmas.{meant-more}
 use Rattle.glob_lines.proofs.ignore.IgnoreLinesPattern.bytes_to_patterns.Goals as goal
 
@@ -15,5 +16,5 @@ lines-preserved c =
     let lines = BeginsWithLine-lines _ _ _ first in
     record {
       counted = omega (arith, ap length lines, next);
-      meant = rw next (meant-more (λ _. tt) ignore_content _ _ (c.lines.read.lines + 1) _ _ first.line _ tt _ c.in_ok-push_line.ensures.entry lines (ignore_content-is first.line _ first.gives) c.lines.invariant.meant);
+      meant = rw next (meant-more (λ _. tt) line_reading ignore_content _ _ (c.lines.read.lines + 1) _ _ first.line _ tt _ c.in_ok-push_line.ensures.entry lines (ignore_content-is first.line _ first.gives) c.lines.invariant.meant);
     }

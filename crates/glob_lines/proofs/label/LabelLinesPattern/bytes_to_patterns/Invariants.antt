@@ -3,12 +3,12 @@ use Rattle.std.specs.Vec.{vec_items}
 use Rattle.gix_glob.specs.Entries.{entry_of}
 use Rattle.glob_lines.specs.Equations.Label.{label_of, label_content}
 use Rattle.glob_lines.specs.Equations.Lines.{lines_of}
-use Rattle.glob_lines.specs.Equations.Entries.{entries_from}
+use Rattle.glob_lines.specs.Equations.Entries.{entries_from, line_reading}
 use Rattle.glob_lines.proofs.label.LabelLinesPattern.bytes_to_patterns.Given as goal
 
 -- the lines so far are counted, and with the entries of the others theirs are all entries
 abbrev pub invariant-loop-line : goal.invariant-loop-line
 invariant-loop-line l = record {
   counted : l.read.lines + length (lines_of l.line-iterator.rest.now) ≡ length (lines_of l.bytes);
-  meant : map (entry_of vec_items) l.read.mappings.items ++ entries_from label_content (l.read.lines + 1) (lines_of l.line-iterator.rest.now) ≡ label_of l.bytes;
+  meant : map (entry_of vec_items) l.read.mappings.items ++ entries_from line_reading label_content (l.read.lines + 1) (lines_of l.line-iterator.rest.now) ≡ label_of l.bytes;
 }

@@ -2,6 +2,7 @@
 use Rattle.std.proofs.Common.{◌+◌, Some, length, ap, refl, arith}
 use Rattle.glob_lines.specs.Equations.Plain.{plain_content}
 use Rattle.glob_lines.proofs.lemmas.LinesLemmas.{length-lines_of-le}
+use Rattle.glob_lines.specs.Equations.Entries.{line_reading}
 use Rattle.glob_lines.proofs.lemmas.EntriesLemmas.{meant-more}
 use Rattle.glob_lines.proofs.plain.PlainLinesPattern.bytes_to_patterns.Goals as goal
 
@@ -14,5 +15,5 @@ loop-line-preserved c =
     let line = c.in-Some.line.now in
     record {
       counted = omega (arith, ap length c.in-Some.ensures.steps, next);
-      meant = rw next (meant-more (λ _. tt) plain_content _ _ (c.loop-line.read.lines + 1) _ _ line (Some line) tt _ c.in_ok-push_line.ensures.entry c.in-Some.ensures.steps refl c.loop-line.invariant.meant);
+      meant = rw next (meant-more (λ _. tt) line_reading plain_content _ _ (c.loop-line.read.lines + 1) _ _ line (Some line) tt _ c.in_ok-push_line.ensures.entry c.in-Some.ensures.steps refl c.loop-line.invariant.meant);
     }

@@ -1,0 +1,224 @@
+//! Whether a path of a repository matches, as Git reads a pattern: the literal front is compared by itself, and the rest of the text is a
+//! pattern of its own.
+ghost use Rattle.std.specs.Prelude.{◌≡◌, ◌↔◌, ◌+◌, ◌*◌, ◌≤◌, IsTrue, length, take};
+ghost use Rattle.std.specs.Option.{ForSome};
+ghost use Rattle.glob_matcher.specs.Private.Takes.{Takes};
+ghost use Rattle.glob_matcher.specs.Steps.{IsBlankOf, NeverFall, step_limit};
+ghost use Rattle.glob_patterns.specs.GitPaths.{AnswersAsGit, FrontAndRest, git_mode};
+ghost use Rattle.glob_patterns.specs.PatternLimits.{pattern_look_limit};
+ghost use Rattle.glob_patterns.specs.Patterns.{IsPattern};
+ghost use Rattle.glob_patterns.specs.RepositoryPaths.{IsAfterLastSlash};
+ghost use Rattle.glob_patterns.specs.Private.Asked.{IsAnsweredAsGit};
+ghost use Rattle.glob_patterns.specs.Private.Fronts.{BeginsAlike};
+
+use super::comparisons::Comparison;
+use super::paths::{Asked, with_case};
+use super::view::PatternView;
+use super::{Case, Mode, Pattern};
+use bitflags::Flags;
+use glob_matcher::wildmatch;
+use glob_matcher::wildmatch::{CountedTexts, Counts, Texts, text_is_short};
+use std::marker::Brand;
+use std::sync::ledger::{Blank, Ledger};
+
+/// The mode in which a pattern that Git reads matches paths.
+fn git_mode(case: Case) -> wildmatch::Mode
+    ensures { result ≡ git_mode case }
+{
+    with_case(wildmatch::Mode::NO_MATCH_SLASH_LITERAL, case)
+}
+
+impl Pattern {
+    ghost use Rattle.glob_patterns.specs.PatternParts.{mode_of, text_of};
+
+    /// Whether a path of a repository matches, as Git reads the pattern. `basename_start_pos` is what [`super::basename_start`] answers for the
+    /// path, or `None` where its last part is the whole path.
+    ///
+    /// A pattern for directories matches only where `is_dir` is `Some(true)`. Of a pattern that looks at the whole path, what stands before
+    /// the first `*`, `?`, `[` or `\` is compared with the path's front, and what follows is a pattern of its own: `a**/b` matches
+    /// `ax/y/b`. It takes no memory. The rule is "matching a path as Git does" in `docs/PATTERNS.md`.
+    pub fn matches_path_as_git(
+        &self,
+        path: &[u8],
+        basename_start_pos: Option<usize>,
+        is_dir: Option<bool>,
+        case: Case,
+    ) -> bool
+        requires { ForSome basename_start_pos (IsAfterLastSlash path.now) }
+        ensures { IsTrue result ↔ AnswersAsGit (text_of self.now) (mode_of self.now) path.now basename_start_pos is_dir case }
+    {
+        self.view()
+            .matches_path_as_git(path, basename_start_pos, is_dir, case)
+    }
+
+    /// Whether a path of a repository matches, as [`Pattern::matches_path_as_git`] answers it, with its steps and looks counted.
+    ///
+    /// The counts rise by no more than those of [`Pattern::matches_repo_relative_path_with_counts`] may. No count falls.
+    pub fn matches_path_as_git_with_counts<S: Ledger, L: Ledger>(
+        &self,
+        path: &[u8],
+        basename_start_pos: Option<usize>,
+        is_dir: Option<bool>,
+        case: Case,
+        counts: &mut Counts<S, L>,
+    ) -> bool
+        requires { ForSome basename_start_pos (IsAfterLastSlash path.now) }
+        ensures exact { IsTrue result ↔ AnswersAsGit (text_of self.now) (mode_of self.now) path.now basename_start_pos is_dir case }
+        ensures steps { counts.new.steps ≤ counts.old.steps + step_limit (length (text_of self.now)) (length path.now) }
+        ensures looks { counts.new.looks ≤ counts.old.looks + pattern_look_limit (length (text_of self.now)) (length path.now) }
+        ensures grows { NeverFall counts.old counts.new }
+    {
+        self.view()
+            .matches_path_as_git_with_counts(path, basename_start_pos, is_dir, case, counts)
+    }
+}
+
+impl<'a> PatternView<'a> {
+    /// Whether a path of a repository matches, as [`Pattern::matches_path_as_git`] answers, and with its condition on the place.
+    pub fn matches_path_as_git(
+        self,
+        path: &[u8],
+        basename_start_pos: Option<usize>,
+        is_dir: Option<bool>,
+        case: Case,
+    ) -> bool
+        requires { ForSome basename_start_pos (IsAfterLastSlash path.now) }
+        ensures { IsPattern self.entry.text.now self.entry.mode self.entry.first_wildcard_pos →
+            IsTrue result ↔ AnswersAsGit self.entry.text.now self.entry.mode path.now basename_start_pos is_dir case }
+    {
+        let mode = git_mode(case);
+        let asked = Asked {
+            path,
+            basename_start_pos,
+            is_dir,
+            case,
+            mode,
+        };
+        self.answers_as_git_with_new_counts::<Brand, Brand>(asked, (Blank::new(1), Blank::new(1)))
+    }
+
+    /// Whether a path of a repository matches, as Git reads the pattern, with new counts that no one asks for.
+    #[inline(always)]
+    fn answers_as_git_with_new_counts<S: Ledger, L: Ledger>(
+        self,
+        asked: Asked<'_>,
+        blanks: (Blank, Blank),
+    ) -> bool
+        requires basename { ForSome asked.basename_start_pos (IsAfterLastSlash asked.path.now) }
+        requires mode { asked.mode ≡ git_mode asked.case }
+        requires steps { IsBlankOf S.name S.parts blanks.0 }
+        requires looks { IsBlankOf L.name L.parts blanks.1 }
+        ensures { IsPattern self.entry.text.now self.entry.mode self.entry.first_wildcard_pos →
+            IsTrue result ↔ IsAnsweredAsGit self.entry.text.now self.entry.mode asked.entry }
+    {
+        self.answers_as_git(asked, &mut Counts::<S, L>::new(blanks.0, blanks.1))
+    }
+
+    /// Whether a path of a repository matches, as [`PatternView::matches_path_as_git`] answers it, with its steps and looks counted.
+    ///
+    /// The counts rise by no more than those of [`PatternView::matches_with_counts`] for the whole path may. No count falls.
+    #[inline(always)]
+    pub fn matches_path_as_git_with_counts<S: Ledger, L: Ledger>(
+        self,
+        path: &[u8],
+        basename_start_pos: Option<usize>,
+        is_dir: Option<bool>,
+        case: Case,
+        counts: &mut Counts<S, L>,
+    ) -> bool
+        requires { ForSome basename_start_pos (IsAfterLastSlash path.now) }
+        ensures exact { IsPattern self.entry.text.now self.entry.mode self.entry.first_wildcard_pos →
+            IsTrue result ↔ AnswersAsGit self.entry.text.now self.entry.mode path.now basename_start_pos is_dir case }
+        ensures steps { counts.new.steps ≤ counts.old.steps + step_limit (length self.entry.text.now) (length path.now) }
+        ensures looks { counts.new.looks
+            ≤ counts.old.looks + pattern_look_limit (length self.entry.text.now) (length path.now) }
+        ensures grows { NeverFall counts.old counts.new }
+    {
+        let mode = git_mode(case);
+        let asked = Asked {
+            path,
+            basename_start_pos,
+            is_dir,
+            case,
+            mode,
+        };
+        self.answers_as_git(asked, counts)
+    }
+
+    /// Whether a path of a repository matches, as Git reads the pattern, with its steps and looks counted.
+    #[inline(always)]
+    fn answers_as_git<S: Ledger, L: Ledger>(
+        self,
+        asked: Asked<'_>,
+        counts: &mut Counts<S, L>,
+    ) -> bool
+        requires basename { ForSome asked.basename_start_pos (IsAfterLastSlash asked.path.now) }
+        requires mode { asked.mode ≡ git_mode asked.case }
+        ensures exact { IsPattern self.entry.text.now self.entry.mode self.entry.first_wildcard_pos →
+            IsTrue result ↔ IsAnsweredAsGit self.entry.text.now self.entry.mode asked.entry }
+        ensures steps { counts.new.steps ≤ counts.old.steps + step_limit (length self.entry.text.now) (length asked.entry.path.now) }
+        ensures looks { counts.new.looks
+            ≤ counts.old.looks + pattern_look_limit (length self.entry.text.now) (length asked.entry.path.now) }
+        ensures grows { NeverFall counts.old counts.new }
+    {
+        if self.mode.contains(Mode::MUST_BE_DIR) && asked.is_dir != Some(true) {
+            return false;
+        }
+        if !self.mode.looks_at_name() {
+            return self.decide_by_front(asked.path, asked.mode, counts);
+        }
+        let start = asked.subject_start(self.mode);
+        self.decide(&asked.path[start..], start > 0, asked.mode, counts)
+    }
+
+    /// Whether the value begins as the literal front of the text does, and the rest of the text matches what follows.
+    #[inline(always)]
+    fn decide_by_front<S: Ledger, L: Ledger>(
+        self,
+        value: &[u8],
+        mode: wildmatch::Mode,
+        counts: &mut Counts<S, L>,
+    ) -> bool
+        ensures exact { IsPattern self.entry.text.now self.entry.mode self.entry.first_wildcard_pos →
+            IsTrue result ↔ FrontAndRest value.now self.entry.text.now mode }
+        ensures steps { counts.new.steps ≤ counts.old.steps + step_limit (length self.entry.text.now) (length value.now) }
+        ensures looks { counts.new.looks
+            ≤ counts.old.looks + pattern_look_limit (length self.entry.text.now) (length value.now) }
+        ensures grows { NeverFall counts.old counts.new }
+    {
+        let front_end = match self.first_wildcard_pos {
+            Some(place) if place > 0 && place <= self.text.len() => place,
+            _ => return self.decide(value, false, mode, counts),
+        };
+        text_is_short(self.text);
+        text_is_short(value);
+        let (begins, counts) = self.front_compared::<S, L, Brand>(value, front_end, mode, counts);
+        if !begins {
+            return false;
+        }
+        wildmatch::marked(&self.text[front_end..], &value[front_end..], mode, counts)
+    }
+
+    /// Whether the value begins with the bytes of the text before a place, and the counts of what that took.
+    #[inline(always)]
+    fn front_compared<'c, S: Ledger, L: Ledger, M: Texts>(
+        self,
+        value: &'a [u8],
+        place: usize,
+        mode: wildmatch::Mode,
+        counts: &'c mut Counts<S, L>,
+    ) -> (bool, &'c mut Counts<S, L>)
+        requires pattern { self.text.now ≡ M.pattern }
+        requires value { value.now ≡ M.value }
+        requires mode { mode ≡ M.mode }
+        requires counts { counts.ghost_name ≡ M.counts }
+        ensures exact { IsTrue result.0 ↔ BeginsAlike mode value.now (take place self.entry.text.now) }
+        ensures same { result.1.ghost_name ≡ counts.entry.ghost_name }
+        ensures count { Takes counts.old result.1.now 0 (2 * length self.entry.text.now) }
+    {
+        let texts = CountedTexts::<'c, 'a, S, L, M>::new(self.text, value, counts);
+        let mut comparison = Comparison::new(texts, false, mode);
+        let begins = comparison.begins_alike(place);
+        (begins, comparison.into_counts())
+    }
+}
