@@ -5,8 +5,10 @@ mod deciding;
 mod entered;
 mod fault;
 mod folders;
+mod keeping;
+mod known;
 pub mod laws;
-mod left;
+mod on_way;
 mod tree;
 
 pub use deciding::{decide_in_tree, decide_in_tree_by};

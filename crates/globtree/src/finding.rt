@@ -62,7 +62,7 @@ impl<'a, R: Files + Eprint> Finder<'a, R> {
         let Some(start) = path.basename_start() else {
             return false;
         };
-        start > entered_length(&self.tree) && !self.unlinked.is_last(&path.bytes()[..start - 1])
+        start > self.tree.folder().len() && !self.unlinked.is_last(&path.bytes()[..start - 1])
     }
 
     /// Whether the pattern at a pair of places matches folders alone. Where it doesn't, it decides about a file, too.
@@ -106,7 +106,7 @@ impl<'a, R: Files + Eprint> Finder<'a, R> {
 
     /// Refuses a path of which a folder that the tree didn't enter is a link.
     fn check_links(&mut self, path: &[u8], is_told_folder: bool) -> Result<(), CheckFault> {
-        let entered = entered_length(&self.tree);
+        let entered = self.tree.folder().len();
         if is_told_folder && entered < path.len() {
             check_folder(self.rt, self.alloc, path)?;
         }
@@ -128,17 +128,6 @@ pub(crate) fn fault_of(fault: TreeFault<CheckFault>) -> CheckFault {
     match fault {
         TreeFault::Memory => CheckFault::Memory,
         TreeFault::Source(fault) => fault,
-    }
-}
-
-/// How many bytes of a path name the folder that the tree entered last on its way, with the slash at its end.
-fn entered_length<'a, R: Files + Eprint>(tree: &Tree<IgnoreLines, FolderFiles<'a, R>>) -> usize {
-    match tree.lists().last() {
-        Some(prepared) => match &prepared.list().base {
-            Some(base) => base.len(),
-            None => 0,
-        },
-        None => 0,
     }
 }
 

@@ -126,6 +126,9 @@ impl<'a, R: Files + Eprint> FolderLists<IgnoreLines> for FolderFiles<'a, R> {
         };
         Ok(list_in_folder(self.alloc, list, folder)?)
     }
+
+    // what can't be looked at was told, and isn't told again
+    fn forget(&mut self) {}
 }
 
 /// The list of a file, whose bytes are put into `bytes`; no patterns and no bytes where there is none. One that can't be read is
