@@ -10,7 +10,7 @@ ghost use Rattle.glob_trees.specs.Ways.{AreOnTheWay, GivesOnly, GoesOn, IsAskedF
 use crate::deciding::ignoring;
 use crate::fault::TreeFault;
 use crate::folders::FolderLists;
-use crate::keeping::{bytes_of, keep_last, prepared_if_any, put_on_way, take_out};
+use crate::keeping::{bytes_of, keep_last, prepared_if_any, put_known_on_way, put_on_way};
 use crate::known::KnownFolders;
 use crate::on_way::{FolderOnWay, common_length};
 use gix_glob::pattern::Case;
@@ -276,14 +276,15 @@ impl<T: search::Pattern, S: FolderLists<T>> Entered<T, S> {
         ensures source { self.new.source ≡ self.old.source }
     {
         let start = self.folder.as_slice().len();
-        let list = take_out(&mut self.kept, known);
         self.folder.extend_from_slice(&path[..place + 1][start..])?;
-        let there = FolderOnWay {
-            place: known,
-            length: self.folder.as_slice().len(),
-            has_list: list.is_some(),
-        };
-        put_on_way(&mut self.way, &mut self.lists, there, list)
+        let length = self.folder.as_slice().len();
+        put_known_on_way(
+            &mut self.way,
+            &mut self.lists,
+            &mut self.kept,
+            known,
+            length,
+        )
     }
 
     /// Asks for the list of the folder that stands before the slash at a place of a path, and enters it. It wasn't known.

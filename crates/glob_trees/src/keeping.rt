@@ -1,6 +1,6 @@
 //! The lists of folders: those on the way, and those that are kept.
 ghost use Rattle.std.specs.Prelude.{◌≡◌, ◌<◌, ◌++◌, ◌∷◌, [], None, OnErr, OnOk, Some, length, option_to_list, slice_get, slice_set};
-ghost use Rattle.glob_trees.specs.Private.Keeping.{IsIfAny, KeepsLast};
+ghost use Rattle.glob_trees.specs.Private.Keeping.{IsIfAny, KeepsLast, PutsKept, TakesOut};
 
 use crate::on_way::FolderOnWay;
 use gix_glob::search;
@@ -58,8 +58,56 @@ pub(crate) fn put_on_way<T: search::Pattern>(
     Ok(())
 }
 
+/// Puts a known folder behind the others on the way, and the list that is kept of it, if any, behind the other lists.
+///
+/// # Errors
+/// Only where memory was refused. The list is let go then.
+pub(crate) fn put_known_on_way<T: search::Pattern>(
+    way: &mut Vec<FolderOnWay>,
+    lists: &mut Vec<PreparedList<T>>,
+    kept: &mut Vec<Option<PreparedList<T>>>,
+    place: usize,
+    length: usize,
+) -> Result<(), AllocError>
+    requires { place < length kept.old.items }
+    ensures puts { OnOk result (PutsKept place length way.old.items way.new.items lists.old.items lists.new.items kept.old.items kept.new.items) }
+    ensures fails { OnErr result (lists.new.items ≡ lists.old.items) }
+{
+    // most folders have no list: then none is moved
+    let has_list = kept[place].is_some();
+    way.push(FolderOnWay {
+        place,
+        length,
+        has_list,
+    })?;
+    if has_list {
+        put_kept(lists, kept, place)?;
+    }
+    Ok(())
+}
+
+/// Puts the list that is kept by a place, if any, behind the others.
+///
+/// # Errors
+/// Only where memory was refused. The list is let go then.
+#[inline(never)]
+fn put_kept<T: search::Pattern>(
+    lists: &mut Vec<PreparedList<T>>,
+    kept: &mut Vec<Option<PreparedList<T>>>,
+    place: usize,
+) -> Result<(), AllocError>
+    requires { place < length kept.old.items }
+    ensures puts { OnOk result (TakesOut place lists.old.items lists.new.items kept.old.items kept.new.items) }
+    ensures fails { OnErr result (lists.new.items ≡ lists.old.items) }
+{
+    if let Some(list) = take_out(kept, place) {
+        lists.push(list)?;
+    }
+    Ok(())
+}
+
 /// Takes out what is kept by a place.
-pub(crate) fn take_out<T: search::Pattern>(
+fn take_out<T: search::Pattern>(
     kept: &mut Vec<Option<PreparedList<T>>>,
     place: usize,
 ) -> Option<PreparedList<T>>

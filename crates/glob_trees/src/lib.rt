@@ -14,4 +14,5 @@ mod tree;
 pub use deciding::{decide_in_tree, decide_in_tree_by};
 pub use fault::TreeFault;
 pub use folders::{FolderLists, list_in_folder};
+pub use known::KnownFolders;
 pub use tree::{Decision, Tree};

@@ -2,7 +2,6 @@
 use Rattle.std.proofs.Common.{◌≡◌, ◌⊎◌, inl, inr, ⊎_elim, ℕ, zero, suc, ◌+◌, ◌<◌, ◌≤◌, Bool, true, false, cond, List, [], ◌∷◌, ◌++◌, length, map, take, drop, Option, None, Some, Vec, refl, sym, ap, subst, ◌∙◌, append_assoc, length-append, take_all, slice_index, arith}
 use Rattle.std.specs.Prelude.{◌↔◌, IsTrue, eqb, is_some, option_to_list, reverse, slice_get, slice_set}
 use Rattle.std.specs.List.{AllZip, Contains}
-use Rattle.std.specs.BTreeMap.{BTreeMap}
 use Rattle.std.specs.Bool.{Decides}
 use Rattle.std.proofs.Math.Seq.{drop-length}
 use Rattle.std.proofs.lemmas.Bool.{cases_eq, false≢true, false_from_ne_true}
@@ -18,7 +17,8 @@ use Rattle.gix_glob.specs.EntryLists.{EntryList, entry_list_of}
 use Rattle.glob_lists.specs.Deciding.{BasesAreFolders}
 use Rattle.glob_trees.specs.declared.on_way.FolderOnWay.{FolderOnWay}
 use Rattle.glob_trees.specs.Private.Entered.{AreEntered, AreKnown, AreUnderWay, EndsWith, Facts, HoldsOwn, IsInner, IsKnown, IsOnWay, gave_but, lists_to, own_lists, places_of}
-use Rattle.glob_trees.specs.Private.Known.{AddsFolder, ArePlaces, link, name_in, named_in}
+use Rattle.glob_trees.specs.Known.{AddsFolder, FolderNames}
+use Rattle.glob_trees.specs.Private.Known.{ArePlaces, name_in}
 use Rattle.glob_trees.specs.Trees.{Ignores}
 use Rattle.glob_trees.specs.Ways.{Folder, IsListOf, folders_to, start_of, unless_empty}
 use Rattle.glob_trees.proofs.lemmas.Entering.{entered_folder, entered_slash, entered_stays, entered_top, name_follows}
@@ -41,14 +41,7 @@ but_one gave source one folder none given = ⊎_elim
     (λ (apart : folder ≡ one → ⊥). absurd (none (given, apart)))
     (cases_bytes folder one)
 
--- ---- folders that are found
-
-link_inside : {Z : Type 0} (inner : List (BTreeMap (Vec ℕ Z) ℕ)) (outer : ℕ) (name : List ℕ) (place : ℕ) → link inner outer name ≡ Some place → outer < length inner
-link_inside inner outer name place is = at (slice_get inner outer) refl is
-  where
-    at : (o : Option _) → slice_get inner outer ≡ o → named_in o name ≡ Some place → outer < length inner
-    at None none there = absurd (cc)
-    at (Some m) some there = slice_get_within inner outer m some
+-- ---- what is known of folders
 
 -- what is known, with one folder more at a place
 abbrev facts_with : {V : Type 0} → (ℕ → Facts V) → ℕ → Facts V → ℕ → Facts V
@@ -152,10 +145,10 @@ view_kept seen way place own off (Some list) h = (ap (λ l. l ∷ []) h.0 ∙ sy
 
 -- ---- the top
 
-pub at_top : {T X V Z : Type 0} (shows : Folder → EntryList V → Type 0) (gave : Folder → Type 0) (seen : X → V) (n : ℕ) (case : Case) (lists : List (EntryList V)) (list : EntryList V) (inner : List (BTreeMap (Vec ℕ Z) ℕ)) (has_list : Bool)
-    → length lists ≡ n → BasesAreFolders lists → IsListOf shows [] list → ((folder : Folder) → gave folder → folder ≡ []) → length inner ≡ 1 → ((outer : ℕ) (name : List ℕ) → link inner outer name ≡ None) → (IsTrue has_list ↔ (unless_empty list ≡ list ∷ []))
-    → AreUnderWay {T = T} {X = X} shows gave seen n case (lists ++ unless_empty list) [] ((record { place = 0; length = 0; has_list = has_list }) ∷ []) inner (None ∷ []) []
-at_top {T} {X} {V} {Z} shows gave seen n case lists list inner has_list count bases of given one none listed =
+pub at_top : {T X V : Type 0} (shows : Folder → EntryList V → Type 0) (gave : Folder → Type 0) (seen : X → V) (n : ℕ) (case : Case) (lists : List (EntryList V)) (list : EntryList V) (names : FolderNames) (has_list : Bool)
+    → length lists ≡ n → BasesAreFolders lists → IsListOf shows [] list → ((folder : Folder) → gave folder → folder ≡ []) → names.count ≡ 1 → ((outer : ℕ) (name : List ℕ) → names.found outer name ≡ None) → (IsTrue has_list ↔ (unless_empty list ≡ list ∷ []))
+    → AreUnderWay {T = T} {X = X} shows gave seen n case (lists ++ unless_empty list) [] ((record { place = 0; length = 0; has_list = has_list }) ∷ []) names (None ∷ []) []
+at_top {T} {X} {V} shows gave seen n case lists list names has_list count bases of given one none listed =
     let top : Facts V = record { folder = []; above = []; own = list } in
     let past : drop n lists ≡ [] = subst (λ k. drop k lists ≡ []) count (drop-length lists) in
     record {
@@ -176,7 +169,7 @@ at_top {T} {X} {V} {Z} shows gave seen n case lists list inner has_list count ba
         starts = refl;
         listed = drop-append-le n lists (unless_empty list) (omega (arith, count)) ∙ ap (λ ls. ls ++ unless_empty list) past;
       };
-      at_hand = λ folder was. (0 ∷ [], subst (λ f. ArePlaces (link inner) (reverse (folders_to (start_of f))) (0 ∷ [])) (sym (given folder was)) refl);
+      at_hand = λ folder was. (0 ∷ [], subst (λ f. ArePlaces names.found (reverse (folders_to (start_of f))) (0 ∷ [])) (sym (given folder was)) refl);
     }
   where
     held_at_top : (place : ℕ) (o : Option (patterns.List T X)) → slice_get (None ∷ []) place ≡ Some o → HoldsOwn seen (0 ∷ []) place list o
@@ -185,57 +178,57 @@ at_top {T} {X} {V} {Z} shows gave seen n case lists list inner has_list count ba
 
 -- ---- the same, with what calls leave
 
-pub moved : {T X V Z : Type 0} (shows : Folder → EntryList V → Type 0) (gave : Folder → Type 0) (seen : X → V) (n : ℕ) (case : Case) (lists new_lists : List (EntryList V)) (start new_start : List ℕ) (way new_way : List FolderOnWay) (inner : List (BTreeMap (Vec ℕ Z) ℕ)) (held new_held : List (Option (patterns.List T X))) (front : List ℕ)
-    → new_lists ≡ lists → new_start ≡ start → new_way ≡ way → new_held ≡ held → AreUnderWay shows gave seen n case lists start way inner held front → AreUnderWay shows gave seen n case new_lists new_start new_way inner new_held front
-moved shows gave seen n case lists new_lists start new_start way new_way inner held new_held front same_lists same_start same_way same_held under =
-    subst (λ l. AreUnderWay shows gave seen n case l new_start new_way inner new_held front) (sym same_lists)
-    (subst (λ s. AreUnderWay shows gave seen n case lists s new_way inner new_held front) (sym same_start)
-    (subst (λ w. AreUnderWay shows gave seen n case lists start w inner new_held front) (sym same_way)
-    (subst (λ h. AreUnderWay shows gave seen n case lists start way inner h front) (sym same_held) under)))
+pub moved : {T X V : Type 0} (shows : Folder → EntryList V → Type 0) (gave : Folder → Type 0) (seen : X → V) (n : ℕ) (case : Case) (lists new_lists : List (EntryList V)) (start new_start : List ℕ) (way new_way : List FolderOnWay) (names : FolderNames) (held new_held : List (Option (patterns.List T X))) (front : List ℕ)
+    → new_lists ≡ lists → new_start ≡ start → new_way ≡ way → new_held ≡ held → AreUnderWay shows gave seen n case lists start way names held front → AreUnderWay shows gave seen n case new_lists new_start new_way names new_held front
+moved shows gave seen n case lists new_lists start new_start way new_way names held new_held front same_lists same_start same_way same_held under =
+    subst (λ l. AreUnderWay shows gave seen n case l new_start new_way names new_held front) (sym same_lists)
+    (subst (λ s. AreUnderWay shows gave seen n case lists s new_way names new_held front) (sym same_start)
+    (subst (λ w. AreUnderWay shows gave seen n case lists start w names new_held front) (sym same_way)
+    (subst (λ h. AreUnderWay shows gave seen n case lists start way names h front) (sym same_held) under)))
 
 -- ---- the last folder
 
-module _ {T X V Z : Type 0} (shows : Folder → EntryList V → Type 0) (gave : Folder → Type 0) (seen : X → V) (n : ℕ) (case : Case) (lists : List (EntryList V)) (start : List ℕ) (way : List FolderOnWay) (inner : List (BTreeMap (Vec ℕ Z) ℕ)) (held : List (Option (patterns.List T X))) where
-  module _ (front : List ℕ) (under : AreUnderWay shows gave seen n case lists start way inner held front) where
+module _ {T X V : Type 0} (shows : Folder → EntryList V → Type 0) (gave : Folder → Type 0) (seen : X → V) (n : ℕ) (case : Case) (lists : List (EntryList V)) (start : List ℕ) (way : List FolderOnWay) (names : FolderNames) (held : List (Option (patterns.List T X))) where
+  module _ (front : List ℕ) (under : AreUnderWay shows gave seen n case lists start way names held front) where
     pub zips_last : ZipsLast (IsOnWay under.facts (length held)) (folders_to front) under.ends.above under.ends.last
     zips_last = zip_last (IsOnWay under.facts (length held)) (folders_to front) under.ends.above under.ends.last (subst (AllZip (IsOnWay under.facts (length held)) (folders_to front)) under.ends.joined under.on_way)
 
     pub starts_as : start ≡ start_of zips_last.last
     starts_as = let here = zips_last.here in under.ends.starts ∙ ap start_of here.named
 
-    pub same_way : (other : List ℕ) → AreEntered shows n lists case other (own_lists under.facts way) → folders_to other ≡ folders_to front → AreUnderWay shows gave seen n case lists start way inner held other
+    pub same_way : (other : List ℕ) → AreEntered shows n lists case other (own_lists under.facts way) → folders_to other ≡ folders_to front → AreUnderWay shows gave seen n case lists start way names held other
     same_way other stands same = record {
       facts = under.facts;
       known = under.known;
       stands = stands;
       on_way = subst (λ fs. AllZip (IsOnWay under.facts (length held)) fs way) (sym same) under.on_way;
-      places = subst (λ fs. ArePlaces (link inner) (reverse fs) (reverse (places_of way))) (sym same) under.places;
+      places = subst (λ fs. ArePlaces names.found (reverse fs) (reverse (places_of way))) (sym same) under.places;
       ends = under.ends;
       at_hand = under.at_hand;
     }
 
     -- what lies right in the last folder
-    pub under_start : AreUnderWay shows gave seen n case lists start way inner held start
+    pub under_start : AreUnderWay shows gave seen n case lists start way names held start
     under_start =
         let stays = entered_stays shows case n front zips_last.init zips_last.last zips_last.joined lists (own_lists under.facts way) under.stands in
-        subst (AreUnderWay shows gave seen n case lists start way inner held) (sym starts_as) (same_way (start_of zips_last.last) stays.0 stays.1)
+        subst (AreUnderWay shows gave seen n case lists start way names held) (sym starts_as) (same_way (start_of zips_last.last) stays.0 stays.1)
 
   module _ (path : List ℕ) where
     -- a byte more, which is no slash
-    pub under_byte : (place : ℕ) → place < length path → ¬ (slice_index path place ≡ slash) → AreUnderWay shows gave seen n case lists start way inner held (take place path) → AreUnderWay shows gave seen n case lists start way inner held (take (place + 1) path)
+    pub under_byte : (place : ℕ) → place < length path → ¬ (slice_index path place ≡ slash) → AreUnderWay shows gave seen n case lists start way names held (take place path) → AreUnderWay shows gave seen n case lists start way names held (take (place + 1) path)
     under_byte place inside other under =
         same_way (take place path) under (take (place + 1) path) (passing shows case n lists (own_lists under.facts way) path place inside other under.stands) (passing_way path place inside other)
 
     -- all bytes more, of which none is a slash
-    pub under_rest : (more place : ℕ) → place + more ≡ length path → ((j : ℕ) → place ≤ j → ¬ HasByte path j slash) → AreUnderWay shows gave seen n case lists start way inner held (take place path) → AreUnderWay shows gave seen n case lists start way inner held path
-    under_rest zero place ends none under = subst (AreUnderWay shows gave seen n case lists start way inner held) (take_all place path (omega arith)) under
+    pub under_rest : (more place : ℕ) → place + more ≡ length path → ((j : ℕ) → place ≤ j → ¬ HasByte path j slash) → AreUnderWay shows gave seen n case lists start way names held (take place path) → AreUnderWay shows gave seen n case lists start way names held path
+    under_rest zero place ends none under = subst (AreUnderWay shows gave seen n case lists start way names held) (take_all place path (omega arith)) under
     under_rest (suc more) place ends none under =
         under_rest more (place + 1) (omega arith) (λ j from. none j (omega arith))
         (under_byte place (omega arith) (λ is. none place (omega arith) (record { inside = omega arith; is = is })) under)
 
   -- ---- a folder in the last one
 
-  module _ (x : ℕ) (xs : List ℕ) (under : AreUnderWay shows gave seen n case lists start way inner held (x ∷ xs)) where
+  module _ (x : ℕ) (xs : List ℕ) (under : AreUnderWay shows gave seen n case lists start way names held (x ∷ xs)) where
     -- its name there
     pub name_here : start_of (under.facts under.ends.last.place).folder ++ drop under.ends.last.length (x ∷ xs) ≡ x ∷ xs
     name_here =
@@ -267,34 +260,34 @@ module _ {T X V Z : Type 0} (shows : Folder → EntryList V → Type 0) (gave : 
     last_places : reverse (places_of way) ≡ reverse (places_of under.ends.above ++ under.ends.last.place ∷ [])
     last_places = ap (λ w. reverse (places_of w)) under.ends.joined ∙ ap reverse (map-append (λ (there : FolderOnWay). there.place) under.ends.above (under.ends.last ∷ []))
 
-    places_here : ArePlaces (link inner) (reverse ((zips_last (x ∷ xs) under).init ++ (zips_last (x ∷ xs) under).last ∷ [])) (reverse (places_of under.ends.above ++ under.ends.last.place ∷ []))
+    places_here : ArePlaces names.found (reverse ((zips_last (x ∷ xs) under).init ++ (zips_last (x ∷ xs) under).last ∷ [])) (reverse (places_of under.ends.above ++ under.ends.last.place ∷ []))
     places_here =
         let zips = zips_last (x ∷ xs) under in
-        subst (ArePlaces (link inner) (reverse (zips.init ++ zips.last ∷ []))) last_places (subst (λ fs. ArePlaces (link inner) (reverse fs) (reverse (places_of way))) zips.joined under.places)
+        subst (ArePlaces names.found (reverse (zips.init ++ zips.last ∷ []))) last_places (subst (λ fs. ArePlaces names.found (reverse fs) (reverse (places_of way))) zips.joined under.places)
 
     way_to : folders_to (start_of (x ∷ xs)) ≡ ((zips_last (x ∷ xs) under).init ++ (zips_last (x ∷ xs) under).last ∷ []) ++ (x ∷ xs) ∷ []
     way_to = let zips = zips_last (x ∷ xs) under in folders_slash x xs ∙ ap (λ fs. fs ++ (x ∷ xs) ∷ []) zips.joined
 
     -- a folder whose list was given is found
-    pub found_once : gave (x ∷ xs) → (place : ℕ) × (link inner under.ends.last.place (drop under.ends.last.length (x ∷ xs)) ≡ Some place)
+    pub found_once : gave (x ∷ xs) → (place : ℕ) × (names.found under.ends.last.place (drop under.ends.last.length (x ∷ xs)) ≡ Some place)
     found_once given =
         let zips = zips_last (x ∷ xs) under in
         let there = under.at_hand (x ∷ xs) given in
-        let found = named (link inner) zips.init zips.last (x ∷ xs) (places_of under.ends.above) under.ends.last.place there.0 places_here
-        (subst (λ fs. ArePlaces (link inner) (reverse fs) there.0) way_to there.1) in
-        (found.0, ap (link inner under.ends.last.place) same_name ∙ found.1)
+        let found = named names.found zips.init zips.last (x ∷ xs) (places_of under.ends.above) under.ends.last.place there.0 places_here
+        (subst (λ fs. ArePlaces names.found (reverse fs) there.0) way_to there.1) in
+        (found.0, ap (names.found under.ends.last.place) same_name ∙ found.1)
 
     -- the places where it has this one
-    places_with : (more : List (BTreeMap (Vec ℕ Z) ℕ)) (place length : ℕ) (has_list : Bool) → ArePlaces (link more) (reverse ((zips_last (x ∷ xs) under).init ++ (zips_last (x ∷ xs) under).last ∷ [])) (reverse (places_of under.ends.above ++ under.ends.last.place ∷ []))
-        → link more under.ends.last.place (drop under.ends.last.length (x ∷ xs)) ≡ Some place
-        → ArePlaces (link more) (reverse (folders_to ((x ∷ xs) ++ slash ∷ []))) (reverse (places_of (way ++ (record { place = place; length = length; has_list = has_list }) ∷ [])))
+    places_with : (more : FolderNames) (place length : ℕ) (has_list : Bool) → ArePlaces more.found (reverse ((zips_last (x ∷ xs) under).init ++ (zips_last (x ∷ xs) under).last ∷ [])) (reverse (places_of under.ends.above ++ under.ends.last.place ∷ []))
+        → more.found under.ends.last.place (drop under.ends.last.length (x ∷ xs)) ≡ Some place
+        → ArePlaces more.found (reverse (folders_to ((x ∷ xs) ++ slash ∷ []))) (reverse (places_of (way ++ (record { place = place; length = length; has_list = has_list }) ∷ [])))
     places_with more place length has_list there is =
         let zips = zips_last (x ∷ xs) under in
-        let longer = places_more (link more) zips.init zips.last (x ∷ xs) (places_of under.ends.above) under.ends.last.place place there (sym (ap (link more under.ends.last.place) same_name) ∙ is) in
+        let longer = places_more more.found zips.init zips.last (x ∷ xs) (places_of under.ends.above) under.ends.last.place place there (sym (ap (more.found under.ends.last.place) same_name) ∙ is) in
         let last : FolderOnWay = record { place = place; length = length; has_list = has_list } in
         let places : places_of (way ++ last ∷ []) ≡ (places_of under.ends.above ++ under.ends.last.place ∷ []) ++ place ∷ [] =
         map-append (λ (there : FolderOnWay). there.place) way (last ∷ []) ∙ ap (λ ps. ps ++ place ∷ []) (ap places_of under.ends.joined ∙ map-append (λ (there : FolderOnWay). there.place) under.ends.above (under.ends.last ∷ [])) in
-        subst (λ fs. ArePlaces (link more) (reverse fs) (reverse (places_of (way ++ last ∷ [])))) (sym way_to) (subst (λ ps. ArePlaces (link more) (reverse ((zips.init ++ zips.last ∷ []) ++ (x ∷ xs) ∷ [])) (reverse ps)) (sym places) longer)
+        subst (λ fs. ArePlaces more.found (reverse fs) (reverse (places_of (way ++ last ∷ [])))) (sym way_to) (subst (λ ps. ArePlaces more.found (reverse ((zips.init ++ zips.last ∷ []) ++ (x ∷ xs) ∷ [])) (reverse ps)) (sym places) longer)
 
     -- the lists on the way are all
     all_lists : take n lists ++ drop n lists ≡ lists
@@ -305,7 +298,7 @@ module _ {T X V Z : Type 0} (shows : Folder → EntryList V → Type 0) (gave : 
 
     -- ---- it is entered again
 
-    module _ (place : ℕ) (is : link inner under.ends.last.place (drop under.ends.last.length (x ∷ xs)) ≡ Some place) where
+    module _ (place : ℕ) (is : names.found under.ends.last.place (drop under.ends.last.length (x ∷ xs)) ≡ Some place) where
       found_here : (place < length held) × IsInner (under.facts under.ends.last.place) (drop under.ends.last.length (x ∷ xs)) (under.facts place)
       found_here = under.known.links under.ends.last.place (drop under.ends.last.length (x ∷ xs)) place is
 
@@ -335,10 +328,10 @@ module _ {T X V Z : Type 0} (shows : Folder → EntryList V → Type 0) (gave : 
         on_way_again : IsOnWay under.facts (length held) (x ∷ xs) (record { place = place; length = length (start_of (x ∷ xs)); has_list = is_some kept })
         on_way_again = record { inside = found_here.0; named = folder_here; long = refl; listed = held_here.1 }
 
-        known_again : (more : List (EntryList V)) → AreKnown seen shows (take n (lists ++ more)) case under.facts inner (slice_set held place None) (places_of way ++ place ∷ [])
+        known_again : (more : List (EntryList V)) → AreKnown seen shows (take n (lists ++ more)) case under.facts names (slice_set held place None) (places_of way ++ place ∷ [])
         known_again more = record {
           count = under.known.count ∙ sym (length-set held place None);
-          links = λ outer name other found. let old = under.known.links outer name other found in (subst (λ k. other < k) (sym (length-set held place None)) old.0, old.1);
+          links = λ outer name other found. let old = under.known.links outer name other found in (subst (λ k. other < k) (sym (length-set held place None)) old.0, old.1, subst (λ k. outer < k) (sym (length-set held place None)) old.2);
           known = λ other inside. subst (λ ls. IsKnown shows ls case (under.facts other)) (sym (fronts_stay more)) (under.known.known other (subst (λ k. other < k) (length-set held place None) inside));
           kept = λ other o stands. ⊎_elim
               (λ (same : other ≡ place).
@@ -348,7 +341,7 @@ module _ {T X V Z : Type 0} (shows : Folder → EntryList V → Type 0) (gave : 
               (cases_eq other place);
         }
 
-        pub again : AreUnderWay shows gave seen n case (lists ++ map (entry_list_of seen) (option_to_list kept)) (start_of (x ∷ xs)) (way ++ (record { place = place; length = length (start_of (x ∷ xs)); has_list = is_some kept }) ∷ []) inner (slice_set held place None) ((x ∷ xs) ++ slash ∷ [])
+        pub again : AreUnderWay shows gave seen n case (lists ++ map (entry_list_of seen) (option_to_list kept)) (start_of (x ∷ xs)) (way ++ (record { place = place; length = length (start_of (x ∷ xs)); has_list = is_some kept }) ∷ []) names (slice_set held place None) ((x ∷ xs) ++ slash ∷ [])
         again =
             let last : FolderOnWay = record { place = place; length = length (start_of (x ∷ xs)); has_list = is_some kept } in
             let own = (under.facts place).own in
@@ -357,12 +350,12 @@ module _ {T X V Z : Type 0} (shows : Folder → EntryList V → Type 0) (gave : 
             let stands = entered_folder shows case n lists (own_lists under.facts way) x xs own under.stands unignored_here list_here in
             record {
               facts = under.facts;
-              known = subst (AreKnown seen shows (take n (lists ++ map (entry_list_of seen) (option_to_list kept))) case under.facts inner (slice_set held place None)) (sym places) (known_again (map (entry_list_of seen) (option_to_list kept)));
+              known = subst (AreKnown seen shows (take n (lists ++ map (entry_list_of seen) (option_to_list kept))) case under.facts names (slice_set held place None)) (sym places) (known_again (map (entry_list_of seen) (option_to_list kept)));
               stands = subst (λ ls. AreEntered shows n (lists ++ ls) case ((x ∷ xs) ++ slash ∷ []) (own_lists under.facts (way ++ last ∷ []))) (sym view)
                   (subst (AreEntered shows n (lists ++ unless_empty own) case ((x ∷ xs) ++ slash ∷ [])) (sym (map-append (λ (there : FolderOnWay). (under.facts there.place).own) way (last ∷ []))) stands);
               on_way = subst (λ k. AllZip (IsOnWay under.facts k) (folders_to ((x ∷ xs) ++ slash ∷ [])) (way ++ last ∷ [])) (sym (length-set held place None))
                   (subst (λ fs. AllZip (IsOnWay under.facts (length held)) fs (way ++ last ∷ [])) (sym (folders_slash x xs)) (zip_more (IsOnWay under.facts (length held)) (folders_to (x ∷ xs)) way (x ∷ xs) last under.on_way on_way_again));
-              places = places_with inner place (length (start_of (x ∷ xs))) (is_some kept) places_here is;
+              places = places_with names place (length (start_of (x ∷ xs))) (is_some kept) places_here is;
               ends = record {
                 above = way;
                 last = last;
@@ -375,7 +368,7 @@ module _ {T X V Z : Type 0} (shows : Folder → EntryList V → Type 0) (gave : 
 
     -- ---- it was just asked for
 
-    module _ (list : EntryList V) (of : IsListOf shows (x ∷ xs) list) (unignored : (pair : ℕ × ℕ) → ¬ Ignores lists case (x ∷ xs) pair) (more : List (BTreeMap (Vec ℕ Z) ℕ)) (place : ℕ) (adds : AddsFolder inner more under.ends.last.place (drop under.ends.last.length (x ∷ xs)) place) (none : link inner under.ends.last.place (drop under.ends.last.length (x ∷ xs)) ≡ None) where
+    module _ (list : EntryList V) (of : IsListOf shows (x ∷ xs) list) (unignored : (pair : ℕ × ℕ) → ¬ Ignores lists case (x ∷ xs) pair) (more : FolderNames) (place : ℕ) (adds : AddsFolder names more under.ends.last.place (drop under.ends.last.length (x ∷ xs)) place) (none : names.found under.ends.last.place (drop under.ends.last.length (x ∷ xs)) ≡ None) where
       abbrev asked : Facts V
       asked = record { folder = x ∷ xs; above = drop n lists; own = list }
 
@@ -401,17 +394,17 @@ module _ {T X V Z : Type 0} (shows : Folder → EntryList V → Type 0) (gave : 
           (λ (apart : outer ≡ under.ends.last.place → ⊥). inr (λ both. apart both.0))
           (cases_eq outer under.ends.last.place)
 
-      stays : (outer : ℕ) (name : List ℕ) (other : ℕ) → link inner outer name ≡ Some other → link more outer name ≡ Some other
+      stays : (outer : ℕ) (name : List ℕ) (other : ℕ) → names.found outer name ≡ Some other → more.found outer name ≡ Some other
       stays outer name other found = ⊎_elim
           (λ (it : (outer ≡ under.ends.last.place) × (name ≡ drop under.ends.last.length (x ∷ xs))).
-          let clash : None ≡ Some other = sym none ∙ sym (ap (λ k. link inner k name) it.0 ∙ ap (link inner under.ends.last.place) it.1) ∙ found in
+          let clash : None ≡ Some other = sym none ∙ sym (ap (λ k. names.found k name) it.0 ∙ ap (names.found under.ends.last.place) it.1) ∙ found in
           absurd (cc))
           (λ (apart : (outer ≡ under.ends.last.place) × (name ≡ drop under.ends.last.length (x ∷ xs)) → ⊥). adds.others outer name apart ∙ found)
           (is_it outer name)
 
-      new_link : (outer : ℕ) (name : List ℕ) (other : ℕ) → link more outer name ≡ Some other → (outer ≡ under.ends.last.place) × (name ≡ drop under.ends.last.length (x ∷ xs)) → (other < length (held ++ None ∷ [])) × IsInner (facts_then outer) name (facts_then other)
+      new_link : (outer : ℕ) (name : List ℕ) (other : ℕ) → more.found outer name ≡ Some other → (outer ≡ under.ends.last.place) × (name ≡ drop under.ends.last.length (x ∷ xs)) → (other < length (held ++ None ∷ [])) × IsInner (facts_then outer) name (facts_then other) × (outer < length (held ++ None ∷ []))
       new_link outer name other found it =
-          let same : other ≡ place = same_Some other place (sym found ∙ ap (λ k. link more k name) it.0 ∙ ap (link more under.ends.last.place) it.1 ∙ adds.here) in (
+          let same : other ≡ place = same_Some other place (sym found ∙ ap (λ k. more.found k name) it.0 ∙ ap (more.found under.ends.last.place) it.1 ∙ adds.here) in (
             omega (arith, one_more, same),
             subst (λ k. IsInner (facts_then k) name (facts_then other)) (sym it.0)
                 (subst (λ t. IsInner (facts_then under.ends.last.place) t (facts_then other)) (sym it.1)
@@ -419,16 +412,18 @@ module _ {T X V Z : Type 0} (shows : Folder → EntryList V → Type 0) (gave : 
                 (subst (λ (k : Facts V). IsInner (facts_then under.ends.last.place) (drop under.ends.last.length (x ∷ xs)) k) (sym (facts_here under.facts place asked))
                 (subst (λ (k : Facts V). IsInner k (drop under.ends.last.length (x ∷ xs)) asked) (sym (facts_other under.facts place asked under.ends.last.place last_before))
                 (record { folder = sym name_here; above = under.ends.listed }))))),
+            subst (λ k. k < length (held ++ None ∷ [])) (sym it.0) (omega (arith, one_more, last_before)),
           )
 
-      old_link : (outer : ℕ) (name : List ℕ) (other : ℕ) → link inner outer name ≡ Some other → (other < length (held ++ None ∷ [])) × IsInner (facts_then outer) name (facts_then other)
+      old_link : (outer : ℕ) (name : List ℕ) (other : ℕ) → names.found outer name ≡ Some other → (other < length (held ++ None ∷ [])) × IsInner (facts_then outer) name (facts_then other) × (outer < length (held ++ None ∷ []))
       old_link outer name other found =
           let old = under.known.links outer name other found in
-          let inside = link_inside inner outer name other found in
+          let inside = old.2 in
           let before = old.0 in (
             omega (arith, one_more, at_end),
-            subst (λ (k : Facts V). IsInner k name (facts_then other)) (sym (facts_other under.facts place asked outer (omega (arith, at_end, under.known.count))))
+            subst (λ (k : Facts V). IsInner k name (facts_then other)) (sym (facts_other under.facts place asked outer (omega (arith, at_end, inside))))
                 (subst (λ (k : Facts V). IsInner (under.facts outer) name k) (sym (facts_other under.facts place asked other (omega (arith, at_end)))) old.1),
+            omega (arith, one_more, at_end, inside),
           )
 
       known_at : (fronts : List (EntryList V)) → fronts ≡ take n lists → IsKnown shows fronts case asked
@@ -474,8 +469,8 @@ module _ {T X V Z : Type 0} (shows : Folder → EntryList V → Type 0) (gave : 
           listed = subst (λ (k : Facts V). IsTrue has_list ↔ (unless_empty k.own ≡ k.own ∷ [])) (sym (facts_here under.facts place asked)) listed;
         }
 
-        places_then : ArePlaces (link more) (reverse (folders_to ((x ∷ xs) ++ slash ∷ []))) (reverse (places_of (way ++ (record { place = place; length = length (start_of (x ∷ xs)); has_list = has_list }) ∷ [])))
-        places_then = places_with more place (length (start_of (x ∷ xs))) has_list (places_stay (link inner) (link more) stays _ _ places_here) adds.here
+        places_then : ArePlaces more.found (reverse (folders_to ((x ∷ xs) ++ slash ∷ []))) (reverse (places_of (way ++ (record { place = place; length = length (start_of (x ∷ xs)); has_list = has_list }) ∷ [])))
+        places_then = places_with more place (length (start_of (x ∷ xs))) has_list (places_stay names.found more.found stays _ _ places_here) adds.here
 
         pub anew : AreUnderWay shows real seen n case (lists ++ unless_empty list) (start_of (x ∷ xs)) (way ++ (record { place = place; length = length (start_of (x ∷ xs)); has_list = has_list }) ∷ []) more (held ++ None ∷ []) ((x ∷ xs) ++ slash ∷ [])
         anew =
@@ -499,66 +494,66 @@ module _ {T X V Z : Type 0} (shows : Folder → EntryList V → Type 0) (gave : 
                 listed = drop-append-le n lists (unless_empty list) under.stands.many ∙ sym (ap (λ (k : Facts V). lists_to k) here);
               };
               at_hand = λ folder was. ⊎_elim
-                  (λ (same : folder ≡ x ∷ xs). (reverse (places_of (way ++ last ∷ [])), subst (λ f. ArePlaces (link more) (reverse (folders_to (start_of f))) (reverse (places_of (way ++ last ∷ [])))) (sym same) places_then))
-                  (λ (apart : folder ≡ x ∷ xs → ⊥). let there = under.at_hand folder (given folder was apart) in (there.0, places_stay (link inner) (link more) stays (reverse (folders_to (start_of folder))) there.0 there.1))
+                  (λ (same : folder ≡ x ∷ xs). (reverse (places_of (way ++ last ∷ [])), subst (λ f. ArePlaces more.found (reverse (folders_to (start_of f))) (reverse (places_of (way ++ last ∷ [])))) (sym same) places_then))
+                  (λ (apart : folder ≡ x ∷ xs → ⊥). let there = under.at_hand folder (given folder was apart) in (there.0, places_stay names.found more.found stays (reverse (folders_to (start_of folder))) there.0 there.1))
                   (cases_bytes folder (x ∷ xs));
             }
 
 -- ---- the same, of a front that isn't the top
 
-module _ {T X V Z : Type 0} (shows : Folder → EntryList V → Type 0) (gave : Folder → Type 0) (seen : X → V) (n : ℕ) (case : Case) (lists : List (EntryList V)) (start : List ℕ) (way : List FolderOnWay) (inner : List (BTreeMap (Vec ℕ Z) ℕ)) (held : List (Option (patterns.List T X))) where
+module _ {T X V : Type 0} (shows : Folder → EntryList V → Type 0) (gave : Folder → Type 0) (seen : X → V) (n : ℕ) (case : Case) (lists : List (EntryList V)) (start : List ℕ) (way : List FolderOnWay) (names : FolderNames) (held : List (Option (patterns.List T X))) where
   -- the name of what lies in the last folder
-  pub fits : (front : List ℕ) → ¬ (front ≡ []) → AreUnderWay shows gave seen n case lists start way inner held front → (last : FolderOnWay) → EndsWith way last → last.length ≤ length front
+  pub fits : (front : List ℕ) → ¬ (front ≡ []) → AreUnderWay shows gave seen n case lists start way names held front → (last : FolderOnWay) → EndsWith way last → last.length ≤ length front
   fits [] deep under last is = absurd (deep refl)
   fits (x ∷ xs) deep under last is =
-      let long = last_long shows gave seen n case lists start way inner held x xs under in
-      let short = start_fits shows gave seen n case lists start way inner held x xs under in
+      let long = last_long shows gave seen n case lists start way names held x xs under in
+      let short = start_fits shows gave seen n case lists start way names held x xs under in
       subst (λ (w : FolderOnWay). w.length ≤ length (x ∷ xs)) (sym (is under.ends.above under.ends.last under.ends.joined)) (omega (arith, long, short))
 
-  pub start_within : (front : List ℕ) → ¬ (front ≡ []) → AreUnderWay shows gave seen n case lists start way inner held front → length start ≤ length front
+  pub start_within : (front : List ℕ) → ¬ (front ≡ []) → AreUnderWay shows gave seen n case lists start way names held front → length start ≤ length front
   start_within [] deep under = absurd (deep refl)
-  start_within (x ∷ xs) deep under = start_fits shows gave seen n case lists start way inner held x xs under
+  start_within (x ∷ xs) deep under = start_fits shows gave seen n case lists start way names held x xs under
 
   -- how what lies in it begins
-  pub start_next : (front : List ℕ) → ¬ (front ≡ []) → AreUnderWay shows gave seen n case lists start way inner held front → start ++ drop (length start) (front ++ slash ∷ []) ≡ start_of front
+  pub start_next : (front : List ℕ) → ¬ (front ≡ []) → AreUnderWay shows gave seen n case lists start way names held front → start ++ drop (length start) (front ++ slash ∷ []) ≡ start_of front
   start_next [] deep under = absurd (deep refl)
-  start_next (x ∷ xs) deep under = start_then shows gave seen n case lists start way inner held x xs under
+  start_next (x ∷ xs) deep under = start_then shows gave seen n case lists start way names held x xs under
 
   -- it was given once
-  pub once : (front : List ℕ) → ¬ (front ≡ []) → (under : AreUnderWay shows gave seen n case lists start way inner held front) → link inner under.ends.last.place (drop under.ends.last.length front) ≡ None → ¬ gave front
+  pub once : (front : List ℕ) → ¬ (front ≡ []) → (under : AreUnderWay shows gave seen n case lists start way names held front) → names.found under.ends.last.place (drop under.ends.last.length front) ≡ None → ¬ gave front
   once [] deep under none given = absurd (deep refl)
   once (x ∷ xs) deep under none given =
-      let found = found_once shows gave seen n case lists start way inner held x xs under given in
+      let found = found_once shows gave seen n case lists start way names held x xs under given in
       let clash : None ≡ Some found.0 = sym none ∙ found.1 in
       absurd (cc)
 
-  pub entered_again : (front : List ℕ) → ¬ (front ≡ []) → (under : AreUnderWay shows gave seen n case lists start way inner held front) → (place : ℕ) → link inner under.ends.last.place (drop under.ends.last.length front) ≡ Some place → (kept : Option (patterns.List T X)) → slice_get held place ≡ Some kept
-      → AreUnderWay shows gave seen n case (lists ++ map (entry_list_of seen) (option_to_list kept)) (start_of front) (way ++ (record { place = place; length = length (start_of front); has_list = is_some kept }) ∷ []) inner (slice_set held place None) (front ++ slash ∷ [])
+  pub entered_again : (front : List ℕ) → ¬ (front ≡ []) → (under : AreUnderWay shows gave seen n case lists start way names held front) → (place : ℕ) → names.found under.ends.last.place (drop under.ends.last.length front) ≡ Some place → (kept : Option (patterns.List T X)) → slice_get held place ≡ Some kept
+      → AreUnderWay shows gave seen n case (lists ++ map (entry_list_of seen) (option_to_list kept)) (start_of front) (way ++ (record { place = place; length = length (start_of front); has_list = is_some kept }) ∷ []) names (slice_set held place None) (front ++ slash ∷ [])
   entered_again [] deep under = absurd (deep refl)
-  entered_again (x ∷ xs) deep under = again shows gave seen n case lists start way inner held x xs under
+  entered_again (x ∷ xs) deep under = again shows gave seen n case lists start way names held x xs under
 
-  pub entered_anew : (front : List ℕ) → ¬ (front ≡ []) → (under : AreUnderWay shows gave seen n case lists start way inner held front) → (list : EntryList V) → IsListOf shows front list → ((pair : ℕ × ℕ) → ¬ Ignores lists case front pair)
-      → (more : List (BTreeMap (Vec ℕ Z) ℕ)) (place : ℕ) → AddsFolder inner more under.ends.last.place (drop under.ends.last.length front) place → link inner under.ends.last.place (drop under.ends.last.length front) ≡ None
+  pub entered_anew : (front : List ℕ) → ¬ (front ≡ []) → (under : AreUnderWay shows gave seen n case lists start way names held front) → (list : EntryList V) → IsListOf shows front list → ((pair : ℕ × ℕ) → ¬ Ignores lists case front pair)
+      → (more : FolderNames) (place : ℕ) → AddsFolder names more under.ends.last.place (drop under.ends.last.length front) place → names.found under.ends.last.place (drop under.ends.last.length front) ≡ None
       → (real : Folder → Type 0) → ((folder : Folder) → real folder → ¬ (folder ≡ front) → gave folder) → (has_list : Bool) → (IsTrue has_list ↔ (unless_empty list ≡ list ∷ []))
       → AreUnderWay shows real seen n case (lists ++ unless_empty list) (start_of front) (way ++ (record { place = place; length = length (start_of front); has_list = has_list }) ∷ []) more (held ++ None ∷ []) (front ++ slash ∷ [])
   entered_anew [] deep under = absurd (deep refl)
-  entered_anew (x ∷ xs) deep under = anew shows gave seen n case lists start way inner held x xs under
+  entered_anew (x ∷ xs) deep under = anew shows gave seen n case lists start way names held x xs under
 
   -- the last folder is known
-  pub last_inside : (front : List ℕ) → (under : AreUnderWay shows gave seen n case lists start way inner held front) → under.ends.last.place < length inner
+  pub last_inside : (front : List ℕ) → (under : AreUnderWay shows gave seen n case lists start way names held front) → under.ends.last.place < names.count
   last_inside front under =
-      let here = (zips_last shows gave seen n case lists start way inner held front under).here in
+      let here = (zips_last shows gave seen n case lists start way names held front under).here in
       let inside = here.inside in
       omega (arith, inside, under.known.count)
 
-  pub long_as_start : (front : List ℕ) → (under : AreUnderWay shows gave seen n case lists start way inner held front) → (last : FolderOnWay) → EndsWith way last → last.length ≡ length start
+  pub long_as_start : (front : List ℕ) → (under : AreUnderWay shows gave seen n case lists start way names held front) → (last : FolderOnWay) → EndsWith way last → last.length ≡ length start
   long_as_start front under last is =
-      let here = (zips_last shows gave seen n case lists start way inner held front under).here in
-      ap (λ (w : FolderOnWay). w.length) (is under.ends.above under.ends.last under.ends.joined) ∙ here.long ∙ ap length (sym (starts_as shows gave seen n case lists start way inner held front under))
+      let here = (zips_last shows gave seen n case lists start way names held front under).here in
+      ap (λ (w : FolderOnWay). w.length) (is under.ends.above under.ends.last under.ends.joined) ∙ here.long ∙ ap length (sym (starts_as shows gave seen n case lists start way names held front under))
 
   -- a path that begins with a slash enters no folder there
-  pub under_slash : (front : List ℕ) → front ≡ [] → AreUnderWay shows gave seen n case lists start way inner held front → ((pair : ℕ × ℕ) → ¬ Ignores lists case front pair) → AreUnderWay shows gave seen n case lists start way inner held (front ++ slash ∷ [])
-  under_slash [] none under kept = same_way shows gave seen n case lists start way inner held [] under (slash ∷ []) (entered_slash shows case n lists (own_lists under.facts way) under.stands kept) refl
+  pub under_slash : (front : List ℕ) → front ≡ [] → AreUnderWay shows gave seen n case lists start way names held front → ((pair : ℕ × ℕ) → ¬ Ignores lists case front pair) → AreUnderWay shows gave seen n case lists start way names held (front ++ slash ∷ [])
+  under_slash [] none under kept = same_way shows gave seen n case lists start way names held [] under (slash ∷ []) (entered_slash shows case n lists (own_lists under.facts way) under.stands kept) refl
   under_slash (x ∷ xs) none under kept = absurd (cc)
 
   -- what a source showed it shows on, and it gave no list more
@@ -572,7 +567,7 @@ module _ {T X V Z : Type 0} (shows : Folder → EntryList V → Type 0) (gave : 
     zip_goes_on (f ∷ folders) [] zip = absurd zip
     zip_goes_on (f ∷ folders) (l ∷ own) zip = (list_goes_on f l zip.0, zip_goes_on folders own zip.1)
 
-    pub under_goes_on : (front : List ℕ) → AreUnderWay shows gave seen n case lists start way inner held front → AreUnderWay shows_on gave_then seen n case lists start way inner held front
+    pub under_goes_on : (front : List ℕ) → AreUnderWay shows gave seen n case lists start way names held front → AreUnderWay shows_on gave_then seen n case lists start way names held front
     under_goes_on front under = record {
       facts = under.facts;
       known = record {

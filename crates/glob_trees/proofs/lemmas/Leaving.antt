@@ -2,7 +2,6 @@
 use Rattle.std.proofs.Common.{◌≡◌, ⊎_elim, ℕ, ◌<◌, ◌≤◌, List, [], ◌∷◌, ◌++◌, length, take, drop, Option, Some, Vec, refl, sym, ap, subst, ◌∙◌, append_assoc, length-append, length-drop, arith}
 use Rattle.std.specs.Prelude.{◌↔◌, IsTrue, reverse, slice_get, slice_set}
 use Rattle.std.specs.List.{AllZip}
-use Rattle.std.specs.BTreeMap.{BTreeMap}
 use Rattle.std.proofs.Math.Seq.{take-append_seam}
 use Rattle.std.proofs.lemmas.Bool.{cases_eq}
 use Rattle.std.proofs.lemmas.List.{drop-append-le, map-append, take-append-drop, take-append-le}
@@ -12,7 +11,8 @@ use Rattle.gix_glob.specs.Bytes.{slash}
 use Rattle.gix_glob.specs.EntryLists.{EntryList, entry_list_of}
 use Rattle.glob_trees.specs.declared.on_way.FolderOnWay.{FolderOnWay}
 use Rattle.glob_trees.specs.Private.Entered.{AreEntered, AreUnderWay, EndsWith, HoldsOwn, IsInner, IsKnown, IsOnWay, lists_to, own_lists, places_of}
-use Rattle.glob_trees.specs.Private.Known.{ArePlaces, link, name_in}
+use Rattle.glob_trees.specs.Known.{FolderNames}
+use Rattle.glob_trees.specs.Private.Known.{ArePlaces, name_in}
 use Rattle.glob_trees.specs.Ways.{Folder, folders_to, start_of, unless_empty}
 use Rattle.glob_trees.proofs.lemmas.Entering.{entered_left, front_same, name_follows}
 use Rattle.glob_trees.proofs.lemmas.Known.{holds_less, set_here, set_other, starts_as, zips_last}
@@ -31,13 +31,13 @@ start_longer : (folder above : Folder) → ¬ (folder ≡ []) → start_of above
 start_longer [] above deep joined = absurd (deep refl)
 start_longer (x ∷ xs) above deep joined = sym (ap (λ t. t ++ slash ∷ []) joined) ∙ append_assoc (start_of above) (drop (length (start_of above)) (x ∷ xs)) (slash ∷ [])
 
-module _ {T X V Z : Type 0} (shows : Folder → EntryList V → Type 0) (gave : Folder → Type 0) (seen : X → V) (n : ℕ) (case : Case) (lists : List (EntryList V)) (start : List ℕ) (way : List FolderOnWay) (inner : List (BTreeMap (Vec ℕ Z) ℕ)) (held : List (Option (patterns.List T X))) (front : List ℕ) (under : AreUnderWay shows gave seen n case lists start way inner held front) (deep : 0 < length start) where
+module _ {T X V : Type 0} (shows : Folder → EntryList V → Type 0) (gave : Folder → Type 0) (seen : X → V) (n : ℕ) (case : Case) (lists : List (EntryList V)) (start : List ℕ) (way : List FolderOnWay) (names : FolderNames) (held : List (Option (patterns.List T X))) (front : List ℕ) (under : AreUnderWay shows gave seen n case lists start way names held front) (deep : 0 < length start) where
   pub zips : ZipsLast (IsOnWay under.facts (length held)) (folders_to front) under.ends.above under.ends.last
-  zips = zips_last shows gave seen n case lists start way inner held front under
+  zips = zips_last shows gave seen n case lists start way names held front under
 
   starts : start ≡ start_of zips.last
   unfolding zips
-  starts = starts_as shows gave seen n case lists start way inner held front under
+  starts = starts_as shows gave seen n case lists start way names held front under
 
   folder_deep : ¬ (zips.last ≡ [])
   folder_deep none = omega (arith, ap length (starts ∙ ap start_of none))
@@ -81,10 +81,10 @@ module _ {T X V Z : Type 0} (shows : Folder → EntryList V → Type 0) (gave : 
         ap places_of under.ends.joined ∙ map-append (λ (there : FolderOnWay). there.place) under.ends.above (under.ends.last ∷ [])
         ∙ ap (λ ps. ps ++ under.ends.last.place ∷ []) (ap places_of outer.2 ∙ map-append (λ (there : FolderOnWay). there.place) outer.0 (outer.1 ∷ []))
 
-    steps : (link inner outer.1.place (name_in above.last zips.last) ≡ Some under.ends.last.place) × ArePlaces (link inner) (reverse (above.init ++ above.last ∷ [])) (reverse (places_of outer.0 ++ outer.1.place ∷ []))
+    steps : (names.found outer.1.place (name_in above.last zips.last) ≡ Some under.ends.last.place) × ArePlaces names.found (reverse (above.init ++ above.last ∷ [])) (reverse (places_of outer.0 ++ outer.1.place ∷ []))
     steps =
-        places_less (link inner) above.init above.last zips.last (places_of outer.0) outer.1.place under.ends.last.place
-        (subst (λ ps. ArePlaces (link inner) (reverse ((above.init ++ above.last ∷ []) ++ zips.last ∷ [])) (reverse ps)) places_apart (subst (λ fs. ArePlaces (link inner) (reverse fs) (reverse (places_of way))) folders_apart under.places))
+        places_less names.found above.init above.last zips.last (places_of outer.0) outer.1.place under.ends.last.place
+        (subst (λ ps. ArePlaces names.found (reverse ((above.init ++ above.last ∷ []) ++ zips.last ∷ [])) (reverse ps)) places_apart (subst (λ fs. ArePlaces names.found (reverse fs) (reverse (places_of way))) folders_apart under.places))
 
     step_inner : IsInner (under.facts outer.1.place) (name_in above.last zips.last) (under.facts under.ends.last.place)
     step_inner = (under.known.links outer.1.place (name_in above.last zips.last) under.ends.last.place steps.0).1
@@ -111,7 +111,7 @@ module _ {T X V Z : Type 0} (shows : Folder → EntryList V → Type 0) (gave : 
 
     pub leaves : (now : List (Option (patterns.List T X))) → length now ≡ length held → ((place : ℕ) (o : Option (patterns.List T X)) → slice_get now place ≡ Some o → HoldsOwn seen (places_of under.ends.above) place (under.facts place).own o)
         → (last : FolderOnWay) → EndsWith under.ends.above last
-        → AreUnderWay shows gave seen n case less (take last.length start) under.ends.above inner now zips.last
+        → AreUnderWay shows gave seen n case less (take last.length start) under.ends.above names now zips.last
     leaves now same keeps last is =
         let it : last ≡ outer.1 = is outer.0 outer.1 outer.2 in
         let begins : take last.length start ≡ start_of above.last = ap (λ (w : FolderOnWay). take w.length start) it ∙ start_above in
@@ -120,14 +120,14 @@ module _ {T X V Z : Type 0} (shows : Folder → EntryList V → Type 0) (gave : 
           facts = under.facts;
           known = record {
             count = under.known.count ∙ sym same;
-            links = λ i name place found. let old = under.known.links i name place found in (subst (λ k. place < k) (sym same) old.0, old.1);
+            links = λ i name place found. let old = under.known.links i name place found in (subst (λ k. place < k) (sym same) old.0, old.1, subst (λ k. i < k) (sym same) old.2);
             known = λ place inside. subst (λ ls. IsKnown shows ls case (under.facts place)) (sym fronts_less) (under.known.known place (subst (λ k. place < k) same inside));
             kept = keeps;
           };
           stands = left.0;
           on_way = subst (λ k. AllZip (IsOnWay under.facts k) (folders_to zips.last) under.ends.above) (sym same) on_way;
-          places = subst (λ ps. ArePlaces (link inner) (reverse (folders_to zips.last)) (reverse ps)) (sym (ap places_of outer.2 ∙ map-append (λ (there : FolderOnWay). there.place) outer.0 (outer.1 ∷ [])))
-              (subst (λ fs. ArePlaces (link inner) (reverse fs) (reverse (places_of outer.0 ++ outer.1.place ∷ []))) (sym above.joined) steps.1);
+          places = subst (λ ps. ArePlaces names.found (reverse (folders_to zips.last)) (reverse ps)) (sym (ap places_of outer.2 ∙ map-append (λ (there : FolderOnWay). there.place) outer.0 (outer.1 ∷ [])))
+              (subst (λ fs. ArePlaces names.found (reverse fs) (reverse (places_of outer.0 ++ outer.1.place ∷ []))) (sym above.joined) steps.1);
           ends = record {
             above = outer.0;
             last = outer.1;

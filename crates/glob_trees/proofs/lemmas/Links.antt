@@ -12,7 +12,8 @@ use Rattle.std.proofs.lemmas.Cmp.{nat_list_cmp_total}
 use Rattle.std.proofs.lemmas.List.{length-set}
 use Rattle.std.proofs.lemmas.Map.Text.{is_eq-slice_cmp}
 use Rattle.std.proofs.lemmas.Slice.Eq.{bytes_eq-Decides}
-use Rattle.glob_trees.specs.Private.Known.{AddsFolder, link, named_in}
+use Rattle.glob_trees.specs.Known.{AddsFolder, FolderNames, KnowsNone}
+use Rattle.glob_trees.specs.Private.Known.{link, named_in}
 
 -- ---- the folders of which one changes
 
@@ -69,12 +70,20 @@ module _ {Z : Type 0} where
   link_more (m ∷ inner) empty none zero name = refl
   link_more (m ∷ inner) empty none (suc outer) name = link_more inner empty none outer name
 
-  pub none_found : (empty : BTreeMap (Vec ℕ Z) ℕ) → empty.entries ≡ [] → (outer : ℕ) (name : List ℕ) → link (empty ∷ []) outer name ≡ None
+  -- what is known by these names
+  abbrev pub names_by : List (BTreeMap (Vec ℕ Z) ℕ) → FolderNames
+  names_by inner = record { count = length inner; found = link inner }
+
+  none_found : (empty : BTreeMap (Vec ℕ Z) ℕ) → empty.entries ≡ [] → (outer : ℕ) (name : List ℕ) → link (empty ∷ []) outer name ≡ None
   none_found empty none zero name = ap (lookup (at_name name)) none
   none_found empty none (suc outer) name = refl
 
+  pub knows_top : (inner all : List (BTreeMap (Vec ℕ Z) ℕ)) (empty : BTreeMap (Vec ℕ Z) ℕ) → length inner ≡ 0 → empty.entries ≡ [] → all ≡ inner ++ empty ∷ [] → KnowsNone (names_by all) 1
+  knows_top [] all empty few none pushed = subst (λ ls. KnowsNone (names_by ls) 1) (sym pushed) (record { count = refl; none = none_found empty none })
+  knows_top (m ∷ inner) all empty few none pushed = absurd (omega arith)
+
   pub adds : (old : List (BTreeMap (Vec ℕ Z) ℕ)) (empty before after : BTreeMap (Vec ℕ Z) ℕ) (outer : ℕ) (key : Vec ℕ Z) (name : List ℕ) (place : ℕ) → empty.entries ≡ [] → outer < length old → slice_get (old ++ empty ∷ []) outer ≡ Some before
-      → key.items ≡ name → place ≡ length old → Updates key_cmp before after key (Some place) → AddsFolder old (slice_set (old ++ empty ∷ []) outer after) outer name place
+      → key.items ≡ name → place ≡ length old → Updates key_cmp before after key (Some place) → AddsFolder (names_by old) (names_by (slice_set (old ++ empty ∷ []) outer after)) outer name place
   adds old empty before after outer key name place none inside there is next updates =
       let all = old ++ empty ∷ [] in
       let then = named_then key name is before after place updates in

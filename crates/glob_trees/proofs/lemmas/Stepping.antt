@@ -92,9 +92,12 @@ ok_both (Ok a) P Q R gives first next = gives first next
 ok_both (Err e) P Q R gives first next = tt
 
 -- the lists that stand first stay, whether others were put behind them or not
+pub fronts_kept : {A E L : Type 0} (result : Result A E) (n : ℕ) (old new : List L) → OnOk result (take n new ≡ take n old) → OnErr result (new ≡ old) → take n new ≡ take n old
+fronts_kept (Ok a) n old new stays same = stays
+fronts_kept (Err e) n old new stays same = ap (take n) same
+
 pub fronts_put : {A E L : Type 0} (result : Result A E) (n : ℕ) (old new more : List L) → n ≤ length old → OnOk result (new ≡ old ++ more) → OnErr result (new ≡ old) → take n new ≡ take n old
-fronts_put (Ok a) n old new more few put same = ap (take n) put ∙ take-append-le n old more few
-fronts_put (Err e) n old new more few put same = ap (take n) same
+fronts_put result n old new more few put same = fronts_kept result n old new (ok_gives result _ _ (λ is. ap (take n) is ∙ take-append-le n old more few) put) same
 
 pub err_gives : {A E : Type 0} (result : Result A E) (P Q : Type 0) → (P → Q) → OnErr result P → OnErr result Q
 err_gives (Ok a) P Q gives holds = tt

@@ -1,14 +1,14 @@
 -- The folders that were entered, and what is kept of each folder.
-use Rattle.std.specs.Prelude.{◌≡◌, ◌⊎◌, ℕ, ◌<◌, ◌≤◌, List, [], ◌∷◌, ◌++◌, drop, length, map, reverse, slice_get, take, Option, Some, MatchOption, IsTrue, Vec, ◌↔◌}
+use Rattle.std.specs.Prelude.{◌≡◌, ◌⊎◌, ℕ, ◌<◌, ◌≤◌, List, [], ◌∷◌, ◌++◌, drop, length, map, reverse, slice_get, take, Option, Some, MatchOption, IsTrue, ◌↔◌}
 use Rattle.std.specs.List.{AllZip, Contains}
-use Rattle.std.specs.BTreeMap.{BTreeMap}
 use Rattle.gix_glob.specs.declared.pattern.Case.{Case}
 use Rattle.gix_glob.specs.declared.search.pattern.list.List as patterns
 use Rattle.gix_glob.specs.EntryLists.{EntryList, entry_list_of}
 use Rattle.glob_lists.specs.Deciding.{BasesAreFolders}
 use Rattle.glob_trees.specs.declared.entered.Entered.{Entered}
 use Rattle.glob_trees.specs.declared.on_way.FolderOnWay.{FolderOnWay}
-use Rattle.glob_trees.specs.Private.Known.{ArePlaces, link}
+use Rattle.glob_trees.specs.Known.{FolderNames}
+use Rattle.glob_trees.specs.Private.Known.{ArePlaces}
 use Rattle.glob_trees.specs.Trees.{HasNoneIgnored, Ignores}
 use Rattle.glob_trees.specs.Ways.{Folder, GoesOn, IsListOf, folders_to, start_of, unless_empty, with_entries}
 
@@ -62,9 +62,9 @@ HoldsOwn {T} {X} seen way place own kept = MatchOption kept
     (λ (list : patterns.List T X). (entry_list_of seen list ≡ own) × (unless_empty own ≡ own ∷ []))
 
 -- what is known of the folders by whose places something is kept, and of the names by which they are found
-pub record AreKnown {T X V Z : Type 0} (seen : X → V) (shows : Folder → EntryList V → Type 0) (fronts : List (EntryList V)) (case : Case) (facts : ℕ → Facts V) (inner : List (BTreeMap (Vec ℕ Z) ℕ)) (held : List (Option (patterns.List T X))) (way : List ℕ) : Type 0 where
-  pub count : length inner ≡ length held
-  pub links : (outer : ℕ) (name : List ℕ) (place : ℕ) → link inner outer name ≡ Some place → (place < length held) × IsInner (facts outer) name (facts place)
+pub record AreKnown {T X V : Type 0} (seen : X → V) (shows : Folder → EntryList V → Type 0) (fronts : List (EntryList V)) (case : Case) (facts : ℕ → Facts V) (names : FolderNames) (held : List (Option (patterns.List T X))) (way : List ℕ) : Type 0 where
+  pub count : names.count ≡ length held
+  pub links : (outer : ℕ) (name : List ℕ) (place : ℕ) → names.found outer name ≡ Some place → (place < length held) × IsInner (facts outer) name (facts place) × (outer < length held)
   pub known : (place : ℕ) → place < length held → IsKnown shows fronts case (facts place)
   pub kept : (place : ℕ) (list : Option (patterns.List T X)) → slice_get held place ≡ Some list → HoldsOwn seen way place (facts place).own list
 
@@ -77,25 +77,25 @@ pub record EndsIn {V : Type 0} (facts : ℕ → Facts V) (lists : List (EntryLis
   pub listed : lists ≡ lists_to (facts last.place)
 
 -- each folder whose list was given is found by names from the top
-abbrev pub AreAtHand : {Z : Type 0} → (Folder → Type 0) → List (BTreeMap (Vec ℕ Z) ℕ) → Type 0
-AreAtHand gave inner = (folder : Folder) → gave folder → (places : List ℕ) × ArePlaces (link inner) (reverse (folders_to (start_of folder))) places
+abbrev pub AreAtHand : (Folder → Type 0) → FolderNames → Type 0
+AreAtHand gave names = (folder : Folder) → gave folder → (places : List ℕ) × ArePlaces names.found (reverse (folders_to (start_of folder))) places
 
 -- The folders on the way to what lies at the front of a path are entered: their lists with entries stand past the first
 -- `front_count`, and `start` is how the path of what lies in the last of them begins.
-pub record AreUnderWay {T X V Z : Type 0} (shows : Folder → EntryList V → Type 0) (gave : Folder → Type 0) (seen : X → V) (front_count : ℕ) (case : Case) (lists : List (EntryList V)) (start : List ℕ) (way : List FolderOnWay) (inner : List (BTreeMap (Vec ℕ Z) ℕ)) (held : List (Option (patterns.List T X))) (front : List ℕ) : Type 0 where
+pub record AreUnderWay {T X V : Type 0} (shows : Folder → EntryList V → Type 0) (gave : Folder → Type 0) (seen : X → V) (front_count : ℕ) (case : Case) (lists : List (EntryList V)) (start : List ℕ) (way : List FolderOnWay) (names : FolderNames) (held : List (Option (patterns.List T X))) (front : List ℕ) : Type 0 where
   pub facts : ℕ → Facts V
-  pub known : AreKnown seen shows (take front_count lists) case facts inner held (places_of way)
+  pub known : AreKnown seen shows (take front_count lists) case facts names held (places_of way)
   pub stands : AreEntered shows front_count lists case front (own_lists facts way)
   pub on_way : AllZip (IsOnWay facts (length held)) (folders_to front) way
-  pub places : ArePlaces (link inner) (reverse (folders_to front)) (reverse (places_of way))
+  pub places : ArePlaces names.found (reverse (folders_to front)) (reverse (places_of way))
   pub ends : EndsIn facts (drop front_count lists) start way
-  pub at_hand : AreAtHand gave inner
+  pub at_hand : AreAtHand gave names
 
 module _ {S T X F V : Type 0} (shows : S → Folder → EntryList V → Type 0) (gave : S → Folder → Type 0) (seen : X → V) where
   -- the same of what was entered
   abbrev pub IsUnderWay : Entered T S X F → List ℕ → Type 0
   IsUnderWay entered front =
-      AreUnderWay (shows entered.source) (gave entered.source) seen entered.front_count entered.case (map (entry_list_of seen) entered.lists.items) entered.folder.items entered.way.items entered.known.inner.items entered.kept.items front
+      AreUnderWay (shows entered.source) (gave entered.source) seen entered.front_count entered.case (map (entry_list_of seen) entered.lists.items) entered.folder.items entered.way.items entered.known entered.kept.items front
 
   -- the folders on the way to something are entered
   abbrev pub IsSomewhere : Entered T S X F → Type 0
@@ -107,7 +107,7 @@ module _ {S T X F V : Type 0} (shows : S → Folder → EntryList V → Type 0) 
     pub bases : BasesAreFolders (map (entry_list_of seen) entered.lists.items)
     pub way : entered.way.items ≡ []
     pub folder : entered.folder.items ≡ []
-    pub inner : entered.known.inner.items ≡ []
+    pub known : entered.known.count ≡ 0
     pub kept : entered.kept.items ≡ []
     pub none_given : (folder : Folder) → ¬ gave entered.source folder
 
@@ -122,7 +122,7 @@ EndsWith way last = (above : List FolderOnWay) (there : FolderOnWay) → way ≡
 -- the place of the folder that stands before a place of a path, in the folder that is entered last, as far as it is known
 abbrev pub IsNamed : {S T X F : Type 0} → Entered T S X F → List ℕ → ℕ → Option ℕ → Type 0
 IsNamed entered path place result = (above : List FolderOnWay) (last : FolderOnWay) → entered.way.items ≡ above ++ last ∷ []
-    → result ≡ link entered.known.inner.items last.place (drop last.length (take place path))
+    → result ≡ entered.known.found last.place (drop last.length (take place path))
 
 -- all but this folder
 abbrev pub gave_but : {S : Type 0} → (S → Folder → Type 0) → Folder → S → Folder → Type 0

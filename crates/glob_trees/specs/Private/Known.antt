@@ -1,5 +1,5 @@
--- The folders that are known: each has a place, the top 0, and is found by its name in another one.
-use Rattle.std.specs.Prelude.{◌≡◌, ◌+◌, ℕ, List, [], ◌∷◌, drop, length, slice_get, Option, None, Some, Vec}
+-- How the names of folders are kept, and the places of the folders on a way.
+use Rattle.std.specs.Prelude.{◌≡◌, ℕ, List, [], ◌∷◌, drop, length, slice_get, Option, None, Some, Vec}
 use Rattle.std.specs.Ordering.{nat_cmp}
 use Rattle.std.specs.Cmp.Lexicographic.{slice_cmp}
 use Rattle.std.specs.BTreeMap.{BTreeMap, get_by}
@@ -14,13 +14,6 @@ module _ {Z : Type 0} where
   -- the place of the folder of this name in the one at a place
   abbrev pub link : List (BTreeMap (Vec ℕ Z) ℕ) → ℕ → List ℕ → Option ℕ
   link inner outer name = named_in (slice_get inner outer) name
-
-  -- one folder more is known, of this name in the one at a place; each other one is found as before, and none lies in the new one
-  pub record AddsFolder (old new : List (BTreeMap (Vec ℕ Z) ℕ)) (outer : ℕ) (name : List ℕ) (place : ℕ) : Type 0 where
-    pub next : place ≡ length old
-    pub count : length new ≡ length old + 1
-    pub here : link new outer name ≡ Some place
-    pub others : (other : ℕ) (text : List ℕ) → ¬ ((other ≡ outer) × (text ≡ name)) → link new other text ≡ link old other text
 
 -- what names a folder in the one that it lies right in
 abbrev pub name_in : Folder → Folder → List ℕ

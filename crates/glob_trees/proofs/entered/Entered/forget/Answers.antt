@@ -18,7 +18,7 @@ returns-clause-fresh g c =
           (subst BasesAreFolders (take-map (entry_list_of seen) n self.lists.items) (All-take HasFolder n (map (entry_list_of seen) self.lists.items) c.requires.fronts.bases));
       way = c.clear-2.ensures.items;
       folder = c.clear.ensures.items;
-      inner = c.new.ensures;
+      known = c.new.ensures.count;
       kept = c.new-2.ensures.items;
       none_given = c.forget.ensures.none;
     }
