@@ -1,4 +1,5 @@
 pub mod Asking
+pub mod Cases
 pub mod Emptied
 pub mod Entering
 pub mod FoldedMatches

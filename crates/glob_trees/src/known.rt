@@ -1,39 +1,26 @@
 //! Folders that are known: each by its parent and its name.
-ghost use Rattle.std.specs.Prelude.{◌≡◌, ◌<◌, IfOk, OnOk};
-ghost use Rattle.glob_trees.specs.Known.{AddsFolder, KnowsNone};
+ghost use Rattle.glob_trees.specs.Private.Known.{AreInside};
 
 use std::alloc::{AllocError, Global};
 use std::collections::BTreeMap;
-use std::marker::Model;
 
 /// Folders, each of which has a place, the top 0. A folder is looked up in another one by its name, among the others there in
 /// order: so what is known of a folder can be kept by its place, and what a path costs is its parts.
-///
-/// Contracts see how many folders are known, and the place of each by that of its parent and its name.
 #[derive(Drop)]
 pub struct KnownFolders {
     alloc: Global,
     /// For the folder at each place, the places of those in it, by their names.
     inner: Vec<BTreeMap<Vec<u8>, usize>>,
-}
-
-impl Model for KnownFolders {
-    ghost use Rattle.std.specs.Prelude.{length};
-    ghost use Rattle.glob_trees.specs.Known.{FolderNames};
-    ghost use Rattle.glob_trees.specs.Private.Known.{link};
-
-    ghost Value = { FolderNames };
-
-    ghost view = { λ known. record {
-      count = length known.inner.items;
-      found = link known.inner.items;
-    } };
+    ghost inside: { AreInside inner.items },
 }
 
 impl KnownFolders {
+    ghost use Rattle.std.specs.Prelude.{◌≡◌, ◌<◌, IfOk, IfSome, OnOk};
+    ghost use Rattle.glob_trees.specs.Known.{AddsFolder, KnowsNone, names_of};
+
     /// None is known, not even the top.
     pub fn new(alloc: Global) -> KnownFolders
-        ensures { KnowsNone result 0 }
+        ensures { KnowsNone (names_of result) 0 }
     {
         KnownFolders {
             alloc,
@@ -46,8 +33,8 @@ impl KnownFolders {
     /// # Errors
     /// Only where memory was refused. Then the folders are of no more use.
     pub fn add_top(&mut self) -> Result<(), AllocError>
-        requires { self.old.count ≡ 0 }
-        ensures { OnOk result (KnowsNone self.new 1) }
+        requires { (names_of self.old).count ≡ 0 }
+        ensures { OnOk result (KnowsNone (names_of self.new) 1) }
     {
         self.inner.push(BTreeMap::new(self.alloc))?;
         Ok(())
@@ -55,7 +42,8 @@ impl KnownFolders {
 
     /// The place of the folder of this name in the one at a place; `None` where it isn't known.
     pub fn place_in(&self, outer: usize, name: &[u8]) -> Option<usize>
-        ensures { result ≡ self.now.found outer name.now }
+        ensures found { result ≡ (names_of self.now).found outer name.now }
+        ensures inside { IfSome result (λ place. place < (names_of self.now).count) }
     {
         self.inner.get(outer)?.get(name).copied()
     }
@@ -65,8 +53,8 @@ impl KnownFolders {
     /// # Errors
     /// Only where memory was refused. Then the folders are of no more use.
     pub fn add(&mut self, outer: usize, name: &[u8]) -> Result<usize, AllocError>
-        requires { outer < self.old.count }
-        ensures { IfOk result (AddsFolder self.old self.new outer name.now) }
+        requires { outer < (names_of self.old).count }
+        ensures { IfOk result (AddsFolder (names_of self.old) (names_of self.new) outer name.now) }
     {
         let place = self.inner.as_slice().len();
         let name = Vec::from_slice(self.alloc, name)?;

@@ -2,14 +2,12 @@
 use Rattle.std.proofs.Common.{◌≡◌, ◌⊎◌, inl, inr, ⊎_elim, ℕ, zero, suc, ◌+◌, ◌<◌, ◌≤◌, Bool, true, false, cond, List, [], ◌∷◌, ◌++◌, length, map, take, drop, Option, None, Some, Vec, refl, sym, ap, subst, ◌∙◌, append_assoc, length-append, take_all, slice_index, arith}
 use Rattle.std.specs.Prelude.{◌↔◌, IsTrue, eqb, is_some, option_to_list, reverse, slice_get, slice_set}
 use Rattle.std.specs.List.{AllZip, Contains}
-use Rattle.std.specs.Bool.{Decides}
 use Rattle.std.proofs.Math.Seq.{drop-length}
 use Rattle.std.proofs.lemmas.Bool.{cases_eq, false≢true, false_from_ne_true}
 use Rattle.std.proofs.lemmas.Bool.Decides.{Decides-eqb}
 use Rattle.std.proofs.lemmas.List.{length-set, map-append, take-append-drop, take-append-le, drop-append-le}
 use Rattle.std.proofs.lemmas.List.Elements.{Contains-append_cases, Contains-append_left, Contains-append_right, Contains-push, Contains-push_cases}
 use Rattle.std.proofs.lemmas.Option.{same_Some, slice_get_within}
-use Rattle.std.proofs.lemmas.Slice.Eq.{bytes_eq-Decides}
 use Rattle.gix_glob.specs.declared.pattern.Case.{Case}
 use Rattle.gix_glob.specs.declared.search.pattern.list.List as patterns
 use Rattle.gix_glob.specs.Bytes.{HasByte, slash}
@@ -21,19 +19,13 @@ use Rattle.glob_trees.specs.Known.{AddsFolder, FolderNames}
 use Rattle.glob_trees.specs.Private.Known.{ArePlaces, name_in}
 use Rattle.glob_trees.specs.Trees.{Ignores}
 use Rattle.glob_trees.specs.Ways.{Folder, IsListOf, folders_to, start_of, unless_empty}
+use Rattle.glob_trees.proofs.lemmas.Cases.{cases_bytes}
 use Rattle.glob_trees.proofs.lemmas.Entering.{entered_folder, entered_slash, entered_stays, entered_top, name_follows}
 use Rattle.glob_trees.proofs.lemmas.OnWay.{none_contained, not_on_own_way}
 use Rattle.glob_trees.proofs.lemmas.Places.{named, places_more, places_stay}
 use Rattle.glob_trees.proofs.lemmas.Stepping.{passing, passing_way}
 use Rattle.glob_trees.proofs.lemmas.WayLemmas.{ZipsLast, folders_slash, zip_last, zip_more}
 use Rattle.glob_trees.proofs.lemmas.WithEntries.{not_both}
-
-cases_by : (b : Bool) (P : Type 0) → Decides b P → P ⊎ (P → ⊥)
-cases_by true P d = inl (d.0 refl)
-cases_by false P d = inr (λ p. false≢true (d.1 p))
-
-cases_bytes : (xs ys : List ℕ) → (xs ≡ ys) ⊎ (xs ≡ ys → ⊥)
-cases_bytes xs ys = cases_by _ (xs ≡ ys) (bytes_eq-Decides xs ys)
 
 pub but_one : {S : Type 0} (gave : S → Folder → Type 0) (source : S) (one folder : Folder) → ¬ gave_but gave one source folder → gave source folder → folder ≡ one
 but_one gave source one folder none given = ⊎_elim
@@ -300,7 +292,7 @@ module _ {T X V : Type 0} (shows : Folder → EntryList V → Type 0) (gave : Fo
 
     module _ (place : ℕ) (is : names.found under.ends.last.place (drop under.ends.last.length (x ∷ xs)) ≡ Some place) where
       found_here : (place < length held) × IsInner (under.facts under.ends.last.place) (drop under.ends.last.length (x ∷ xs)) (under.facts place)
-      found_here = under.known.links under.ends.last.place (drop under.ends.last.length (x ∷ xs)) place is
+      found_here = let it = under.known.links under.ends.last.place (drop under.ends.last.length (x ∷ xs)) place is in (it.0, it.1)
 
       folder_here : (under.facts place).folder ≡ x ∷ xs
       folder_here = let here = found_here.1 in here.folder ∙ name_here

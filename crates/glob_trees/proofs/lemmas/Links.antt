@@ -10,10 +10,12 @@ use Rattle.std.specs.Map.{AreApart, IsKeyTest, KeepsOthers, lookup}
 use Rattle.std.proofs.lemmas.Bool.{cases_eq, false_from_ne_true}
 use Rattle.std.proofs.lemmas.Cmp.{nat_list_cmp_total}
 use Rattle.std.proofs.lemmas.List.{length-set}
+use Rattle.std.proofs.lemmas.Option.{same_Some}
 use Rattle.std.proofs.lemmas.Map.Text.{is_eq-slice_cmp}
 use Rattle.std.proofs.lemmas.Slice.Eq.{bytes_eq-Decides}
 use Rattle.glob_trees.specs.Known.{AddsFolder, FolderNames, KnowsNone}
-use Rattle.glob_trees.specs.Private.Known.{link, named_in}
+use Rattle.glob_trees.specs.Private.Known.{AreInside, link, named_in}
+use Rattle.glob_trees.proofs.lemmas.Cases.{cases_bytes}
 
 -- ---- the folders of which one changes
 
@@ -81,6 +83,41 @@ module _ {Z : Type 0} where
   pub knows_top : (inner all : List (BTreeMap (Vec ℕ Z) ℕ)) (empty : BTreeMap (Vec ℕ Z) ℕ) → length inner ≡ 0 → empty.entries ≡ [] → all ≡ inner ++ empty ∷ [] → KnowsNone (names_by all) 1
   knows_top [] all empty few none pushed = subst (λ ls. KnowsNone (names_by ls) 1) (sym pushed) (record { count = refl; none = none_found empty none })
   knows_top (m ∷ inner) all empty few none pushed = absurd (omega arith)
+
+  -- each folder that is found is known
+  pub inside_more : (inner : List (BTreeMap (Vec ℕ Z) ℕ)) (empty : BTreeMap (Vec ℕ Z) ℕ) → empty.entries ≡ [] → AreInside inner → AreInside (inner ++ empty ∷ [])
+  inside_more inner empty none inside outer name place found =
+      let before : place < length inner = inside outer name place (sym (link_more inner empty none outer name) ∙ found) in
+      omega (arith, before, length-append inner (empty ∷ []))
+
+  same_links : (inner : List (BTreeMap (Vec ℕ Z) ℕ)) (outer : ℕ) (before after : BTreeMap (Vec ℕ Z) ℕ) → outer < length inner → slice_get inner outer ≡ Some before → after.entries ≡ before.entries
+      → (other : ℕ) (name : List ℕ) → link (slice_set inner outer after) other name ≡ link inner other name
+  same_links inner outer before after inside there same other name = ⊎_elim
+      (λ (it : other ≡ outer).
+      ap (λ k. link (slice_set inner outer after) k name) it ∙ ap (λ o. named_in o name) (set_there inner outer after inside) ∙ ap (lookup (at_name name)) same ∙ sym (ap (λ o. named_in o name) there) ∙ ap (λ k. link inner k name) (sym it))
+      (λ (elsewhere : other ≡ outer → ⊥). ap (λ o. named_in o name) (set_apart inner outer other after elsewhere))
+      (cases_eq other outer)
+
+  pub inside_same : (inner : List (BTreeMap (Vec ℕ Z) ℕ)) (outer : ℕ) (before after : BTreeMap (Vec ℕ Z) ℕ) → outer < length inner → slice_get inner outer ≡ Some before → after.entries ≡ before.entries → AreInside inner → AreInside (slice_set inner outer after)
+  inside_same inner outer before after inside there same all other name place found =
+      let was : place < length inner = all other name place (sym (same_links inner outer before after inside there same other name) ∙ found) in
+      omega (arith, was, length-set inner outer after)
+
+  pub inside_adds : (old new : List (BTreeMap (Vec ℕ Z) ℕ)) (outer : ℕ) (name : List ℕ) (place : ℕ) → AddsFolder (names_by old) (names_by new) outer name place → AreInside old → AreInside new
+  inside_adds old new outer name place adds all other text found_place found = ⊎_elim
+      (λ (same : text ≡ name). ⊎_elim
+      (λ (there : other ≡ outer).
+      let it : found_place ≡ place = same_Some found_place place (sym found ∙ ap (λ k. link new k text) there ∙ ap (link new outer) same ∙ adds.here) in
+      omega (arith, it, adds.next, adds.count))
+      (λ (elsewhere : other ≡ outer → ⊥). stays other text found_place (λ both. elsewhere both.0) found)
+      (cases_eq other outer))
+      (λ (differs : text ≡ name → ⊥). stays other text found_place (λ both. differs both.1) found)
+      (cases_bytes text name)
+    where
+      stays : (other : ℕ) (text : List ℕ) (at : ℕ) → ¬ ((other ≡ outer) × (text ≡ name)) → link new other text ≡ Some at → at < length new
+      stays other text at apart found =
+          let was : at < length old = all other text at (sym (adds.others other text apart) ∙ found) in
+          omega (arith, was, adds.count)
 
   pub adds : (old : List (BTreeMap (Vec ℕ Z) ℕ)) (empty before after : BTreeMap (Vec ℕ Z) ℕ) (outer : ℕ) (key : Vec ℕ Z) (name : List ℕ) (place : ℕ) → empty.entries ≡ [] → outer < length old → slice_get (old ++ empty ∷ []) outer ≡ Some before
       → key.items ≡ name → place ≡ length old → Updates key_cmp before after key (Some place) → AddsFolder (names_by old) (names_by (slice_set (old ++ empty ∷ []) outer after)) outer name place

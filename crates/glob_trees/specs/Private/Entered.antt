@@ -7,7 +7,7 @@ use Rattle.gix_glob.specs.EntryLists.{EntryList, entry_list_of}
 use Rattle.glob_lists.specs.Deciding.{BasesAreFolders}
 use Rattle.glob_trees.specs.declared.entered.Entered.{Entered}
 use Rattle.glob_trees.specs.declared.on_way.FolderOnWay.{FolderOnWay}
-use Rattle.glob_trees.specs.Known.{FolderNames}
+use Rattle.glob_trees.specs.Known.{FolderNames, names_of}
 use Rattle.glob_trees.specs.Private.Known.{ArePlaces}
 use Rattle.glob_trees.specs.Trees.{HasNoneIgnored, Ignores}
 use Rattle.glob_trees.specs.Ways.{Folder, GoesOn, IsListOf, folders_to, start_of, unless_empty, with_entries}
@@ -95,7 +95,7 @@ module _ {S T X F V : Type 0} (shows : S → Folder → EntryList V → Type 0) 
   -- the same of what was entered
   abbrev pub IsUnderWay : Entered T S X F → List ℕ → Type 0
   IsUnderWay entered front =
-      AreUnderWay (shows entered.source) (gave entered.source) seen entered.front_count entered.case (map (entry_list_of seen) entered.lists.items) entered.folder.items entered.way.items entered.known entered.kept.items front
+      AreUnderWay (shows entered.source) (gave entered.source) seen entered.front_count entered.case (map (entry_list_of seen) entered.lists.items) entered.folder.items entered.way.items (names_of entered.known) entered.kept.items front
 
   -- the folders on the way to something are entered
   abbrev pub IsSomewhere : Entered T S X F → Type 0
@@ -107,7 +107,7 @@ module _ {S T X F V : Type 0} (shows : S → Folder → EntryList V → Type 0) 
     pub bases : BasesAreFolders (map (entry_list_of seen) entered.lists.items)
     pub way : entered.way.items ≡ []
     pub folder : entered.folder.items ≡ []
-    pub known : entered.known.count ≡ 0
+    pub known : (names_of entered.known).count ≡ 0
     pub kept : entered.kept.items ≡ []
     pub none_given : (folder : Folder) → ¬ gave entered.source folder
 
@@ -122,7 +122,7 @@ EndsWith way last = (above : List FolderOnWay) (there : FolderOnWay) → way ≡
 -- the place of the folder that stands before a place of a path, in the folder that is entered last, as far as it is known
 abbrev pub IsNamed : {S T X F : Type 0} → Entered T S X F → List ℕ → ℕ → Option ℕ → Type 0
 IsNamed entered path place result = (above : List FolderOnWay) (last : FolderOnWay) → entered.way.items ≡ above ++ last ∷ []
-    → result ≡ entered.known.found last.place (drop last.length (take place path))
+    → result ≡ (names_of entered.known).found last.place (drop last.length (take place path))
 
 -- all but this folder
 abbrev pub gave_but : {S : Type 0} → (S → Folder → Type 0) → Folder → S → Folder → Type 0

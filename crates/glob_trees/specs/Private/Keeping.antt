@@ -21,6 +21,6 @@ pub record TakesOut {L : Type 0} (place : ℕ) (lists more : List L) (kept less 
   pub put : more ≡ lists ++ option_to_list list
 
 -- the same, and the folder of this place follows the others on the way
-pub record PutsKept {L : Type 0} (place long : ℕ) (way longer : List FolderOnWay) (lists more : List L) (kept less : List (Option L)) : Type 0 where
+pub record PutsKept {L : Type 0} (place long : ℕ) (folders longer : List FolderOnWay) (lists more : List L) (kept less : List (Option L)) : Type 0 where
   pub takes : TakesOut place lists more kept less
-  pub way : longer ≡ way ++ (record { place = place; length = long; has_list = is_some takes.list }) ∷ []
+  pub way : longer ≡ folders ++ (record { place = place; length = long; has_list = is_some takes.list }) ∷ []

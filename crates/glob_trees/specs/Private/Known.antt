@@ -1,5 +1,5 @@
 -- How the names of folders are kept, and the places of the folders on a way.
-use Rattle.std.specs.Prelude.{◌≡◌, ℕ, List, [], ◌∷◌, drop, length, slice_get, Option, None, Some, Vec}
+use Rattle.std.specs.Prelude.{◌≡◌, ◌<◌, ℕ, List, [], ◌∷◌, drop, length, slice_get, Option, None, Some, Vec}
 use Rattle.std.specs.Ordering.{nat_cmp}
 use Rattle.std.specs.Cmp.Lexicographic.{slice_cmp}
 use Rattle.std.specs.BTreeMap.{BTreeMap, get_by}
@@ -14,6 +14,10 @@ module _ {Z : Type 0} where
   -- the place of the folder of this name in the one at a place
   abbrev pub link : List (BTreeMap (Vec ℕ Z) ℕ) → ℕ → List ℕ → Option ℕ
   link inner outer name = named_in (slice_get inner outer) name
+
+  -- each folder that is found by a name is known
+  abbrev pub AreInside : List (BTreeMap (Vec ℕ Z) ℕ) → Type 0
+  AreInside inner = (outer : ℕ) (name : List ℕ) (place : ℕ) → link inner outer name ≡ Some place → place < length inner
 
 -- what names a folder in the one that it lies right in
 abbrev pub name_in : Folder → Folder → List ℕ

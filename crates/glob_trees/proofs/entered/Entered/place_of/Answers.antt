@@ -1,5 +1,6 @@
 -- The name of the folder in the one entered last.
 use Rattle.std.proofs.Common.{drop, take, ap, ◌∙◌}
+use Rattle.glob_trees.specs.Known.{names_of}
 use Rattle.glob_trees.specs.declared.on_way.FolderOnWay.{FolderOnWay}
 use Rattle.glob_trees.proofs.lemmas.InFolder.{tail}
 use Rattle.glob_trees.proofs.lemmas.Known.{fits}
@@ -16,5 +17,5 @@ slice_bounds-name-start g c =
 
 pub returns : goal.returns
 returns g c = λ above last joined.
-    c.place_in.ensures ∙ ap (c.args.self.now.known.found c.last_on_way-outer.result.place) (tail c.last_on_way-outer.result.length (take c.args.place c.args.path.now))
-    ∙ ap (λ (there : FolderOnWay). c.args.self.now.known.found there.place (drop there.length (take c.args.place c.args.path.now))) (c.last_on_way-outer.ensures above last joined)
+    c.place_in.ensures.found ∙ ap ((names_of c.args.self.now.known).found c.last_on_way-outer.result.place) (tail c.last_on_way-outer.result.length (take c.args.place c.args.path.now))
+    ∙ ap (λ (there : FolderOnWay). (names_of c.args.self.now.known).found there.place (drop there.length (take c.args.place c.args.path.now))) (c.last_on_way-outer.ensures above last joined)

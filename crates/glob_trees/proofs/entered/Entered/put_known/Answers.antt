@@ -5,6 +5,7 @@ use Rattle.std.proofs.lemmas.List.{map-append, take-append-le}
 use Rattle.gix_glob.specs.Bytes.{slash}
 use Rattle.gix_glob.specs.EntryLists.{entry_list_of}
 use Rattle.glob_lists.specs.Deciding.{BasesAreFolders}
+use Rattle.glob_trees.specs.Known.{names_of}
 use Rattle.glob_trees.specs.Private.Entered.{AreUnderWay}
 use Rattle.glob_trees.specs.Private.Keeping.{PutsKept}
 use Rattle.glob_trees.proofs.lemmas.InFolder.{many_fronts, tail}
@@ -17,7 +18,7 @@ use Rattle.glob_trees.proofs.entered.Entered.put_known.Goals.{Start, After-as_sl
 deep : (g : Over) (c : After-as_slice-start g) → ¬ (take c.args.place c.args.path.now ≡ [])
 deep g c = some_front c.args.path.now c.args.place c.requires.slash c.requires.deep
 
-named : (g : Over) (c : After-as_slice-start g) → c.args.self.now.known.found c.requires.under.ends.last.place (drop c.requires.under.ends.last.length (take c.args.place c.args.path.now)) ≡ Some c.args.known
+named : (g : Over) (c : After-as_slice-start g) → (names_of c.args.self.now.known).found c.requires.under.ends.last.place (drop c.requires.under.ends.last.length (take c.args.place c.args.path.now)) ≡ Some c.args.known
 named g c = let under = c.requires.under in sym (c.requires.named under.ends.above under.ends.last under.ends.joined)
 
 -- what names the folder in the one above it ends before the slash
@@ -64,8 +65,8 @@ returns-clause-entered g c =
     ok_gives c.put_known_on_way.result _ _
     (λ (puts : PutsKept c.args.known (length c.as_slice-length.result.now) old.way.items c.put_known_on_way.new.way.items old.lists.items c.put_known_on_way.new.lists.items old.kept.items c.put_known_on_way.new.kept.items).
     let kept = puts.takes.list in
-    subst (AreUnderWay shows gave seen old.front_count old.case _ _ _ old.known _) (sym next)
-    (moved shows gave seen old.front_count old.case _ _ _ _ _ _ old.known _ _ _
+    subst (AreUnderWay shows gave seen old.front_count old.case _ _ _ (names_of old.known) _) (sym next)
+    (moved shows gave seen old.front_count old.case _ _ _ _ _ _ (names_of old.known) _ _ _
     (ap (map (entry_list_of seen)) puts.takes.put ∙ map-append (entry_list_of seen) old.lists.items (option_to_list kept))
     folder
     (puts.way ∙ ap (λ k. old.way.items ++ (record { place = c.args.known; length = k; has_list = is_some kept }) ∷ []) (ap length (c.as_slice-length.ensures.value ∙ folder)))

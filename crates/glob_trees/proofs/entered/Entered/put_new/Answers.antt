@@ -7,7 +7,7 @@ use Rattle.gix_glob.specs.EntryLists.{entry_list_of}
 use Rattle.glob_lists.specs.Deciding.{BasesAreFolders}
 use Rattle.glob_trees.specs.declared.on_way.FolderOnWay.{FolderOnWay}
 use Rattle.glob_trees.specs.Private.Entered.{AreUnderWay}
-use Rattle.glob_trees.specs.Known.{AddsFolder}
+use Rattle.glob_trees.specs.Known.{AddsFolder, names_of}
 use Rattle.glob_trees.specs.Ways.{start_of}
 use Rattle.glob_trees.proofs.lemmas.InFolder.{many_fronts, tail}
 use Rattle.glob_trees.proofs.lemmas.Known.{entered_anew, fits, last_inside, long_as_start, moved, start_next}
@@ -49,7 +49,7 @@ pub add-requires : goal.add-requires
 add-requires g c =
     let under = c.requires.under in
     let at = (goal.at.add-requires g c).After-last_on_way-outer in
-    subst (λ (there : FolderOnWay). there.place < c.args.self.now.known.count) (sym (outer g at)) (last_inside _ _ _ _ _ _ _ _ _ _ (take c.args.place c.args.path.now) under)
+    subst (λ (there : FolderOnWay). there.place < (names_of c.args.self.now.known).count) (sym (outer g at)) (last_inside _ _ _ _ _ _ _ _ _ _ (take c.args.place c.args.path.now) under)
 
 pub returns-in_err-known-clause-fails : goal.returns-in_err-known-clause-fails
 returns-in_err-known-clause-fails g c =
@@ -79,7 +79,7 @@ returns-clause-entered g c =
     let list = entry_list_of seen c.args.list in
     let kept = c.prepared_if_any-list.result in
     let next = slash_next path c.args.place c.requires.slash in
-    let more = c.add.new.self in
+    let more = names_of c.add.new.self in
     let start = old.folder.items in
     let last = under.ends.last in
     let long : c.last_on_way-outer.result.length ≡ length start = long_as_start _ _ seen old.front_count old.case _ _ _ _ _ front under c.last_on_way-outer.result c.last_on_way-outer.ensures in
@@ -88,9 +88,9 @@ returns-clause-entered g c =
     ∙ ap (λ k. start ++ drop k (take (c.args.place + 1) path)) long
     ∙ ap (λ t. start ++ drop (length start) t) next
     ∙ start_next _ _ seen old.front_count old.case _ _ _ _ _ front (deep g at) under in
-    let adds : AddsFolder old.known more last.place (drop last.length front) c.in_ok-known.known =
-    subst (λ (there : FolderOnWay). AddsFolder old.known more there.place (drop there.length front) c.in_ok-known.known) (outer g at)
-    (subst (λ t. AddsFolder old.known more c.last_on_way-outer.result.place t c.in_ok-known.known) (tail c.last_on_way-outer.result.length front) c.in_ok-known.ensures) in
+    let adds : AddsFolder (names_of old.known) more last.place (drop last.length front) c.in_ok-known.known =
+    subst (λ (there : FolderOnWay). AddsFolder (names_of old.known) more there.place (drop there.length front) c.in_ok-known.known) (outer g at)
+    (subst (λ t. AddsFolder (names_of old.known) more c.last_on_way-outer.result.place t c.in_ok-known.known) (tail c.last_on_way-outer.result.length front) c.in_ok-known.ensures) in
     let none = sym (c.requires.none under.ends.above last under.ends.joined) in
     let all = entered_anew _ _ seen old.front_count old.case _ _ _ _ _ front (deep g at) under list c.requires.of c.requires.kept more c.in_ok-known.known adds none gave (λ other given apart. (given, apart)) (is_some kept) (if_any_listed seen c.args.list kept c.prepared_if_any-list.ensures) in
     ok_both c.put_on_way.result _ _ _
