@@ -1,6 +1,6 @@
 -- One folder more is found by its name, and each other one as before.
-use Rattle.std.proofs.Common.{◌≡◌, ⊎_elim, ℕ, zero, suc, ◌<◌, Bool, true, List, [], ◌∷◌, ◌++◌, length, None, Some, Vec, refl, sym, ap, subst, ◌∙◌, length-append, arith}
-use Rattle.std.specs.Prelude.{slice_get, slice_set}
+use Rattle.std.proofs.Common.{◌≡◌, ⊎_elim, ℕ, zero, suc, ◌<◌, Bool, true, List, [], ◌∷◌, ◌++◌, length, Option, None, Some, Result, Ok, Err, Vec, refl, sym, ap, subst, ◌∙◌, length-append, arith}
+use Rattle.std.specs.Prelude.{IfSome, OnErr, OnOk, slice_get, slice_set}
 use Rattle.std.specs.declared.cmp.Ordering.{Ordering}
 use Rattle.std.specs.Ordering.{eq_by_cmp, nat_cmp}
 use Rattle.std.specs.Cmp.{eq_by_cmp_equiv}
@@ -98,12 +98,12 @@ module _ {Z : Type 0} where
       (λ (elsewhere : other ≡ outer → ⊥). ap (λ o. named_in o name) (set_apart inner outer other after elsewhere))
       (cases_eq other outer)
 
-  pub inside_same : (inner : List (BTreeMap (Vec ℕ Z) ℕ)) (outer : ℕ) (before after : BTreeMap (Vec ℕ Z) ℕ) → outer < length inner → slice_get inner outer ≡ Some before → after.entries ≡ before.entries → AreInside inner → AreInside (slice_set inner outer after)
+  inside_same : (inner : List (BTreeMap (Vec ℕ Z) ℕ)) (outer : ℕ) (before after : BTreeMap (Vec ℕ Z) ℕ) → outer < length inner → slice_get inner outer ≡ Some before → after.entries ≡ before.entries → AreInside inner → AreInside (slice_set inner outer after)
   inside_same inner outer before after inside there same all other name place found =
       let was : place < length inner = all other name place (sym (same_links inner outer before after inside there same other name) ∙ found) in
       omega (arith, was, length-set inner outer after)
 
-  pub inside_adds : (old new : List (BTreeMap (Vec ℕ Z) ℕ)) (outer : ℕ) (name : List ℕ) (place : ℕ) → AddsFolder (names_by old) (names_by new) outer name place → AreInside old → AreInside new
+  inside_adds : (old new : List (BTreeMap (Vec ℕ Z) ℕ)) (outer : ℕ) (name : List ℕ) (place : ℕ) → AddsFolder (names_by old) (names_by new) outer name place → AreInside old → AreInside new
   inside_adds old new outer name place adds all other text found_place found = ⊎_elim
       (λ (same : text ≡ name). ⊎_elim
       (λ (there : other ≡ outer).
@@ -137,3 +137,15 @@ module _ {Z : Type 0} where
             (λ (elsewhere : other ≡ outer → ⊥). ap (λ o. named_in o text) (set_apart all outer other after elsewhere) ∙ link_more old empty none other text)
             (cases_eq other outer);
       }
+
+  -- a name is put into a folder, or memory for it was refused
+  pub inside_put : {A E : Type 0} (result : Result A E) (old : List (BTreeMap (Vec ℕ Z) ℕ)) (empty before after : BTreeMap (Vec ℕ Z) ℕ) (outer : ℕ) (key : Vec ℕ Z) (place : ℕ) → empty.entries ≡ [] → outer < length old → slice_get (old ++ empty ∷ []) outer ≡ Some before
+      → place ≡ length old → OnOk result (Updates key_cmp before after key (Some place)) → OnErr result (after.entries ≡ before.entries) → AreInside old → AreInside (slice_set (old ++ empty ∷ []) outer after)
+  inside_put (Ok a) old empty before after outer key place none inside there next updates same all =
+      inside_adds old (slice_set (old ++ empty ∷ []) outer after) outer key.items place (adds old empty before after outer key key.items place none inside there refl next updates) all
+  inside_put (Err e) old empty before after outer key place none inside there next updates same all =
+      inside_same (old ++ empty ∷ []) outer before after (omega (arith, inside, length-append old (empty ∷ []))) there same (inside_more old empty none all)
+
+  pub if_inside : (inner : List (BTreeMap (Vec ℕ Z) ℕ)) (outer : ℕ) (name : List ℕ) (result : Option ℕ) → result ≡ link inner outer name → AreInside inner → IfSome result (λ place. place < length inner)
+  if_inside inner outer name None is all = tt
+  if_inside inner outer name (Some place) is all = all outer name place (sym is)
