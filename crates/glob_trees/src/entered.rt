@@ -277,13 +277,13 @@ impl<T: search::Pattern, S: FolderLists<T>> Entered<T, S> {
     {
         let start = self.folder.as_slice().len();
         self.folder.extend_from_slice(&path[..place + 1][start..])?;
-        let length = self.folder.as_slice().len();
+        let bytes = self.folder.as_slice().len();
         put_known_on_way(
             &mut self.way,
             &mut self.lists,
             &mut self.kept,
             known,
-            length,
+            bytes,
         )
     }
 

@@ -58,7 +58,8 @@ pub(crate) fn put_on_way<T: search::Pattern>(
     Ok(())
 }
 
-/// Puts a known folder behind the others on the way, and the list that is kept of it, if any, behind the other lists.
+/// Puts a known folder behind the others on the way, and the list that is kept of it, if any, behind the other lists. So many bytes of a
+/// path name the folder.
 ///
 /// # Errors
 /// Only where memory was refused. The list is let go then.
@@ -67,17 +68,17 @@ pub(crate) fn put_known_on_way<T: search::Pattern>(
     lists: &mut Vec<PreparedList<T>>,
     kept: &mut Vec<Option<PreparedList<T>>>,
     place: usize,
-    length: usize,
+    bytes: usize,
 ) -> Result<(), AllocError>
     requires { place < length kept.old.items }
-    ensures puts { OnOk result (PutsKept place length way.old.items way.new.items lists.old.items lists.new.items kept.old.items kept.new.items) }
+    ensures puts { OnOk result (PutsKept place bytes way.old.items way.new.items lists.old.items lists.new.items kept.old.items kept.new.items) }
     ensures fails { OnErr result (lists.new.items ≡ lists.old.items) }
 {
     // most folders have no list: then none is moved
     let has_list = kept[place].is_some();
     way.push(FolderOnWay {
         place,
-        length,
+        length: bytes,
         has_list,
     })?;
     if has_list {
