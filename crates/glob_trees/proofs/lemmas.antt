@@ -16,6 +16,7 @@ pub mod OnWay
 pub mod OneMore
 pub mod OneWay
 pub mod Places
+pub mod Putting
 pub mod Stepping
 pub mod Standing
 pub mod Topmost
