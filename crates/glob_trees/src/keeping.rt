@@ -2,14 +2,12 @@
 ghost use Rattle.std.specs.Prelude.{◌≡◌, ◌<◌, ◌++◌, ◌∷◌, [], None, OnErr, OnOk, Some, length, option_to_list, slice_get, slice_set};
 ghost use Rattle.glob_trees.specs.Private.Keeping.{IsIfAny, KeepsLast, PutsKept, TakesOut};
 
+use crate::known::KnownFolders;
 use crate::on_way::FolderOnWay;
 use gix_glob::search;
 use gix_glob::search::pattern::List;
 use glob_lists::PreparedList;
 use std::alloc::{AllocError, Global};
-
-/// About how many bytes a known folder takes besides its name and its list: its part of what is looked up by names.
-const FOLDER_BYTES: usize = 256;
 
 /// About how many bytes a pattern takes besides its text.
 const PATTERN_BYTES: usize = 128;
@@ -29,7 +27,7 @@ pub(crate) fn prepared_if_any<T: search::Pattern>(
 
 /// About how many bytes are kept of a folder whose name has so many, and which has this list.
 pub(crate) fn bytes_of<T: search::Pattern>(name: usize, list: &List<T>) -> usize {
-    let mut bytes = name.saturating_add(FOLDER_BYTES);
+    let mut bytes = name.saturating_add(KnownFolders::FOLDER_BYTES);
     for mapping in &list.patterns {
         let text = mapping.pattern.text().len();
         bytes = bytes.saturating_add(text.saturating_add(PATTERN_BYTES));

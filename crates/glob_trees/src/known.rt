@@ -15,6 +15,9 @@ pub struct KnownFolders {
 }
 
 impl KnownFolders {
+    /// About how many bytes a known folder takes besides its name: its part of what is looked up by names.
+    pub const FOLDER_BYTES: usize = 256;
+
     ghost use Rattle.std.specs.Prelude.{◌≡◌, ◌<◌, IfOk, IfSome, OnOk};
     ghost use Rattle.glob_trees.specs.Known.{AddsFolder, KnowsNone, names_of};
 
@@ -38,6 +41,13 @@ impl KnownFolders {
     {
         self.inner.push(BTreeMap::new(self.alloc))?;
         Ok(())
+    }
+
+    /// How many folders are known. The place of each is below that.
+    pub fn count(&self) -> usize
+        ensures { result ≡ (names_of self.now).count }
+    {
+        self.inner.as_slice().len()
     }
 
     /// The place of the folder of this name in the one at a place; `None` where it isn't known.

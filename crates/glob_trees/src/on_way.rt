@@ -1,20 +1,20 @@
 //! The folders on the way to a path.
 ghost use Rattle.std.specs.Prelude.{◌≡◌, ◌≤◌, length, take};
 
-/// A folder on the way.
+/// A folder on the way to a path.
 #[derive(Clone, Copy)]
-pub(crate) struct FolderOnWay {
+pub struct FolderOnWay {
     /// Its place among the known folders.
-    pub(crate) place: usize,
+    pub place: usize,
     /// How many bytes of a path name it, with the slash at its end; 0 for the top.
-    pub(crate) length: usize,
+    pub length: usize,
     /// Whether its list has patterns, and so is on the way too.
-    pub(crate) has_list: bool,
+    pub has_list: bool,
 }
 
 impl FolderOnWay {
-    /// The top, with no list on the way.
-    pub(crate) const TOP: FolderOnWay = FolderOnWay {
+    /// The top, without a list.
+    pub const TOP: FolderOnWay = FolderOnWay {
         place: 0,
         length: 0,
         has_list: false,
@@ -22,7 +22,7 @@ impl FolderOnWay {
 }
 
 /// How many bytes from the front two texts have alike.
-pub(crate) fn common_length(left: &[u8], right: &[u8]) -> usize
+pub fn common_length(left: &[u8], right: &[u8]) -> usize
     ensures left { result ≤ length left.now }
     ensures right { result ≤ length right.now }
     ensures alike { take result left.now ≡ take result right.now }

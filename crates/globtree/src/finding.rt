@@ -3,8 +3,8 @@ ghost use Rattle.glob_lists.specs.Paths.{IsPlainPath};
 
 use crate::fault::CheckFault;
 use crate::sources::FolderFiles;
-use crate::standing::{folder_text, is_folder, is_link};
-use crate::unlinked::UnlinkedFolders;
+use crate::standing::{folder_text, is_folder};
+use crate::unlinked::{UnlinkedFolders, check_folder};
 use bitflags::Flags as _;
 use gix_glob::pattern::Mode;
 use glob_lines::IgnoreLines;
@@ -62,7 +62,7 @@ impl<'a, R: Files + Eprint> Finder<'a, R> {
         let Some(start) = path.basename_start() else {
             return false;
         };
-        start > self.tree.folder().len() && !self.unlinked.is_last(&path.bytes()[..start - 1])
+        start > self.tree.folder().len() && !self.unlinked.is_last(&path.bytes()[..start])
     }
 
     /// Whether the pattern at a pair of places matches folders alone. Where it doesn't, it decides about a file, too.
@@ -113,13 +113,10 @@ impl<'a, R: Files + Eprint> Finder<'a, R> {
         let Some(last) = memrchr(b'/', path) else {
             return Ok(());
         };
-        let folder = &path[..last];
-        if last < entered || self.unlinked.contains(folder)? {
+        if last < entered {
             return Ok(());
         }
-        check_folders(self.rt, self.alloc, folder, entered)?;
-        self.unlinked.insert(folder)?;
-        Ok(())
+        self.unlinked.check(self.rt, &path[..last + 1], entered)
     }
 }
 
@@ -129,28 +126,4 @@ pub(crate) fn fault_of(fault: TreeFault<CheckFault>) -> CheckFault {
         TreeFault::Memory => CheckFault::Memory,
         TreeFault::Source(fault) => fault,
     }
-}
-
-/// Refuses a folder that is a link, or that lies below one, from the bytes on that name a folder which was entered.
-fn check_folders<R: Files>(
-    rt: &R,
-    alloc: Global,
-    folder: &[u8],
-    entered: usize,
-) -> Result<(), CheckFault> {
-    'bytes: for (place, byte) in folder.iter().enumerate() {
-        if *byte == b'/' && place >= entered {
-            check_folder(rt, alloc, &folder[..place])?;
-        }
-    }
-    check_folder(rt, alloc, folder)
-}
-
-/// Refuses a folder that is a link.
-fn check_folder<R: Files>(rt: &R, alloc: Global, folder: &[u8]) -> Result<(), CheckFault> {
-    let name = folder_text(alloc, folder)?;
-    if is_link(rt, name.as_str()) {
-        return Err(CheckFault::BeyondLink(name));
-    }
-    Ok(())
 }
