@@ -5,7 +5,7 @@ use crate::fault::CheckFault;
 use gix_glob::search::pattern::List;
 use glob_attributes::{AttributeLines, MacroTable, keep_named};
 use glob_trees::{FolderOnWay, KnownFolders, common_length};
-use memchr::memchr;
+use memchr::memrchr;
 use std::alloc::{AllocError, Global};
 use std::rt::Files;
 
@@ -69,17 +69,12 @@ impl<'a, R: Files + Eprint> FolderAttributes<'a, R> {
 
     /// Goes to the folder that a path lies in, as far as there are folders: the lists are those on the way to it then.
     pub(crate) fn go_to(&mut self, path: &[u8]) -> Result<(), CheckFault> {
-        if !path.starts_with(&self.folder) {
-            self.leave_to(path);
-        }
-        let start = self.folder.len();
+        self.leave_to(path);
         // most paths lie right in the folder that is entered then
-        if let Some(rest) = path.get(start..)
-            && memchr(b'/', rest).is_none()
-        {
-            return Ok(());
+        match memrchr(b'/', path) {
+            Some(last) if last >= self.folder.len() => self.enter_folders(&path[..last + 1]),
+            _ => Ok(()),
         }
-        self.enter_folders(path)
     }
 
     /// Leaves the folders that aren't on the way to a path.
@@ -115,11 +110,12 @@ impl<'a, R: Files + Eprint> FolderAttributes<'a, R> {
         }
     }
 
-    /// Enters the folders on the way to a path that lies below the folder entered last, as far as they are there.
-    fn enter_folders(&mut self, path: &[u8]) -> Result<(), CheckFault> {
+    /// Enters a folder that lies below the folder entered last, and those on the way to it, as far as they are there. A slash is at
+    /// its end.
+    fn enter_folders(&mut self, folder: &[u8]) -> Result<(), CheckFault> {
         self.begin()?;
-        'bytes: for place in self.folder.len()..path.len() {
-            if path[place] == b'/' && !self.enter(&path[..place])? {
+        'bytes: for place in self.folder.len()..folder.len() {
+            if folder[place] == b'/' && !self.enter(&folder[..place + 1])? {
                 break;
             }
         }
@@ -150,10 +146,13 @@ impl<'a, R: Files + Eprint> FolderAttributes<'a, R> {
         self.bytes = 0;
     }
 
-    /// Enters a folder in the one entered last. It answers whether there is one.
+    /// Enters a folder in the one entered last, by its path with a slash at its end. It answers whether there is one.
     fn enter(&mut self, folder: &[u8]) -> Result<bool, CheckFault> {
         let outer = self.last();
-        let Some(name) = folder.get(outer.length..) else {
+        let Some(rest) = folder.get(outer.length..) else {
+            return Ok(false);
+        };
+        let Some((_slash, name)) = rest.split_last() else {
             return Ok(false);
         };
         let place = match self.known.place_in(outer.place, name) {
@@ -167,14 +166,13 @@ impl<'a, R: Files + Eprint> FolderAttributes<'a, R> {
             return Ok(false);
         }
         let has_list = found.list.is_some();
-        self.put_on_way(place, name, has_list)?;
+        self.put_on_way(place, rest, has_list)?;
         Ok(true)
     }
 
-    /// Puts a folder of this name, which is known, behind the others on the way, and its list where it has one.
+    /// Puts a known folder, by its name and a slash, behind the others on the way, and its list where it has one.
     fn put_on_way(&mut self, place: usize, name: &[u8], has_list: bool) -> Result<(), AllocError> {
         self.folder.extend_from_slice(name)?;
-        self.folder.push(b'/')?;
         self.way.push(FolderOnWay {
             place,
             length: self.folder.len(),
@@ -200,7 +198,11 @@ impl<'a, R: Files + Eprint> FolderAttributes<'a, R> {
 
     /// Looks at a folder of this name in the one at a place, and answers its own place.
     fn look_at(&mut self, outer: usize, folder: &[u8], name: &[u8]) -> Result<usize, CheckFault> {
-        let mut list = self.reader.list_in(folder)?;
+        let text = match folder.split_last() {
+            Some((_slash, text)) => text,
+            None => folder,
+        };
+        let mut list = self.reader.list_in(text)?;
         if let Some(list) = &mut list
             && self.reader.names.is_none()
         {
