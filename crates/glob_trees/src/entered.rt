@@ -278,13 +278,7 @@ impl<T: search::Pattern, S: FolderLists<T>> Entered<T, S> {
         let start = self.folder.as_slice().len();
         self.folder.extend_from_slice(&path[..place + 1][start..])?;
         let bytes = self.folder.as_slice().len();
-        put_known_on_way(
-            &mut self.way,
-            &mut self.lists,
-            &mut self.kept,
-            known,
-            bytes,
-        )
+        put_known_on_way(&mut self.way, &mut self.lists, &mut self.kept, known, bytes)
     }
 
     /// Asks for the list of the folder that stands before the slash at a place of a path, and enters it. It wasn't known.

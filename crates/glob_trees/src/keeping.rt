@@ -99,8 +99,8 @@ fn put_kept<T: search::Pattern>(
     ensures puts { OnOk result (TakesOut place lists.old.items lists.new.items kept.old.items kept.new.items) }
     ensures fails { OnErr result (lists.new.items ≡ lists.old.items) }
 {
-    if let Some(list) = take_out(kept, place) {
-        lists.push(list)?;
+    if let Some(taken) = take_out(kept, place) {
+        lists.push(taken)?;
     }
     Ok(())
 }

@@ -39,7 +39,8 @@ impl KnownFolders {
         requires { (names_of self.old).count ≡ 0 }
         ensures { OnOk result (KnowsNone (names_of self.new) 1) }
     {
-        self.inner.push(BTreeMap::new(self.alloc))?;
+        let top = BTreeMap::new(self.alloc);
+        self.inner.push(top)?;
         Ok(())
     }
 
@@ -47,7 +48,7 @@ impl KnownFolders {
     pub fn count(&self) -> usize
         ensures { result ≡ (names_of self.now).count }
     {
-        self.inner.as_slice().len()
+        self.inner.len()
     }
 
     /// The place of the folder of this name in the one at a place; `None` where it isn't known.
