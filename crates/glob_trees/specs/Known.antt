@@ -1,7 +1,7 @@
 -- The folders that are known: each has a place, the top 0, and is found by its name in another one.
 use Rattle.std.specs.Prelude.{◌≡◌, ◌+◌, ℕ, List, length, Option, None, Some}
 use Rattle.glob_trees.specs.declared.known.KnownFolders.{KnownFolders}
-use Rattle.glob_trees.specs.Private.Known.{link}
+use Rattle.glob_trees.specs.Links.{link}
 
 -- how many folders are known, and the place of the folder of a name in the one at a place, where it is known
 pub record FolderNames : Type 0 where

@@ -1,5 +1,6 @@
 pub mod Trees
 pub mod Ways
+pub mod Links
 pub mod Known
 pub mod TreeParts
 pub mod Laws

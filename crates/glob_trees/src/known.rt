@@ -16,7 +16,7 @@ pub struct KnownFolders {
 
 impl KnownFolders {
     /// About how many bytes a known folder takes besides its name: its part of what is looked up by names.
-    pub const FOLDER_BYTES: usize = 256;
+    pub const FOLDER_BYTES: usize = 512;
 
     ghost use Rattle.std.specs.Prelude.{◌≡◌, ◌<◌, IfOk, IfSome, OnOk};
     ghost use Rattle.glob_trees.specs.Known.{AddsFolder, KnowsNone, names_of};

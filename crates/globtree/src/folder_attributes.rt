@@ -10,7 +10,7 @@ use std::alloc::{AllocError, Global};
 use std::rt::Files;
 
 /// About how many bytes are kept of folders and their patterns.
-const MOST_BYTES: usize = 16 << 20;
+const MOST_BYTES: usize = 32 << 20;
 
 /// About how many bytes of memory a byte of an attribute file takes.
 const BYTES_OF_BYTE: usize = 8;

@@ -8,7 +8,7 @@ use std::fs;
 use std::rt::Files;
 
 /// About how many bytes are kept of folders.
-const MOST_BYTES: usize = 1 << 20;
+const MOST_BYTES: usize = 4 << 20;
 
 /// Folders that were found to be no links, nor to lie below one. They are remembered, so that the file system isn't asked for each
 /// path in them, until they are too many; then all are forgotten, and looked at again.

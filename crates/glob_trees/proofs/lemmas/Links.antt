@@ -14,7 +14,8 @@ use Rattle.std.proofs.lemmas.Option.{same_Some}
 use Rattle.std.proofs.lemmas.Map.Text.{is_eq-slice_cmp}
 use Rattle.std.proofs.lemmas.Slice.Eq.{bytes_eq-Decides}
 use Rattle.glob_trees.specs.Known.{AddsFolder, FolderNames, KnowsNone}
-use Rattle.glob_trees.specs.Private.Known.{AreInside, link, named_in}
+use Rattle.glob_trees.specs.Links.{link, named_in}
+use Rattle.glob_trees.specs.Private.Known.{AreInside}
 use Rattle.glob_trees.proofs.lemmas.Cases.{cases_bytes}
 
 -- ---- the folders of which one changes

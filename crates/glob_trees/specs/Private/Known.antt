@@ -1,23 +1,12 @@
--- How the names of folders are kept, and the places of the folders on a way.
-use Rattle.std.specs.Prelude.{◌≡◌, ◌<◌, ℕ, List, [], ◌∷◌, drop, length, slice_get, Option, None, Some, Vec}
-use Rattle.std.specs.Ordering.{nat_cmp}
-use Rattle.std.specs.Cmp.Lexicographic.{slice_cmp}
-use Rattle.std.specs.BTreeMap.{BTreeMap, get_by}
+-- The folders that are found by names are known, and the places of the folders on a way.
+use Rattle.std.specs.Prelude.{◌≡◌, ◌<◌, ℕ, List, [], ◌∷◌, drop, length, Option, Some, Vec}
+use Rattle.std.specs.BTreeMap.{BTreeMap}
+use Rattle.glob_trees.specs.Links.{link}
 use Rattle.glob_trees.specs.Ways.{Folder, start_of}
 
-module _ {Z : Type 0} where
-  -- what a folder has at a name, where the folder is known
-  abbrev pub named_in : Option (BTreeMap (Vec ℕ Z) ℕ) → List ℕ → Option ℕ
-  named_in None name = None
-  named_in (Some inner) name = get_by (λ key. slice_cmp nat_cmp name key.items) inner
-
-  -- the place of the folder of this name in the one at a place
-  abbrev pub link : List (BTreeMap (Vec ℕ Z) ℕ) → ℕ → List ℕ → Option ℕ
-  link inner outer name = named_in (slice_get inner outer) name
-
-  -- each folder that is found by a name is known
-  abbrev pub AreInside : List (BTreeMap (Vec ℕ Z) ℕ) → Type 0
-  AreInside inner = (outer : ℕ) (name : List ℕ) (place : ℕ) → link inner outer name ≡ Some place → place < length inner
+-- each folder that is found by a name is known
+abbrev pub AreInside : {Z : Type 0} → List (BTreeMap (Vec ℕ Z) ℕ) → Type 0
+AreInside inner = (outer : ℕ) (name : List ℕ) (place : ℕ) → link inner outer name ≡ Some place → place < length inner
 
 -- what names a folder in the one that it lies right in
 abbrev pub name_in : Folder → Folder → List ℕ

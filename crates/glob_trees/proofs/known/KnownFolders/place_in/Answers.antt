@@ -3,7 +3,7 @@ use Rattle.std.proofs.Common.{◌≡◌, ◌<◌, Some, length, ap, sym, subst, 
 use Rattle.std.specs.Prelude.{slice_get}
 use Rattle.std.proofs.lemmas.Bool.{ltb-true}
 use Rattle.std.proofs.lemmas.Option.{slice_get-get_or}
-use Rattle.glob_trees.specs.Private.Known.{link, named_in}
+use Rattle.glob_trees.specs.Links.{link, named_in}
 use Rattle.glob_trees.proofs.lemmas.Links.{if_inside}
 use Rattle.glob_trees.proofs.known.KnownFolders.place_in.Goals as goal
 
