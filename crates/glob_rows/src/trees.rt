@@ -96,6 +96,8 @@ impl<'a> FolderLists<IgnoreLines> for Table<'a> {
         list.patterns = IgnoreLines.bytes_to_patterns(self.alloc, self.bytes_of(folder), "")?;
         list_in_folder(self.alloc, list, folder)
     }
+
+    fn forget(&mut self) {}
 }
 
 /// Which line decides about each path, one after the other, and for which folders the source was asked.

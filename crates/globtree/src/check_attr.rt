@@ -79,7 +79,7 @@ pub(crate) fn check_attr<R: Files + Env + Eprint + AllocGlobal, I: Read, O: Writ
         standpoint,
         is_nul: flags.nul,
         index: &index,
-        folders: FolderAttributes::new(reader, info, names, &macros)?,
+        folders: FolderAttributes::new(reader, info, names, &macros),
         labels: labels_of(alloc, names, flags.nul)?,
         path: Vec::new(alloc),
     };

@@ -10,6 +10,7 @@ mod attribute_flags;
 mod attribute_text;
 mod check_attr;
 mod check_ignore;
+mod closed_folders;
 mod command_words;
 mod config_keys;
 mod excludes;

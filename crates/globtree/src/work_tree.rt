@@ -13,6 +13,9 @@ use std::alloc::Global;
 use std::rt::{Env, Files};
 use told_paths::Standpoint;
 
+/// About how many bytes are kept of folders and their patterns.
+const MOST_BYTES: usize = 32 << 20;
+
 /// Goes to the top by the options: where paths are told from, and the work tree.
 pub(crate) fn tree_of<'a, R: Files + Env + Eprint + AllocGlobal>(
     rt: &'a R,
@@ -32,6 +35,7 @@ pub(crate) fn tree_of<'a, R: Files + Env + Eprint + AllocGlobal>(
         Case::Sensitive
     };
     let source = FolderFiles::new(rt, alloc);
-    let tree = Tree::new(alloc, source, fronts, case).context("the bases of lists")?;
+    let mut tree = Tree::new(alloc, source, fronts, case).context("the bases of lists")?;
+    tree.keep_at_most(MOST_BYTES);
     Ok((standpoint, tree))
 }
