@@ -32,11 +32,6 @@ set_apart (z ∷ xs) zero (suc j) x apart = refl
 set_apart (z ∷ xs) (suc i) zero x apart = refl
 set_apart (z ∷ xs) (suc i) (suc j) x apart = set_apart xs i j x (λ same. apart (ap suc same))
 
-get_before : {X : Type 0} (xs : List X) (x : X) (i : ℕ) → i < length xs → slice_get (xs ++ x ∷ []) i ≡ slice_get xs i
-get_before [] x i inside = absurd (omega arith)
-get_before (y ∷ xs) x zero inside = refl
-get_before (y ∷ xs) x (suc i) inside = get_before xs x i (omega arith)
-
 module _ {Z : Type 0} where
   -- keys in order of their bytes
   abbrev pub key_cmp : Vec ℕ Z → Vec ℕ Z → Ordering

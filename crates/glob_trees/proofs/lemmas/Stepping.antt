@@ -115,11 +115,6 @@ passing shows case n lists own path place inside other e =
 pub passing_way : (path : List ℕ) (place : ℕ) → place < length path → ¬ (slice_index path place ≡ slash) → folders_to (take (place + 1) path) ≡ folders_to (take place path)
 passing_way path place inside other = ap folders_to (path_more path place inside) ∙ folders_other (take place path) (slice_index path place) other
 
-pub first_slash_way : (path : List ℕ) (place : ℕ) → HasByte path place slash → place ≡ 0 → folders_to (take (place + 1) path) ≡ folders_to (take place path)
-first_slash_way path place here first =
-    let none : take place path ≡ [] = ap (λ k. take k path) first in
-    ap folders_to (slash_next path place here) ∙ ap (λ f. folders_to (f ++ slash ∷ [])) none ∙ ap folders_to (sym none)
-
 pub way_grows : (path : List ℕ) (place : ℕ) → place < length path → (folder : List ℕ) → Contains (folders_to (take place path)) folder → Contains (folders_to (take (place + 1) path)) folder
 way_grows path place inside folder h =
     subst (λ t. Contains (folders_to t) folder) (sym (path_more path place inside)) (on_way_more (take place path) (slice_index path place ∷ []) folder h)
