@@ -1,3 +1,4 @@
+pub mod AnyKind
 pub mod Asking
 pub mod Cases
 pub mod Emptied

@@ -1,9 +1,12 @@
 //! Laws of decisions in work trees: each is a call that does nothing, which a caller makes to know what it ensures.
-ghost use Rattle.std.specs.Prelude.{◌≡◌, ◌++◌, ◌∷◌, ℕ, Bool, List, Option, Some, take};
+ghost use Rattle.std.specs.Prelude.{◌≡◌, ◌++◌, ◌∷◌, ℕ, Bool, true, false, List, Option, None, Some, take};
 ghost use Rattle.gix_glob.specs.Bytes.{slash};
 ghost use Rattle.gix_glob.specs.declared.pattern.Case.{Case};
+ghost use Rattle.gix_glob.specs.Entries.{Entry};
 ghost use Rattle.gix_glob.specs.EntryLists.{EntryList};
+ghost use Rattle.gix_glob.specs.Patterns.{is_for_directories};
 ghost use Rattle.gix_glob.specs.Stripping.{NothingLeft};
+ghost use Rattle.glob_lists.specs.Deciding.{IsEntryAt};
 ghost use Rattle.glob_trees.specs.Laws.Emptying.{EmptiesList};
 ghost use Rattle.glob_trees.specs.Laws.Kept.{ShowsOne};
 ghost use Rattle.glob_trees.specs.Trees.{DecidesInTree, Ignores, IsAbove, HasNoneIgnored};
@@ -40,6 +43,15 @@ pub fn lists_off_the_way_say_nothing<T: search::Pattern>()
     ensures { (lists emptied : List (EntryList T.Seen)) (base path : List ℕ) (is_dir : Bool) (case : Case)
         (pair : Option (ℕ × ℕ)) → EmptiesList lists base emptied → NothingLeft case (Some base) path
         → DecidesInTree emptied path is_dir case pair → DecidesInTree lists path is_dir case pair }
+{}
+
+/// What decides about a path as a folder's decides about it as a file's too, unless its pattern is for directories only; and where nothing
+/// does, nothing decides about the file. So a caller who asked as of a folder mostly needn't know what stands there.
+pub fn folders_decide_as_files<T: search::Pattern>()
+    ensures some { (lists : List (EntryList T.Seen)) (path : List ℕ) (case : Case) (pair : ℕ × ℕ) (entry : Entry T.Seen) → IsEntryAt lists pair entry
+        → is_for_directories entry.mode ≡ false → DecidesInTree lists path true case (Some pair) → DecidesInTree lists path false case (Some pair) }
+    ensures none { (lists : List (EntryList T.Seen)) (path : List ℕ) (case : Case) → DecidesInTree lists path true case None
+        → DecidesInTree lists path false case None }
 {}
 
 /// No answer depends on what is kept, or was forgotten: where a source shows at most one list of each folder, the lists on the way to a
