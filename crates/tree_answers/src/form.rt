@@ -1,0 +1,22 @@
+//! How answers are written.
+
+/// How answers are written: in lines, or in records.
+#[derive(Clone, Copy, Debug, PartialEq, Eq)]
+pub enum Form {
+    /// In lines: a name with an unusual byte stands in quotes.
+    Lines,
+    /// In records: a NUL stands behind each part, and no name is quoted.
+    Records,
+}
+
+impl Form {
+    ghost use Rattle.std.specs.Prelude.{◌≡◌, if◌then◌else◌};
+    ghost use Rattle.tree_answers.specs.declared.form.Form.TheVariants as form;
+
+    /// Records where a NUL ends each, else lines.
+    pub fn ended_by(is_nul: bool) -> Form
+        ensures { result ≡ (if is_nul then form.Records else form.Lines) }
+    {
+        if is_nul { Form::Records } else { Form::Lines }
+    }
+}
