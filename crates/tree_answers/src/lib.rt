@@ -3,6 +3,7 @@
 
 mod attributes;
 mod form;
+pub mod laws;
 mod lines;
 
 pub use attributes::{append_answer, append_label, path_text};
