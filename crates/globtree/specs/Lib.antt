@@ -5,6 +5,5 @@ pub mod Files
 pub mod FilesFlags
 pub mod Flags
 pub mod IndexHead
-pub mod RecordNames
 pub mod Telling
 pub mod Words

@@ -2,7 +2,6 @@
 ghost use Rattle.std.specs.Prelude.{IsTrue};
 ghost use Rattle.glob_lists.specs.Paths.{IsPlainPath};
 
-use crate::answering::PathAnswerer;
 use crate::fault::CheckFault;
 use crate::finding::Finder;
 use crate::flags::Flags;
@@ -12,7 +11,7 @@ use glob_trees::Tree;
 use std::alloc::Global;
 use std::rt::Files;
 use told_paths::Standpoint;
-use tree_answers::{DecidingLine, Form, append_line};
+use tree_answers::{DecidingLine, Form, PathAnswerer, append_line};
 
 /// What answers each told path by the tree.
 #[derive(Drop)]
@@ -28,7 +27,9 @@ pub(crate) struct Asker<'a, R: Files + Eprint> {
 }
 
 impl<'a, R: Files + Eprint> PathAnswerer for Asker<'a, R> {
-    const KEEPS_ANSWERS: bool = false;
+    type Fault = CheckFault;
+
+    ghost answers = { λ _ _ _. Unit {0} };
 
     fn answer_path(
         &mut self,

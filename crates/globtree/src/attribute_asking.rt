@@ -2,7 +2,6 @@
 
 ghost use Rattle.std.specs.Io.{StartsWith};
 
-use crate::answering::PathAnswerer;
 use crate::fault::CheckFault;
 use crate::folder_attributes::FolderAttributes;
 use glob_attributes::{Assignment, AttributeLines, PathAttributes, State};
@@ -10,7 +9,7 @@ use glob_lists::{ListIndex, RepositoryPath, bases_are_folders};
 use std::alloc::{AllocError, Global};
 use std::rt::Files;
 use told_paths::Standpoint;
-use tree_answers::{Form, append_answer, append_label, path_text};
+use tree_answers::{Form, PathAnswerer, append_answer, append_label, path_text};
 
 /// What answers each told path by the states of its attributes.
 #[derive(Drop)]
@@ -28,7 +27,9 @@ pub(crate) struct AttributeAsker<'a, R> {
 }
 
 impl<'a, R: Files + Eprint> PathAnswerer for AttributeAsker<'a, R> {
-    const KEEPS_ANSWERS: bool = true;
+    type Fault = CheckFault;
+
+    ghost answers = { λ _ _ _. Unit {0} };
 
     fn answer_path(
         &mut self,

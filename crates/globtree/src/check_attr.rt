@@ -20,6 +20,7 @@ use glob_lists::{ListIndex, bases_are_folders};
 use std::alloc::{AllocError, Global};
 use std::io::{Read, Write};
 use std::rt::{Env, Files};
+use tree_answers::{Form, append_label};
 
 /// What the command ends with where a name is none that an attribute can have.
 const NO_NAME: u8 = 255;
@@ -84,9 +85,9 @@ pub(crate) fn check_attr<R: Files + Env + Eprint + AllocGlobal, I: Read, O: Writ
         path: Vec::new(alloc),
     };
     if flags.stdin {
-        answer_records(alloc, asker, flags.nul, input, output)?;
+        answer_records(alloc, asker, form, input, output)?;
     } else {
-        answer_paths(alloc, asker, paths, output)?;
+        answer_paths(alloc, asker, paths, true, output)?;
     }
     Ok(ANSWERED)
 }

@@ -23,7 +23,6 @@ mod index_head;
 mod list_files;
 mod outer_attributes;
 mod places;
-mod record_names;
 mod running;
 mod signs;
 mod sources;

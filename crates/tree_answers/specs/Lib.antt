@@ -1,2 +1,3 @@
 pub mod Attributes
 pub mod Lines
+pub mod Records

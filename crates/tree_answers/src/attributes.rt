@@ -69,10 +69,6 @@ pub fn append_answer(
     text.extend_from_slice(shown)?;
     text.extend_from_slice(label)?;
     text.extend_from_slice(state_text(state))?;
-    let end = match form {
-        Form::Lines => b'\n',
-        Form::Records => 0,
-    };
-    text.push(end)?;
+    text.push(form.end())?;
     Ok(())
 }

@@ -57,7 +57,7 @@ pub fn append_line(
         append_decision(text, line, form)?;
     }
     append_told(text, told, is_usual, form)?;
-    text.push(end_of(form))?;
+    text.push(form.end())?;
     Ok(())
 }
 
@@ -69,13 +69,6 @@ fn behind(form: Form, sign: u8) -> u8
         Form::Lines => sign,
         Form::Records => 0,
     }
-}
-
-/// The byte at the end of an answer.
-fn end_of(form: Form) -> u8
-    ensures { result ≡ behind form 10 }
-{
-    behind(form, b'\n')
 }
 
 /// Appends the name of the file, the number of the line and its pattern, each with the byte behind it.

@@ -1,6 +1,6 @@
 use Rattle.std.proofs.Common.{sym}
-use Rattle.globtree.proofs.lemmas.RecordLemmas.{before_found, before_not_found}
-use Rattle.globtree.proofs.record_names.before_zero.Goals as goal
+use Rattle.tree_answers.proofs.lemmas.ZeroLemmas.{before_found, before_not_found}
+use Rattle.tree_answers.proofs.records.before_zero.Goals as goal
 
 pub returns-in-Some : goal.returns-in-Some
 returns-in-Some c = sym (before_found c.args.name.now c.in-Some.place c.in-Some.ensures)

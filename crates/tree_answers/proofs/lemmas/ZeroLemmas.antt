@@ -7,7 +7,7 @@ use Rattle.memchr.specs.Find.{IsFirstByte, is_byte}
 use Rattle.glob_lines.specs.Lines.{HasNo}
 use Rattle.glob_lines.proofs.lemmas.LinesLemmas.{HasNo-not_found, IsCutAt-found}
 use Rattle.glob_attributes.proofs.lemmas.PlaceLemmas.{place-later}
-use Rattle.globtree.specs.RecordNames.{is_zero}
+use Rattle.tree_answers.specs.Records.{is_zero}
 
 take-more : (n b : ℕ) (text : List ℕ) → take (1 + n) (b ∷ text) ≡ b ∷ take n text
 take-more n b text = let is : 1 + n ≡ suc n = omega arith in ap (λ k. take k (b ∷ text)) is
@@ -19,7 +19,7 @@ before_cut (b ∷ front) rest none =
     ∙ take-more _ b (front ++ 0 ∷ rest)
     ∙ ap (λ text. b ∷ text) (before_cut front rest none.1)
 
-before_none : (text : List ℕ) → HasNo 0 text → before_first is_zero text ≡ text
+pub before_none : (text : List ℕ) → HasNo 0 text → before_first is_zero text ≡ text
 before_none [] none = refl
 before_none (b ∷ text) none =
     ap (λ n. take n (b ∷ text)) (place-later is_zero b text (ne_eqb b 0 none.0))
