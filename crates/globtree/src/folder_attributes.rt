@@ -92,7 +92,8 @@ impl<'a, R: Files + Eprint> FolderAttributes<'a, R> {
     /// Leaves the folder entered last, and keeps its list.
     fn leave(&mut self) {
         let left = self.way.pop();
-        self.folder.truncate(self.last().length);
+        let outer = self.last();
+        self.folder.truncate(outer.length);
         if let Some(left) = left
             && left.has_list
             && let Some(at) = self.lists.len().checked_sub(2)
