@@ -8,5 +8,6 @@ pub mod Flags
 pub mod IndexHead
 pub mod Lines
 pub mod RecordNames
+pub mod SeenFiles
 pub mod Telling
 pub mod Words
