@@ -5,8 +5,11 @@ pub mod ConfigKeys
 pub mod Files
 pub mod FilesFlags
 pub mod Flags
+pub mod Ignoring
 pub mod IndexHead
+pub mod Kinds
 pub mod Lines
+pub mod OnWay
 pub mod RecordNames
 pub mod SeenFiles
 pub mod Telling

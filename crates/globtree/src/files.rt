@@ -4,18 +4,18 @@ ghost use Rattle.std.specs.Vec.{vec_items};
 ghost use Rattle.globtree.specs.Files.{PutsInOrder};
 
 use crate::fault::CheckFault;
-use crate::folder_names::{NameReader, what_names_tell};
+use crate::folder_names::{FolderNames, NameReader};
 use crate::ignoring::{Ignoring, ListsOnWay};
 use crate::seen_files::{Sight, seen_file_list};
 use crate::standing::{OwnFile, file_in, own_file};
 use crate::telling::tell_line;
+use crate::told_kinds::Kind;
 use anyhow::{Context, Result};
 use gix_glob::search::Watched;
 use glob_lines::IgnoreLines;
 use memchr::memrchr;
 use std::alloc::{AllocError, Global};
 use std::fmt::Display;
-use std::fs::FileType;
 use std::io::{ErrorKind, Write};
 use std::rt::Files;
 use std::{fs, io};
@@ -141,13 +141,8 @@ impl<'a, R: Files + Eprint> Lister<'a, R> {
     fn list_folder(&mut self, outer_length: usize) -> Result<(), CheckFault> {
         let folder = text_of(self.alloc, folder_of(&self.path))?;
         match self.reader.read(self.rt, folder) {
-            Ok(names) => {
-                let tell = what_names_tell(&names);
-                if !tell.has_git {
-                    return self.enter(&names, tell.has_ignore_file, outer_length);
-                }
-                self.append_path()?;
-            }
+            Ok(names) if !names.has_git => return self.enter(&names, outer_length),
+            Ok(_repository) => self.append_path()?,
             Err(error) => self.list_unread(error)?,
         }
         self.path.truncate(outer_length);
@@ -165,15 +160,16 @@ impl<'a, R: Files + Eprint> Lister<'a, R> {
     /// Enters the folder of the path: what lies in it, and isn't ignored, comes before all that is pending.
     pub(crate) fn enter(
         &mut self,
-        names: &[u8],
-        has_ignore_file: bool,
+        names: &FolderNames,
         outer_length: usize,
     ) -> Result<(), CheckFault> {
-        let has_list = has_ignore_file && self.push_list()?;
+        let has_list = names.has_ignore_file && self.push_list()?;
         self.put_on_the_way(outer_length, has_list)?;
         let mut listed = Vec::new(self.alloc);
-        'names: for name in names.split(|byte| *byte == 0) {
-            self.push_name(&mut listed, name)?;
+        'names: for found in &names.found {
+            if let Some(name) = names.bytes.get(found.start..found.end) {
+                self.push_name(&mut listed, name, found.kind)?;
+            }
         }
         put_in_order(&mut self.pending, listed)?;
         Ok(())
@@ -206,13 +202,18 @@ impl<'a, R: Files + Eprint> Lister<'a, R> {
     }
 
     /// Pushes a name in the folder of the path, where what stands there is listed.
-    fn push_name(&mut self, listed: &mut Vec<Vec<u8>>, name: &[u8]) -> Result<(), CheckFault> {
-        if matches!(name, b"" | b"." | b"..") || self.is_git(name) {
+    fn push_name(
+        &mut self,
+        listed: &mut Vec<Vec<u8>>,
+        name: &[u8],
+        told: Option<Kind>,
+    ) -> Result<(), CheckFault> {
+        if self.is_git(name) {
             return Ok(());
         }
         let length = self.path.len();
         self.path.extend_from_slice(name)?;
-        let found = self.what_is_listed()?;
+        let found = self.what_is_listed(told)?;
         self.path.truncate(length);
         match found {
             Listed::Nothing => {}
@@ -222,27 +223,43 @@ impl<'a, R: Files + Eprint> Lister<'a, R> {
         Ok(())
     }
 
-    /// What is listed of the path. The system is asked what stands there only where it isn't ignored whatever it is.
-    fn what_is_listed(&mut self) -> Result<Listed, CheckFault> {
-        let ignoring = self.lists.ignoring(&self.path);
+    /// What is listed of the path. The system is asked what stands there only where it didn't tell that with the name, and the path isn't
+    /// ignored whatever stands there.
+    fn what_is_listed(&mut self, told: Option<Kind>) -> Result<Listed, CheckFault> {
+        let ignoring = match told {
+            Some(_kind) => Ignoring::ByKind,
+            None => self.lists.ignoring(&self.path),
+        };
         if ignoring == Ignoring::Always {
             return Ok(Listed::Nothing);
         }
-        let Ok(text) = str::from_utf8(&self.path) else {
-            self.tell("a name in it is no UTF-8 text")?;
-            return Ok(Listed::Nothing);
+        let kind = match told {
+            Some(kind) => kind,
+            None => match self.look()? {
+                Some(kind) => kind,
+                None => return Ok(Listed::Nothing),
+            },
         };
-        let kind = match fs::symlink_metadata(self.rt, text) {
-            Ok(found) => found.file_type(),
-            Err(error) => {
-                self.tell_error(error)?;
-                return Ok(Listed::Nothing);
-            }
-        };
-        if ignoring == Ignoring::ByKind && self.lists.is_ignored(&self.path, kind.is_dir()) {
+        let is_folder = kind == Kind::Folder;
+        if ignoring == Ignoring::ByKind && self.lists.is_ignored(&self.path, is_folder) {
             return Ok(Listed::Nothing);
         }
         Ok(listed_as(kind))
+    }
+
+    /// What stands at the path; `None` where that can't be told, for which the reason is told.
+    fn look(&mut self) -> Result<Option<Kind>, CheckFault> {
+        let Ok(text) = str::from_utf8(&self.path) else {
+            self.tell("a name in it is no UTF-8 text")?;
+            return Ok(None);
+        };
+        match fs::symlink_metadata(self.rt, text) {
+            Ok(found) => Ok(Some(Kind::of(found.file_type()))),
+            Err(error) => {
+                self.tell_error(error)?;
+                Ok(None)
+            }
+        }
     }
 
     /// Appends the path as it is seen from the current folder, and the byte that ends it.
@@ -313,13 +330,11 @@ pub(crate) fn text_of(alloc: Global, path: &[u8]) -> Result<&str, CheckFault> {
 }
 
 /// How something of a kind is listed.
-pub(crate) fn listed_as(kind: FileType) -> Listed {
-    if kind.is_dir() {
-        Listed::Folder
-    } else if kind.is_file() || kind.is_symlink() {
-        Listed::File
-    } else {
-        Listed::Nothing
+pub(crate) fn listed_as(kind: Kind) -> Listed {
+    match kind {
+        Kind::Folder => Listed::Folder,
+        Kind::File | Kind::Link => Listed::File,
+        Kind::Other => Listed::Nothing,
     }
 }
 

@@ -8,7 +8,7 @@ use crate::running::ANSWERED;
 use crate::signs::Concerns;
 use crate::words::Options;
 use crate::work_tree::{case_of, fronts_of};
-use anyhow::Result;
+use anyhow::{Context, Result};
 use gix_glob::search::Watched;
 use std::alloc::Global;
 use std::io::Write;
@@ -36,7 +36,7 @@ pub(crate) fn list_files<R: Files + Env + Eprint + AllocGlobal + Clone + Drop, O
         rt,
         alloc,
         standpoint,
-        lists: ListsOnWay::new(fronts, case_of(options)),
+        lists: ListsOnWay::new(fronts, case_of(options)).context("the bases of lists")?,
         nul: flags.nul,
         folds: options.ignore_case,
         reader: NameReader::new(alloc)?,

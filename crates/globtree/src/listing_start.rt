@@ -2,11 +2,10 @@
 
 use crate::fault::CheckFault;
 use crate::files::{Listed, Lister, is_repository, listed_as, push_marked, tell_unlisted, text_of};
-use crate::folder_names::what_names_tell;
 use crate::sources::FolderFiles;
+use crate::told_kinds::Kind;
 use glob_trees::FolderLists;
 use std::fs;
-use std::fs::FileType;
 use std::io::ErrorKind;
 use std::rt::Files;
 use told_paths::last_name;
@@ -24,14 +23,14 @@ impl<'a, R: Files + Eprint> Lister<'a, R> {
         if self.is_in_repository(&path)? {
             return Ok(());
         }
-        let Some(kind) = self.look(&path)? else {
+        let Some(kind) = self.look_at(&path)? else {
             return Ok(());
         };
-        if is_folder && !kind.is_dir() {
+        if is_folder && kind != Kind::Folder {
             self.is_short = true;
             return Ok(tell_unlisted(self.rt, alloc, &path, "no folder")?);
         }
-        if self.go_to(&path)? && !self.lists.is_ignored(&path, kind.is_dir()) {
+        if self.go_to(&path)? && !self.lists.is_ignored(&path, kind == Kind::Folder) {
             self.begin_at(&path, kind)?;
         }
         Ok(())
@@ -40,13 +39,13 @@ impl<'a, R: Files + Eprint> Lister<'a, R> {
     /// Begins with the top, which is listed although it has `.git`.
     fn begin_at_top(&mut self) -> Result<(), CheckFault> {
         match self.reader.read(self.rt, ".") {
-            Ok(names) => self.enter(&names, what_names_tell(&names).has_ignore_file, 0),
+            Ok(names) => self.enter(&names, 0),
             Err(error) => self.tell_error(error),
         }
     }
 
     /// Begins with a path below the top.
-    fn begin_at(&mut self, path: &[u8], kind: FileType) -> Result<(), CheckFault> {
+    fn begin_at(&mut self, path: &[u8], kind: Kind) -> Result<(), CheckFault> {
         let listed = listed_as(kind);
         if listed == Listed::Nothing {
             return Ok(());
@@ -96,9 +95,9 @@ impl<'a, R: Files + Eprint> Lister<'a, R> {
     }
 
     /// What stands at a path; `None` where it can't be looked at, which is told.
-    fn look(&mut self, path: &[u8]) -> Result<Option<FileType>, CheckFault> {
+    fn look_at(&mut self, path: &[u8]) -> Result<Option<Kind>, CheckFault> {
         match fs::symlink_metadata(self.rt, text_of(self.alloc, path)?) {
-            Ok(found) => Ok(Some(found.file_type())),
+            Ok(found) => Ok(Some(Kind::of(found.file_type()))),
             Err(error) if error.kind() == ErrorKind::OutOfMemory => Err(CheckFault::Memory),
             Err(error) => {
                 self.is_short = true;
