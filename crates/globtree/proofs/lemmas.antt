@@ -1,2 +1,3 @@
 pub mod AddedLemmas
+pub mod IgnoringLemmas
 pub mod PieceLemmas

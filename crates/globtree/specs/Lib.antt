@@ -4,6 +4,10 @@ pub mod ConfigKeys
 pub mod Files
 pub mod FilesFlags
 pub mod Flags
+pub mod Ignoring
 pub mod IndexHead
+pub mod Kinds
+pub mod OnWay
+pub mod SeenFiles
 pub mod Telling
 pub mod Words

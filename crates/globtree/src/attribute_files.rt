@@ -1,7 +1,7 @@
 //! Reading attribute files: their lists, their names, and the lines that say nothing.
 
 use crate::fault::CheckFault;
-use crate::sources::file_list;
+use crate::seen_files::{Sight, file_list, seen_file_list};
 use crate::standing::{OwnFile, Standing, file_in, folder_text, own_file, what_stands};
 use crate::telling::tell_line;
 use gix_glob::search::pattern::List;
@@ -94,7 +94,15 @@ impl<'a, R: Files + Eprint> AttributeReader<'a, R> {
         if self.is_too_large(file.as_str(), &found)? {
             return Ok(Some(List::empty(self.alloc)));
         }
-        let list = file_list(self.rt, self.alloc, file, &mut self.bytes, AttributeLines)?;
+        let seen = Sight::of(&found);
+        let list = seen_file_list(
+            self.rt,
+            self.alloc,
+            file,
+            &seen,
+            &mut self.bytes,
+            AttributeLines,
+        )?;
         self.note(&list, is_top)?;
         Ok(Some(list))
     }
