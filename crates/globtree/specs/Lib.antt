@@ -6,7 +6,6 @@ pub mod FilesFlags
 pub mod Flags
 pub mod Ignoring
 pub mod IndexHead
-pub mod Kinds
 pub mod OnWay
 pub mod SeenFiles
 pub mod Telling

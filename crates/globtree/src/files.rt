@@ -9,13 +9,13 @@ use crate::ignoring::{Ignoring, ListsOnWay};
 use crate::seen_files::{Sight, seen_file_list};
 use crate::standing::{OwnFile, file_in, own_file};
 use crate::telling::tell_line;
-use crate::told_kinds::Kind;
 use anyhow::{Context, Result};
 use gix_glob::search::Watched;
 use glob_lines::IgnoreLines;
 use memchr::memrchr;
 use std::alloc::{AllocError, Global};
 use std::fmt::Display;
+use std::fs::FileType;
 use std::io::{ErrorKind, Write};
 use std::rt::Files;
 use std::{fs, io};
@@ -166,10 +166,8 @@ impl<'a, R: Files + Eprint> Lister<'a, R> {
         let has_list = names.has_ignore_file && self.push_list()?;
         self.put_on_the_way(outer_length, has_list)?;
         let mut listed = Vec::new(self.alloc);
-        'names: for found in &names.found {
-            if let Some(name) = names.bytes.get(found.start..found.end) {
-                self.push_name(&mut listed, name, found.kind)?;
-            }
+        'names: for name in names.bytes.split(|byte| *byte == 0) {
+            self.push_name(&mut listed, name)?;
         }
         put_in_order(&mut self.pending, listed)?;
         Ok(())
@@ -209,18 +207,16 @@ impl<'a, R: Files + Eprint> Lister<'a, R> {
     }
 
     /// Pushes a name in the folder of the path, where what stands there is listed.
-    fn push_name(
-        &mut self,
-        listed: &mut Vec<Vec<u8>>,
-        name: &[u8],
-        told: Option<Kind>,
-    ) -> Result<(), CheckFault> {
-        if self.is_git(name) {
+    fn push_name(&mut self, listed: &mut Vec<Vec<u8>>, name: &[u8]) -> Result<(), CheckFault> {
+        if matches!(name, b"" | b"." | b"..") || self.is_git(name) {
             return Ok(());
+        }
+        if str::from_utf8(name).is_err() {
+            return self.tell("a name in it is no UTF-8 text");
         }
         let length = self.path.len();
         self.path.extend_from_slice(name)?;
-        let found = self.what_is_listed(told)?;
+        let found = self.what_is_listed()?;
         self.path.truncate(length);
         match found {
             Listed::Nothing => {}
@@ -230,38 +226,25 @@ impl<'a, R: Files + Eprint> Lister<'a, R> {
         Ok(())
     }
 
-    /// What is listed of the path. The system is asked what stands there only where it didn't tell that with the name, and the path isn't
-    /// ignored whatever stands there.
-    fn what_is_listed(&mut self, told: Option<Kind>) -> Result<Listed, CheckFault> {
-        let ignoring = match told {
-            Some(_kind) => Ignoring::ByKind,
-            None => self.lists.ignoring(&self.path),
-        };
+    /// What is listed of the path. The system is asked what stands there only where the path isn't ignored whatever that is.
+    fn what_is_listed(&mut self) -> Result<Listed, CheckFault> {
+        let ignoring = self.lists.ignoring(&self.path);
         if ignoring == Ignoring::Always {
             return Ok(Listed::Nothing);
         }
-        let kind = match told {
-            Some(kind) => kind,
-            None => match self.look()? {
-                Some(kind) => kind,
-                None => return Ok(Listed::Nothing),
-            },
+        let Some(kind) = self.look()? else {
+            return Ok(Listed::Nothing);
         };
-        let is_folder = kind == Kind::Folder;
-        if ignoring == Ignoring::ByKind && self.lists.is_ignored(&self.path, is_folder) {
+        if ignoring == Ignoring::ByKind && self.lists.is_ignored(&self.path, kind.is_dir()) {
             return Ok(Listed::Nothing);
         }
         Ok(listed_as(kind))
     }
 
     /// What stands at the path; `None` where that can't be told, for which the reason is told.
-    fn look(&mut self) -> Result<Option<Kind>, CheckFault> {
-        let Ok(text) = str::from_utf8(&self.path) else {
-            self.tell("a name in it is no UTF-8 text")?;
-            return Ok(None);
-        };
-        match fs::symlink_metadata(self.rt, text) {
-            Ok(found) => Ok(Some(Kind::of(found.file_type()))),
+    fn look(&mut self) -> Result<Option<FileType>, CheckFault> {
+        match fs::symlink_metadata(self.rt, text_of(self.alloc, &self.path)?) {
+            Ok(found) => Ok(Some(found.file_type())),
             Err(error) => {
                 self.tell_error(error)?;
                 Ok(None)
@@ -337,11 +320,13 @@ pub(crate) fn text_of(alloc: Global, path: &[u8]) -> Result<&str, CheckFault> {
 }
 
 /// How something of a kind is listed.
-pub(crate) fn listed_as(kind: Kind) -> Listed {
-    match kind {
-        Kind::Folder => Listed::Folder,
-        Kind::File | Kind::Link => Listed::File,
-        Kind::Other => Listed::Nothing,
+pub(crate) fn listed_as(kind: FileType) -> Listed {
+    if kind.is_dir() {
+        Listed::Folder
+    } else if kind.is_file() || kind.is_symlink() {
+        Listed::File
+    } else {
+        Listed::Nothing
     }
 }
 

@@ -3,9 +3,9 @@
 use crate::fault::CheckFault;
 use crate::files::{Listed, Lister, is_repository, listed_as, push_marked, tell_unlisted, text_of};
 use crate::sources::FolderFiles;
-use crate::told_kinds::Kind;
 use glob_trees::FolderLists;
 use std::fs;
+use std::fs::FileType;
 use std::io::ErrorKind;
 use std::rt::Files;
 use told_paths::last_name;
@@ -26,11 +26,11 @@ impl<'a, R: Files + Eprint> Lister<'a, R> {
         let Some(kind) = self.look_at(&path)? else {
             return Ok(());
         };
-        if is_folder && kind != Kind::Folder {
+        if is_folder && !kind.is_dir() {
             self.is_short = true;
             return Ok(tell_unlisted(self.rt, alloc, &path, "no folder")?);
         }
-        if self.go_to(&path)? && !self.lists.is_ignored(&path, kind == Kind::Folder) {
+        if self.go_to(&path)? && !self.lists.is_ignored(&path, kind.is_dir()) {
             self.begin_at(&path, kind)?;
         }
         Ok(())
@@ -45,7 +45,7 @@ impl<'a, R: Files + Eprint> Lister<'a, R> {
     }
 
     /// Begins with a path below the top.
-    fn begin_at(&mut self, path: &[u8], kind: Kind) -> Result<(), CheckFault> {
+    fn begin_at(&mut self, path: &[u8], kind: FileType) -> Result<(), CheckFault> {
         let listed = listed_as(kind);
         if listed == Listed::Nothing {
             return Ok(());
@@ -97,9 +97,9 @@ impl<'a, R: Files + Eprint> Lister<'a, R> {
     }
 
     /// What stands at a path; `None` where it can't be looked at, which is told.
-    fn look_at(&mut self, path: &[u8]) -> Result<Option<Kind>, CheckFault> {
+    fn look_at(&mut self, path: &[u8]) -> Result<Option<FileType>, CheckFault> {
         match fs::symlink_metadata(self.rt, text_of(self.alloc, path)?) {
-            Ok(found) => Ok(Some(Kind::of(found.file_type()))),
+            Ok(found) => Ok(Some(found.file_type())),
             Err(error) if error.kind() == ErrorKind::OutOfMemory => Err(CheckFault::Memory),
             Err(error) => {
                 self.is_short = true;

@@ -32,7 +32,6 @@ mod signs;
 mod sources;
 mod standing;
 mod telling;
-mod told_kinds;
 mod unlinked;
 mod words;
 mod work_tree;
