@@ -1,12 +1,19 @@
 /* Exchanges a file, when it is opened: the program that loads this by LD_PRELOAD looks at the file EXCHANGED, and before its first opening
-   what lies at EXCHANGED_BY is moved into its place. What it takes of the C library is declared here, so it builds without that library's
-   headers. */
+   what lies at EXCHANGED_BY is moved into its place. Where UNTOLD is set, the system doesn't tell what stands under the names in a folder.
+   Where ASKED is set, each path that is looked at is told on the standard error, in a line.
+   What it takes of the C library is declared here, so it builds without that library's headers. */
 #include <stddef.h>
 
 extern char *getenv(const char *name);
 extern int strcmp(const char *one, const char *other);
 extern int rename(const char *from, const char *to);
 extern int __open(const char *path, int flags, unsigned mode);
+extern long syscall(long number, ...);
+extern long write(int descriptor, const void *bytes, size_t count);
+extern size_t strlen(const char *text);
+
+/* The numbers of calls, and where a record has its length and the kind of its name, on this processor. */
+enum { GETDENTS64 = 217, STATX = 332, STANDARD_ERROR = 2, LENGTH_AT = 16, KIND_AT = 18, UNKNOWN = 0 };
 
 static int is_exchanged;
 
@@ -18,4 +25,17 @@ int open(const char *path, int flags, unsigned mode) {
         rename(by, exchanged);
     }
     return __open(path, flags, mode);
+}
+
+long getdents64(int folder, char *records, size_t count) {
+    long got = syscall(GETDENTS64, folder, records, count);
+    for (long at = 0; getenv("UNTOLD") && at < got; at += *(unsigned short *)(records + at + LENGTH_AT))
+        records[at + KIND_AT] = UNKNOWN;
+    return got;
+}
+
+int statx(int from, const char *path, int flags, unsigned mask, void *found) {
+    if (getenv("ASKED") && (write(STANDARD_ERROR, path, strlen(path)) < 0 || write(STANDARD_ERROR, "\n", 1) < 0))
+        return -1;
+    return (int)syscall(STATX, from, path, flags, mask, found);
 }

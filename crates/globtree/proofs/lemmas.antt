@@ -2,3 +2,4 @@ pub mod AddedLemmas
 pub mod IgnoringLemmas
 pub mod PieceLemmas
 pub mod RecordLemmas
+pub mod RecordNameLemmas

@@ -36,12 +36,13 @@ impl<'a, R: Files + Eprint> AttributeReader<'a, R> {
         macros: &mut MacroTable,
     ) -> Result<List<AttributeLines>, CheckFault> {
         self.bytes.clear();
-        if let Ok(found) = fs::metadata(self.rt, file.as_str())
-            && self.is_too_large(file.as_str(), &found)?
-        {
-            return Ok(List::empty(self.alloc));
-        }
-        let list = file_list(self.rt, self.alloc, file, &mut self.bytes, AttributeLines)?;
+        let list = match fs::metadata(self.rt, file.as_str()) {
+            Ok(found) if self.is_too_large(file.as_str(), &found)? => {
+                return Ok(List::empty(self.alloc));
+            }
+            Ok(found) => self.list_of_seen(file, &found)?,
+            Err(_unseen) => file_list(self.rt, self.alloc, file, &mut self.bytes, AttributeLines)?,
+        };
         macros.add_file(self.alloc, &self.bytes)?;
         self.note(&list, true)?;
         Ok(list)
@@ -94,17 +95,26 @@ impl<'a, R: Files + Eprint> AttributeReader<'a, R> {
         if self.is_too_large(file.as_str(), &found)? {
             return Ok(Some(List::empty(self.alloc)));
         }
-        let seen = Sight::of(&found);
-        let list = seen_file_list(
+        let list = self.list_of_seen(file, &found)?;
+        self.note(&list, is_top)?;
+        Ok(Some(list))
+    }
+
+    /// The list of a file that was looked at.
+    fn list_of_seen(
+        &mut self,
+        file: String,
+        found: &Metadata,
+    ) -> Result<List<AttributeLines>, CheckFault> {
+        let seen = Sight::of(found);
+        seen_file_list(
             self.rt,
             self.alloc,
             file,
             &seen,
             &mut self.bytes,
             AttributeLines,
-        )?;
-        self.note(&list, is_top)?;
-        Ok(Some(list))
+        )
     }
 
     /// Keeps the names of the file that was read, and tells its lines that say nothing.

@@ -193,7 +193,14 @@ impl<'a, R: Files + Eprint> Lister<'a, R> {
             return Ok(false);
         };
         let seen = Sight::of(&found);
-        let list = seen_file_list(self.rt, self.alloc, file, &seen, &mut self.bytes, IgnoreLines)?;
+        let list = seen_file_list(
+            self.rt,
+            self.alloc,
+            file,
+            &seen,
+            &mut self.bytes,
+            IgnoreLines,
+        )?;
         if list.patterns.is_empty() {
             return Ok(false);
         }
@@ -210,6 +217,9 @@ impl<'a, R: Files + Eprint> Lister<'a, R> {
     ) -> Result<(), CheckFault> {
         if self.is_git(name) {
             return Ok(());
+        }
+        if str::from_utf8(name).is_err() {
+            return self.tell("a name in it is no UTF-8 text");
         }
         let length = self.path.len();
         self.path.extend_from_slice(name)?;
@@ -249,11 +259,7 @@ impl<'a, R: Files + Eprint> Lister<'a, R> {
 
     /// What stands at the path; `None` where that can't be told, for which the reason is told.
     fn look(&mut self) -> Result<Option<Kind>, CheckFault> {
-        let Ok(text) = str::from_utf8(&self.path) else {
-            self.tell("a name in it is no UTF-8 text")?;
-            return Ok(None);
-        };
-        match fs::symlink_metadata(self.rt, text) {
+        match fs::symlink_metadata(self.rt, text_of(self.alloc, &self.path)?) {
             Ok(found) => Ok(Some(Kind::of(found.file_type()))),
             Err(error) => {
                 self.tell_error(error)?;
@@ -344,7 +350,11 @@ pub(crate) fn push_marked(
     name: &[u8],
     is_folder: bool,
 ) -> Result<(), AllocError> {
-    let length = if is_folder { name.len() + 1 } else { name.len() };
+    let length = if is_folder {
+        name.len() + 1
+    } else {
+        name.len()
+    };
     let mut marked = Vec::with_capacity(*names.allocator(), length)?;
     marked.extend_from_slice(name)?;
     if is_folder {

@@ -10,10 +10,9 @@ ghost use Rattle.globtree.specs.Ignoring.{IsIgnored, IsSaid, HasDecidingPattern}
 ghost use Rattle.globtree.specs.OnWay.{PushesListOf};
 
 use bitflags::Flags as _;
-use gix_glob::Pattern;
 use gix_glob::pattern::{Case, Mode};
-use gix_glob::search;
 use gix_glob::search::pattern::List;
+use gix_glob::{Pattern, search};
 use glob_lists::{PreparedList, RepositoryPath, decide_prepared, plain_path};
 use glob_trees::list_in_folder;
 use std::alloc::{AllocError, Global};
@@ -91,16 +90,23 @@ impl<T: search::Pattern> ListsOnWay<T> {
     }
 
     /// Whether a path is ignored. Bytes that are no path aren't.
-    pub(crate) fn is_ignored(&self, path: &[u8], is_dir: bool) -> bool {
-        plain_path(path) && is_ignored_by(&self.lists, self.case, path, is_dir)
+    pub(crate) fn is_ignored(&self, path: &[u8], is_dir: bool) -> bool
+        ensures { IsPlainPath path.now → IsTrue result ↔ IsIgnored (map (entry_list_of T.seen) self.now.lists) self.now.case path.now is_dir }
+    {
+        if plain_path(path) {
+            return is_ignored_by(&self.lists, self.case, path, is_dir);
+        }
+        false
     }
 
     /// Whether a path is ignored, as far as that can be said whatever stands there.
-    pub(crate) fn ignoring(&self, path: &[u8]) -> Ignoring {
-        if !plain_path(path) {
-            return Ignoring::Never;
+    pub(crate) fn ignoring(&self, path: &[u8]) -> Ignoring
+        ensures { IsPlainPath path.now → IsSaid (map (entry_list_of T.seen) self.now.lists) self.now.case path.now result }
+    {
+        if plain_path(path) {
+            return ignoring_by(&self.lists, self.case, path);
         }
-        ignoring_by(&self.lists, self.case, path)
+        Ignoring::Never
     }
 }
 
@@ -125,6 +131,7 @@ fn is_ignored_by<T: search::Pattern>(
 ) -> bool
     requires folders { BasesAreFolders (map (entry_list_of T.seen) lists.now) }
     requires plain { IsPlainPath path.now }
+    ensures { IsTrue result ↔ IsIgnored (map (entry_list_of T.seen) lists.now) case path.now is_dir }
 {
     let path = RepositoryPath::from_plain(path, is_dir);
     match deciding(lists, case, &path) {
@@ -138,6 +145,7 @@ fn is_ignored_by<T: search::Pattern>(
 fn ignoring_by<T: search::Pattern>(lists: &[PreparedList<T>], case: Case, path: &[u8]) -> Ignoring
     requires folders { BasesAreFolders (map (entry_list_of T.seen) lists.now) }
     requires plain { IsPlainPath path.now }
+    ensures { IsSaid (map (entry_list_of T.seen) lists.now) case path.now result }
 {
     let folder = RepositoryPath::from_plain(path, true);
     let Some(pattern) = deciding(lists, case, &folder) else {

@@ -51,7 +51,8 @@ impl<'a, R: Files + Eprint> Lister<'a, R> {
             return Ok(());
         }
         let name = last_name(path);
-        self.path.extend_from_slice(&path[..path.len() - name.len()])?;
+        self.path
+            .extend_from_slice(&path[..path.len() - name.len()])?;
         Ok(push_marked(&mut self.pending, name, listed == Listed::Folder)?)
     }
 
@@ -86,7 +87,8 @@ impl<'a, R: Files + Eprint> Lister<'a, R> {
     fn is_in_repository(&self, path: &[u8]) -> Result<bool, CheckFault> {
         'bytes: for (place, byte) in path.iter().enumerate() {
             if *byte == b'/'
-                && (self.is_git(last_name(&path[..place])) || is_repository(self.rt, self.alloc, &path[..place])?)
+                && (self.is_git(last_name(&path[..place]))
+                    || is_repository(self.rt, self.alloc, &path[..place])?)
             {
                 return Ok(true);
             }

@@ -22,8 +22,10 @@ pub(crate) enum FileKind {
     Regular,
     /// A pipe or a socket, which might be waited for: it isn't opened.
     Waiting,
-    /// What has no lines: a folder or a device.
-    Other,
+    /// A device, which has no lines.
+    Device,
+    /// A folder, which is no file.
+    Folder,
 }
 
 /// What is seen of a file.
@@ -52,8 +54,10 @@ fn kind_of(kind: FileType) -> FileKind {
         FileKind::Regular
     } else if kind.is_fifo() || kind.is_socket() {
         FileKind::Waiting
+    } else if kind.is_char_device() || kind.is_block_device() {
+        FileKind::Device
     } else {
-        FileKind::Other
+        FileKind::Folder
     }
 }
 
@@ -86,8 +90,7 @@ pub(crate) fn named_list<T: search::Pattern, R: Files>(
     seen_list(rt, alloc, file, &seen, bytes, parser)
 }
 
-/// The list of a file that was looked at, whose bytes are put into `bytes`; `None` where a folder or a device stands there, which has no
-/// lines. A pipe or a socket isn't opened, and what took the file's place since isn't read.
+/// The list of a file that was looked at, whose bytes are put into `bytes`; `None` where a folder stands there. A pipe or a socket isn't opened, and what took the file's place since isn't read.
 ///
 /// # Errors
 /// Where memory was refused, the file can't be read, or isn't the one that was seen.
@@ -103,7 +106,8 @@ pub(crate) fn seen_list<T: search::Pattern, R: Files>(
     match seen.kind {
         FileKind::Regular => {}
         FileKind::Waiting => return Err(unread("it is no regular file")),
-        FileKind::Other => return Ok(None),
+        FileKind::Device => return Ok(Some(List::empty(alloc))),
+        FileKind::Folder => return Ok(None),
     }
     let opened = match fs::open(rt, file.as_str()) {
         Ok(opened) => opened,

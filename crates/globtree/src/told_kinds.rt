@@ -1,7 +1,7 @@
 //! The kind of what stands under a name, where the system told it with the name. Linux's getdents64 hands out a record for each name. The
 //! toolchain moves the names to the front, and so over the first records; the others stand behind the names as they were.
-ghost use Rattle.std.specs.Prelude.{◌≡◌};
-ghost use Rattle.globtree.specs.Kinds.{kind_told};
+ghost use Rattle.std.specs.Prelude.{◌≡◌, ◌+◌, IfSome, IsTrue, Some, slice_get};
+ghost use Rattle.globtree.specs.Kinds.{IsNamedAt, IsToldAt, kind_told};
 
 use std::fs::FileType;
 
@@ -47,18 +47,50 @@ pub(crate) fn record_length(name: &[u8]) -> usize {
 
 /// The kind that the record at a place tells of this name, where `moved` bytes at the front are names; `None` where names were moved over it,
 /// another record stands there, or the record doesn't tell.
-pub(crate) fn kind_at(room: &[u8], moved: usize, place: usize, name: &[u8]) -> Option<Kind> {
-    if place.saturating_add(LENGTH_AT) < moved {
+pub(crate) fn kind_at(room: &[u8], moved: usize, place: usize, name: &[u8]) -> Option<Kind>
+    ensures told { IfSome result (IsToldAt room.now place) }
+    ensures named { IfSome result (λ _. IsNamedAt room.now place name.now) }
+{
+    if place.saturating_add(LENGTH_AT) < moved || !has_length(room, place, name) {
         return None;
     }
-    let record = room.get(place..)?;
-    let behind = record.get(NAME_AT..)?.strip_prefix(name)?;
-    let low = usize::from(*record.get(LENGTH_AT)?);
-    let high = usize::from(*record.get(LENGTH_AT + 1)?);
-    if low + 256 * high != record_length(name) || behind.first() != Some(&0) {
+    if !is_named(room, place, name) {
         return None;
     }
-    kind_told(*record.get(KIND_AT)?)
+    let byte = byte_at(room, place, KIND_AT)?;
+    kind_told(byte)
+}
+
+/// Whether the record at a place has this name, as far as that goes.
+fn is_named(room: &[u8], place: usize, name: &[u8]) -> bool
+    ensures { IsTrue result → IsNamedAt room.now place name.now }
+{
+    let Some(at) = place.checked_add(NAME_AT) else {
+        return false;
+    };
+    match room.get(at..) {
+        Some(behind) => behind.starts_with(name),
+        None => false,
+    }
+}
+
+/// Whether the record at a place has so many bytes as that of a name, and ends behind it.
+fn has_length(room: &[u8], place: usize, name: &[u8]) -> bool {
+    let (Some(low), Some(high)) = (
+        byte_at(room, place, LENGTH_AT),
+        byte_at(room, place, LENGTH_AT + 1),
+    ) else {
+        return false;
+    };
+    usize::from(low) + 256 * usize::from(high) == record_length(name)
+        && byte_at(room, place.saturating_add(NAME_AT), name.len()) == Some(0)
+}
+
+/// The byte at a place of the record at a place; `None` where the room ends before.
+fn byte_at(room: &[u8], place: usize, at: usize) -> Option<u8>
+    ensures { IfSome result (λ byte. slice_get room.now (place + at) ≡ Some byte) }
+{
+    room.get(place.checked_add(at)?).copied()
 }
 
 /// The kind that a byte of a record tells; `None` where it tells none.

@@ -1,6 +1,6 @@
 -- What decides about a path as about a folder, and what decides about it whatever stands there.
 use Rattle.std.proofs.Common.{◌≡◌, ℕ, Bool, true, false, List, [], ◌∷◌, ◌++◌, take, Option, None, Some, inr, map, option_map, refl, sym, ap, subst, ◌∙◌}
-use Rattle.std.specs.Prelude.{slice_get}
+use Rattle.std.specs.Prelude.{IsTrue, not, slice_get}
 use Rattle.std.specs.Vec.{vec_items}
 use Rattle.std.proofs.lemmas.Bool.{false≢true}
 use Rattle.std.proofs.lemmas.List.{map-append, take-map}
@@ -130,3 +130,9 @@ module _ {V : Type 0} (lists : List (EntryList V)) (case : Case) (path : List �
 
   pub positive_ignores_whatever : (entry : Entry V) → IsDecidedBy lists case path true entry → is_for_directories entry.mode ≡ false → is_negative entry.mode ≡ false → (is_dir : Bool) → IsIgnored lists case path is_dir
   positive_ignores_whatever entry it all positive is_dir = (entry, decides_whatever entry it all is_dir, positive)
+
+  -- a path is ignored exactly if the entry that decides about it isn't negative
+  pub tells_ignored : (is_dir : Bool) (entry : Entry V) → IsDecidedBy lists case path is_dir entry → (negative : Bool) → negative ≡ is_negative entry.mode
+      → (IsTrue (not negative) → IsIgnored lists case path is_dir) × (IsIgnored lists case path is_dir → IsTrue (not negative))
+  tells_ignored is_dir entry it false is = (λ _. (entry, it, sym is), λ _. refl)
+  tells_ignored is_dir entry it true is = (λ no. absurd (false≢true no), λ that. absurd (negative_keeps is_dir entry it (sym is) that))
