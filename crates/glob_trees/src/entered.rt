@@ -74,9 +74,7 @@ impl<T: search::Pattern, S: FolderLists<T>> Entered<T, S> {
             return false;
         }
         match path.basename_start() {
-            Some(start) => {
-                self.folder.len() == start && common_length(&self.folder, path.bytes()) == start
-            }
+            Some(start) => self.folder.len() == start && path.bytes().starts_with(&self.folder),
             None => self.folder.as_slice().is_empty(),
         }
     }

@@ -10,7 +10,7 @@ use std::alloc::{AllocError, Global};
 use std::rt::Files;
 
 /// About how many bytes are kept of folders and their patterns.
-const MOST_BYTES: usize = 32 << 20;
+const MOST_BYTES: usize = 24 << 20;
 
 /// About how many bytes of memory a byte of an attribute file takes.
 const BYTES_OF_BYTE: usize = 8;
@@ -69,8 +69,10 @@ impl<'a, R: Files + Eprint> FolderAttributes<'a, R> {
 
     /// Goes to the folder that a path lies in, as far as there are folders: the lists are those on the way to it then.
     pub(crate) fn go_to(&mut self, path: &[u8]) -> Result<(), CheckFault> {
-        self.leave_to(path);
-        // most paths lie right in the folder that is entered then
+        // most paths lie in the folder of the one before, and mostly others differ in their first bytes
+        if path.get(..self.folder.len()) != Some(self.folder.as_slice()) {
+            self.leave_to(path);
+        }
         match memrchr(b'/', path) {
             Some(last) if last >= self.folder.len() => self.enter_folders(&path[..last + 1]),
             _ => Ok(()),

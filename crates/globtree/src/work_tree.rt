@@ -15,7 +15,7 @@ use std::rt::{Env, Files};
 use told_paths::Standpoint;
 
 /// About how many bytes are kept of folders and their patterns.
-const MOST_BYTES: usize = 32 << 20;
+const MOST_BYTES: usize = 24 << 20;
 
 /// Goes to the top by the options: where paths are told from, and the work tree.
 pub(crate) fn tree_of<'a, R: Files + Env + Eprint + AllocGlobal>(

@@ -1,6 +1,8 @@
 -- The path begins with the folder that was entered last, and has no slash behind it.
-use Rattle.std.proofs.Common.{◌≡◌, [], length, take, take_all, ap, sym, subst, ◌∙◌, arith}
+use Rattle.std.proofs.Common.{◌≡◌, [], length, take, ap, sym, ◌∙◌, arith}
 use Rattle.std.proofs.lemmas.Bool.{eqb-false, eqb-true}
+use Rattle.std.proofs.lemmas.Bool.Decides.{Decides-eqb}
+use Rattle.std.proofs.lemmas.Slice.Eq.{slice_eq-Decides}
 use Rattle.glob_trees.proofs.lemmas.InFolder.{nothing, somewhere, under_all}
 use Rattle.glob_trees.proofs.entered.Entered.is_in_folder_of.Goals as goal
 
@@ -12,9 +14,8 @@ returns-then-len-start g c begins =
     let start = c.in-Some.start in
     let told = c.deref.result.now in
     let long : length told ≡ start = c.deref.ensures.len ∙ sym c.len.ensures ∙ c.if-len-start.true in
-    let same : c.common_length.result ≡ start = eqb-true _ _ begins in
-    let alike : take start told ≡ take start c.bytes.result.now = subst (λ k. take k told ≡ take k c.bytes.result.now) same c.common_length.ensures.alike in
-    let front : self.folder.items ≡ take start path = sym c.deref.ensures.value ∙ sym (take_all (length told) told (omega (arith))) ∙ ap (λ k. take k told) long ∙ alike ∙ ap (take start) c.bytes.ensures in
+    let whole : told ≡ take (length told) c.bytes.result.now = (slice_eq-Decides Decides-eqb told (take (length told) c.bytes.result.now) c.starts_with.result c.starts_with.ensures.value).0 begins in
+    let front : self.folder.items ≡ take start path = sym c.deref.ensures.value ∙ whole ∙ ap (λ k. take k c.bytes.result.now) long ∙ ap (take start) c.bytes.ensures in
     let last = c.in-Some.ensures in
     let after = last.after in
     let some : ¬ (self.way.items ≡ []) = λ none. eqb-false _ _ (sym c.is_empty.ensures ∙ c.if-is_empty.false) (ap length (c.as_slice.ensures.value ∙ none)) in
