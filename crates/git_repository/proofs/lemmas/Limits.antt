@@ -1,6 +1,5 @@
 -- What the front of a file's bytes tells, where no more is read.
 use Rattle.std.proofs.Common.{◌≡◌, ◌∙◌, sym, refl, ap, ℕ, ◌+◌, ◌^◌, ◌<◌, ◌≤◌, true, ◌||◌, ltb, eqb, List, length, take, Option, Some, None, Err, option_map, arith, inl, inr}
-
 use Rattle.std.proofs.lemmas.Bool.{cases_Bool, cases_lt, lt-ltb}
 use Rattle.std.proofs.lemmas.List.{length-take-le, take_all}
 use Rattle.git_repository.specs.declared.fault.FindFault.TheVariants.{At}
