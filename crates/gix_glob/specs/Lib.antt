@@ -10,6 +10,7 @@ pub mod Private
 pub use Rattle.glob_patterns.specs.Folding
 pub use Rattle.glob_patterns.specs.Laws.LiteralBytes
 pub use Rattle.glob_patterns.specs.GitLines
+pub use Rattle.glob_patterns.specs.GitPaths
 pub use Rattle.glob_patterns.specs.Patterns
 pub use Rattle.glob_patterns.specs.PatternParts
 pub use Rattle.glob_patterns.specs.RepositoryPaths

@@ -16,3 +16,4 @@ pub mod ReadingEquations
 pub mod ReadingLemmas
 pub mod Shortcuts
 pub mod ShownLines
+pub mod WholeFronts

@@ -14,6 +14,9 @@ ghost use Rattle.glob_patterns.specs.PatternParts.{text_of, SamePattern, pattern
 ghost use Rattle.glob_patterns.specs.Equations.GitLines.{git_reading_of};
 ghost use Rattle.glob_patterns.specs.Equations.Readings.{reading_of};
 ghost use Rattle.glob_patterns.specs.GitLines.{GitReads, begins_with_escaped_sign};
+ghost use Rattle.glob_patterns.specs.GitPaths.{AnswersAsGit, FrontAndRest};
+ghost use Rattle.glob_patterns.specs.Laws.Fronts.{StarsAreApart};
+ghost use Rattle.glob_patterns.specs.RepositoryPaths.{Answers};
 ghost use Rattle.glob_patterns.specs.Patterns.{HasReading, Reads, display_of, is_absolute, is_negative, shown_line};
 
 use crate::pattern::{Case, Pattern};
@@ -90,6 +93,19 @@ pub fn git_line_is_shown()
 pub fn both_readings_of_a_line_agree()
     ensures { (line text : List ℕ) (mode : pattern.Mode) (place : Option ℕ) → begins_with_escaped_sign line ≡ false
         → line ≢ codes "/" → line ≢ codes "!/" → Reads line true text mode place → GitReads line text mode place }
+{}
+
+/// Where no two stars stand directly behind a text's front, or a slash or nothing stands before them, front and rest match what the whole
+/// text matches.
+pub fn a_front_without_stars_behind_it_changes_nothing()
+    ensures { (text value : List ℕ) (mode : wildmatch.Mode) → StarsAreApart text → FrontAndRest value text mode ↔ Splits value text mode }
+{}
+
+/// So such a text answers for a path as Git reads it exactly where it does in path mode.
+pub fn both_answers_for_a_path_agree()
+    ensures { (text : List ℕ) (mode : pattern.Mode) (path : List ℕ) (basename_start : Option ℕ) (is_dir : Option Bool) (case : Case)
+        → StarsAreApart text
+        → AnswersAsGit text mode path basename_start is_dir case ↔ Answers text mode path basename_start is_dir case (record { 0 = 1 }) }
 {}
 
 /// A text that is UTF-8 is displayed byte for byte.

@@ -12,7 +12,7 @@ use Rattle.glob_matcher.proofs.lemmas.reading.SetLemmas.{HasByte-unique}
 use Rattle.glob_matcher.proofs.lemmas.reading.TokenLemmas.{TokenAt-unique, TokenAt-inside, run_lead}
 use Rattle.glob_matcher.proofs.lemmas.reading.Existence.{From-short}
 use Rattle.glob_matcher.proofs.lemmas.cutting.SplitLemmas.{IsStarToken, IsOtherToken, star_or_other, slash_token}
-use Rattle.glob_matcher.proofs.lemmas.reading.ForwardReading.{Alike, alike_flip, from_alike, spells_alike}
+use Rattle.glob_matcher.proofs.lemmas.reading.ForwardReading.{Alike, alike_flip, from_alike, plain_bounds, spells_alike}
 
 -- ---- the bytes
 
@@ -114,7 +114,7 @@ module _ (p : List ℕ) (i : ℕ) (lead : HasByte p i star) where
   rest_there mode j ts plain low read =
       let more = long in
       let short : j + length ts ≤ length p = From-short mode p j ts read in
-      from_alike p i q (i + 1) (length p + 1) (alike_after (length p + 1)) (omega arith) (omega arith) mode j (j + 1) ts plain
+      from_alike p i q (i + 1) (length p + 1) (alike_after (length p + 1)) (omega arith) (omega arith) mode (λ x y _. plain_bounds mode p q x y plain) j (j + 1) ts
       (record { low = low; below = omega arith; same = omega arith }) read
 
   rest_back : (mode : Mode) (j : ℕ) (ts : List Token) → is_path mode ≡ false → i ≤ j → From mode q (j + 1) ts → From mode p j ts
@@ -122,7 +122,7 @@ module _ (p : List ℕ) (i : ℕ) (lead : HasByte p i star) where
       let more = long in
       let short : j + 1 + length ts ≤ length q = From-short mode q (j + 1) ts read in
       from_alike q (i + 1) p i (length p + 1) (alike_flip p i q (i + 1) (length p + 1) (alike_after (length p + 1)))
-      (omega arith) (omega arith) mode (j + 1) j ts plain
+      (omega arith) (omega arith) mode (λ x y _. plain_bounds mode q p x y plain) (j + 1) j ts
       (record { low = omega arith; below = omega arith; same = omega arith }) read
 
 -- ---- the tokens
