@@ -16,6 +16,7 @@ pub use Rattle.glob_patterns.specs.PatternParts
 pub use Rattle.glob_patterns.specs.RepositoryPaths
 pub use Rattle.glob_patterns.specs.PatternLimits
 pub use Rattle.glob_matcher.specs.Bytes
+pub use Rattle.glob_matcher.specs.Ways
 pub use Rattle.glob_matcher.specs.Sets
 pub use Rattle.glob_matcher.specs.Tokens
 pub use Rattle.glob_matcher.specs.Matching

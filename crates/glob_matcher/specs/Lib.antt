@@ -1,4 +1,5 @@
 pub mod Bytes
+pub mod Ways
 pub mod Sets
 pub mod Tokens
 pub mod Matching

@@ -5,7 +5,10 @@ mod readings;
 mod rests;
 mod stars;
 
-pub use modes::no_slash_is_special_where_the_value_has_none;
+pub use modes::{
+    modes_never_fold_exactly, no_slash_is_special_in_ways_that_fold_alike,
+    no_slash_is_special_where_the_value_has_none,
+};
 pub use readings::{
     a_pattern_has_one_reading, each_pattern_has_a_reading, star_tokens_are_as_many_in_each_mode,
 };

@@ -3,7 +3,7 @@ use Rattle.std.proofs.Common.{◌≡◌, ◌↔◌, ◌⊎◌, inl, inr, ℕ, �
 use Rattle.std.proofs.Math.Seq.{get_or-append_seam}
 use Rattle.std.proofs.lemmas.Bool.{cases_lt}
 use Rattle.std.proofs.lemmas.List.{get_or-append-add, get_or_append_left}
-use Rattle.glob_matcher.specs.declared.wildmatch.mode.Mode.{Mode}
+use Rattle.glob_matcher.specs.declared.wildmatch.way.Way.{Way}
 use Rattle.glob_matcher.specs.Bytes.{EndsInSlash, HasByte, IsEscaped, backslash, slash, star}
 use Rattle.glob_matcher.specs.Matching.{SplitsFrom}
 use Rattle.glob_matcher.specs.Rests.{StandsAlone}
@@ -93,8 +93,8 @@ module _ (front rest : List ℕ) where
         let many : y + 2 ≤ m = b.many in
         record { many = omega arith; before = before_back x y at (stars many) b.before (cases_lt y 1); after = after_back j m end b.after }
 
-    bounds_there : (mode : Mode) (x y : ℕ) → Faces (length front) 0 (length rest + 1) x y → BoundAlike mode (front ++ rest) rest x y
-    bounds_there mode x y f path j m sum run =
+    bounds_there : (way : Way) (x y : ℕ) → Faces (length front) 0 (length rest + 1) x y → BoundAlike way (front ++ rest) rest x y
+    bounds_there way x y f path j m sum run =
         let same : x + 0 ≡ y + length front = f.same in (
           bounded_there x y j m (omega arith) (omega arith),
           bounded_back x y j m (omega arith) (omega arith) (λ many start. (
@@ -103,8 +103,8 @@ module _ (front rest : List ℕ) where
           )),
         )
 
-    bounds_back : (mode : Mode) (y x : ℕ) → Faces 0 (length front) (length rest + 1) y x → BoundAlike mode rest (front ++ rest) y x
-    bounds_back mode y x f path m j sum run =
+    bounds_back : (way : Way) (y x : ℕ) → Faces 0 (length front) (length rest + 1) y x → BoundAlike way rest (front ++ rest) y x
+    bounds_back way y x f path m j sum run =
         let same : y + length front ≡ x + 0 = f.same in (
           bounded_back x y j m (omega arith) (omega arith) (λ many start. (run.stars 0 (omega arith) (omega arith), run.stars 1 (omega arith) (omega arith))),
           bounded_there x y j m (omega arith) (omega arith),
@@ -112,18 +112,18 @@ module _ (front rest : List ℕ) where
 
     -- ---- the tokens and what they cut
 
-    read_there : (mode : Mode) (ts : List Token) → From mode (front ++ rest) (length front) ts → From mode rest 0 ts
-    read_there mode ts read =
+    read_there : (way : Way) (ts : List Token) → From way (front ++ rest) (length front) ts → From way rest 0 ts
+    read_there way ts read =
         from_alike (front ++ rest) (length front) rest 0 (length rest + 1) rest_alike (omega (arith, long)) (omega (arith, long))
-        mode (bounds_there mode) (length front) 0 ts (faces (length front) 0 (omega arith) (omega arith)) read
+        way (bounds_there way) (length front) 0 ts (faces (length front) 0 (omega arith) (omega arith)) read
 
-    read_back : (mode : Mode) (ts : List Token) → From mode rest 0 ts → From mode (front ++ rest) (length front) ts
-    read_back mode ts read =
+    read_back : (way : Way) (ts : List Token) → From way rest 0 ts → From way (front ++ rest) (length front) ts
+    read_back way ts read =
         from_alike rest 0 (front ++ rest) (length front) (length rest + 1) (alike_flip (front ++ rest) (length front) rest 0 (length rest + 1) rest_alike)
-        (omega (arith, long)) (omega (arith, long)) mode (bounds_back mode) 0 (length front) ts (record { low = omega arith; below = omega arith; same = omega arith }) read
+        (omega (arith, long)) (omega (arith, long)) way (bounds_back way) 0 (length front) ts (record { low = omega arith; below = omega arith; same = omega arith }) read
 
-    pub rest_splits : (mode : Mode) (value : List ℕ) (k : ℕ) → SplitsFrom value k (front ++ rest) (length front) mode ↔ SplitsFrom value k rest 0 mode
-    rest_splits mode value k = (
-      λ s. record { tokens = s.tokens; read = read_there mode s.tokens s.read; cut = s.cut },
-      λ s. record { tokens = s.tokens; read = read_back mode s.tokens s.read; cut = s.cut },
+    pub rest_splits : (way : Way) (value : List ℕ) (k : ℕ) → SplitsFrom value k (front ++ rest) (length front) way ↔ SplitsFrom value k rest 0 way
+    rest_splits way value k = (
+      λ s. record { tokens = s.tokens; read = read_there way s.tokens s.read; cut = s.cut },
+      λ s. record { tokens = s.tokens; read = read_back way s.tokens s.read; cut = s.cut },
     )

@@ -2,8 +2,8 @@ use Rattle.std.proofs.Common.{◌≡◌, ℕ, ◌<◌, ◌≤◌, inl, length, �
 use Rattle.glob_matcher.specs.Private.Reader.{kind_of}
 use Rattle.glob_matcher.proofs.lemmas.reading.Starts.{scan_next, scan_end}
 use Rattle.glob_matcher.specs.Pruning.{IsBoundary}
-use Rattle.glob_matcher.proofs.wildmatch.pruned.is_start.Goals as goal
-use Rattle.glob_matcher.proofs.wildmatch.pruned.is_start.Goals.{then-tokens-test+else-start-place, else-tokens-test}
+use Rattle.glob_matcher.proofs.wildmatch.pruned.is_start_by.Goals as goal
+use Rattle.glob_matcher.proofs.wildmatch.pruned.is_start_by.Goals.{then-tokens-test+else-start-place, else-tokens-test}
 
 pub tokens-preserved : goal.tokens-preserved
 tokens-preserved c =
@@ -15,7 +15,7 @@ pub returns : goal.returns
 returns c = (
   λ same.
       let is : c.tokens.start ≡ c.args.place = eqb-true c.tokens.start c.args.place same in
-      record { place = inl (subst (λ (n : ℕ). IsBoundary c.args.pattern.now n c.args.mode) is c.tokens.invariant.boundary) },
+      record { place = inl (subst (λ (n : ℕ). IsBoundary c.args.pattern.now n c.args.way) is c.tokens.invariant.boundary) },
   λ start.
       let stopped : c.tokens.start < c.args.place → length c.args.pattern.now ≤ c.tokens.start =
       elim c.tokens-test.branch [ then-tokens-test+else-start-place w ↦ λ before. absurd (omega arith) | else-tokens-test w ↦ λ before. omega arith ] in
