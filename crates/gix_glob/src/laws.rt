@@ -13,7 +13,8 @@ mod lists;
 pub use glob_matcher::laws::{
     a_crossing_run_splits_from_before, a_double_star_splits_from_before,
     a_local_run_splits_from_before, a_pattern_has_one_reading, a_rest_is_a_pattern_of_its_own,
-    each_pattern_has_a_reading, modes_never_fold_exactly, no_slash_is_special_in_ways_that_fold_alike, no_slash_is_special_where_the_value_has_none,
+    each_pattern_has_a_reading, modes_never_fold_exactly,
+    no_slash_is_special_in_ways_that_fold_alike, no_slash_is_special_where_the_value_has_none,
     one_more_star_changes_nothing_in_plain_mode, star_tokens_are_as_many_in_each_mode,
 };
 pub use glob_patterns::laws::{

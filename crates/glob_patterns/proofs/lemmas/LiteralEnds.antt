@@ -66,7 +66,7 @@ from_escape way p v n i k b tail place inside h here all =
 straddles : (way : Way) (p v : List ℕ) (n i j k : ℕ) (t : Token) → IsTail p n → i < n → n < j → k ≤ length v → TokenAt way p i t j
     → SplitsFrom v k p i way → EndsInTail way v p n
 straddles way p v n i j k (Byte b) tail low past inside (inl e) all =
-    from_escape way p v n i k b tail (omega (arith, e.1)) (let in_text = e.0.byte.inside in omega (arith, e.1)) e.0.byte (inl (e.0, refl)) all
+    from_escape way p v n i k b tail (omega (arith, e.1)) (let in_text = e.0.byte.inside in omega (arith, e.1)) e.0.byte (inl (e.0, refl, e.2)) all
 straddles way p v n i j k (Byte b) tail low past inside (inr e) all = absurd (omega (arith, e.2))
 straddles way p v n i j k Any tail low past inside e all = absurd (omega (arith, e.1))
 straddles way p v n i j k (OneOf s) tail low past inside e all =
