@@ -4,6 +4,7 @@ ghost use Rattle.gix_glob.specs.PatternLimits.{pattern_look_limit};
 ghost use Rattle.gix_glob.specs.Steps.{NeverFall, step_limit};
 ghost use Rattle.glob_patterns.specs.Private.Fronts.{AgreeFrom};
 ghost use Rattle.glob_patterns.specs.Private.Insides.{HasInside};
+ghost use Rattle.gix_glob.specs.Ways.{way_of};
 ghost use Rattle.glob_lists.specs.Deciding.{path_mode};
 ghost use Rattle.glob_lists.specs.Private.Asks.Parts.{part_of};
 ghost use Rattle.glob_lists.specs.Private.Asks.Rows.{Asks};
@@ -61,7 +62,7 @@ fn is_looked_for(row: &Row, text: &[u8], case: Case) -> bool
 #[inline(always)]
 fn has_inside<S: Ledger, L: Ledger>(value: &[u8], text: &[u8], counts: &mut Counts<S, L>) -> bool
     requires { 3 ≤ length text.now }
-    ensures exact { IsTrue result ↔ HasInside path_mode value.now text.now }
+    ensures exact { IsTrue result ↔ HasInside (way_of path_mode) value.now text.now }
     ensures looks { LooksUpTo counts.old counts.new (2 * length text.now * (length value.now + 1)) }
 {
     let len = text.len() - 2;
@@ -83,7 +84,7 @@ fn has_inside<S: Ledger, L: Ledger>(value: &[u8], text: &[u8], counts: &mut Coun
 fn agree_from(text: &[u8], value: &[u8], at: usize) -> bool
     requires some { 3 ≤ length text.now }
     requires inside { at + (length text.now - 2) ≤ length value.now }
-    ensures { IsTrue result ↔ AgreeFrom path_mode text.now value.now 1 at (length text.now - 2) }
+    ensures { IsTrue result ↔ AgreeFrom (way_of path_mode) text.now value.now 1 at (length text.now - 2) }
 {
     'bytes: for i in 0..text.len() - 2 {
         if text[1 + i] != value[at + i] {

@@ -5,7 +5,8 @@ use Rattle.std.proofs.lemmas.List.{drop-map}
 use Rattle.gix_glob.specs.declared.pattern.Case.{Case}
 use Rattle.gix_glob.specs.declared.pattern.Case.TheVariants.{Sensitive, Fold}
 use Rattle.gix_glob.specs.declared.pattern.Mode as pattern
-use Rattle.gix_glob.specs.declared.wildmatch.Mode.{Mode}
+use Rattle.gix_glob.specs.declared.wildmatch.Way.{Way}
+use Rattle.gix_glob.specs.Ways.{way_of}
 use Rattle.gix_glob.specs.Bytes.{fold}
 use Rattle.gix_glob.specs.Entries.{Entry}
 use Rattle.gix_glob.specs.EntryLists.{EntryList}
@@ -19,26 +20,26 @@ use Rattle.glob_trees.proofs.lemmas.FoldedMatches.{splits_as}
 use Rattle.glob_trees.proofs.lemmas.FoldedTexts.{has_slash_as, made_by}
 
 -- what compares equal as a base is folded alike for a match
-folded_for_match : (case : Case) (path other : List ℕ) → folding_by case path ≡ folding_by case other → folding_of (with_case path_mode case) path ≡ folding_of (with_case path_mode case) other
-folded_for_match Sensitive path other same = ap (folding_of path_mode) same
+folded_for_match : (case : Case) (path other : List ℕ) → folding_by case path ≡ folding_by case other → folding_of (way_of (with_case path_mode case)) path ≡ folding_of (way_of (with_case path_mode case)) other
+folded_for_match Sensitive path other same = ap (folding_of (way_of path_mode)) same
 folded_for_match Fold path other same = same
 
 -- ---- what a pattern looks at
 
-module _ (mode : Mode) where
-  starts_as : (path other : List ℕ) → folding_of mode path ≡ folding_of mode other → (start : Option ℕ) → IsBasenameStart path start → IsBasenameStart other start
-  starts_as path other same None none = λ j here. none j (has_slash_as mode other path (sym same) j here)
+module _ (way : Way) where
+  starts_as : (path other : List ℕ) → folding_of way path ≡ folding_of way other → (start : Option ℕ) → IsBasenameStart path start → IsBasenameStart other start
+  starts_as path other same None none = λ j here. none j (has_slash_as way other path (sym same) j here)
   starts_as path other same (Some k) at = record {
     some = at.some;
-    after = has_slash_as mode path other same (k - 1) at.after;
-    last = λ j low here. at.last j low (has_slash_as mode other path (sym same) j here);
+    after = has_slash_as way path other same (k - 1) at.after;
+    last = λ j low here. at.last j low (has_slash_as way other path (sym same) j here);
   }
 
-  part_as : (by_name : Bool) (k : ℕ) (path other : List ℕ) → folding_of mode path ≡ folding_of mode other → folding_of mode (if by_name then drop k path else path) ≡ folding_of mode (if by_name then drop k other else other)
-  part_as true k path other same = sym (drop-map (fold mode) k path) ∙ ap (drop k) same ∙ drop-map (fold mode) k other
+  part_as : (by_name : Bool) (k : ℕ) (path other : List ℕ) → folding_of way path ≡ folding_of way other → folding_of way (if by_name then drop k path else path) ≡ folding_of way (if by_name then drop k other else other)
+  part_as true k path other same = sym (drop-map (fold way) k path) ∙ ap (drop k) same ∙ drop-map (fold way) k other
   part_as false k path other same = same
 
-  subject_as : (pattern_mode : pattern.Mode) (path other : List ℕ) → folding_of mode path ≡ folding_of mode other → (start : Option ℕ) → folding_of mode (subject pattern_mode path start) ≡ folding_of mode (subject pattern_mode other start)
+  subject_as : (pattern_mode : pattern.Mode) (path other : List ℕ) → folding_of way path ≡ folding_of way other → (start : Option ℕ) → folding_of way (subject pattern_mode path start) ≡ folding_of way (subject pattern_mode other start)
   subject_as pattern_mode path other same None = same
   subject_as pattern_mode path other same (Some k) = part_as (looks_at_name pattern_mode) k path other same
 
@@ -48,7 +49,7 @@ module _ (is_dir : Bool) (case : Case) where
   answers_for_as : (text : List ℕ) (mode : pattern.Mode) (path other : List ℕ) → folding_by case path ≡ folding_by case other → AnswersFor text mode path is_dir case → AnswersFor text mode other is_dir case
   answers_for_as text mode path other same h =
       let folded = folded_for_match case path other same in
-      let matched = with_case path_mode case in
+      let matched = way_of (with_case path_mode case) in
       record {
         basename_start = h.basename_start;
         basename = starts_as matched path other folded h.basename_start h.basename;

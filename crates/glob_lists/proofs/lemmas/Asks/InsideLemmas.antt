@@ -9,6 +9,7 @@ use Rattle.gix_glob.specs.Patterns.{looks_at_name}
 use Rattle.gix_glob.specs.RepositoryPaths.{IsBasenameStart, subject}
 use Rattle.glob_patterns.specs.Private.Insides.{HasInside}
 use Rattle.glob_patterns.proofs.lemmas.Insides.{inside_exact}
+use Rattle.gix_glob.specs.Ways.{way_of}
 use Rattle.glob_lists.specs.Deciding.{AnswersFor, path_mode}
 use Rattle.glob_lists.specs.Private.Asks.Parts.{IsFoundInside}
 use Rattle.glob_lists.specs.Private.Asks.Showing.{last_part}
@@ -21,12 +22,12 @@ subject_is_name mode path None name = refl
 subject_is_name mode path (Some k) name = rw name refl
 
 pub inside_answers : (answer : Bool) (text path : List ℕ) (mode : pattern.Mode) (is_dir : Bool) (start : Option ℕ) → IsFoundInside text mode → IsBasenameStart path start
-    → (IsTrue answer ↔ HasInside path_mode (last_part start path) text) → (IsTrue answer ↔ AnswersFor text mode path is_dir Sensitive)
+    → (IsTrue answer ↔ HasInside (way_of path_mode) (last_part start path) text) → (IsTrue answer ↔ AnswersFor text mode path is_dir Sensitive)
 inside_answers answer text path mode is_dir start found basename exact =
     let value : List ℕ = subject mode path start in
     let bare : has_slash value ≡ false = has_no_slash value (name_has_no_slash mode path start found.name basename) in
-    let splits = inside_exact answer text value path_mode found.shape (ap not bare)
-    (subst (λ (v : List ℕ). IsTrue answer ↔ HasInside path_mode v text) (subject_is_name mode path start found.name) exact) in
+    let splits = inside_exact answer text value (way_of path_mode) found.shape (ap not bare)
+    (subst (λ (v : List ℕ). IsTrue answer ↔ HasInside (way_of path_mode) v text) (subject_is_name mode path start found.name) exact) in
     AnswersFor-tested text mode path is_dir Sensitive start basename answer (
       λ yes. record { directory = λ only. absurd (false≢true (sym found.all ∙ only)); splits = splits.0 yes },
       λ answers. splits.1 answers.splits,

@@ -9,12 +9,13 @@ use Rattle.std.proofs.lemmas.List.{drop-drop, get_or-drop, get_or-map, get_or_de
 use Rattle.std.proofs.lemmas.List.Folds.{list_any_none}
 use Rattle.gix_glob.specs.declared.pattern.Case.{Case}
 use Rattle.gix_glob.specs.declared.pattern.Mode as pattern
-use Rattle.gix_glob.specs.declared.wildmatch.Mode as wildmatch
+use Rattle.gix_glob.specs.declared.wildmatch.Way.{Way}
 use Rattle.gix_glob.specs.Bytes.{HasByte, fold, folds, slash}
 use Rattle.gix_glob.specs.LiteralBytes.{AreAlike, EndsAlike, HasAlike, HasAlikePair, IsUnescapedUpTo, is_joining}
-use Rattle.gix_glob.specs.Matching.{Splits}
+use Rattle.gix_glob.specs.Matching.{SplitsBy}
 use Rattle.gix_glob.specs.Patterns.{looks_at_name}
 use Rattle.gix_glob.specs.RepositoryPaths.{IsBasenameStart, subject, with_case}
+use Rattle.gix_glob.specs.Ways.{way_of}
 use Rattle.gix_glob.specs.Stripping.{RestOf}
 use Rattle.glob_lists.specs.Deciding.{AnswersFor, path_mode}
 use Rattle.glob_lists.specs.declared.asks.literals.TheConstants.{LONGEST_END}
@@ -30,28 +31,28 @@ use Rattle.glob_lists.proofs.lemmas.Asks.EndNumbers.{without_bytes-shift}
 -- The laws `matched_values_end_as_the_text`, `matched_values_have_the_literal_bytes` and `matched_values_have_the_literal_pairs`,
 -- restated: a lemma can't cite a clause.
 abbrev pub EndsAsTheText : Type 0
-EndsAsTheText = (front end value : List ℕ) (mode : wildmatch.Mode) → list_any is_joining end ≡ false → Splits value (front ++ end) mode → EndsAlike mode value end
+EndsAsTheText = (front end value : List ℕ) (way : Way) → list_any is_joining end ≡ false → SplitsBy value (front ++ end) way → EndsAlike way value end
 
 abbrev pub HasTheBytes : Type 0
-HasTheBytes = (text value : List ℕ) (mode : wildmatch.Mode) (i b : ℕ) → IsUnescapedUpTo text i → HasByte text i b → is_joining b ≡ false → Splits value text mode → HasAlike mode value b
+HasTheBytes = (text value : List ℕ) (way : Way) (i b : ℕ) → IsUnescapedUpTo text i → HasByte text i b → is_joining b ≡ false → SplitsBy value text way → HasAlike way value b
 
 abbrev pub HasThePairs : Type 0
-HasThePairs = (text value : List ℕ) (mode : wildmatch.Mode) (i a b : ℕ) → IsUnescapedUpTo text (i + 1) → HasByte text i a → HasByte text (i + 1) b
-    → is_joining a ≡ false → is_joining b ≡ false → Splits value text mode → HasAlikePair mode value a b
+HasThePairs = (text value : List ℕ) (way : Way) (i a b : ℕ) → IsUnescapedUpTo text (i + 1) → HasByte text i a → HasByte text (i + 1) b
+    → is_joining a ≡ false → is_joining b ≡ false → SplitsBy value text way → HasAlikePair way value a b
 
 -- ---- folding
 
 -- bytes that are equal up to the case that a mode asks for are equal up to case
-fold_lower : (mode : wildmatch.Mode) (a b : ℕ) → fold mode a ≡ fold mode b → to_ascii_lowercase a ≡ to_ascii_lowercase b
-fold_lower mode a b same = ⊎_elim
-    (λ (folding : folds mode ≡ true). rw folding at same)
-    (λ (exact : folds mode ≡ false). ap to_ascii_lowercase (rw exact at same))
-    (cases_Bool (folds mode))
+fold_lower : (way : Way) (a b : ℕ) → fold way a ≡ fold way b → to_ascii_lowercase a ≡ to_ascii_lowercase b
+fold_lower way a b same = ⊎_elim
+    (λ (folding : folds way ≡ true). rw folding at same)
+    (λ (exact : folds way ≡ false). ap to_ascii_lowercase (rw exact at same))
+    (cases_Bool (folds way))
 
-alike_at : (mode : wildmatch.Mode) (xs ys : List ℕ) → AreAlike mode xs ys → (m : ℕ) → m < length xs → m < length ys → to_ascii_lowercase (get_or xs m 0) ≡ to_ascii_lowercase (get_or ys m 0)
-alike_at mode xs ys same m inside inside' =
-    fold_lower mode (get_or xs m 0) (get_or ys m 0)
-    (sym (get_or-map (fold mode) xs m 0 0 inside) ∙ (ap (λ (zs : List ℕ). get_or zs m 0) same ∙ get_or-map (fold mode) ys m 0 0 inside'))
+alike_at : (way : Way) (xs ys : List ℕ) → AreAlike way xs ys → (m : ℕ) → m < length xs → m < length ys → to_ascii_lowercase (get_or xs m 0) ≡ to_ascii_lowercase (get_or ys m 0)
+alike_at way xs ys same m inside inside' =
+    fold_lower way (get_or xs m 0) (get_or ys m 0)
+    (sym (get_or-map (fold way) xs m 0 0 inside) ∙ (ap (λ (zs : List ℕ). get_or zs m 0) same ∙ get_or-map (fold way) ys m 0 0 inside'))
 
 -- ---- ends of texts
 
@@ -81,13 +82,13 @@ literal_part text n e =
     ap is_joining same ∙ plain)
 
 -- a value that is matched ends as the text does
-ends_alike : EndsAsTheText → (text value : List ℕ) (mode : wildmatch.Mode) (n : ℕ) → EndsLiterally text n → Splits value text mode → (n ≤ length value) × SameEnd text value n
-ends_alike law text value mode n e s =
+ends_alike : EndsAsTheText → (text value : List ℕ) (way : Way) (n : ℕ) → EndsLiterally text n → SplitsBy value text way → (n ≤ length value) × SameEnd text value n
+ends_alike law text value way n e s =
     let start : ℕ = length text - n in
     let fits = e.fits in
     let long = length-drop start text in
     let whole : text ≡ take start text ++ drop start text = sym (take-append-drop start text) in
-    let ends = law (take start text) (drop start text) value mode (literal_part text n e) (subst (λ (xs : List ℕ). Splits value xs mode) whole s) in
+    let ends = law (take start text) (drop start text) value way (literal_part text n e) (subst (λ (xs : List ℕ). SplitsBy value xs way) whole s) in
     let short = ends.fits in
     let at : ℕ = length value - length (drop start text) in
     let long' = length-drop at value in (
@@ -97,7 +98,7 @@ ends_alike law text value mode n e s =
           let in_text : start + j ≡ length text - (m + 1) = omega arith in
           let in_value : at + j ≡ length value - (m + 1) = omega arith in
           ap to_ascii_lowercase (ap (λ (k : ℕ). get_or text k 0) (sym in_text) ∙ sym (get_or-drop start text j 0))
-          ∙ (alike_at mode (drop start text) (drop at value) ends.alike j (omega arith) (omega arith)
+          ∙ (alike_at way (drop start text) (drop at value) ends.alike j (omega arith) (omega arith)
           ∙ ap to_ascii_lowercase (get_or-drop at value j 0 ∙ ap (λ (k : ℕ). get_or value k 0) in_value)),
     )
 
@@ -135,8 +136,8 @@ name_has_no_slash pattern_mode rest (Some k) name start m there =
 
 -- ---- a row
 
-module _ (ends : EndsAsTheText) (bytes : HasTheBytes) (pairs : HasThePairs) (text path value : List ℕ) (mode : wildmatch.Mode) (at : ℕ) (row : Row) (probe : Probe)
-    (shows : Shows path probe) (is : value ≡ drop at path) (s : Splits value text mode) where
+module _ (ends : EndsAsTheText) (bytes : HasTheBytes) (pairs : HasThePairs) (text path value : List ℕ) (way : Way) (at : ℕ) (row : Row) (probe : Probe)
+    (shows : Shows path probe) (is : value ≡ drop at path) (s : SplitsBy value text way) where
   value_length : length value ≡ length path - at
   value_length = ap (λ (xs : List ℕ). length xs) is ∙ length-drop at path
 
@@ -144,7 +145,7 @@ module _ (ends : EndsAsTheText) (bytes : HasTheBytes) (pairs : HasThePairs) (tex
   HasEnd-asked e spare =
       let n : ℕ = length_of row in
       let some = e.some in
-      let alike = ends_alike ends text value mode n e.literal s in
+      let alike = ends_alike ends text value way n e.literal s in
       let fits = alike.0 in
       let whole = value_length in
       let cut : row.spare % 64 ≡ 8 * (8 - n) = omega arith in
@@ -164,13 +165,13 @@ module _ (ends : EndsAsTheText) (bytes : HasTheBytes) (pairs : HasThePairs) (tex
 
   bit_is_held : (i j : ℕ) → 0 < i → HoldsBits value held → IsNeededAt text j i ⊎ IsNeededPairAt text j i → bit_at held i ≡ 1
   bit_is_held i j some all (inl n) =
-      let has = bytes text value mode j n.byte n.unescaped n.there n.literal s in
-      let same : bit_of (get_or value has.place 0) ≡ i = ap (λ (b : ℕ). b % 32) (fold_lower mode (get_or value has.place 0) n.byte has.alike) ∙ sym n.bit in
+      let has = bytes text value way j n.byte n.unescaped n.there n.literal s in
+      let same : bit_of (get_or value has.place 0) ≡ i = ap (λ (b : ℕ). b % 32) (fold_lower way (get_or value has.place 0) n.byte has.alike) ∙ sym n.bit in
       subst (λ (k : ℕ). bit_at held k ≡ 1) same (all.bytes has.place has.inside (subst (λ (k : ℕ). 0 < k) (sym same) some))
   bit_is_held i j some all (inr n) =
-      let has = pairs text value mode j n.first n.second n.unescaped n.there n.behind n.literal n.both s in
-      let first = fold_lower mode (get_or value has.place 0) n.first has.alike in
-      let second = fold_lower mode (get_or value (has.place + 1) 0) n.second has.next_alike in
+      let has = pairs text value way j n.first n.second n.unescaped n.there n.behind n.literal n.both s in
+      let first = fold_lower way (get_or value has.place 0) n.first has.alike in
+      let second = fold_lower way (get_or value (has.place + 1) 0) n.second has.next_alike in
       let same : 32 + pair_of (get_or value has.place 0) (get_or value (has.place + 1) 0) ≡ i =
       ap (λ (b : ℕ). 32 + (b * 5 + to_ascii_lowercase (get_or value (has.place + 1) 0)) % 32) first
       ∙ (ap (λ (b : ℕ). 32 + (to_ascii_lowercase n.first * 5 + b) % 32) second ∙ sym n.bit) in
@@ -197,7 +198,7 @@ answering_passes ends bytes pairs text pattern_mode base path rest is_dir case r
     let at : ℕ = below.0 + within.0 in
     let is : value ≡ drop at path = within.1 ∙ (ap (drop within.0) below.1 ∙ drop-drop within.0 below.0 path) in
     let s = answers.answers.splits in record {
-      end = λ some. HasEnd-asked ends bytes pairs text path value (with_case path_mode case) at row probe shows is s (asks.end some) asks.spare;
-      bits = λ none. HasBytes-needed ends bytes pairs text path value (with_case path_mode case) at row probe shows is s (asks.bits none)
+      end = λ some. HasEnd-asked ends bytes pairs text path value (way_of (with_case path_mode case)) at row probe shows is s (asks.end some) asks.spare;
+      bits = λ none. HasBytes-needed ends bytes pairs text path value (way_of (with_case path_mode case)) at row probe shows is s (asks.bits none)
           (λ name. name_has_no_slash pattern_mode rest start (asks.name name) answers.basename);
     }

@@ -8,13 +8,14 @@ use Rattle.std.proofs.lemmas.List.{drop-drop, get_or-drop, get_or_default}
 use Rattle.std.proofs.lemmas.List.Folds.{list_any_none}
 use Rattle.gix_glob.specs.declared.pattern.Case.{Case}
 use Rattle.gix_glob.specs.declared.pattern.Mode as pattern
-use Rattle.gix_glob.specs.declared.wildmatch.Mode as wildmatch
+use Rattle.gix_glob.specs.declared.wildmatch.Way.{Way}
 use Rattle.gix_glob.specs.Bytes.{EndsInSlash, HasByte, fold, has_slash, is_special, slash, star}
 use Rattle.gix_glob.specs.LiteralBytes.{is_joining}
-use Rattle.gix_glob.specs.Matching.{Splits}
+use Rattle.gix_glob.specs.Matching.{SplitsBy}
 use Rattle.gix_glob.specs.Paths.{IsFolder}
 use Rattle.gix_glob.specs.Patterns.{is_star_and_literal, looks_at_name}
 use Rattle.gix_glob.specs.RepositoryPaths.{IsAfterLastSlash, IsBasenameStart, subject, with_case}
+use Rattle.gix_glob.specs.Ways.{way_of}
 use Rattle.gix_glob.specs.Stripping.{RestOf}
 use Rattle.gix_glob.proofs.lemmas.Places.{later_byte}
 use Rattle.glob_patterns.proofs.lemmas.LiteralLemmas.{AreAlike-from, star_literal_in}
@@ -141,19 +142,19 @@ has_no_slash value none = list_any_none (λ b. b == slash) value (λ m d below.
     false_from_ne_true (get_or value m d == slash) (λ is. none m (record { inside = below; is = get_or_default value m 0 d below ∙ eqb-true _ slash is })))
 
 -- a value without slash that has the bytes of the literal at its end is matched
-star_matches : (mode : wildmatch.Mode) (text value : List ℕ) (n : ℕ) → HasByte text 0 star → length text ≡ n + 1 → EndsLiterally text n → ((m : ℕ) → ¬ HasByte value m slash)
-    → n ≤ length value → ((m : ℕ) → m < n → from_end text m ≡ from_end value m) → Splits value text mode
-star_matches mode text value n first long literal bare fits same =
+star_matches : (way : Way) (text value : List ℕ) (n : ℕ) → HasByte text 0 star → length text ≡ n + 1 → EndsLiterally text n → ((m : ℕ) → ¬ HasByte value m slash)
+    → n ≤ length value → ((m : ℕ) → m < n → from_end text m ≡ from_end value m) → SplitsBy value text way
+star_matches way text value n first long literal bare fits same =
     let plain = literal_behind text n long literal in
     let cut : length (drop 1 text) ≡ n = (let l = length-drop 1 text in omega arith) in
     let at : ℕ = length value - length (drop 1 text) in
     let left = length-drop at value in
-    star_literal_in text value mode (star_first text first plain) (inr (has_no_slash value bare)) (omega arith)
-    (AreAlike-from mode (drop 1 text) (drop at value) (omega arith) (λ j below.
+    star_literal_in text value way (star_first text first plain) (inr (has_no_slash value bare)) (omega arith)
+    (AreAlike-from way (drop 1 text) (drop at value) (omega arith) (λ j below.
     let m : ℕ = n - (j + 1) in
     let in_text : length text - (m + 1) ≡ 1 + j = omega arith in
     let in_value : length value - (m + 1) ≡ at + j = omega arith in
-    ap (fold mode) (get_or-drop 1 text j 0 ∙ (ap (λ (k : ℕ). get_or text k 0) (sym in_text)
+    ap (fold way) (get_or-drop 1 text j 0 ∙ (ap (λ (k : ℕ). get_or text k 0) (sym in_text)
     ∙ (same m (omega arith) ∙ (ap (λ (k : ℕ). get_or value k 0) in_value ∙ sym (get_or-drop at value j 0)))))))
 
 -- ---- a row that tells
@@ -199,7 +200,7 @@ told_answers text pattern_mode base path rest is_dir case row probe folder shows
       basename = start.1;
       answers = record {
         directory = λ yes. absurd (false≢true (sym told_shape.all ∙ yes));
-        splits = star_matches (with_case path_mode case) text value n told_shape.shape.star told_shape.shape.long told_shape.literal
+        splits = star_matches (way_of (with_case path_mode case)) text value n told_shape.shape.star told_shape.shape.long told_shape.literal
             (name_has_no_slash pattern_mode rest start.0 told_shape.name start.1) fits
             (λ m below. same_bytes text path pattern_mode row probe shows asks passes told m below ∙ sym (end_of path value part.at part.is m (omega arith)));
       };
