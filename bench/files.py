@@ -3,8 +3,8 @@
 
 Each tree is a repository without an index. In turns, seven times, each program lists it; the medians of the seconds of the processor,
 user and system, are printed, and each by Git's. Ripgrep and fd use one thread, and print names in no order, as the bare walk by `find`
-does, which reads no ignore file. Then come the calls of the system that globtree makes, where `strace` is there: for each entry, and
-beyond one for each entry, for each folder. Where what globtree prints isn't what Git prints, that is told. The status is 1 then, and where a goal is missed.
+does, which reads no ignore file. Then come the calls of the system that globtree makes, where `strace` is there, and how many names it
+meets in how many folders. Where what globtree prints isn't what Git prints, that is told. The status is 1 then, and where a goal is missed.
 `out/globtree` has to be there, or what `--program` names; a program that isn't there is left out."""
 import argparse
 import os
@@ -23,8 +23,8 @@ PROGRAM = os.path.join(os.path.dirname(HERE), "out", "globtree")
 
 # For each tree, the most that globtree's seconds are to be of Git's.
 TREES = {"10,000 files": 0.9, "100,000 files": 0.9, "3,000 ignore files": 0.9, "100,000 in one folder": 1.3, "20,000 folders of a file": 1.0, "300 levels deep": 1.0}
-# the most calls for each entry, and beside them for each folder
-CALLS_OF_ENTRY, CALLS_OF_FOLDER = 1.1, 3
+# the most calls for each name, beside them for each folder, and before the first one
+CALLS_OF_NAME, CALLS_OF_FOLDER, CALLS_OF_START = 1.1, 3, 100
 
 
 def words():
@@ -94,7 +94,7 @@ def environment():
 
 
 def listed(row, root):
-    done = subprocess.run(row, cwd=root, stdout=subprocess.PIPE, stderr=subprocess.PIPE, env={**environment()}, check=False)
+    done = subprocess.run(row, cwd=root, stdout=subprocess.PIPE, stderr=subprocess.PIPE, env=environment(), check=False)
     if done.returncode:
         sys.exit(f"files: {' '.join(row)} ended with status {done.returncode}\n{done.stderr.decode()}")
     return done.stdout
@@ -124,7 +124,7 @@ def calls(row, root):
 
 
 def entries(root):
-    """How many entries and folders a listing meets: none of an ignored folder's, nor `.git`."""
+    """How many names and folders a listing meets: none of an ignored folder's, nor `.git`."""
     inside = subprocess.run(["git", "ls-files", "-o", "-i", "--exclude-standard", "--directory"], cwd=root, stdout=subprocess.PIPE, env=environment(), check=True)
     ignored = {os.fsdecode(line) for line in inside.stdout.splitlines() if line.endswith(b"/")}
     files = folders = 0
@@ -140,7 +140,7 @@ def entries(root):
 def main():
     options = words()
     rows, missed = programs(options.program), 0
-    print("| Tree | " + " | ".join(rows) + " | of Git's | calls an entry | beyond, a folder |\n|---|---" + "|---" * (len(rows) + 2) + "|")
+    print("| Tree | " + " | ".join(rows) + " | of Git's | calls | names | folders |\n|---|---" + "|---" * (len(rows) + 3) + "|")
     with tempfile.TemporaryDirectory() as room:
         for name in options.trees.split(";"):
             root = f"{options.keep or room}/{name.replace(' ', '_')}"
@@ -159,9 +159,9 @@ def main():
                     missed += 1
             if shutil.which("strace"):
                 count, (met, folders) = calls(rows["globtree"], root), entries(root)
-                cells += [f"{count / met:.2f}", f"{(count - met) / folders:.2f}"]
-                if count > CALLS_OF_ENTRY * met + CALLS_OF_FOLDER * folders + 100:
-                    print(f"files: missed: {name}: {count:,} calls at {met:,} entries in {folders:,} folders", file=sys.stderr)
+                cells += [f"{count:,}", f"{met:,}", f"{folders:,}"]
+                if count > CALLS_OF_NAME * met + CALLS_OF_FOLDER * folders + CALLS_OF_START:
+                    print(f"files: missed: {name}: {count:,} calls at {met:,} names in {folders:,} folders", file=sys.stderr)
                     missed += 1
             print(f"| {name} | " + " | ".join(cells) + " |", flush=True)
     return 1 if missed else 0
