@@ -1,5 +1,5 @@
 //! Told paths, answered one after the other: those that records name, or those of words.
-ghost use Rattle.std.specs.Prelude.{◌≡◌, false, if◌then◌else◌, [], map, IfErr, OnErr, OnOk};
+ghost use Rattle.std.specs.Prelude.{◌≡◌, false, if◌then◌else◌, [], map, Err, IfErr, IsOk, OnErr, OnOk};
 ghost use Rattle.std.specs.Io.KnownBytes.{Appends};
 ghost use Rattle.std.specs.List.{AllByRecursion};
 ghost use Rattle.gix_glob.specs.Watched.{has_failed, inner};
@@ -146,7 +146,7 @@ fn append_each<A: PathAnswerer>(
 }
 
 /// Writes the text, where all paths were answered or it is to be kept.
-fn write_answers<F, W: Write>(
+fn write_answers<F: Drop, W: Write>(
     writer: &mut Watched<W>,
     text: &[u8],
     answered: Result<(), F>,
@@ -154,7 +154,10 @@ fn write_answers<F, W: Write>(
 ) -> Result<(), RecordFault<F>>
     requires { has_failed writer.old ≡ false }
     ensures ok { OnOk result (Appends (W.contents (inner writer.old)) (W.contents (inner writer.new)) text.now) }
-    ensures answered { OnOk result (OnOk answered (answered ≡ answered)) }
+    ensures all { OnOk result (IsOk answered) }
+    ensures refused { AllByRecursion
+        (λ fault. (answered ≡ Err fault) × Appends (W.contents (inner writer.old)) (W.contents (inner writer.new)) (if keeps_answers then text.now else []))
+        (told_refusal result) }
     ensures cut { OnErr result (AppendsFront (W.contents (inner writer.old)) (W.contents (inner writer.new)) text.now) }
     ensures write { is_write_fault result ≡ has_failed writer.new }
 {

@@ -1,22 +1,17 @@
 -- What may be written for a record, and what is kept account of.
-use Rattle.std.proofs.Common.{◌≡◌, inl, inr, ⊎_elim, ℕ, Bool, true, false, List, [], ◌∷◌, ◌++◌, Result, Ok, Err, OnOk, IfErr, sym, refl, ap, subst, ◌∙◌, codes, nat_eq, append-nil}
+use Rattle.std.proofs.Common.{◌≡◌, inl, inr, ⊎_elim, ℕ, Bool, true, false, List, [], ◌∷◌, ◌++◌, Result, Ok, Err, OnOk, sym, refl, ap, subst, ◌∙◌, codes, nat_eq, append-nil}
 use Rattle.std.specs.Prelude.{◌||◌}
-use Rattle.std.specs.List.{AllByRecursion, AllZip, before_first, list_any, starts_with}
+use Rattle.std.specs.List.{AllZip, before_first, list_any, starts_with}
 use Rattle.std.proofs.lemmas.Bool.{cases_Bool, false≢true}
 use Rattle.std.proofs.lemmas.Bool.Decides.{Decides-eqb}
 use Rattle.std.proofs.lemmas.Slice.Eq.{starts_is}
 use Rattle.glob_lines.specs.Lines.{HasNo}
-use Rattle.record_streams.specs.Records.{Adds, GrowsBy, StaysAllowed, answered_by, fault_of}
-use Rattle.record_streams.proofs.lemmas.RecordLemmas.{AllByRecursion-append}
+use Rattle.record_streams.specs.Records.{Adds, GrowsBy, answered_by}
 use Rattle.told_paths.specs.Quoting.{is_unusual}
 use Rattle.tree_answers.specs.declared.form.Form.{Form}
 use Rattle.tree_answers.specs.declared.form.Form.TheVariants.{Lines, Records}
-use Rattle.tree_answers.specs.Records.{AccountsFor, IsRefusal, IsTextOf, NamesPath, begins_with_quote, is_zero}
+use Rattle.tree_answers.specs.Records.{AccountsFor, IsTextOf, NamesPath, begins_with_quote, is_zero}
 use Rattle.tree_answers.proofs.lemmas.ZeroLemmas.{before_none}
-
--- what may be written for the path may be written for the record
-pub stays_text : (before after : List ℕ → List ℕ → Type 0) → StaysAllowed before after → (form : Form) → StaysAllowed (IsTextOf before form) (IsTextOf after form)
-stays_text before after stays form bytes text (told, names, is) = (told, names, stays told text is)
 
 module _ {T E : Type 0} (result : Result T E) (form : Form) (bytes told : List ℕ) (names : NamesPath form bytes told) where
   pub adds_named : (Answers : List ℕ → List ℕ → Type 0) (old new : List ℕ) → OnOk result (Adds (Answers told) old new) → OnOk result (Adds (IsTextOf Answers form bytes) old new)
@@ -27,7 +22,7 @@ module _ {T E : Type 0} (result : Result T E) (form : Form) (bytes told : List �
 
 -- ---- accounts
 
-AllZip-append : {A B : Type 0} (R : A → B → Type 0) (xs more : List A) (ys others : List B) → AllZip R xs ys → AllZip R more others → AllZip R (xs ++ more) (ys ++ others)
+pub AllZip-append : {A B : Type 0} (R : A → B → Type 0) (xs more : List A) (ys others : List B) → AllZip R xs ys → AllZip R more others → AllZip R (xs ++ more) (ys ++ others)
 AllZip-append R [] more [] others h k = k
 AllZip-append R [] more (y ∷ ys) others h k = absurd h
 AllZip-append R (x ∷ xs) more [] others h k = absurd h
@@ -48,16 +43,6 @@ module _ (a b : List (List ℕ) → Type 0) (form : Form) where
       → GrowsBy (AccountsFor a form) (AccountsFor b form) (answered_by result bytes)
   accounts_named (Ok x) bytes told names grows = accounts_one bytes told names grows
   accounts_named (Err e) bytes told names grows = accounts_none grows
-
--- a fault of the path is one that a record may get
-pub refused_told : {T F N : Type 0} (result : Result T F) (Refuses : List ℕ → F → Type 0) (Gives : N → F → Type 0) (told : List ℕ) → IfErr result (λ fault. Refuses told fault)
-    → AllByRecursion (IsRefusal Refuses Gives) (fault_of result)
-refused_told (Ok x) Refuses Gives told h = tt
-refused_told (Err fault) Refuses Gives told h = (inl (told, h), tt)
-
--- faults that are allowed follow others that are
-pub refused_more : {F : Type 0} (P : F → Type 0) (faults : List F) → AllByRecursion P faults → GrowsBy (AllByRecursion P) (AllByRecursion P) faults
-refused_more P faults more held each = AllByRecursion-append P held faults each more
 
 -- ---- usual names
 

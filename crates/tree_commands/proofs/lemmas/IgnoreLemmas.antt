@@ -18,7 +18,8 @@ use Rattle.tree_answers.specs.Lines.{Decision}
 use Rattle.tree_commands.specs.declared.check_ignore.flags.IgnoreFlags.{IgnoreFlags}
 use Rattle.tree_commands.specs.CheckIgnore.{IgnoreList, IsDeciding, IsIgnoreAnswer, IsLineAt, IsLineFor, IsStatus, Question, counted, question_of}
 use Rattle.tree_commands.specs.Private.Finding.{FindsTold, IsFound, KeepsTree, lists_of, told_kind}
-use Rattle.tree_commands.proofs.lemmas.AnswerLemmas.{AllZip-append, AllZip-weaker}
+use Rattle.tree_answers.proofs.lemmas.RecordLemmas.{AllZip-append}
+use Rattle.tree_commands.proofs.lemmas.AnswerLemmas.{AllZip-weaker}
 use Rattle.tree_commands.proofs.lemmas.FindingLemmas.{Stands, stands_there}
 
 -- ---- what is shown stays shown
