@@ -1,3 +1,4 @@
 pub mod AnswerLemmas
 pub mod FindingLemmas
 pub mod IgnoreLemmas
+pub mod RunLemmas

@@ -10,19 +10,13 @@ use Rattle.glob_lists.specs.Paths.{IsPlainPath}
 use Rattle.glob_trees.specs.TreeParts.{TreeParts}
 use Rattle.glob_trees.specs.Trees.{DecidesInTree}
 use Rattle.glob_trees.specs.Ways.{AreOnTheWay, Folder}
-use Rattle.record_streams.specs.Records.{TextOf}
 use Rattle.told_paths.specs.declared.standpoint.Standpoint.{Standpoint}
 use Rattle.told_paths.specs.Paths.{names_folder, parts_of}
 use Rattle.told_paths.specs.Standpoints.{led}
 use Rattle.tree_answers.specs.Lines.{Decision, line_text}
-use Rattle.tree_answers.specs.Records.{AccountsFor, IsTextOf}
 use Rattle.tree_commands.specs.declared.check_ignore.fault.IgnoreFault.{IgnoreFault}
-use Rattle.tree_commands.specs.declared.check_ignore.fault.IgnoreFault.TheVariants.{BadlyQuoted, Empty, Memory, Outside, Source}
+use Rattle.tree_commands.specs.declared.check_ignore.fault.IgnoreFault.TheVariants.{Empty, Outside}
 use Rattle.tree_commands.specs.declared.check_ignore.flags.IgnoreFlags.{IgnoreFlags}
-
--- a list of ignore lines
-abbrev pub IgnoreList : Type 0
-IgnoreList = EntryList (Unit {0})
 
 -- What is asked of each told path: where it leads from the top; whether a folder stands there, as far as it is known; the lists that
 -- stand before those of all folders, and how many; whether the case of letters counts; and what is written.
@@ -30,25 +24,25 @@ pub record Question : Type 0 where
   pub leads : List ℕ → Option (List ℕ)
   pub kind_of : List ℕ → Option Bool
   pub front_count : ℕ
-  pub fronts : List IgnoreList
+  pub fronts : List (EntryList (Unit {0}))
   pub case : Case
   pub flags : IgnoreFlags
 
 -- what is asked from a standpoint of a tree, where the kinds of paths are known so far
 abbrev pub question_of : {S T X : Type 0} → Standpoint → IgnoreFlags → TreeParts S T X → (List ℕ → Option Bool) → Question
 question_of standpoint flags tree kind_of =
-    record { leads = led standpoint; kind_of = kind_of; front_count = tree.front_count; fronts = take tree.front_count (map (entry_list_of (λ _. tt)) tree.lists); case = tree.case; flags = flags }
+    record { leads = led standpoint; kind_of = kind_of; front_count = tree.front_count; fronts = take tree.front_count (map (entry_list_of {V = Unit {0}} (λ _. tt)) tree.lists); case = tree.case; flags = flags }
 
 -- the line at a pair of places, and none for none
-abbrev pub IsLineAt : List IgnoreList → Option (ℕ × ℕ) → Option Decision → Type 0
+abbrev pub IsLineAt : List (EntryList (Unit {0})) → Option (ℕ × ℕ) → Option Decision → Type 0
 IsLineAt lists pair line = MatchOption pair (line ≡ None)
-    (λ at. (list : IgnoreList) × (entry : Entry (Unit {0})) × (slice_get lists at.0 ≡ Some list) × (slice_get list.entries at.1 ≡ Some entry)
+    (λ at. (list : EntryList (Unit {0})) × (entry : Entry (Unit {0})) × (slice_get lists at.0 ≡ Some list) × (slice_get list.entries at.1 ≡ Some entry)
     × (line ≡ Some (record { source = unwrap_or list.source []; number = entry.number; mode = entry.mode; text = entry.text })))
 
 -- The line that decides about a path from the top: by the lists before those of all folders, and those that are shown for the folders on
 -- the way. The path is a folder's where that is known, and none where that is.
-pub record IsDeciding (question : Question) (shows : Folder → IgnoreList → Type 0) (path : List ℕ) (known : Option Bool) (line : Option Decision) : Type 0 where
-  pub lists : List IgnoreList
+pub record IsDeciding (question : Question) (shows : Folder → EntryList (Unit {0}) → Type 0) (path : List ℕ) (known : Option Bool) (line : Option Decision) : Type 0 where
+  pub lists : List (EntryList (Unit {0}))
   pub fronts : take question.front_count lists ≡ question.fronts
   pub on_way : AreOnTheWay shows question.front_count lists question.case path
   pub is_dir : Bool
@@ -59,7 +53,7 @@ pub record IsDeciding (question : Question) (shows : Folder → IgnoreList → T
 
 -- The line that decides about a told path: none about one that leads to the top itself, or to what else is no path of a repository. A
 -- path is known to be a folder's where it is told as one.
-pub record IsLineFor (question : Question) (shows : Folder → IgnoreList → Type 0) (told : List ℕ) (line : Option Decision) : Type 0 where
+pub record IsLineFor (question : Question) (shows : Folder → EntryList (Unit {0}) → Type 0) (told : List ℕ) (line : Option Decision) : Type 0 where
   pub path : List ℕ
   pub leads : question.leads told ≡ Some path
   pub decided : (¬ IsPlainPath path × (line ≡ None))
@@ -75,27 +69,16 @@ abbrev pub text_about : IgnoreFlags → List ℕ → Option Decision → List �
 text_about flags told line = if not flags.quiet && (is_some line || flags.non_matching) then line_text flags.verbose flags.form line told else []
 
 -- what may be written for a told path: the text about it, with the line that decides
-abbrev pub IsIgnoreAnswer : Question → (Folder → IgnoreList → Type 0) → List ℕ → List ℕ → Type 0
+abbrev pub IsIgnoreAnswer : Question → (Folder → EntryList (Unit {0}) → Type 0) → List ℕ → List ℕ → Type 0
 IsIgnoreAnswer question shows told text = (line : Option Decision) × IsLineFor question shows told line × (text ≡ text_about question.flags told (counted question.flags.verbose line))
 
 -- whether a line that counts decides about some of the told paths
-abbrev pub IsStatus : Question → (Folder → IgnoreList → Type 0) → Bool → List (List ℕ) → Type 0
+abbrev pub IsStatus : Question → (Folder → EntryList (Unit {0}) → Type 0) → Bool → List (List ℕ) → Type 0
 IsStatus question shows is_any paths =
     (lines : List (Option Decision)) × AllZip (IsLineFor question shows) paths lines × (is_any ≡ list_any (λ line. is_some (counted question.flags.verbose line)) lines)
 
--- what a run over told paths comes to: their text, and whether a line decides about some of them
-abbrev pub IgnoresTold : Question → (Folder → IgnoreList → Type 0) → Bool → List (List ℕ) → List ℕ → Type 0
-IgnoresTold question shows is_any paths text = TextOf (IsIgnoreAnswer question shows) paths text × IsStatus question shows is_any paths
-
--- the same of the paths that records name
-abbrev pub IgnoresNamed : Question → (Folder → IgnoreList → Type 0) → Bool → List (List ℕ) → List ℕ → Type 0
-IgnoresNamed question shows is_any records text =
-    TextOf (IsTextOf (IsIgnoreAnswer question shows) question.flags.form) records text × AccountsFor (IsStatus question shows is_any) question.flags.form records
-
--- a fault that a told path may get: that it leads out of the work tree, or has no bytes, only where it is so
+-- what a told path may get a fault for: that it leads out of the work tree, or has no bytes, only where it is so
 abbrev pub Refuses : {F : Type 0} → (List ℕ → Option (List ℕ)) → List ℕ → IgnoreFault F → Type 0
-Refuses leads told Memory = Unit {0}
-Refuses leads told Empty = told ≡ []
 Refuses leads told (Outside path) = (path.items ≡ told) × (leads told ≡ None)
-Refuses leads told BadlyQuoted = ⊥
-Refuses leads told (Source fault) = Unit {0}
+Refuses leads told Empty = told ≡ []
+Refuses leads told _ = Unit {0}

@@ -3,12 +3,12 @@ ghost use Rattle.std.specs.Prelude.{◌≡◌, false, if◌then◌else◌, [], m
 ghost use Rattle.std.specs.Io.KnownBytes.{Appends};
 ghost use Rattle.std.specs.List.{AllByRecursion};
 ghost use Rattle.gix_glob.specs.Watched.{has_failed, inner};
-ghost use Rattle.glob_lines.specs.Transfers.{AppendsFront, ReadsWhole, Run};
+ghost use Rattle.glob_lines.specs.Transfers.{AppendsFront};
 ghost use Rattle.record_streams.specs.Faults.{is_write_fault, told_refusal};
-ghost use Rattle.record_streams.specs.Records.{Adds, AnswersAll, StaysAllowed, TextOfAnswered};
+ghost use Rattle.record_streams.specs.Records.{Adds, TextOf, TextOfAnswered};
 ghost use Rattle.tree_answers.specs.Lines.{behind};
-ghost use Rattle.tree_answers.specs.Records.{IsRefusal};
-ghost use Rattle.tree_commands.specs.Answering.{IsTextOfFirst, StopsAt, TellsFault, TextOfNamed, Writes};
+ghost use Rattle.tree_answers.specs.Records.{IsRefusal, IsTextOf};
+ghost use Rattle.tree_commands.specs.Answering.{EndsRun, IsTextOfFirst, StopsAt, TextOfNamed, TextOfPaths, Writes};
 ghost use Rattle.tree_commands.specs.Private.Answering.{FailsAt};
 
 use gix_glob::search::Watched;
@@ -21,8 +21,8 @@ use told_paths::are_usual_names;
 use tree_answers::{Form, FormWord, PathAnswerer, RecordAnswerer};
 
 /// Reads records to the reader's end, each in a line or before a NUL, and writes for each what is written about the path that it names.
-/// Gives the answerer back. How records are read and answers written, [`RecordStream::run`] tells, and [`RecordAnswerer`] which path a
-/// record names.
+/// Gives the answerer back, which had answered no path before. How records are read and answers written, [`RecordStream::run`] tells, and
+/// [`RecordAnswerer`] which path a record names.
 ///
 /// # Errors
 /// Those of [`RecordStream::run`]. A record that names no path is a fault that is made of [`NameFault`](tree_answers::NameFault).
@@ -33,15 +33,10 @@ pub fn answer_records<A: PathAnswerer, R: Read, W: Write>(
     records: &mut Watched<R>,
     writer: &mut Watched<W>,
 ) -> (A, Result<(), RecordFault<A::Fault>>)
+    requires first { A.answered answerer [] }
     requires readable { has_failed records.old ≡ false }
     requires writable { has_failed writer.old ≡ false }
-    ensures stays { StaysAllowed (A.answers answerer) (A.answers result.0) }
-    // On success, all of the input was read, and the text of all the paths that its records name was written.
-    ensures ok { OnOk result.1
-        (Run (ReadsWhole (R.remaining (inner records.old)) (R.remaining (inner records.new)))
-        (AnswersAll (TextOfNamed (A.answers result.0) (A.answered answerer) (A.answered result.0) form) (behind form 10))
-        (Appends (W.contents (inner writer.old)) (W.contents (inner writer.new)))) }
-    ensures faults { TellsFault (TextOfNamed (A.answers result.0) (A.answered answerer) (A.answered result.0) form) (behind form 10) result.1
+    ensures ends { EndsRun (λ _. TextOfNamed (A.answers result.0) (A.answered result.0) form) (TextOf (IsTextOf (A.answers result.0) form)) (behind form 10) result.1
         (R.remaining (inner records.old)) (R.remaining (inner records.new)) (W.contents (inner writer.old)) (W.contents (inner writer.new))
         (has_failed records.new) (has_failed writer.new) }
     ensures refused { AllByRecursion (IsRefusal A.refuses A.Fault.from_gives) (told_refusal result.1) }
@@ -58,14 +53,10 @@ fn answer_in_form<A: PathAnswerer, R: Read, W: Write, F: FormWord>(
     writer: &mut Watched<W>,
 ) -> (A, Result<(), RecordFault<A::Fault>>)
     requires word { form ≡ F.form }
+    requires first { A.answered answerer [] }
     requires readable { has_failed records.old ≡ false }
     requires writable { has_failed writer.old ≡ false }
-    ensures stays { StaysAllowed (A.answers answerer) (A.answers result.0) }
-    ensures ok { OnOk result.1
-        (Run (ReadsWhole (R.remaining (inner records.old)) (R.remaining (inner records.new)))
-        (AnswersAll (TextOfNamed (A.answers result.0) (A.answered answerer) (A.answered result.0) form) (behind form 10))
-        (Appends (W.contents (inner writer.old)) (W.contents (inner writer.new)))) }
-    ensures faults { TellsFault (TextOfNamed (A.answers result.0) (A.answered answerer) (A.answered result.0) form) (behind form 10) result.1
+    ensures ends { EndsRun (λ _. TextOfNamed (A.answers result.0) (A.answered result.0) F.form) (TextOf (IsTextOf (A.answers result.0) F.form)) (behind form 10) result.1
         (R.remaining (inner records.old)) (R.remaining (inner records.new)) (W.contents (inner writer.old)) (W.contents (inner writer.new))
         (has_failed records.new) (has_failed writer.new) }
     ensures refused { AllByRecursion (IsRefusal A.refuses A.Fault.from_gives) (told_refusal result.1) }
@@ -85,8 +76,8 @@ fn answer_in_form<A: PathAnswerer, R: Read, W: Write, F: FormWord>(
     (paths, told)
 }
 
-/// Writes what is written about each of these paths, in order, and gives the answerer back. Where a path gets no answer, the text of those
-/// before it is written if it is to be kept.
+/// Writes what is written about each of these paths, in order, and gives the answerer back, which had answered no path before. Where a
+/// path gets no answer, the text of those before it is written if it is to be kept.
 ///
 /// All paths are answered before anything is written. No call on the writer may have failed before, and none that fails is tried again.
 ///
@@ -100,19 +91,18 @@ pub fn answer_paths<A: PathAnswerer, W: Write>(
     keeps_answers: bool,
     writer: &mut Watched<W>,
 ) -> (A, Result<(), RecordFault<A::Fault>>)
-    requires { has_failed writer.old ≡ false }
-    ensures stays { StaysAllowed (A.answers answerer) (A.answers result.0) }
+    requires first { A.answered answerer [] }
+    requires writable { has_failed writer.old ≡ false }
     ensures ok { OnOk result.1
-        (Writes (TextOfAnswered (A.answers result.0) (A.answered answerer) (A.answered result.0) (map (λ path. path.now) paths.now))
+        (Writes (TextOfPaths (A.answers result.0) (A.answered result.0) (map (λ path. path.now) paths.now))
         (Appends (W.contents (inner writer.old)) (W.contents (inner writer.new)))) }
     // After the fault of a path, the text of those before it was written, or nothing.
     ensures refused { AllByRecursion
-        (StopsAt (TextOfAnswered (A.answers result.0) (A.answered answerer) (A.answered result.0)) A.refuses (map (λ path. path.now) paths.now) keeps_answers
-        (W.contents (inner writer.old)) (W.contents (inner writer.new)))
+        (StopsAt (A.answers result.0) A.refuses (map (λ path. path.now) paths.now) keeps_answers (W.contents (inner writer.old)) (W.contents (inner writer.new)))
         (told_refusal result.1) }
     // After one of the writer's, a beginning of the text of the first paths was.
     ensures cut { OnErr result.1
-        (Writes (IsTextOfFirst (TextOfAnswered (A.answers result.0) (A.answered answerer) (A.answered result.0)) (map (λ path. path.now) paths.now))
+        (Writes (IsTextOfFirst (A.answers result.0) (map (λ path. path.now) paths.now))
         (AppendsFront (W.contents (inner writer.old)) (W.contents (inner writer.new)))) }
     ensures write { is_write_fault result.1 ≡ has_failed writer.new }
 {
@@ -129,11 +119,10 @@ fn append_each<A: PathAnswerer>(
     text: &mut Vec<u8>,
     paths: &[&[u8]],
 ) -> Result<(), A::Fault>
-    ensures stays { StaysAllowed (A.answers answerer.old) (A.answers answerer.new) }
     ensures ok { OnOk result
         (Adds (TextOfAnswered (A.answers answerer.new) (A.answered answerer.old) (A.answered answerer.new) (map (λ path. path.now) paths.now)) text.old.items text.new.items) }
     ensures fails { IfErr result
-        (FailsAt (TextOfAnswered (A.answers answerer.new) (A.answered answerer.old) (A.answered answerer.new)) A.refuses (map (λ path. path.now) paths.now) text.old.items text.new.items) }
+        (FailsAt (A.answers answerer.new) A.refuses (map (λ path. path.now) paths.now) text.old.items text.new.items) }
 {
     'paths: for path in paths {
         let whole = text.len();
@@ -146,6 +135,7 @@ fn append_each<A: PathAnswerer>(
 }
 
 /// Writes the text, where all paths were answered or it is to be kept.
+#[tactic(auto, using(crate::proofs::lemmas::RunLemmas::none_written, crate::proofs::lemmas::RunLemmas::whole_written))]
 fn write_answers<F: Drop, W: Write>(
     writer: &mut Watched<W>,
     text: &[u8],
@@ -161,18 +151,21 @@ fn write_answers<F: Drop, W: Write>(
     ensures cut { OnErr result (AppendsFront (W.contents (inner writer.old)) (W.contents (inner writer.new)) text.now) }
     ensures write { is_write_fault result ≡ has_failed writer.new }
 {
-    match answered {
-        Ok(()) => write_text(writer, text),
-        Err(fault) => {
-            if keeps_answers {
-                write_text(writer, text)?;
-            }
-            Err(RecordFault::Answer(fault))
-        }
+    let fault = match answered {
+        Ok(()) => return write_text(writer, text),
+        Err(fault) => fault,
+    };
+    if !keeps_answers {
+        return Err(RecordFault::Answer(fault));
+    }
+    match write_text(writer, text) {
+        Ok(()) => Err(RecordFault::Answer(fault)),
+        Err(failed) => Err(failed),
     }
 }
 
 /// Writes a text, and flushes.
+#[tactic(auto, using(crate::proofs::lemmas::RunLemmas::flushed))]
 fn write_text<W: Write, F>(writer: &mut Watched<W>, text: &[u8]) -> Result<(), RecordFault<F>>
     requires { has_failed writer.old ≡ false }
     ensures ok { OnOk result (Appends (W.contents (inner writer.old)) (W.contents (inner writer.new)) text.now) }

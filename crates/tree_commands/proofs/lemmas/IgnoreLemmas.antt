@@ -6,17 +6,17 @@ use Rattle.std.proofs.lemmas.List.{take-map}
 use Rattle.std.proofs.lemmas.List.Folds.{list_any-append}
 use Rattle.gix_glob.specs.declared.pattern.Case.{Case}
 use Rattle.gix_glob.specs.declared.search.pattern.list.List as patterns
-use Rattle.gix_glob.specs.EntryLists.{entry_list_of}
+use Rattle.gix_glob.specs.EntryLists.{EntryList, entry_list_of}
 use Rattle.glob_lists.specs.Paths.{IsPlainPath}
 use Rattle.glob_trees.specs.TreeParts.{HasMappingAt, TreeParts}
 use Rattle.glob_trees.specs.Ways.{AreOnTheWay, Folder, GoesOn, IsListOf}
-use Rattle.record_streams.specs.Records.{GrowsBy, StaysAllowed, answered_by}
+use Rattle.record_streams.specs.Records.{Adds, GrowsBy, StaysAllowed}
 use Rattle.told_paths.specs.declared.standpoint.Standpoint.{Standpoint}
 use Rattle.told_paths.specs.Paths.{names_folder, parts_of}
 use Rattle.told_paths.specs.Standpoints.{led}
 use Rattle.tree_answers.specs.Lines.{Decision}
 use Rattle.tree_commands.specs.declared.check_ignore.flags.IgnoreFlags.{IgnoreFlags}
-use Rattle.tree_commands.specs.CheckIgnore.{IgnoreList, IsDeciding, IsIgnoreAnswer, IsLineAt, IsLineFor, IsStatus, Question, counted, question_of}
+use Rattle.tree_commands.specs.CheckIgnore.{IsDeciding, IsIgnoreAnswer, IsLineAt, IsLineFor, IsStatus, Question, counted, question_of, text_about}
 use Rattle.tree_commands.specs.Private.Finding.{FindsTold, IsFound, KeepsTree, lists_of, told_kind}
 use Rattle.tree_answers.proofs.lemmas.RecordLemmas.{AllZip-append}
 use Rattle.tree_commands.proofs.lemmas.AnswerLemmas.{AllZip-weaker}
@@ -28,8 +28,8 @@ or_false : (b : Bool) → (b || false) ≡ b
 or_false true = refl
 or_false false = refl
 
-module _ (before after : Folder → IgnoreList → Type 0) (on : (folder : Folder) (list : IgnoreList) → before folder list → after folder list) where
-  way_stays : (front_count : ℕ) (lists : List IgnoreList) (case : Case) (path : List ℕ) → AreOnTheWay before front_count lists case path → AreOnTheWay after front_count lists case path
+module _ (before after : Folder → EntryList (Unit {0}) → Type 0) (on : (folder : Folder) (list : EntryList (Unit {0})) → before folder list → after folder list) where
+  way_stays : (front_count : ℕ) (lists : List (EntryList (Unit {0}))) (case : Case) (path : List ℕ) → AreOnTheWay before front_count lists case path → AreOnTheWay after front_count lists case path
   way_stays front_count lists case path way = record {
     entered = way.entered;
     further = way.further;
@@ -94,7 +94,7 @@ module _ (before after : Folder → IgnoreList → Type 0) (on : (folder : Folde
 
 -- ---- the question stays
 
-module _ {S T X : Type 0} (shows : S → Folder → IgnoreList → Type 0) (old new : TreeParts S T X) (keeps : KeepsTree shows old new) where
+module _ {S T X : Type 0} (shows : S → Folder → EntryList (Unit {0}) → Type 0) (old new : TreeParts S T X) (keeps : KeepsTree shows old new) where
   pub fronts_kept : take new.front_count (map (entry_list_of {V = Unit {0}} (λ _. tt)) new.lists) ≡ take old.front_count (map (entry_list_of {V = Unit {0}} (λ _. tt)) old.lists)
   fronts_kept =
       ap (λ n. take n (map (entry_list_of {V = Unit {0}} (λ _. tt)) new.lists)) keeps.front_count
@@ -102,17 +102,19 @@ module _ {S T X : Type 0} (shows : S → Folder → IgnoreList → Type 0) (old 
       ∙ (ap (map (entry_list_of {V = Unit {0}} (λ _. tt))) keeps.fronts
       ∙ sym (take-map (entry_list_of {V = Unit {0}} (λ _. tt)) old.front_count old.lists)))
 
-pub keeps_on : {S T X : Type 0} (shows : S → Folder → IgnoreList → Type 0) (first next last : TreeParts S T X) → KeepsTree shows first next → KeepsTree shows next last → KeepsTree shows first last
-keeps_on shows first next last a b = record {
-  front_count = b.front_count ∙ a.front_count;
-  case = b.case ∙ a.case;
-  fronts = subst (λ n. take n last.lists ≡ take n next.lists) a.front_count b.fronts ∙ a.fronts;
-  goes_on = λ folder list shown. b.goes_on folder list (a.goes_on folder list shown);
-}
+  abbrev asks : ℕ → List (EntryList (Unit {0})) → Case → (List ℕ → Option Bool) → Standpoint → IgnoreFlags → Question
+  asks count fronts case kind_of standpoint flags = record { leads = led standpoint; kind_of = kind_of; front_count = count; fronts = fronts; case = case; flags = flags }
+
+  pub question_kept : (standpoint : Standpoint) (flags : IgnoreFlags) (before after : List ℕ → Option Bool) → after ≡ before → question_of standpoint flags new after ≡ question_of standpoint flags old before
+  question_kept standpoint flags before after same =
+      ap (λ n. asks n (take new.front_count (map (entry_list_of {V = Unit {0}} (λ _. tt)) new.lists)) new.case after standpoint flags) keeps.front_count
+      ∙ (ap (λ fronts. asks old.front_count fronts new.case after standpoint flags) fronts_kept
+      ∙ (ap (λ case. asks old.front_count (take old.front_count (map (entry_list_of {V = Unit {0}} (λ _. tt)) old.lists)) case after standpoint flags) keeps.case
+      ∙ ap (λ kind_of. asks old.front_count (take old.front_count (map (entry_list_of {V = Unit {0}} (λ _. tt)) old.lists)) old.case kind_of standpoint flags) same))
 
 -- ---- what is found
 
-module _ {S T X : Type 0} (shows : S → Folder → IgnoreList → Type 0) (tree : TreeParts S T X) where
+module _ {S T X : Type 0} (shows : S → Folder → EntryList (Unit {0}) → Type 0) (tree : TreeParts S T X) where
   -- a mapping stands where a pattern decides
   pub found_there : (path : List ℕ) (known : Option Bool) (pair : Option (ℕ × ℕ)) → IsFound shows tree path known pair → IfSome pair (HasMappingAt tree.lists)
   found_there path known None found = tt
@@ -120,17 +122,23 @@ module _ {S T X : Type 0} (shows : S → Folder → IgnoreList → Type 0) (tree
       let s = stands_there tree.lists path tree.case is_dir pair found.decides in
       (s.list, s.mapping, s.stand)
 
-module _ {S T X : Type 0} (shows : S → Folder → IgnoreList → Type 0) (tree : TreeParts S T X) (standpoint : Standpoint) (flags : IgnoreFlags) (kind_of : List ℕ → Option Bool) (told : List ℕ) (pair : Option (ℕ × ℕ)) (line : Option Decision) where
-  asked : Question
-  asked = question_of standpoint flags tree kind_of
+  -- or none was found
+  finds_there : (leads : Option (List ℕ)) (known : List ℕ → Option Bool) (pair : Option (ℕ × ℕ)) (path : List ℕ)
+      → (¬ IsPlainPath path × (pair ≡ None)) ⊎ (IsPlainPath path × IsFound shows tree path (known path) pair) → IfSome pair (HasMappingAt tree.lists)
+  finds_there leads known pair path (inl (unplain, none)) = subst (λ (p : Option (ℕ × ℕ)). IfSome p (HasMappingAt tree.lists)) (sym none) tt
+  finds_there leads known pair path (inr (plain, found)) = found_there path (known path) pair found
 
+  pub told_there : (leads : Option (List ℕ)) (known : List ℕ → Option Bool) (pair : Option (ℕ × ℕ)) → FindsTold shows leads known tree pair → IfSome pair (HasMappingAt tree.lists)
+  told_there leads known pair finds = finds_there leads known pair finds.path finds.found
+
+module _ {S T X : Type 0} (shows : S → Folder → EntryList (Unit {0}) → Type 0) (tree : TreeParts S T X) (standpoint : Standpoint) (flags : IgnoreFlags) (kind_of : List ℕ → Option Bool) (told : List ℕ) (pair : Option (ℕ × ℕ)) (line : Option Decision) where
   nothing_there : pair ≡ None → IsLineAt (lists_of tree) pair line → line ≡ None
   nothing_there none there = subst (λ (p : Option (ℕ × ℕ)). IsLineAt (lists_of tree) p line) none there
 
   decided_here : (path : List ℕ) → IsLineAt (lists_of tree) pair line
       → (¬ IsPlainPath path × (pair ≡ None)) ⊎ (IsPlainPath path × IsFound shows tree path (told_kind (names_folder false (parts_of told)) (kind_of path)) pair)
       → (¬ IsPlainPath path × (line ≡ None)) ⊎ (IsPlainPath path × IsDeciding (question_of standpoint flags tree kind_of) (shows tree.source) path (if names_folder false (parts_of told) then Some true else kind_of path) line)
-  decided_here path there (inl (no, none)) = inl (no, nothing_there none there)
+  decided_here path there (inl (unplain, none)) = inl (unplain, nothing_there none there)
   decided_here path there (inr (plain, (is_dir, kind, found))) = inr (
     plain,
     record {
@@ -156,3 +164,13 @@ module _ {S T X : Type 0} (shows : S → Folder → IgnoreList → Type 0) (tree
   line_found question same =
       subst (λ (q : Question). FindsTold shows (q.leads told) (λ path. told_kind (names_folder false (parts_of told)) (q.kind_of path)) tree pair → IsLineAt (lists_of tree) pair line
       → IsLineFor q (shows tree.source) told line) same line_here
+
+  -- what is appended is an answer
+  pub answer_found : (question : Question) → question_of standpoint flags tree kind_of ≡ question
+      → FindsTold shows (question.leads told) (λ path. told_kind (names_folder false (parts_of told)) (question.kind_of path)) tree pair → IsLineAt (lists_of tree) pair line
+      → (old new : List ℕ) → new ≡ old ++ text_about flags told (counted flags.verbose line) → Adds (IsIgnoreAnswer question (shows tree.source) told) old new
+  answer_found question same finds there old new grown = record {
+    added = text_about flags told (counted flags.verbose line);
+    allowed = (line, line_found question same finds there, ap (λ (q : Question). text_about q.flags told (counted q.flags.verbose line)) same);
+    grown = grown;
+  }

@@ -1,7 +1,11 @@
 //! What answers each told path by the line that decides about it.
-ghost use Rattle.std.specs.Prelude.{◌≡◌, ◌++◌, false, IfErr, IfOk, IfSome, IsTrue, None, Option, Some, is_some, ◌&&◌, ◌||◌, not};
+ghost use Rattle.std.specs.Prelude.{◌≡◌, ◌++◌, false, IfErr, IfOk, IfSome, IsTrue, None, Option, Some, is_some, [], option_map};
 ghost use Rattle.std.specs.Io.{StartsWith};
 ghost use Rattle.std.specs.List.{list_any};
+ghost use Rattle.std.specs.Option.{unwrap_or};
+ghost use Rattle.std.specs.String.{string_bytes};
+ghost use Rattle.gix_glob.specs.Entries.{entry_of};
+ghost use Rattle.gix_glob.specs.EntryLists.{entry_list_of};
 ghost use Rattle.glob_lists.specs.Paths.{IsPlainPath};
 ghost use Rattle.glob_trees.specs.TreeParts.{HasMappingAt};
 ghost use Rattle.glob_trees.specs.Ways.{GoesOn};
@@ -10,7 +14,7 @@ ghost use Rattle.told_paths.specs.Quoting.{is_unusual};
 ghost use Rattle.tree_answers.specs.Lines.{Decision};
 ghost use Rattle.tree_answers.specs.Records.{LeadsAsTold};
 ghost use Rattle.tree_commands.specs.CheckIgnore.{IsLineAt, Refuses, counted, question_of, text_about};
-ghost use Rattle.tree_commands.specs.Private.Finding.{FindsTold, lists_of, told_kind};
+ghost use Rattle.tree_commands.specs.Private.Finding.{FindsTold, line_of, lists_of, told_kind};
 
 use crate::check_ignore::fault::IgnoreFault;
 use crate::check_ignore::finding::Finder;
@@ -18,6 +22,7 @@ use crate::check_ignore::flags::IgnoreFlags;
 use crate::check_ignore::kinds::PathKinds;
 use crate::check_ignore::running::IgnoreSources;
 use crate::check_ignore::unlinked::UnlinkedFolders;
+use gix_glob::search::pattern::{List, Mapping};
 use glob_lines::IgnoreLines;
 use glob_lists::plain_path;
 use glob_trees::FolderLists;
@@ -127,7 +132,7 @@ impl<
 
     /// Gives the sources back.
     pub(crate) fn into_sources(self) -> IgnoreSources<S, K>
-        ensures { result ≡ record { tree = self.finder.tree; kinds = self.finder.kinds } }
+        ensures { result ≡ record { tree = self.entry.finder.tree; kinds = self.entry.finder.kinds } }
     {
         IgnoreSources {
             tree: self.finder.tree,
@@ -223,17 +228,30 @@ impl<
         ensures { (line : Option Decision) × IsLineAt (lists_of self.now.finder.tree) pair line × (result ≡ counted self.now.flags.verbose line) }
     {
         let decision = self.finder.tree.decision(pair?)?;
-        if !self.flags.verbose && decision.mapping.pattern.is_negative() {
+        if !self.flags.counts(&decision.mapping.pattern) {
             return None;
         }
-        let source = match &decision.list.source {
-            Some(source) => source.as_bytes(),
-            None => b"",
-        };
-        Some(DecidingLine {
-            source,
-            number: decision.mapping.sequence_number,
-            pattern: &decision.mapping.pattern,
-        })
+        Some(line_of(decision.list, decision.mapping))
+    }
+}
+
+/// The line of a mapping of a list.
+fn line_of<'t>(list: &'t List<IgnoreLines>, mapping: &'t Mapping<()>) -> DecidingLine<'t>
+    ensures { result ≡ line_of (entry_list_of (λ _. tt) list.entry.now) (entry_of (λ _. tt) mapping.entry.now) }
+{
+    DecidingLine {
+        source: source_of(list),
+        number: mapping.sequence_number,
+        pattern: &mapping.pattern,
+    }
+}
+
+/// The name of a list's file; no bytes where it has none.
+fn source_of(list: &List<IgnoreLines>) -> &[u8]
+    ensures { result.now ≡ unwrap_or (option_map string_bytes list.entry.now.source) [] }
+{
+    match &list.source {
+        Some(source) => source.as_bytes(),
+        None => b"",
     }
 }

@@ -1,5 +1,6 @@
 //! What is written about paths.
 
+use gix_glob::Pattern;
 use tree_answers::Form;
 
 /// What is written about paths, and in which form.
@@ -17,6 +18,15 @@ pub struct IgnoreFlags {
 
 impl IgnoreFlags {
     ghost use Rattle.std.specs.Prelude.{◌≡◌, ◌&&◌, ◌||◌, not};
+    ghost use Rattle.gix_glob.specs.PatternParts.{mode_of};
+    ghost use Rattle.gix_glob.specs.Patterns.{is_negative};
+
+    /// Whether a line with this pattern counts.
+    pub(crate) fn counts(self, pattern: &Pattern) -> bool
+        ensures { result ≡ (self.verbose || not (is_negative (mode_of pattern.now))) }
+    {
+        self.verbose || !pattern.is_negative()
+    }
 
     /// Whether something is written about a path, where a line counts or none does.
     pub(crate) fn writes(self, is_counted: bool) -> bool

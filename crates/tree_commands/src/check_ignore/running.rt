@@ -3,15 +3,15 @@ ghost use Rattle.std.specs.Prelude.{◌≡◌, ◌⊎◌, ℕ, List, false, map,
 ghost use Rattle.std.specs.Io.KnownBytes.{Appends};
 ghost use Rattle.std.specs.List.{AllByRecursion};
 ghost use Rattle.gix_glob.specs.Watched.{has_failed, inner};
-ghost use Rattle.glob_lines.specs.Transfers.{AppendsFront, ReadsWhole, Run};
+ghost use Rattle.glob_lines.specs.Transfers.{AppendsFront};
 ghost use Rattle.record_streams.specs.Faults.{is_write_fault, told_refusal};
-ghost use Rattle.record_streams.specs.Records.{AnswersAll, TextOf};
+ghost use Rattle.record_streams.specs.Records.{TextOf};
 ghost use Rattle.told_paths.specs.Standpoints.{led};
 ghost use Rattle.tree_answers.specs.Lines.{behind};
 ghost use Rattle.tree_answers.specs.Records.{IsTextOf};
-ghost use Rattle.tree_commands.specs.Answering.{IsTextOfFirst, StopsAt, TellsFault, Writes};
+ghost use Rattle.tree_commands.specs.Answering.{EndsRun, IsTextOfFirst, StopsAt, TextOfNamed, TextOfPaths, Writes};
 ghost use Rattle.tree_commands.specs.declared.check_ignore.fault.IgnoreFault.TheVariants.{BadlyQuoted};
-ghost use Rattle.tree_commands.specs.CheckIgnore.{IgnoresNamed, IgnoresTold, IsIgnoreAnswer, Refuses, question_of};
+ghost use Rattle.tree_commands.specs.CheckIgnore.{IsIgnoreAnswer, IsStatus, Refuses, question_of};
 
 use crate::answering::{answer_paths, answer_records};
 use crate::check_ignore::asking::{AskedQuestion, IgnoreAsker};
@@ -70,15 +70,10 @@ pub fn run_check_ignore<
 )
     requires readable { has_failed records.old ≡ false }
     requires writable { has_failed writer.old ≡ false }
-    // On success, all of the input was read, and the text of all the paths that its records name was written.
-    ensures ok { IfOk result.1 (λ is_any.
-        Run (ReadsWhole (R.remaining (inner records.old)) (R.remaining (inner records.new)))
-        (AnswersAll (IgnoresNamed (question_of standpoint.now flags sources.tree (K.kind_of sources.kinds)) (S.shows (Unit {0}) result.0.tree.source) is_any) (behind flags.form 10))
-        (Appends (W.contents (inner writer.old)) (W.contents (inner writer.new)))) }
-    // After a fault that is none of the writer's, that of the first records was.
-    ensures faults { TellsFault (TextOf (IsTextOf (IsIgnoreAnswer (question_of standpoint.now flags sources.tree (K.kind_of sources.kinds)) (S.shows (Unit {0}) result.0.tree.source)) flags.form))
-        (behind flags.form 10) result.1 (R.remaining (inner records.old)) (R.remaining (inner records.new))
-        (W.contents (inner writer.old)) (W.contents (inner writer.new)) (has_failed records.new) (has_failed writer.new) }
+    ensures ends { EndsRun (λ is_any. TextOfNamed (IsIgnoreAnswer (question_of standpoint.now flags sources.tree (K.kind_of sources.kinds)) (S.shows (Unit {0}) result.0.tree.source)) (IsStatus (question_of standpoint.now flags sources.tree (K.kind_of sources.kinds)) (S.shows (Unit {0}) result.0.tree.source) is_any) flags.form)
+        (TextOf (IsTextOf (IsIgnoreAnswer (question_of standpoint.now flags sources.tree (K.kind_of sources.kinds)) (S.shows (Unit {0}) result.0.tree.source)) flags.form)) (behind flags.form 10) result.1
+        (R.remaining (inner records.old)) (R.remaining (inner records.new)) (W.contents (inner writer.old)) (W.contents (inner writer.new))
+        (has_failed records.new) (has_failed writer.new) }
     // What is told of a path that got no answer is so.
     ensures refused { AllByRecursion (λ fault. ((told : List ℕ) × Refuses (led standpoint.now) told fault) ⊎ (fault ≡ BadlyQuoted)) (told_refusal result.1) }
     ensures again { question_of standpoint.now flags result.0.tree (K.kind_of result.0.kinds) ≡ question_of standpoint.now flags sources.tree (K.kind_of sources.kinds) }
@@ -107,13 +102,10 @@ fn run_question<
     requires asked { question_of standpoint.now flags sources.tree (K.kind_of sources.kinds) ≡ Q.question }
     requires readable { has_failed records.old ≡ false }
     requires writable { has_failed writer.old ≡ false }
-    ensures ok { IfOk result.1 (λ is_any.
-        Run (ReadsWhole (R.remaining (inner records.old)) (R.remaining (inner records.new)))
-        (AnswersAll (IgnoresNamed Q.question (S.shows (Unit {0}) result.0.tree.source) is_any) (behind flags.form 10))
-        (Appends (W.contents (inner writer.old)) (W.contents (inner writer.new)))) }
-    ensures faults { TellsFault (TextOf (IsTextOf (IsIgnoreAnswer Q.question (S.shows (Unit {0}) result.0.tree.source)) flags.form))
-        (behind flags.form 10) result.1 (R.remaining (inner records.old)) (R.remaining (inner records.new))
-        (W.contents (inner writer.old)) (W.contents (inner writer.new)) (has_failed records.new) (has_failed writer.new) }
+    ensures ends { EndsRun (λ is_any. TextOfNamed (IsIgnoreAnswer Q.question (S.shows (Unit {0}) result.0.tree.source)) (IsStatus Q.question (S.shows (Unit {0}) result.0.tree.source) is_any) flags.form)
+        (TextOf (IsTextOf (IsIgnoreAnswer Q.question (S.shows (Unit {0}) result.0.tree.source)) flags.form)) (behind flags.form 10) result.1
+        (R.remaining (inner records.old)) (R.remaining (inner records.new)) (W.contents (inner writer.old)) (W.contents (inner writer.new))
+        (has_failed records.new) (has_failed writer.new) }
     ensures refused { AllByRecursion (λ fault. ((told : List ℕ) × Refuses (led standpoint.now) told fault) ⊎ (fault ≡ BadlyQuoted)) (told_refusal result.1) }
     ensures again { question_of standpoint.now flags result.0.tree (K.kind_of result.0.kinds) ≡ Q.question }
 {
@@ -146,15 +138,16 @@ pub fn check_ignore_paths<
 )
     requires { has_failed writer.old ≡ false }
     ensures ok { IfOk result.1 (λ is_any.
-        Writes (IgnoresTold (question_of standpoint.now flags sources.tree (K.kind_of sources.kinds)) (S.shows (Unit {0}) result.0.tree.source) is_any (map (λ path. path.now) paths.now))
+        Writes (TextOfPaths (IsIgnoreAnswer (question_of standpoint.now flags sources.tree (K.kind_of sources.kinds)) (S.shows (Unit {0}) result.0.tree.source)) (IsStatus (question_of standpoint.now flags sources.tree (K.kind_of sources.kinds)) (S.shows (Unit {0}) result.0.tree.source) is_any) (map (λ path. path.now) paths.now))
         (Appends (W.contents (inner writer.old)) (W.contents (inner writer.new)))) }
     // After the fault of a path, nothing was written.
     ensures refused { AllByRecursion
-        (StopsAt (TextOf (IsIgnoreAnswer (question_of standpoint.now flags sources.tree (K.kind_of sources.kinds)) (S.shows (Unit {0}) result.0.tree.source))) (Refuses (led standpoint.now)) (map (λ path. path.now) paths.now) false
+        (StopsAt (IsIgnoreAnswer (question_of standpoint.now flags sources.tree (K.kind_of sources.kinds)) (S.shows (Unit {0}) result.0.tree.source)) (Refuses (led standpoint.now)) (map (λ path. path.now) paths.now) false
         (W.contents (inner writer.old)) (W.contents (inner writer.new)))
         (told_refusal result.1) }
+    // After one of the writer's, a beginning of the text was.
     ensures cut { OnErr result.1
-        (Writes (IsTextOfFirst (TextOf (IsIgnoreAnswer (question_of standpoint.now flags sources.tree (K.kind_of sources.kinds)) (S.shows (Unit {0}) result.0.tree.source))) (map (λ path. path.now) paths.now))
+        (Writes (IsTextOfFirst (IsIgnoreAnswer (question_of standpoint.now flags sources.tree (K.kind_of sources.kinds)) (S.shows (Unit {0}) result.0.tree.source)) (map (λ path. path.now) paths.now))
         (AppendsFront (W.contents (inner writer.old)) (W.contents (inner writer.new)))) }
     ensures write { is_write_fault result.1 ≡ has_failed writer.new }
     ensures again { question_of standpoint.now flags result.0.tree (K.kind_of result.0.kinds) ≡ question_of standpoint.now flags sources.tree (K.kind_of sources.kinds) }
@@ -182,14 +175,16 @@ fn check_paths<
     requires asked { question_of standpoint.now flags sources.tree (K.kind_of sources.kinds) ≡ Q.question }
     requires writable { has_failed writer.old ≡ false }
     ensures ok { IfOk result.1 (λ is_any.
-        Writes (IgnoresTold Q.question (S.shows (Unit {0}) result.0.tree.source) is_any (map (λ path. path.now) paths.now))
+        Writes (TextOfPaths (IsIgnoreAnswer Q.question (S.shows (Unit {0}) result.0.tree.source)) (IsStatus Q.question (S.shows (Unit {0}) result.0.tree.source) is_any) (map (λ path. path.now) paths.now))
         (Appends (W.contents (inner writer.old)) (W.contents (inner writer.new)))) }
+    // After the fault of a path, nothing was written.
     ensures refused { AllByRecursion
-        (StopsAt (TextOf (IsIgnoreAnswer Q.question (S.shows (Unit {0}) result.0.tree.source))) (Refuses (led standpoint.now)) (map (λ path. path.now) paths.now) false
+        (StopsAt (IsIgnoreAnswer Q.question (S.shows (Unit {0}) result.0.tree.source)) (Refuses (led standpoint.now)) (map (λ path. path.now) paths.now) false
         (W.contents (inner writer.old)) (W.contents (inner writer.new)))
         (told_refusal result.1) }
+    // After one of the writer's, a beginning of the text was.
     ensures cut { OnErr result.1
-        (Writes (IsTextOfFirst (TextOf (IsIgnoreAnswer Q.question (S.shows (Unit {0}) result.0.tree.source))) (map (λ path. path.now) paths.now))
+        (Writes (IsTextOfFirst (IsIgnoreAnswer Q.question (S.shows (Unit {0}) result.0.tree.source)) (map (λ path. path.now) paths.now))
         (AppendsFront (W.contents (inner writer.old)) (W.contents (inner writer.new)))) }
     ensures write { is_write_fault result.1 ≡ has_failed writer.new }
     ensures again { question_of standpoint.now flags result.0.tree (K.kind_of result.0.kinds) ≡ Q.question }
@@ -200,9 +195,9 @@ fn check_paths<
     (asker.into_sources(), outcome)
 }
 
-/// How a run ended that counted a line, or none.
+/// How a run ended in which a line counted, or none.
 fn outcome_of<F>(told: Result<(), F>, is_any: bool) -> Result<bool, F>
-    ensures { MatchResult told (result ≡ Ok is_any) (λ fault. result ≡ Err fault) }
+    ensures { MatchResult told (λ _. result ≡ Ok is_any) (λ fault. result ≡ Err fault) }
 {
     match told {
         Ok(()) => Ok(is_any),

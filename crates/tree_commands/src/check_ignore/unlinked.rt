@@ -3,8 +3,9 @@ ghost use Rattle.std.specs.Prelude.{◌≡◌, IfErr};
 ghost use Rattle.tree_commands.specs.Private.Faults.{IsOfSources};
 
 use crate::check_ignore::fault::IgnoreFault;
-use crate::check_ignore::kinds::PathKinds;
+use crate::check_ignore::kinds::{PathKinds, check_folder};
 use glob_trees::KnownFolders;
+use memchr::memrchr;
 use std::alloc::{AllocError, Global};
 
 /// About how many bytes are kept of folders.
@@ -38,11 +39,37 @@ impl UnlinkedFolders {
         !folder.is_empty() && folder == self.last.as_slice()
     }
 
+    /// Refuses a path of which a folder is a link. Its first `entered` bytes name one that isn't.
+    ///
+    /// # Errors
+    /// Where it is, where that can't be told, and where memory was refused.
+    pub(crate) fn check_path<K: PathKinds>(
+        &mut self,
+        kinds: &mut K,
+        path: &[u8],
+        is_told_folder: bool,
+        entered: usize,
+    ) -> Result<(), IgnoreFault<K::Fault>>
+        ensures kept { K.kind_of kinds.new ≡ K.kind_of kinds.old }
+        ensures faults { IfErr result IsOfSources }
+    {
+        if is_told_folder && entered < path.len() {
+            check_folder(kinds, path)?;
+        }
+        let Some(last) = memrchr(b'/', path) else {
+            return Ok(());
+        };
+        if last < entered {
+            return Ok(());
+        }
+        self.check(kinds, &path[..last + 1], entered)
+    }
+
     /// Refuses a folder, told with a slash at its end, that is a link or lies below one. Its first `entered` bytes name one that isn't.
     ///
     /// # Errors
     /// Where it is, where that can't be told, and where memory was refused.
-    pub(crate) fn check<K: PathKinds>(
+    fn check<K: PathKinds>(
         &mut self,
         kinds: &mut K,
         folder: &[u8],
@@ -102,19 +129,5 @@ impl UnlinkedFolders {
             .bytes
             .saturating_add(name.len().saturating_add(KnownFolders::FOLDER_BYTES));
         self.known.add(outer, name)
-    }
-}
-
-/// Refuses a folder that is a link. It answers whether a folder stands there.
-pub(crate) fn check_folder<K: PathKinds>(
-    kinds: &mut K,
-    folder: &[u8],
-) -> Result<bool, IgnoreFault<K::Fault>>
-    ensures kept { K.kind_of kinds.new ≡ K.kind_of kinds.old }
-    ensures faults { IfErr result IsOfSources }
-{
-    match kinds.check_folder(folder) {
-        Ok(is_folder) => Ok(is_folder),
-        Err(fault) => Err(IgnoreFault::Source(fault)),
     }
 }
