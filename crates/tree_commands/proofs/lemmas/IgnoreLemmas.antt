@@ -1,7 +1,8 @@
 -- The line that decides about a told path, and what is kept account of, as what the source shows grows.
-use Rattle.std.proofs.Common.{◌≡◌, ◌⊎◌, inl, inr, ℕ, Bool, true, false, ◌||◌, List, [], ◌∷◌, ◌++◌, map, take, Option, None, Some, IfSome, Result, Ok, Err, refl, sym, ap, subst, ◌∙◌, if◌then◌else◌, append-nil}
+use Rattle.std.proofs.Common.{◌≡◌, ◌⊎◌, inl, inr, ℕ, Bool, true, false, ◌||◌, List, [], ◌∷◌, ◌++◌, map, take, Option, None, Some, IfSome, Result, Ok, Err, IsErr, refl, sym, ap, subst, ◌∙◌, if◌then◌else◌, append-nil}
 use Rattle.std.specs.Prelude.{is_some, slice_get}
 use Rattle.std.specs.List.{AllZip, list_any}
+use Rattle.std.proofs.lemmas.Bool.{false≢true}
 use Rattle.std.proofs.lemmas.List.{take-map}
 use Rattle.std.proofs.lemmas.List.Folds.{list_any-append}
 use Rattle.gix_glob.specs.declared.pattern.Case.{Case}
@@ -10,13 +11,18 @@ use Rattle.gix_glob.specs.EntryLists.{EntryList, entry_list_of}
 use Rattle.glob_lists.specs.Paths.{IsPlainPath}
 use Rattle.glob_trees.specs.TreeParts.{HasMappingAt, TreeParts}
 use Rattle.glob_trees.specs.Ways.{AreOnTheWay, Folder, GoesOn, IsListOf}
-use Rattle.record_streams.specs.Records.{Adds, GrowsBy, StaysAllowed}
+use Rattle.record_streams.specs.Records.{Adds, GrowsBy, StaysAllowed, answered_by}
 use Rattle.told_paths.specs.declared.standpoint.Standpoint.{Standpoint}
 use Rattle.told_paths.specs.Paths.{names_folder, parts_of}
 use Rattle.told_paths.specs.Standpoints.{led}
 use Rattle.tree_answers.specs.Lines.{Decision}
 use Rattle.tree_commands.specs.declared.check_ignore.flags.IgnoreFlags.{IgnoreFlags}
-use Rattle.tree_commands.specs.CheckIgnore.{IsDeciding, IsIgnoreAnswer, IsLineAt, IsLineFor, IsStatus, Question, counted, question_of, text_about}
+use Rattle.tree_answers.specs.declared.records.NameFault.TheVariants as name
+use Rattle.tree_answers.specs.Records.{IsRefusal}
+use Rattle.tree_commands.specs.declared.check_ignore.fault.IgnoreFault.{IgnoreFault}
+use Rattle.tree_commands.specs.declared.check_ignore.fault.IgnoreFault.TheVariants.{BadlyQuoted}
+use Rattle.tree_commands.specs.Private.Faults.{IsOfName}
+use Rattle.tree_commands.specs.CheckIgnore.{IsDeciding, IsIgnoreAnswer, IsLineAt, IsLineFor, IsStatus, Question, Refuses, counted, question_of, text_about}
 use Rattle.tree_commands.specs.Private.Finding.{FindsTold, IsFound, KeepsTree, lists_of, told_kind}
 use Rattle.tree_answers.proofs.lemmas.RecordLemmas.{AllZip-append}
 use Rattle.tree_commands.proofs.lemmas.AnswerLemmas.{AllZip-weaker}
@@ -89,8 +95,13 @@ module _ (before after : Folder → EntryList (Unit {0}) → Type 0) (on : (fold
         )
 
     -- nothing was
-    pub status_kept : (is_any : Bool) → GrowsBy (IsStatus question before is_any) (IsStatus question after is_any) []
+    status_kept : (is_any : Bool) → GrowsBy (IsStatus question before is_any) (IsStatus question after is_any) []
     status_kept is_any paths held = subst (IsStatus question after is_any) (sym (append-nil paths)) (status_stays is_any paths held)
+
+    -- a path got no answer
+    pub status_failed : {T E : Type 0} (result : Result T E) (was_any is_any : Bool) (told : List ℕ) → IsErr result → is_any ≡ was_any → GrowsBy (IsStatus question before was_any) (IsStatus question after is_any) (answered_by result told)
+    status_failed (Ok x) was_any is_any told failed same = absurd (false≢true failed)
+    status_failed (Err fault) was_any is_any told failed same = subst (λ (b : Bool). GrowsBy (IsStatus question before was_any) (IsStatus question after b) []) (sym same) (status_kept was_any)
 
 -- ---- the question stays
 
@@ -174,3 +185,11 @@ module _ {S T X : Type 0} (shows : S → Folder → EntryList (Unit {0}) → Typ
     allowed = (line, line_found question same finds there, ap (λ (q : Question). text_about q.flags told (counted q.flags.verbose line)) same);
     grown = grown;
   }
+
+-- ---- faults
+
+-- a fault of a run is that of a path, or that a record names none
+pub refusal_told : {F : Type 0} (leads : List ℕ → Option (List ℕ)) (fault : IgnoreFault F) → IsRefusal (Refuses leads) IsOfName fault → ((told : List ℕ) × Refuses leads told fault) ⊎ (fault ≡ BadlyQuoted)
+refusal_told leads fault (inl told) = inl told
+refusal_told leads fault (inr (name.Memory, same)) = inl ([], subst (Refuses leads []) (sym same) tt)
+refusal_told leads fault (inr (name.BadlyQuoted, same)) = inr same

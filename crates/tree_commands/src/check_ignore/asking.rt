@@ -85,7 +85,7 @@ impl<
     ) -> Result<(), IgnoreFault<S::Fault>> {
         let pair = self.find(told, is_usual)?;
         let is_counted = self.append(text, told, is_usual, pair)?;
-        self.is_any = self.is_any || is_counted;
+        self.is_any |= is_counted;
         Ok(())
     }
 }
