@@ -8,8 +8,8 @@ use crate::subjects::{
     TreeSubject,
 };
 use crate::{
-    attempts, attribute_files, attribute_states, bases, config_files, config_includes, ignore_runs, index_files,
-    lines, lists, matching, patterns, repositories, streams, trees,
+    attempts, attribute_files, attribute_states, bases, config_files, config_includes, ignore_runs,
+    index_files, lines, lists, matching, patterns, repositories, streams, trees,
 };
 use std::alloc::Global;
 

@@ -1,5 +1,5 @@
 //! Answering told paths: those of the words, or those that are read.
-ghost use Rattle.std.specs.Prelude.{◌≡◌, false};
+ghost use Rattle.std.specs.Prelude.{◌≡◌, [], false};
 ghost use Rattle.gix_glob.specs.Watched.{has_failed};
 
 use crate::check_ignore::bytes_of;
@@ -19,7 +19,8 @@ pub(crate) fn answer_paths<A: PathAnswerer<Fault = CheckFault>, O: Write>(
     keeps_answers: bool,
     output: &mut Watched<O>,
 ) -> Result<()>
-    requires { has_failed output.old ≡ false }
+    requires first { A.answered answerer [] }
+    requires writable { has_failed output.old ≡ false }
 {
     let paths = bytes_of(alloc, paths)?;
     tree_commands::answer_paths(alloc, answerer, &paths, keeps_answers, output).1?;
@@ -34,6 +35,7 @@ pub(crate) fn answer_records<A: PathAnswerer<Fault = CheckFault>, I: Read, O: Wr
     input: &mut Watched<I>,
     output: &mut Watched<O>,
 ) -> Result<()>
+    requires first { A.answered answerer [] }
     requires readable { has_failed input.old ≡ false }
     requires writable { has_failed output.old ≡ false }
 {

@@ -31,7 +31,7 @@ impl<'a, R: Files + Eprint> PathAnswerer for AttributeAsker<'a, R> {
 
     ghost answers = { λ _ _ _. Unit {0} };
 
-    ghost answered = { λ _ _. ⊥ };
+    ghost answered = { λ _ _. Unit {0} };
 
     ghost refuses = { λ _ _. Unit {0} };
 

@@ -30,8 +30,8 @@ pub trait PathAnswerer: Drop {
     // Whether a text may be written for a told path: the path comes first, then the text.
     ghost answers: { Self → List ℕ → List ℕ → Type 0 };
 
-    // Whether these are the told paths that were answered so far, in order. An answerer that keeps no account may say so of no list:
-    // `λ _ _. ⊥`.
+    // Whether these are the told paths that were answered so far, in order. An answerer that keeps no account may say so of each list:
+    // `λ _ _. Unit {0}`.
     ghost answered: { Self → List (List ℕ) → Type 0 };
 
     // Whether a told path may get this fault.

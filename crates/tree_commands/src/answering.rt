@@ -6,9 +6,10 @@ ghost use Rattle.gix_glob.specs.Watched.{has_failed, inner};
 ghost use Rattle.glob_lines.specs.Transfers.{AppendsFront};
 ghost use Rattle.record_streams.specs.Faults.{is_write_fault, told_refusal};
 ghost use Rattle.record_streams.specs.Records.{Adds, TextOf, TextOfAnswered};
+ghost use Rattle.record_streams.specs.Runs.{EndsRun};
 ghost use Rattle.tree_answers.specs.Lines.{behind};
 ghost use Rattle.tree_answers.specs.Records.{IsRefusal, IsTextOf};
-ghost use Rattle.tree_commands.specs.Answering.{EndsRun, IsTextOfFirst, StopsAt, TextOfNamed, TextOfPaths, Writes};
+ghost use Rattle.tree_commands.specs.Answering.{IsTextOfFirst, StopsAt, TextOfNamed, TextOfPaths, Writes};
 ghost use Rattle.tree_commands.specs.Private.Answering.{FailsAt};
 
 use gix_glob::search::Watched;

@@ -10,12 +10,13 @@ use Rattle.record_streams.specs.declared.fault.RecordFault.{RecordFault}
 use Rattle.record_streams.specs.declared.fault.RecordFault.TheVariants.{Answer, Endless, Memory, Read, Write}
 use Rattle.record_streams.specs.Faults.{is_endless, is_read_fault, is_write_fault, told_refusal}
 use Rattle.record_streams.specs.Records.{Adds, AnswersAll, AnswersEnded, AnswersFirst, AnswersSome, GrowsBy, TextOf, TextOfAnswered}
+use Rattle.record_streams.specs.Runs.{EndsRun}
 use Rattle.record_streams.proofs.lemmas.RecordLemmas.{Weakens}
 use Rattle.record_streams.proofs.lemmas.StreamLemmas.{AppendsFront-whole}
 use Rattle.record_streams.proofs.lemmas.RunLemmas.{Run-all_weaker, Run-ended_weaker, Run-first_weaker, Run-some_weaker}
 use Rattle.tree_answers.specs.declared.form.Form.{Form}
 use Rattle.tree_answers.specs.Records.{AccountsFor, IsTextOf}
-use Rattle.tree_commands.specs.Answering.{EndsRun, IsTextOfFirst, StopsAt, TextOfNamed, TextOfPaths, Writes}
+use Rattle.tree_commands.specs.Answering.{IsTextOfFirst, StopsAt, TextOfNamed, TextOfPaths, Writes}
 use Rattle.tree_commands.specs.Private.Answering.{FailsAt}
 
 -- ---- the text of paths that records name
