@@ -116,19 +116,27 @@ pub(crate) fn trees_asked(
     answer: &mut Answer,
 ) -> Result<(), RowFault> {
     let source = Table::new(alloc, question.rest(1));
-    let fronts = Vec::new(alloc);
-    let mut tree = Tree::new(alloc, source, fronts, Case::Sensitive).ok_or(RowFault::Call(
-        "Tree::new",
-    ))?;
+    let tree = Tree::new(alloc, source, Vec::new(alloc), Case::Sensitive);
+    let mut tree = tree.ok_or(RowFault::Call("Tree::new"))?;
+    let decisions = decisions_of(alloc, &mut tree, question.bytes(0)?)?;
+    answer.push(&decisions)?;
+    Ok(answer.push(&tree.source().asked)?)
+}
+
+/// What decides about each of the paths, which stand in lines.
+fn decisions_of(
+    alloc: Global,
+    tree: &mut Tree<IgnoreLines, Table<'_>>,
+    paths: &[u8],
+) -> Result<Vec<u8>, RowFault> {
     let mut text = Vec::new(alloc);
-    for line in question.bytes(0)?.split(|byte| *byte == b'\n') {
+    for path in paths.split(|byte| *byte == b'\n') {
         if !text.is_empty() {
             text.push(b' ')?;
         }
-        push_decision(alloc, &mut tree, line, &mut text)?;
+        push_decision(alloc, tree, path, &mut text)?;
     }
-    answer.push(&text)?;
-    Ok(answer.push(&tree.source().asked)?)
+    Ok(text)
 }
 
 /// Adds what decides about a path: the base of the list and the number of the line, or a dash.
