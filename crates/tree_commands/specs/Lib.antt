@@ -1,0 +1,4 @@
+pub mod Files
+pub mod FileTrees
+pub mod Ignoring
+pub mod Private
