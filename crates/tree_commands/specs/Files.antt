@@ -1,15 +1,15 @@
 -- Which files of a tree are listed, and in which order. A folder's path ends in a slash here, but for the top, which has no bytes.
-use Rattle.std.specs.Prelude.{◌≡◌, ◌≢◌, ◌⊎◌, ℕ, Bool, true, false, IsTrue, nat_eq, if◌then◌else◌, List, [], ◌∷◌, ◌++◌, map, Some, codes}
+use Rattle.std.specs.Prelude.{◌≡◌, ◌≢◌, ◌⊎◌, ℕ, Bool, true, false, IsTrue, if◌then◌else◌, List, [], ◌∷◌, ◌++◌, map, Some, codes}
 use Rattle.std.specs.Char.{to_ascii_lowercase}
 use Rattle.std.specs.Cmp.Lexicographic.{slice_cmp}
-use Rattle.std.specs.List.{Contains, ends_with}
+use Rattle.std.specs.List.{Contains}
 use Rattle.std.specs.Ordering.{nat_cmp}
 use Rattle.std.specs.declared.cmp.Ordering.TheVariants.{Less}
 use Rattle.std.specs.Str.{bytes_eq}
 use Rattle.gix_glob.specs.declared.pattern.Case.{Case}
 use Rattle.gix_glob.specs.declared.pattern.Case.TheVariants.{Sensitive, Fold}
 use Rattle.gix_glob.specs.declared.search.pattern.list.List as patterns
-use Rattle.gix_glob.specs.Bytes.{slash}
+use Rattle.gix_glob.specs.Bytes.{EndsInSlash, slash}
 use Rattle.gix_glob.specs.EntryLists.{EntryList, entry_list_of}
 use Rattle.glob_lines.specs.Lines.{HasNo}
 use Rattle.glob_lists.specs.Paths.{IsPlainPath}
@@ -81,6 +81,7 @@ pub record LetsPass (rules : Rules) (tree : FileTree) (folder : Folder) : Type 0
 -- a listing that is to begin at a path below the top begins at `start`; a folder has to stand there if the path is told as a folder's
 pub record BeginsBelow (rules : Rules) (tree : FileTree) (path : List ℕ) (is_told : Bool) (start : List ℕ) : Type 0 where
   pub plain : IsPlainPath path
+  pub whole : ¬ EndsInSlash path
   pub above : (folder : Folder) → IsAbove folder path → LetsPass rules tree folder
   pub other : (name : List ℕ) → IsLastName path name → is_git rules.case name ≡ false
   pub here : IsFound (lists_to rules tree path) rules.case tree path start
@@ -99,7 +100,7 @@ pub record IsReached (standpoint : Standpoint) (rules : Rules) (tree : FileTree)
 
 -- the path of a file or a link, or of a folder that is a repository of its own
 abbrev pub IsLeaf : FileTree → List ℕ → Type 0
-IsLeaf tree path = (path ≢ []) × ((ends_with nat_eq path (codes "/") ≡ false) ⊎ ((folder : Folder) × (path ≡ start_of folder) × (tree.has_git folder ≡ true)))
+IsLeaf tree path = (path ≢ []) × ((¬ EndsInSlash path) ⊎ ((folder : Folder) × (path ≡ start_of folder) × (tree.has_git folder ≡ true)))
 
 -- a path comes before another one, by its bytes
 abbrev pub ComesBefore : List ℕ → List ℕ → Type 0

@@ -1,5 +1,5 @@
 //! The command `files`: which files of a work tree aren't ignored, in order of their paths.
-ghost use Rattle.std.specs.Prelude.{◌≡◌, ◌↔◌, ◌++◌, ℕ, List, [], Some, None, false, AllPairs, IfOk, IsErrOf, OnErr, OnOk, map};
+ghost use Rattle.std.specs.Prelude.{◌≡◌, ◌↔◌, ℕ, List, [], Some, None, false, AllPairs, IfErr, IfOk, IsErrOf, OnErr, OnOk, is_ok, map};
 ghost use Rattle.std.specs.Io.KnownBytes.{Appends};
 ghost use Rattle.std.specs.List.{Contains, flat_map};
 ghost use Rattle.gix_glob.specs.EntryLists.{entry_list_of};
@@ -11,7 +11,10 @@ ghost use Rattle.told_paths.specs.Paths.{names_folder, parts_of};
 ghost use Rattle.told_paths.specs.Standpoints.{led};
 ghost use Rattle.tree_commands.specs.declared.files.fault.FilesFault.TheVariants as faults;
 ghost use Rattle.tree_commands.specs.FileTrees.{FileTree, StaysKnown};
-ghost use Rattle.tree_commands.specs.Files.{ComesBefore, IsLeaf, IsReached, path_line, rules_of};
+ghost use Rattle.tree_commands.specs.Files.{ComesBefore, IsLeaf, IsMet, IsReached, path_line, rules_of};
+ghost use Rattle.tree_commands.specs.Private.Faults.{is_of_start};
+ghost use Rattle.tree_commands.specs.Private.Listing.{seen_lists};
+ghost use Rattle.tree_commands.specs.Private.UnderWay.{IsUnderWay, OfKnown, WritesAll, WritesFront, beginning_of};
 
 mod entries;
 pub mod fault;
@@ -35,6 +38,7 @@ use gix_glob::search::Watched;
 use glob_lines::IgnoreLines;
 use glob_lists::PreparedList;
 use std::alloc::Global;
+use std::io;
 use std::io::Write;
 use told_paths::{LeadFault, Standpoint};
 use tree_answers::Form;
@@ -126,15 +130,37 @@ fn write_listed<S: FileSource, W: Write>(
     lines: &mut PathLines,
     source: &mut S,
     writer: &mut Watched<W>,
-) -> Result<(), FilesFault<S::Fault>> {
+) -> Result<(), FilesFault<S::Fault>>
+    requires folders { BasesAreFolders (seen_lists lister.old.on_way.lists.items) }
+    requires under_way { IsUnderWay lister.old.on_way.case [] lister.old.pending.items (seen_lists lister.old.on_way.lists.items) }
+    requires none { lines.old.text.items ≡ [] }
+    ensures ok { OnOk result (WritesAll (path_line lines.old.standpoint lines.old.form) (S.shows source.old) lister.old.on_way.case (beginning_of lister.old) (W.contents (inner writer.old)) (W.contents (inner writer.new))) }
+    ensures front { OnErr result (has_failed writer.new ≡ false →
+        WritesFront (path_line lines.old.standpoint lines.old.form) (S.shows source.old) lister.old.on_way.case (beginning_of lister.old) (W.contents (inner writer.old)) (W.contents (inner writer.new))) }
+    ensures asks { GivesOnly (λ folder. OfKnown (S.shows source.old) lister.old.on_way.case (beginning_of lister.old)
+        (λ rules tree start. IsMet rules tree start (start_of folder))) (S.asked source.old) (S.asked source.new) }
+    ensures stays { StaysKnown S.shows source.old source.new }
+    ensures begun { IfErr result (λ fault. is_of_start fault ≡ false) }
+{
     'paths: for _ in 0..u64::MAX {
         let Some(next) = lister.pending.pop() else {
-            return lines.write_rest(writer).map_err(FilesFault::Write);
+            return as_written(lines.write_rest(writer));
         };
         if let Some(path) = lister.visit(source, next)? {
             lines.append(&path)?;
-            lines.write_much(writer).map_err(FilesFault::Write)?;
+            as_written(lines.write_much(writer))?;
         }
     }
     Err(FilesFault::Endless)
+}
+
+/// The fault of a write that failed.
+fn as_written<F: Drop>(written: io::Result<()>) -> Result<(), FilesFault<F>>
+    ensures ok { is_ok result ≡ is_ok written }
+    ensures begun { IfErr result (λ fault. is_of_start fault ≡ false) }
+{
+    match written {
+        Ok(()) => Ok(()),
+        Err(error) => Err(FilesFault::Write(error)),
+    }
 }

@@ -13,33 +13,9 @@ use Rattle.gix_glob.specs.Entries.{Entry}
 use Rattle.gix_glob.specs.EntryLists.{EntryList, entry_list_of}
 use Rattle.gix_glob.specs.Patterns.{is_for_directories, is_negative}
 use Rattle.glob_lists.specs.Deciding.{BasesAreFolders, Decides, HasFolder, IsEntryAt, PairAnswers}
-use Rattle.glob_trees.specs.Ways.{base_of_folder}
 use Rattle.glob_lists.proofs.lemmas.Deciding.DecidesOnce.{decides_once}
-use Rattle.globtree.specs.Ignoring.{IsDecidedBy, IsIgnored}
-
--- ---- lists with bases of folders
-
-none_is_some : {L : Type 0} (list : L) → ¬ (None ≡ Some list)
-none_is_some list is = absurd (cc)
-
--- the base of a folder's list is a folder
-of_folder : {V : Type 0} (list : EntryList V) (folder : List ℕ) → list.base ≡ base_of_folder folder → HasFolder list
-of_folder list [] of = λ base is. absurd (none_is_some base (sym of ∙ is))
-of_folder list (x ∷ xs) of = λ base is. inr (record { front = x ∷ xs; joined = same_Some base ((x ∷ xs) ++ slash ∷ []) (sym is ∙ of) })
-
-module _ {T X V : Type 0} (seen : X → V) (old new : List (patterns.List T X)) (folders : BasesAreFolders (map (entry_list_of seen) old)) where
-  -- the first of the lists
-  pub folders_taken : (n : ℕ) → new ≡ take n old → BasesAreFolders (map (entry_list_of seen) new)
-  folders_taken n is =
-      subst (λ (ls : List (patterns.List T X)). BasesAreFolders (map (entry_list_of seen) ls)) (sym is)
-      (subst BasesAreFolders (take-map (entry_list_of seen) n old) (All-take HasFolder n (map (entry_list_of seen) old) folders))
-
-  -- the list of a folder more
-  pub folders_pushed : (list : patterns.List T X) (folder : List ℕ) → new ≡ old ++ list ∷ [] → option_map vec_items list.base ≡ base_of_folder folder → BasesAreFolders (map (entry_list_of seen) new)
-  folders_pushed list folder is of =
-      subst (λ (ls : List (patterns.List T X)). BasesAreFolders (map (entry_list_of seen) ls)) (sym is)
-      (subst BasesAreFolders (sym (map-append (entry_list_of seen) old (list ∷ [])))
-      (All-push HasFolder (map (entry_list_of seen) old) (entry_list_of seen list) folders (of_folder (entry_list_of seen list) folder of)))
+use Rattle.tree_commands.specs.Ignoring.{IsIgnored}
+use Rattle.tree_commands.specs.Private.Ignoring.{IsDecidedBy}
 
 -- ---- what decides
 
@@ -112,16 +88,26 @@ module _ {V : Type 0} (lists : List (EntryList V)) (case : Case) (path : List �
       same_Some it.pair that.pair (decides_once lists path is_dir case (Some it.pair) (Some that.pair) it.decides that.decides) in
       one_entry lists that.pair entry other (subst (λ (pair : ℕ × ℕ). IsEntryAt lists pair entry) same it.there) that.there
 
+  -- an entry that decides, and isn't negative, ignores the path; and no other way is there to be ignored
+  ignored_by : (is_dir : Bool) (entry : Entry V) → IsDecidedBy lists case path is_dir entry → is_negative entry.mode ≡ false → IsIgnored lists case path is_dir
+  ignored_by is_dir entry it positive = (it.pair, it.decides, record { list = it.there.list; of_lists = it.there.of_lists; entry = entry; of_list = it.there.of_list; positive = positive })
+
+  ignoring_entry : (is_dir : Bool) → IsIgnored lists case path is_dir → (entry : Entry V) × IsDecidedBy lists case path is_dir entry × (is_negative entry.mode ≡ false)
+  ignoring_entry is_dir it =
+      let at = it.2 in
+      (at.entry, record { pair = it.0; decides = it.1; there = record { list = at.list; of_lists = at.of_lists; of_list = at.of_list } }, at.positive)
+
   pub none_ignores : (is_dir : Bool) → Decides lists path is_dir case None → ¬ IsIgnored lists case path is_dir
   none_ignores is_dir none it =
-      let answers = it.1.decides.answers in none it.1.pair.0 it.1.pair.1 answers
+      let answers = it.1.answers in none it.0.0 it.0.1 answers
 
   pub none_ignores_whatever : Decides lists path true case None → (is_dir : Bool) → ¬ IsIgnored lists case path is_dir
   none_ignores_whatever none is_dir it =
-      let answers = it.1.decides.answers in none it.1.pair.0 it.1.pair.1 (answers_as_folder is_dir _ _ answers)
+      let answers = it.1.answers in none it.0.0 it.0.1 (answers_as_folder is_dir _ _ answers)
 
   pub negative_keeps : (is_dir : Bool) (entry : Entry V) → IsDecidedBy lists case path is_dir entry → is_negative entry.mode ≡ true → ¬ IsIgnored lists case path is_dir
-  negative_keeps is_dir entry it negative that =
+  negative_keeps is_dir entry it negative ignored =
+      let that = ignoring_entry is_dir ignored in
       let same : that.0 ≡ entry = one_decides is_dir that.0 entry that.1 it in
       false≢true (sym that.2 ∙ ap (λ (e : Entry V). is_negative e.mode) same ∙ negative)
 
@@ -129,10 +115,10 @@ module _ {V : Type 0} (lists : List (EntryList V)) (case : Case) (path : List �
   negative_keeps_whatever entry it all negative is_dir = negative_keeps is_dir entry (decides_whatever entry it all is_dir) negative
 
   pub positive_ignores_whatever : (entry : Entry V) → IsDecidedBy lists case path true entry → is_for_directories entry.mode ≡ false → is_negative entry.mode ≡ false → (is_dir : Bool) → IsIgnored lists case path is_dir
-  positive_ignores_whatever entry it all positive is_dir = (entry, decides_whatever entry it all is_dir, positive)
+  positive_ignores_whatever entry it all positive is_dir = ignored_by is_dir entry (decides_whatever entry it all is_dir) positive
 
   -- a path is ignored exactly if the entry that decides about it isn't negative
   pub tells_ignored : (is_dir : Bool) (entry : Entry V) → IsDecidedBy lists case path is_dir entry → (negative : Bool) → negative ≡ is_negative entry.mode
       → (IsTrue (not negative) → IsIgnored lists case path is_dir) × (IsIgnored lists case path is_dir → IsTrue (not negative))
-  tells_ignored is_dir entry it false is = (λ _. (entry, it, sym is), λ _. refl)
+  tells_ignored is_dir entry it false is = (λ _. ignored_by is_dir entry it (sym is), λ _. refl)
   tells_ignored is_dir entry it true is = (λ no. absurd (false≢true no), λ that. absurd (negative_keeps is_dir entry it (sym is) that))

@@ -177,7 +177,7 @@ pub record BeginsSomewhere (Known : FileTree → Type 0) (rules : Rules) (path :
   pub count : next.list_count ≤ length lists
   pub begins : (tree : FileTree) → Known tree → BeginsAt rules tree path is_told (path_of next)
   pub only : (tree : FileTree) → Known tree → (start : List ℕ) → BeginsAt rules tree path is_told start → start ≡ path_of next
-  pub lists : (tree : FileTree) → Known tree → (folder : Folder) → path_of next ≡ start_of folder → take next.list_count lists ≡ lists_before rules tree folder
+  pub standing : (tree : FileTree) → Known tree → (folder : Folder) → path_of next ≡ start_of folder → take next.list_count lists ≡ lists_before rules tree folder
 
 abbrev pub Begins : (FileTree → Type 0) → Rules → List ℕ → Bool → List (EntryList (Unit {0})) → List Pending → Type 0
 Begins Known rules path is_told lists pending = BeginsNowhere Known rules path is_told pending ⊎ BeginsSomewhere Known rules path is_told lists pending

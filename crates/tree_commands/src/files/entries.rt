@@ -12,12 +12,12 @@ ghost use Rattle.tree_commands.specs.FileTrees.{FileTree, StaysKnown, names_in};
 ghost use Rattle.tree_commands.specs.Files.{IsEntryName, is_folder, is_git};
 ghost use Rattle.tree_commands.specs.Private.Listing.{AddsFound, Among, EndsInName, IsFoundAmong, LeadsOn, StandsThere, names_left, seen_lists};
 
-use crate::files::fault::FilesFault;
 use crate::files::ignoring::{Ignoring, ignoring_by, is_ignored_by};
 use crate::files::source::{EntryKind, FileSource};
 use gix_glob::pattern::Case;
 use glob_lines::IgnoreLines;
 use glob_lists::PreparedList;
+use glob_trees::TreeFault;
 use memchr::memchr;
 use std::alloc::{AllocError, Global};
 
@@ -35,7 +35,7 @@ pub(crate) fn entries_of<S: FileSource>(
     on_way: &ListsOnWay,
     start: &[u8],
     names: &[u8],
-) -> Result<Vec<Vec<u8>>, FilesFault<S::Fault>>
+) -> Result<Vec<Vec<u8>>, TreeFault<S::Fault>>
     requires folders { BasesAreFolders (seen_lists on_way.now.lists.items) }
     requires plain { LeadsOn on_way.now.case start.now }
     ensures each { IfOk result (λ paths. AllByRecursion (EndsInName on_way.now.case start.now) (map vec_items paths.items)) }
@@ -98,7 +98,7 @@ fn push_found<S: FileSource>(
     paths: &mut Vec<Vec<u8>>,
     start: &[u8],
     name: &[u8],
-) -> Result<(), FilesFault<S::Fault>>
+) -> Result<(), TreeFault<S::Fault>>
     requires folders { BasesAreFolders (seen_lists on_way.now.lists.items) }
     requires plain { IsPlainPath (start.now ++ name.now) }
     ensures adds { OnOk result (AddsFound (S.shows source.old) (seen_lists on_way.now.lists.items) on_way.now.case (start.now ++ name.now) (map vec_items paths.old.items) (map vec_items paths.new.items)) }
@@ -143,7 +143,7 @@ fn what_stands<S: FileSource>(
     source: &mut S,
     on_way: &ListsOnWay,
     path: &[u8],
-) -> Result<Option<EntryKind>, FilesFault<S::Fault>>
+) -> Result<Option<EntryKind>, TreeFault<S::Fault>>
     requires folders { BasesAreFolders (seen_lists on_way.now.lists.items) }
     requires plain { IsPlainPath path.now }
     ensures found { IfOk result (λ found. (tree : FileTree) → S.shows source.old tree →
@@ -155,7 +155,7 @@ fn what_stands<S: FileSource>(
     if ignoring == Ignoring::Always {
         return Ok(None);
     }
-    let Some(kind) = source.kind(path).map_err(FilesFault::Source)? else {
+    let Some(kind) = source.kind(path).map_err(TreeFault::Source)? else {
         return Ok(None);
     };
     if ignoring == Ignoring::ByKind

@@ -1,7 +1,8 @@
 //! Why files aren't listed to the end.
-ghost use Rattle.std.specs.Prelude.{◌≡◌};
-ghost use Rattle.tree_commands.specs.declared.files.fault.FilesFault.TheVariants.{Memory};
+ghost use Rattle.std.specs.Prelude.{◌≡◌, false};
+ghost use Rattle.tree_commands.specs.Private.Faults.{is_of_start};
 
+use glob_trees::TreeFault;
 use std::alloc::AllocError;
 use std::fmt::Display;
 use std::io;
@@ -35,9 +36,20 @@ pub enum FilesFault<F> {
 }
 
 impl<F> From<AllocError> for FilesFault<F> {
-    ghost from_gives = { λ _ fault. fault ≡ Memory };
+    ghost from_gives = { λ _ fault. is_of_start fault ≡ false };
 
     fn from(_refused: AllocError) -> FilesFault<F> {
         FilesFault::Memory
+    }
+}
+
+impl<F> From<TreeFault<F>> for FilesFault<F> {
+    ghost from_gives = { λ _ fault. is_of_start fault ≡ false };
+
+    fn from(fault: TreeFault<F>) -> FilesFault<F> {
+        match fault {
+            TreeFault::Memory => FilesFault::Memory,
+            TreeFault::Source(fault) => FilesFault::Source(fault),
+        }
     }
 }

@@ -1,21 +1,20 @@
 //! A listing under way: the paths that are still to be visited, and the lists of the folders on the way to the next one.
-ghost use Rattle.std.specs.Prelude.{◌≡◌, ◌≢◌, ◌∷◌, ◌++◌, [], IfOk, MatchOption, OnOk, codes, false, nat_eq, option_map};
-ghost use Rattle.std.specs.List.{ends_with};
+ghost use Rattle.std.specs.Prelude.{◌≡◌, ◌≢◌, ◌∷◌, ◌++◌, [], IfOk, MatchOption, OnOk, option_map};
 ghost use Rattle.std.specs.Vec.{vec_items};
-ghost use Rattle.gix_glob.specs.Bytes.{slash};
+ghost use Rattle.gix_glob.specs.Bytes.{EndsInSlash, slash};
 ghost use Rattle.glob_lists.specs.Deciding.{BasesAreFolders};
 ghost use Rattle.glob_trees.specs.Ways.{GivesOnly, start_of, unless_empty};
 ghost use Rattle.tree_commands.specs.FileTrees.{AreFoundIn, FileTree, StaysKnown};
 ghost use Rattle.tree_commands.specs.Private.Listing.{AddsOwn, Enters, LeadsOn, MayVisit, Visits, seen_list, seen_lists};
 
 use crate::files::entries::{ListsOnWay, entries_of};
-use crate::files::fault::FilesFault;
 use crate::files::pending::{Pending, put_in_order};
 use crate::files::source::{FileSource, FolderNames};
 use gix_glob::pattern::Case;
 use gix_glob::search::pattern::List;
 use glob_lines::IgnoreLines;
 use glob_lists::PreparedList;
+use glob_trees::TreeFault;
 use std::alloc::{AllocError, Global};
 
 /// A listing under way.
@@ -47,7 +46,7 @@ impl Lister {
         &mut self,
         source: &mut S,
         next: Pending,
-    ) -> Result<Option<Vec<u8>>, FilesFault<S::Fault>>
+    ) -> Result<Option<Vec<u8>>, TreeFault<S::Fault>>
         requires folders { BasesAreFolders (seen_lists self.old.on_way.lists.items) }
         requires may { MayVisit self.old.on_way.case next.path.items }
         ensures visits { IfOk result (λ listed. Visits (S.shows source.old) self.old.on_way.case next (seen_lists self.old.on_way.lists.items) (seen_lists self.new.on_way.lists.items) self.old.pending.items self.new.pending.items (option_map vec_items listed)) }
@@ -59,7 +58,7 @@ impl Lister {
         let Some(folder) = folder_at(&next.path) else {
             return Ok(Some(next.path));
         };
-        let names = source.names(folder).map_err(FilesFault::Source)?;
+        let names = source.names(folder).map_err(TreeFault::Source)?;
         if names.has_git && !folder.is_empty() {
             return Ok(Some(next.path));
         }
@@ -74,7 +73,7 @@ impl Lister {
         next: &Pending,
         folder: &[u8],
         names: &FolderNames,
-    ) -> Result<(), FilesFault<S::Fault>>
+    ) -> Result<(), TreeFault<S::Fault>>
         requires folders { BasesAreFolders (seen_lists self.old.on_way.lists.items) }
         requires start { next.now.path.items ≡ start_of folder.now }
         requires plain { LeadsOn self.old.on_way.case next.now.path.items }
@@ -100,7 +99,7 @@ pub(crate) fn push_own<S: FileSource>(
     source: &mut S,
     on_way: &mut ListsOnWay,
     folder: &[u8],
-) -> Result<(), FilesFault<S::Fault>>
+) -> Result<(), TreeFault<S::Fault>>
     requires folders { BasesAreFolders (seen_lists on_way.old.lists.items) }
     ensures adds { OnOk result (AddsOwn (S.shows source.old) folder.now (seen_lists on_way.old.lists.items) (seen_lists on_way.new.lists.items)) }
     ensures case { on_way.new.case ≡ on_way.old.case }
@@ -108,7 +107,7 @@ pub(crate) fn push_own<S: FileSource>(
     ensures stays { StaysKnown S.shows source.old source.new }
     ensures asks { GivesOnly (λ _. ⊥) (S.asked source.old) (S.asked source.new) }
 {
-    let list = source.list_of(folder).map_err(FilesFault::Source)?;
+    let list = source.list_of(folder).map_err(TreeFault::Source)?;
     push_if_any(alloc, on_way, list)?;
     Ok(())
 }
@@ -132,7 +131,7 @@ fn push_if_any(
 fn folder_at(path: &[u8]) -> Option<&[u8]>
     requires { path.now ≢ slash ∷ [] }
     ensures { MatchOption result
-        ((path.entry.now ≢ []) × (ends_with nat_eq path.entry.now (codes "/") ≡ false))
+        ((path.entry.now ≢ []) × (¬ EndsInSlash path.entry.now))
         (λ folder. path.entry.now ≡ start_of folder.now) }
 {
     match path {

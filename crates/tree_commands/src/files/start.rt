@@ -1,5 +1,6 @@
 //! Where a listing begins: at the top, or at a path below it that is told.
-ghost use Rattle.std.specs.Prelude.{◌≡◌, ◌≢◌, ◌∷◌, ◌++◌, [], length, IfOk, MatchBool, OnOk};
+ghost use Rattle.std.specs.Prelude.{◌≡◌, ◌≢◌, ◌∷◌, ◌++◌, ◌↔◌, [], length, IfOk, IsTrue, MatchBool, OnOk};
+ghost use Rattle.gix_glob.specs.Bytes.{EndsInSlash};
 ghost use Rattle.glob_lists.specs.Deciding.{BasesAreFolders};
 ghost use Rattle.glob_lists.specs.Paths.{IsPlainPath};
 ghost use Rattle.glob_trees.specs.Ways.{GivesOnly};
@@ -7,13 +8,13 @@ ghost use Rattle.tree_commands.specs.FileTrees.{FileTree, StaysKnown};
 ghost use Rattle.tree_commands.specs.Private.Listing.{Begins, IsClear, IsPassed, PutsListsTo, StandsAtStart, seen_lists};
 
 use crate::files::entries::{ListsOnWay, append_mark, is_folder, is_git};
-use crate::files::fault::FilesFault;
 use crate::files::ignoring::is_ignored_by;
 use crate::files::lister::{Lister, push_own};
 use crate::files::pending::Pending;
 use crate::files::source::{EntryKind, FileSource};
 use gix_glob::pattern::Case;
 use glob_lists::plain_path;
+use glob_trees::TreeFault;
 use std::alloc::{AllocError, Global};
 use told_paths::last_name;
 
@@ -24,7 +25,7 @@ impl Lister {
         source: &mut S,
         path: Vec<u8>,
         is_told_folder: bool,
-    ) -> Result<(), FilesFault<S::Fault>>
+    ) -> Result<(), TreeFault<S::Fault>>
         requires folders { BasesAreFolders (seen_lists self.old.on_way.lists.items) }
         requires none { self.old.pending.items ≡ [] }
         ensures begins { OnOk result (Begins (S.shows source.old) (record { fronts = seen_lists self.old.on_way.lists.items; case = self.old.on_way.case }) path.items is_told_folder (seen_lists self.new.on_way.lists.items) self.new.pending.items) }
@@ -57,7 +58,7 @@ impl Lister {
         source: &mut S,
         mut path: Vec<u8>,
         is_told_folder: bool,
-    ) -> Result<(), FilesFault<S::Fault>>
+    ) -> Result<(), TreeFault<S::Fault>>
         requires folders { BasesAreFolders (seen_lists self.old.on_way.lists.items) }
         requires none { self.old.pending.items ≡ [] }
         requires below { path.items ≢ [] }
@@ -67,7 +68,7 @@ impl Lister {
         ensures stays { StaysKnown S.shows source.old source.new }
         ensures asks { GivesOnly (λ _. ⊥) (S.asked source.old) (S.asked source.new) }
     {
-        if !plain_path(&path) || is_of_repository(source, self.on_way.case, &path)? {
+        if !is_whole(&path) || is_of_repository(source, self.on_way.case, &path)? {
             return Ok(());
         }
         let Some(kind) = kind_at_start(source, &path, is_told_folder)? else {
@@ -83,12 +84,19 @@ impl Lister {
     }
 }
 
+/// Whether the bytes are a path, with no slash at its end.
+fn is_whole(path: &[u8]) -> bool
+    ensures { IsTrue result ↔ IsPlainPath path.now × (¬ EndsInSlash path.now) }
+{
+    plain_path(path) && !path.ends_with(b"/")
+}
+
 /// Whether a folder above a path is a repository of its own, or one of them or the path has the name of a repository's files.
 fn is_of_repository<S: FileSource>(
     source: &mut S,
     case: Case,
     path: &[u8],
-) -> Result<bool, FilesFault<S::Fault>>
+) -> Result<bool, TreeFault<S::Fault>>
     ensures clear { IfOk result (λ is_of. (tree : FileTree) → S.shows source.old tree → MatchBool is_of (¬ IsClear case tree path.now) (IsClear case tree path.now)) }
     ensures stays { StaysKnown S.shows source.old source.new }
     ensures asks { GivesOnly (λ _. ⊥) (S.asked source.old) (S.asked source.new) }
@@ -106,7 +114,7 @@ fn is_repository<S: FileSource>(
     source: &mut S,
     case: Case,
     folder: &[u8],
-) -> Result<bool, FilesFault<S::Fault>>
+) -> Result<bool, TreeFault<S::Fault>>
     ensures own { IfOk result (λ is_own. (tree : FileTree) → S.shows source.old tree → MatchBool is_own (¬ IsPassed case tree folder.now) (IsPassed case tree folder.now)) }
     ensures stays { StaysKnown S.shows source.old source.new }
     ensures asks { GivesOnly (λ _. ⊥) (S.asked source.old) (S.asked source.new) }
@@ -114,7 +122,7 @@ fn is_repository<S: FileSource>(
     if is_git(case, last_name(folder)) {
         return Ok(true);
     }
-    source.has_git(folder).map_err(FilesFault::Source)
+    source.has_git(folder).map_err(TreeFault::Source)
 }
 
 /// What stands where a listing is to begin; `None` where nothing is listed there. A path that is told as a folder's has to be one.
@@ -122,21 +130,17 @@ fn kind_at_start<S: FileSource>(
     source: &mut S,
     path: &[u8],
     is_told_folder: bool,
-) -> Result<Option<EntryKind>, FilesFault<S::Fault>>
+) -> Result<Option<EntryKind>, TreeFault<S::Fault>>
     ensures found { IfOk result (λ found. (tree : FileTree) → S.shows source.old tree → StandsAtStart tree path.now is_told_folder found) }
     ensures stays { StaysKnown S.shows source.old source.new }
     ensures asks { GivesOnly (λ _. ⊥) (S.asked source.old) (S.asked source.new) }
 {
-    match source.kind(path).map_err(FilesFault::Source)? {
-        Some(EntryKind::Folder) => Ok(Some(EntryKind::Folder)),
-        found => {
-            if !is_told_folder {
-                return Ok(found);
-            }
-            source.no_folder(path).map_err(FilesFault::Source)?;
-            Ok(None)
-        }
+    let found = source.kind(path).map_err(TreeFault::Source)?;
+    if !is_told_folder || matches!(found, Some(EntryKind::Folder)) {
+        return Ok(found);
     }
+    source.no_folder(path).map_err(TreeFault::Source)?;
+    Ok(None)
 }
 
 /// Puts the lists of the folders on the way to a path behind the others. It answers whether no folder above the path is ignored.
@@ -145,7 +149,7 @@ fn put_lists_to<S: FileSource>(
     source: &mut S,
     on_way: &mut ListsOnWay,
     path: &[u8],
-) -> Result<bool, FilesFault<S::Fault>>
+) -> Result<bool, TreeFault<S::Fault>>
     requires folders { BasesAreFolders (seen_lists on_way.old.lists.items) }
     requires plain { IsPlainPath path.now }
     ensures puts { IfOk result (λ is_open. (tree : FileTree) → S.shows source.old tree → PutsListsTo (record { fronts = seen_lists on_way.old.lists.items; case = on_way.old.case }) tree path.now (seen_lists on_way.new.lists.items) is_open) }

@@ -1,5 +1,5 @@
 //! The lines of paths that are listed, and how they are written.
-ghost use Rattle.std.specs.Prelude.{◌≡◌, ◌++◌, [], false, is_err, OnErr, OnOk};
+ghost use Rattle.std.specs.Prelude.{◌≡◌, ◌++◌, [], true, OnErr, OnOk};
 ghost use Rattle.std.specs.Io.KnownBytes.{Appends};
 ghost use Rattle.gix_glob.specs.Watched.{has_failed, inner};
 ghost use Rattle.tree_commands.specs.Files.{path_line};

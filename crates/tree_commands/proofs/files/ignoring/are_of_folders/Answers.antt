@@ -3,7 +3,7 @@ use Rattle.std.proofs.Common.{◌≡◌, true, map, refl, subst, take_all}
 use Rattle.glob_lists.specs.Deciding.{BasesAreFolders, HasFolder}
 use Rattle.gix_glob.specs.EntryLists.{entry_list_of}
 use Rattle.gix_glob.proofs.lemmas.Elements.{All-map_at}
-use Rattle.globtree.proofs.ignoring.are_of_folders.Goals as goal
+use Rattle.tree_commands.proofs.files.ignoring.are_of_folders.Goals as goal
 
 pub returns-then-not-has_folder : goal.returns-then-not-has_folder
 returns-then-not-has_folder g c = (

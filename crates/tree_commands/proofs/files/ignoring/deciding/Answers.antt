@@ -2,7 +2,7 @@
 use Rattle.std.proofs.Common.{map}
 use Rattle.gix_glob.specs.EntryLists.{entry_list_of}
 use Rattle.glob_lists.specs.Deciding.{IsEntryAt}
-use Rattle.globtree.proofs.ignoring.deciding.Goals as goal
+use Rattle.tree_commands.proofs.files.ignoring.deciding.Goals as goal
 
 pub pattern_at-requires : goal.pattern_at-requires
 pattern_at-requires g c =

@@ -2,8 +2,8 @@
 use Rattle.std.proofs.Common.{◌≡◌, false, true, map, ap, sym, ◌∙◌}
 use Rattle.gix_glob.specs.EntryLists.{entry_list_of}
 use Rattle.gix_glob.specs.Patterns.{is_for_directories, is_negative}
-use Rattle.globtree.proofs.lemmas.IgnoringLemmas.{negative_keeps_whatever, none_ignores_whatever, positive_ignores_whatever}
-use Rattle.globtree.proofs.ignoring.ignoring_by.Goals as goal
+use Rattle.tree_commands.proofs.lemmas.IgnoringLemmas.{negative_keeps_whatever, none_ignores_whatever, positive_ignores_whatever}
+use Rattle.tree_commands.proofs.files.ignoring.ignoring_by.Goals as goal
 
 pub returns-in_default : goal.returns-in_default
 returns-in_default g c =

@@ -3,8 +3,8 @@ use Rattle.std.proofs.Common.{map, ap, sym, ◌∙◌}
 use Rattle.std.proofs.lemmas.Bool.{false≢true}
 use Rattle.gix_glob.specs.EntryLists.{entry_list_of}
 use Rattle.gix_glob.specs.Patterns.{is_negative}
-use Rattle.globtree.proofs.lemmas.IgnoringLemmas.{none_ignores, tells_ignored}
-use Rattle.globtree.proofs.ignoring.is_ignored_by.Goals as goal
+use Rattle.tree_commands.proofs.lemmas.IgnoringLemmas.{none_ignores, tells_ignored}
+use Rattle.tree_commands.proofs.files.ignoring.is_ignored_by.Goals as goal
 
 pub returns-in-Some : goal.returns-in-Some
 returns-in-Some g c =
