@@ -1,8 +1,13 @@
 pub mod AmongLemmas
+pub mod EntryLemmas
 pub mod IgnoringLemmas
 pub mod ListingLemmas
 pub mod ListsLemmas
 pub mod MetLemmas
 pub mod OrderLemmas
 pub mod PathLemmas
+pub mod PieceLemmas
+pub mod PuttingLemmas
+pub mod RunLemmas
 pub mod StackLemmas
+pub mod StartLemmas

@@ -26,12 +26,12 @@ use Rattle.tree_commands.specs.FileTrees.{FileTree}
 use Rattle.tree_commands.specs.Ignoring.{IsIgnored}
 
 -- the lists that stand before those of all folders, and whether the case of letters counts
-pub record Rules : Type 0 where
+pub record Basis : Type 0 where
   pub fronts : List (EntryList (Unit {0}))
   pub case : Case
 
-abbrev pub rules_of : {T X : Type 0} → List (patterns.List T X) → Case → Rules
-rules_of fronts case = record { fronts = map (entry_list_of (λ _. tt)) fronts; case = case }
+abbrev pub basis_of : {T X : Type 0} → List (patterns.List T X) → Case → Basis
+basis_of fronts case = record { fronts = map (entry_list_of (λ _. tt)) fronts; case = case }
 
 abbrev pub is_folder : EntryKind → Bool
 is_folder kinds.Folder = true
@@ -49,8 +49,8 @@ pub record IsEntryName (case : Case) (name : List ℕ) : Type 0 where
   pub other : is_git case name ≡ false
 
 -- the lists that decide about a path: those of the folders on the way to it that have entries stand behind the fronts
-abbrev pub lists_to : Rules → FileTree → List ℕ → List (EntryList (Unit {0}))
-lists_to rules tree path = rules.fronts ++ with_entries (map tree.list (folders_to path))
+abbrev pub lists_to : Basis → FileTree → List ℕ → List (EntryList (Unit {0}))
+lists_to basis tree path = basis.fronts ++ with_entries (map tree.list (folders_to path))
 
 -- something stands at the path that these lists don't ignore; `found` is the path, and a slash behind it where a folder stands there
 pub record IsFound (lists : List (EntryList (Unit {0}))) (case : Case) (tree : FileTree) (path found : List ℕ) : Type 0 where
@@ -60,43 +60,43 @@ pub record IsFound (lists : List (EntryList (Unit {0}))) (case : Case) (tree : F
   pub joined : found ≡ path ++ (if is_folder kind then slash ∷ [] else [])
 
 -- what is found in a folder by one of its names
-pub record IsEntryOf (rules : Rules) (tree : FileTree) (folder : Folder) (found : List ℕ) : Type 0 where
+pub record IsEntryOf (basis : Basis) (tree : FileTree) (folder : Folder) (found : List ℕ) : Type 0 where
   pub name : List ℕ
   pub among : Contains (tree.names folder) name
-  pub may : IsEntryName rules.case name
-  pub here : IsFound (lists_to rules tree (start_of folder)) rules.case tree (start_of folder ++ name) found
+  pub may : IsEntryName basis.case name
+  pub here : IsFound (lists_to basis tree (start_of folder)) basis.case tree (start_of folder ++ name) found
 
 -- the paths that are met from one on: this one, and what is found in each folder that is met, and is the top or no repository of its own
-pub data IsMet (rules : Rules) (tree : FileTree) (start : List ℕ) : List ℕ → Type 0 where
-  begins : IsMet rules tree start start
-  lies : {folder found : List ℕ} → IsMet rules tree start (start_of folder) → (folder ≡ []) ⊎ (tree.has_git folder ≡ false) → IsEntryOf rules tree folder found → IsMet rules tree start found
+pub data IsMet (basis : Basis) (tree : FileTree) (start : List ℕ) : List ℕ → Type 0 where
+  begins : IsMet basis tree start start
+  lies : {folder found : List ℕ} → IsMet basis tree start (start_of folder) → (folder ≡ []) ⊎ (tree.has_git folder ≡ false) → IsEntryOf basis tree folder found → IsMet basis tree start found
 
 -- a folder above the path at which a listing is to begin lets it pass: it has no name of a repository's files, is no repository, and isn't
 -- ignored
-pub record LetsPass (rules : Rules) (tree : FileTree) (folder : Folder) : Type 0 where
-  pub other : (name : List ℕ) → IsLastName folder name → is_git rules.case name ≡ false
+pub record LetsPass (basis : Basis) (tree : FileTree) (folder : Folder) : Type 0 where
+  pub other : (name : List ℕ) → IsLastName folder name → is_git basis.case name ≡ false
   pub git : tree.has_git folder ≡ false
-  pub unignored : ¬ IsIgnored (lists_to rules tree folder) rules.case folder true
+  pub unignored : ¬ IsIgnored (lists_to basis tree folder) basis.case folder true
 
 -- a listing that is to begin at a path below the top begins at `start`; a folder has to stand there if the path is told as a folder's
-pub record BeginsBelow (rules : Rules) (tree : FileTree) (path : List ℕ) (is_told : Bool) (start : List ℕ) : Type 0 where
+pub record BeginsBelow (basis : Basis) (tree : FileTree) (path : List ℕ) (is_told : Bool) (start : List ℕ) : Type 0 where
   pub plain : IsPlainPath path
   pub whole : ¬ EndsInSlash path
-  pub above : (folder : Folder) → IsAbove folder path → LetsPass rules tree folder
-  pub other : (name : List ℕ) → IsLastName path name → is_git rules.case name ≡ false
-  pub here : IsFound (lists_to rules tree path) rules.case tree path start
+  pub above : (folder : Folder) → IsAbove folder path → LetsPass basis tree folder
+  pub other : (name : List ℕ) → IsLastName path name → is_git basis.case name ≡ false
+  pub here : IsFound (lists_to basis tree path) basis.case tree path start
   pub as_told : is_told ≡ true → start ≢ path
 
-abbrev pub BeginsAt : Rules → FileTree → List ℕ → Bool → List ℕ → Type 0
-BeginsAt rules tree path is_told start = ((path ≡ []) × (start ≡ [])) ⊎ BeginsBelow rules tree path is_told start
+abbrev pub BeginsAt : Basis → FileTree → List ℕ → Bool → List ℕ → Type 0
+BeginsAt basis tree path is_told start = ((path ≡ []) × (start ≡ [])) ⊎ BeginsBelow basis tree path is_told start
 
 -- a path is reached: it is met from where a listing begins that is to begin where `told` leads
-pub record IsReached (standpoint : Standpoint) (rules : Rules) (tree : FileTree) (told path : List ℕ) : Type 0 where
+pub record IsReached (standpoint : Standpoint) (basis : Basis) (tree : FileTree) (told path : List ℕ) : Type 0 where
   pub top : List ℕ
   pub leads : led standpoint told ≡ Some top
   pub start : List ℕ
-  pub begins : BeginsAt rules tree top (names_folder false (parts_of told)) start
-  pub met : IsMet rules tree start path
+  pub begins : BeginsAt basis tree top (names_folder false (parts_of told)) start
+  pub met : IsMet basis tree start path
 
 -- the path of a file or a link, or of a folder that is a repository of its own
 abbrev pub IsLeaf : FileTree → List ℕ → Type 0

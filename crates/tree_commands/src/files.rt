@@ -11,7 +11,7 @@ ghost use Rattle.told_paths.specs.Paths.{names_folder, parts_of};
 ghost use Rattle.told_paths.specs.Standpoints.{led};
 ghost use Rattle.tree_commands.specs.declared.files.fault.FilesFault.TheVariants as faults;
 ghost use Rattle.tree_commands.specs.FileTrees.{FileTree, StaysKnown};
-ghost use Rattle.tree_commands.specs.Files.{ComesBefore, IsLeaf, IsMet, IsReached, path_line, rules_of};
+ghost use Rattle.tree_commands.specs.Files.{ComesBefore, IsLeaf, IsMet, IsReached, path_line, basis_of};
 ghost use Rattle.tree_commands.specs.Private.Faults.{is_of_start};
 ghost use Rattle.tree_commands.specs.Private.Listing.{seen_lists};
 ghost use Rattle.tree_commands.specs.Private.UnderWay.{IsUnderWay, OfKnown, WritesAll, WritesFront, beginning_of};
@@ -79,15 +79,15 @@ pub fn run_files<S: FileSource, W: Write>(
     ensures lists { OnOk result ((paths : List (List ℕ)) × AllPairs ComesBefore paths
         × Appends (W.contents (inner writer.old)) (W.contents (inner writer.new)) (flat_map (path_line listing.standpoint listing.form) paths)
         × ((tree : FileTree) → S.shows source.old tree → (path : List ℕ) →
-        Contains paths path ↔ (IsReached listing.standpoint (rules_of listing.fronts.items listing.case) tree told.now path × IsLeaf tree path))) }
+        Contains paths path ↔ (IsReached listing.standpoint (basis_of listing.fronts.items listing.case) tree told.now path × IsLeaf tree path))) }
     // After a fault that is none of the writer's, a front of some of these lines was.
     ensures front { OnErr result (has_failed writer.new ≡ false → (paths : List (List ℕ)) × AllPairs ComesBefore paths
         × AppendsFront (W.contents (inner writer.old)) (W.contents (inner writer.new)) (flat_map (path_line listing.standpoint listing.form) paths)
         × ((tree : FileTree) → S.shows source.old tree → (path : List ℕ) →
-        Contains paths path → (IsReached listing.standpoint (rules_of listing.fronts.items listing.case) tree told.now path × IsLeaf tree path))) }
+        Contains paths path → (IsReached listing.standpoint (basis_of listing.fronts.items listing.case) tree told.now path × IsLeaf tree path))) }
     // Each folder that the source is asked for its names is reached.
     ensures asks { GivesOnly (λ folder. (tree : FileTree) → S.shows source.old tree →
-        IsReached listing.standpoint (rules_of listing.fronts.items listing.case) tree told.now (start_of folder)) (S.asked source.old) (S.asked source.new) }
+        IsReached listing.standpoint (basis_of listing.fronts.items listing.case) tree told.now (start_of folder)) (S.asked source.old) (S.asked source.new) }
     ensures stays { StaysKnown S.shows source.old source.new }
     ensures base { IsErrOf result faults.Base → ¬ BasesAreFolders (map (entry_list_of {V = Unit {0}} (λ _. tt)) listing.fronts.items) }
     ensures empty { IsErrOf result faults.Empty → told.now ≡ [] }
@@ -138,7 +138,7 @@ fn write_listed<S: FileSource, W: Write>(
     ensures front { OnErr result (has_failed writer.new ≡ false →
         WritesFront (path_line lines.old.standpoint lines.old.form) (S.shows source.old) lister.old.on_way.case (beginning_of lister.old) (W.contents (inner writer.old)) (W.contents (inner writer.new))) }
     ensures asks { GivesOnly (λ folder. OfKnown (S.shows source.old) lister.old.on_way.case (beginning_of lister.old)
-        (λ rules tree start. IsMet rules tree start (start_of folder))) (S.asked source.old) (S.asked source.new) }
+        (λ basis tree start. IsMet basis tree start (start_of folder))) (S.asked source.old) (S.asked source.new) }
     ensures stays { StaysKnown S.shows source.old source.new }
     ensures begun { IfErr result (λ fault. is_of_start fault ≡ false) }
 {

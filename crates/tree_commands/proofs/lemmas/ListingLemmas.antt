@@ -11,7 +11,7 @@ use Rattle.tree_commands.specs.declared.files.pending.Pending.{Pending}
 use Rattle.tree_commands.specs.declared.files.source.EntryKind.{EntryKind}
 use Rattle.tree_commands.specs.declared.files.source.EntryKind.TheVariants as kinds
 use Rattle.tree_commands.specs.FileTrees.{FileTree}
-use Rattle.tree_commands.specs.Files.{ComesBefore, IsEntryName, IsEntryOf, IsFound, IsLeaf, IsMet, Rules, is_folder, lies, lists_to}
+use Rattle.tree_commands.specs.Files.{ComesBefore, IsEntryName, IsEntryOf, IsFound, IsLeaf, IsMet, Basis, is_folder, lies, lists_to}
 use Rattle.tree_commands.specs.Private.Listing.{Among, AreAscending, AreDescending, EndsInName, Enters, LeadsOn, MayVisit, lists_before, path_of}
 use Rattle.tree_commands.specs.Private.UnderWay.{Above, IsHalfway, IsStack, IsUnderWay, Precedes, count_of}
 use Rattle.tree_commands.proofs.lemmas.AmongLemmas.{all_of, among_cases, among_contained, among_last, among_left, among_map, among_mapped, among_right, contains_among, of_all}
@@ -161,25 +161,25 @@ module _ (case : Case) (listed : List (List ℕ)) (pending : List Pending) (next
 -- ---- of a tree
 
 -- the lists before an entry that is a folder are those to its path
-lists_below : (rules : Rules) (tree : FileTree) (start name : List ℕ) → IsEntryName rules.case name → (found : List ℕ) (at : Folder) (kind : EntryKind)
-    → found ≡ (start ++ name) ++ (if is_folder kind then slash ∷ [] else []) → found ≡ start_of at → lists_to rules tree (start ++ name) ≡ lists_before rules tree at
-lists_below rules tree start name may found at kinds.Folder joined is =
+lists_below : (basis : Basis) (tree : FileTree) (start name : List ℕ) → IsEntryName basis.case name → (found : List ℕ) (at : Folder) (kind : EntryKind)
+    → found ≡ (start ++ name) ++ (if is_folder kind then slash ∷ [] else []) → found ≡ start_of at → lists_to basis tree (start ++ name) ≡ lists_before basis tree at
+lists_below basis tree start name may found at kinds.Folder joined is =
     let same : at ≡ start ++ name = marked_start (start ++ name) at (sym joined ∙ is) in
-    ap (lists_to rules tree) (sym same) ∙ sym (lists_before_some rules tree at (λ none. some_append start name (name_is_some rules.case name may) (sym same ∙ none)))
-lists_below rules tree start name may found at kinds.File joined is =
+    ap (lists_to basis tree) (sym same) ∙ sym (lists_before_some basis tree at (λ none. some_append start name (name_is_some basis.case name may) (sym same ∙ none)))
+lists_below basis tree start name may found at kinds.File joined is =
     let bare : found ≡ start ++ name = joined ∙ append-nil (start ++ name) in
-    absurd (entry_unended rules.case start name may (subst EndsInSlash (sym is ∙ bare) (start_ends at (λ none. some_append start name (name_is_some rules.case name may) (sym bare ∙ is ∙ none)))))
+    absurd (entry_unended basis.case start name may (subst EndsInSlash (sym is ∙ bare) (start_ends at (λ none. some_append start name (name_is_some basis.case name may) (sym bare ∙ is ∙ none)))))
 
-module _ (rules : Rules) (tree : FileTree) (start : List ℕ) (listed : List (List ℕ)) (pending : List Pending) (next : Pending) (lists : List (EntryList (Unit {0}))) (halfway : IsHalfway rules tree start listed (pending ++ next ∷ []) lists) where
+module _ (basis : Basis) (tree : FileTree) (start : List ℕ) (listed : List (List ℕ)) (pending : List Pending) (next : Pending) (lists : List (EntryList (Unit {0}))) (halfway : IsHalfway basis tree start listed (pending ++ next ∷ []) lists) where
   stays_in : (other : Pending) → Among pending other → Among (pending ++ next ∷ []) other
   stays_in other among = among_left pending (next ∷ []) other among
 
-  pub halfway_listed : IsLeaf tree (path_of next) → IsHalfway rules tree start (listed ++ path_of next ∷ []) pending lists
+  pub halfway_listed : IsLeaf tree (path_of next) → IsHalfway basis tree start (listed ++ path_of next ∷ []) pending lists
   halfway_listed leaf = record {
     sound = λ path among. ⊎_elim
         (λ (old : Among listed path). halfway.sound path old)
         (λ (one : Among (path_of next ∷ []) path). ⊎_elim
-        (λ (is : path_of next ≡ path). subst (λ p. IsMet rules tree start p × IsLeaf tree p) is (halfway.met next (among_last pending next), leaf))
+        (λ (is : path_of next ≡ path). subst (λ p. IsMet basis tree start p × IsLeaf tree p) is (halfway.met next (among_last pending next), leaf))
         (λ (never : ⊥). absurd never)
         one)
         (among_cases listed (path_of next ∷ []) path among);
@@ -187,11 +187,11 @@ module _ (rules : Rules) (tree : FileTree) (start : List ℕ) (listed : List (Li
     standing = λ other among. halfway.standing other (stays_in other among);
     complete = λ path met shut. ⊎_elim
         (λ (old : Among listed path). inl (among_left listed (path_of next ∷ []) path old))
-        (λ (from : (other : Pending) × Among (pending ++ next ∷ []) other × IsMet rules tree (path_of other) path). ⊎_elim
+        (λ (from : (other : Pending) × Among (pending ++ next ∷ []) other × IsMet basis tree (path_of other) path). ⊎_elim
         (λ (waiting : Among pending from.0). inr (from.0, waiting, from.2))
         (λ (one : Among (next ∷ []) from.0). ⊎_elim
         (λ (is : next ≡ from.0).
-        let same : path ≡ path_of next = leaf_meets_itself rules tree (subst (λ (p : Pending). IsMet rules tree (path_of p) path) (sym is) from.2) leaf in
+        let same : path ≡ path_of next = leaf_meets_itself basis tree (subst (λ (p : Pending). IsMet basis tree (path_of p) path) (sym is) from.2) leaf in
         inl (subst (Among (listed ++ path_of next ∷ [])) (sym same) (among_last listed (path_of next))))
         (λ (never : ⊥). absurd never)
         one)
@@ -199,18 +199,18 @@ module _ (rules : Rules) (tree : FileTree) (start : List ℕ) (listed : List (Li
         (halfway.complete path met shut);
   }
 
-  module _ (folder : Folder) (is_start : path_of next ≡ start_of folder) (may : IsOpen rules tree folder) (few : (other : Pending) → Among pending other → other.list_count ≤ next.list_count) (fits : next.list_count ≤ length lists)
-      (Known : FileTree → Type 0) (known : Known tree) (new_lists : List (EntryList (Unit {0}))) (new : List Pending) (enters : Enters Known rules.case folder next.list_count lists new_lists pending new) where
+  module _ (folder : Folder) (is_start : path_of next ≡ start_of folder) (may : IsOpen basis tree folder) (few : (other : Pending) → Among pending other → other.list_count ≤ next.list_count) (fits : next.list_count ≤ length lists)
+      (Known : FileTree → Type 0) (known : Known tree) (new_lists : List (EntryList (Unit {0}))) (new : List Pending) (enters : Enters Known basis.case folder next.list_count lists new_lists pending new) where
     -- the lists are those of the folder's entries
-    are_lists : new_lists ≡ lists_to rules tree (start_of folder)
+    are_lists : new_lists ≡ lists_to basis tree (start_of folder)
     are_lists =
         enters.lists.joined
         ∙ ap (λ (own : List (EntryList (Unit {0}))). take next.list_count lists ++ own) (enters.lists.is_own tree known)
         ∙ ap (λ (before : List (EntryList (Unit {0}))). before ++ unless_empty (tree.list folder)) (halfway.standing next (among_last pending next) folder is_start)
-        ∙ sym (lists_in rules tree folder)
+        ∙ sym (lists_in basis tree folder)
 
     -- what is pending of the folder are its entries
-    is_entry : (found : Pending) → Among enters.puts.batch found → IsEntryOf rules tree folder (path_of found)
+    is_entry : (found : Pending) → Among enters.puts.batch found → IsEntryOf basis tree folder (path_of found)
     is_entry found among =
         let same = enters.puts.same (path_of found) in
         let it = enters.found tree known (path_of found) in
@@ -219,25 +219,25 @@ module _ (rules : Rules) (tree : FileTree) (start : List ℕ) (listed : List (Li
           name = by_name.name;
           among = contains_among (tree.names folder) by_name.name by_name.among;
           may = by_name.may;
-          here = subst (λ (ls : List (EntryList (Unit {0}))). IsFound ls rules.case tree (start_of folder ++ by_name.name) (path_of found)) are_lists by_name.here;
+          here = subst (λ (ls : List (EntryList (Unit {0}))). IsFound ls basis.case tree (start_of folder ++ by_name.name) (path_of found)) are_lists by_name.here;
         }
 
-    entry_waits : (found : List ℕ) → IsEntryOf rules tree folder found → (other : Pending) × Among enters.puts.batch other × (path_of other ≡ found)
+    entry_waits : (found : List ℕ) → IsEntryOf basis tree folder found → (other : Pending) × Among enters.puts.batch other × (path_of other ≡ found)
     entry_waits found entry =
         let it = enters.found tree known found in
         let among = it.1 (record {
           name = entry.name;
           among = among_contained (tree.names folder) entry.name entry.among;
           may = entry.may;
-          here = subst (λ (ls : List (EntryList (Unit {0}))). IsFound ls rules.case tree (start_of folder ++ entry.name) found) (sym are_lists) entry.here;
+          here = subst (λ (ls : List (EntryList (Unit {0}))). IsFound ls basis.case tree (start_of folder ++ entry.name) found) (sym are_lists) entry.here;
         }) in
         let same = enters.puts.same found in
         among_mapped path_of enters.puts.batch found (same.0 among)
 
-    met_next : IsMet rules tree start (start_of folder)
-    met_next = subst (IsMet rules tree start) is_start (halfway.met next (among_last pending next))
+    met_next : IsMet basis tree start (start_of folder)
+    met_next = subst (IsMet basis tree start) is_start (halfway.met next (among_last pending next))
 
-    stand_old : (other : Pending) → Among pending other → (at : Folder) → path_of other ≡ start_of at → take other.list_count new_lists ≡ lists_before rules tree at
+    stand_old : (other : Pending) → Among pending other → (at : Folder) → path_of other ≡ start_of at → take other.list_count new_lists ≡ lists_before basis tree at
     stand_old other waiting at is =
         let less = few other waiting in
         let long : length (take next.list_count lists) ≡ next.list_count = length-take-le next.list_count lists fits in
@@ -246,15 +246,15 @@ module _ (rules : Rules) (tree : FileTree) (start : List ℕ) (listed : List (Li
         ∙ take-take other.list_count next.list_count lists less
         ∙ halfway.standing other (stays_in other waiting) at is
 
-    stand_new : (other : Pending) → Among enters.puts.batch other → (at : Folder) → path_of other ≡ start_of at → take other.list_count new_lists ≡ lists_before rules tree at
+    stand_new : (other : Pending) → Among enters.puts.batch other → (at : Folder) → path_of other ≡ start_of at → take other.list_count new_lists ≡ lists_before basis tree at
     stand_new other found at is =
         let level : other.list_count ≡ length new_lists = of_all (λ (p : Pending). p.list_count ≡ length new_lists) enters.puts.batch enters.puts.counts other found in
         let entry = is_entry other found in
         take_all other.list_count new_lists (omega (arith, level)) ∙ are_lists
-        ∙ sym (lists_of_entry rules tree (start_of folder) entry.name entry.may.whole)
-        ∙ lists_below rules tree (start_of folder) entry.name entry.may (path_of other) at entry.here.kind entry.here.joined is
+        ∙ sym (lists_of_entry basis tree (start_of folder) entry.name entry.may.whole)
+        ∙ lists_below basis tree (start_of folder) entry.name entry.may (path_of other) at entry.here.kind entry.here.joined is
 
-    halfway_joined : IsHalfway rules tree start listed (pending ++ enters.puts.batch) new_lists
+    halfway_joined : IsHalfway basis tree start listed (pending ++ enters.puts.batch) new_lists
     halfway_joined = record {
       sound = halfway.sound;
       met = λ other among. ⊎_elim
@@ -267,19 +267,19 @@ module _ (rules : Rules) (tree : FileTree) (start : List ℕ) (listed : List (Li
           (among_cases pending enters.puts.batch other among);
       complete = λ path met shut. ⊎_elim
           (λ (old : Among listed path). inl old)
-          (λ (from : (other : Pending) × Among (pending ++ next ∷ []) other × IsMet rules tree (path_of other) path). ⊎_elim
+          (λ (from : (other : Pending) × Among (pending ++ next ∷ []) other × IsMet basis tree (path_of other) path). ⊎_elim
           (λ (waiting : Among pending from.0). inr (from.0, among_left pending enters.puts.batch from.0 waiting, from.2))
           (λ (one : Among (next ∷ []) from.0). ⊎_elim
           (λ (is : next ≡ from.0).
-          let met_here : IsMet rules tree (start_of folder) path = subst (λ s. IsMet rules tree s path) is_start (subst (λ (p : Pending). IsMet rules tree (path_of p) path) (sym is) from.2) in
-          let first = meets_entry rules tree folder path may met_here shut in
+          let met_here : IsMet basis tree (start_of folder) path = subst (λ s. IsMet basis tree s path) is_start (subst (λ (p : Pending). IsMet basis tree (path_of p) path) (sym is) from.2) in
+          let first = meets_entry basis tree folder path may met_here shut in
           let waits_for = entry_waits first.0 first.1 in
-          inr (waits_for.0, among_right pending enters.puts.batch waits_for.0 waits_for.1, subst (λ s. IsMet rules tree s path) (sym waits_for.2) first.2))
+          inr (waits_for.0, among_right pending enters.puts.batch waits_for.0 waits_for.1, subst (λ s. IsMet basis tree s path) (sym waits_for.2) first.2))
           (λ (never : ⊥). absurd never)
           one)
           (among_cases pending (next ∷ []) from.0 from.1))
           (halfway.complete path met shut);
     }
 
-    pub halfway_entered : IsHalfway rules tree start listed new new_lists
-    halfway_entered = subst (λ all. IsHalfway rules tree start listed all new_lists) (sym enters.puts.joined) halfway_joined
+    pub halfway_entered : IsHalfway basis tree start listed new new_lists
+    halfway_entered = subst (λ all. IsHalfway basis tree start listed all new_lists) (sym enters.puts.joined) halfway_joined

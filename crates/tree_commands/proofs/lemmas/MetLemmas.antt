@@ -4,14 +4,14 @@ use Rattle.std.proofs.lemmas.Bool.{false≢true}
 use Rattle.gix_glob.specs.Bytes.{EndsInSlash}
 use Rattle.glob_trees.specs.Ways.{Folder, start_of}
 use Rattle.tree_commands.specs.FileTrees.{FileTree}
-use Rattle.tree_commands.specs.Files.{IsEntryOf, IsLeaf, IsMet, Rules, begins, lies}
+use Rattle.tree_commands.specs.Files.{IsEntryOf, IsLeaf, IsMet, Basis, begins, lies}
 use Rattle.tree_commands.proofs.lemmas.PathLemmas.{one_folder, start_ends}
 
-module _ (rules : Rules) (tree : FileTree) where
+module _ (basis : Basis) (tree : FileTree) where
   abbrev pub IsOpen : Folder → Type 0
   IsOpen folder = (folder ≡ []) ⊎ (tree.has_git folder ≡ false)
 
-  pub met_further : {start middle path : List ℕ} → IsMet rules tree start middle → IsMet rules tree middle path → IsMet rules tree start path
+  pub met_further : {start middle path : List ℕ} → IsMet basis tree start middle → IsMet basis tree middle path → IsMet basis tree start path
   met_further one begins = one
   met_further one (lies more may entry) = lies (met_further one more) may entry
 
@@ -21,10 +21,10 @@ module _ (rules : Rules) (tree : FileTree) where
     pub is_start : start ≡ start_of folder
     pub may : IsOpen folder
     pub found : List ℕ
-    pub entry : IsEntryOf rules tree folder found
-    pub rest : IsMet rules tree found path
+    pub entry : IsEntryOf basis tree folder found
+    pub rest : IsMet basis tree found path
 
-  pub meets_first : {start path : List ℕ} → IsMet rules tree start path → (path ≡ start) ⊎ MeetsFirst start path
+  pub meets_first : {start path : List ℕ} → IsMet basis tree start path → (path ≡ start) ⊎ MeetsFirst start path
   meets_first begins = inl refl
   meets_first {start} (lies {folder} {found} met may entry) = ⊎_elim
       (λ (here : start_of folder ≡ start). inr (record { folder = folder; is_start = sym here; may = may; found = found; entry = entry; rest = begins }))
@@ -48,17 +48,17 @@ module _ (rules : Rules) (tree : FileTree) where
       false≢true (sym other ∙ ap tree.has_git same ∙ git.2))
       leaf.1
 
-  pub leaf_meets_itself : {start path : List ℕ} → IsMet rules tree start path → IsLeaf tree start → path ≡ start
+  pub leaf_meets_itself : {start path : List ℕ} → IsMet basis tree start path → IsLeaf tree start → path ≡ start
   leaf_meets_itself {start} {path} met leaf = ⊎_elim
       (λ (is : path ≡ start). is)
       (λ (first : MeetsFirst start path). absurd (leaf_is_shut start first.folder leaf first.is_start first.may))
       (meets_first met)
 
   -- from a folder that is entered another path is met through one of its entries
-  pub meets_entry : (folder : Folder) (path : List ℕ) → IsOpen folder → IsMet rules tree (start_of folder) path → IsLeaf tree path → (found : List ℕ) × IsEntryOf rules tree folder found × IsMet rules tree found path
+  pub meets_entry : (folder : Folder) (path : List ℕ) → IsOpen folder → IsMet basis tree (start_of folder) path → IsLeaf tree path → (found : List ℕ) × IsEntryOf basis tree folder found × IsMet basis tree found path
   meets_entry folder path may met leaf = ⊎_elim
       (λ (is : path ≡ start_of folder). absurd (leaf_is_shut path folder leaf is may))
       (λ (first : MeetsFirst (start_of folder) path).
       let same : first.folder ≡ folder = one_folder first.folder folder (sym first.is_start) in
-      (first.found, subst (λ at. IsEntryOf rules tree at first.found) same first.entry, first.rest))
+      (first.found, subst (λ at. IsEntryOf basis tree at first.found) same first.entry, first.rest))
       (meets_first met)

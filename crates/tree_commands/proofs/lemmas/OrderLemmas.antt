@@ -125,3 +125,75 @@ comes_before_below start name other mark rest none whole is h =
     let names = before_without start (name ++ slash ∷ []) (other ++ mark) known in
     let more = before_behind start (name ++ slash ∷ rest) (other ++ mark) (name_goes_on name other mark rest none whole is names) in
     subst (λ l. ComesBefore l ((start ++ other) ++ mark)) (sym longer) (subst (λ r. ComesBefore (start ++ (name ++ slash ∷ rest)) r) (sym right) (by_bytes_before (start ++ (name ++ slash ∷ rest)) (start ++ (other ++ mark)) more))
+
+-- ---- a total order
+
+before_trans : (xs ys zs : List ℕ) → Before xs ys → Before ys zs → Before xs zs
+before_trans [] [] zs one two = absurd one
+before_trans [] (y ∷ ys) [] one two = absurd two
+before_trans [] (y ∷ ys) (z ∷ zs) one two = tt
+before_trans (x ∷ xs) [] zs one two = absurd one
+before_trans (x ∷ xs) (y ∷ ys) [] one two = absurd two
+before_trans (x ∷ xs) (y ∷ ys) (z ∷ zs) (inl less) (inl more) = inl (omega arith)
+before_trans (x ∷ xs) (y ∷ ys) (z ∷ zs) (inl less) (inr same) = inl (let is = same.0 in omega arith)
+before_trans (x ∷ xs) (y ∷ ys) (z ∷ zs) (inr same) (inl more) = inl (let is = same.0 in omega arith)
+before_trans (x ∷ xs) (y ∷ ys) (z ∷ zs) (inr one) (inr two) = inr (one.0 ∙ two.0, before_trans xs ys zs one.1 two.1)
+
+never_itself : (xs : List ℕ) → ¬ Before xs xs
+never_itself [] never = never
+never_itself (x ∷ xs) (inl less) = omega arith
+never_itself (x ∷ xs) (inr same) = never_itself xs same.1
+
+either : (xs ys : List ℕ) → Before xs ys ⊎ ((xs ≡ ys) ⊎ Before ys xs)
+either [] [] = inr (inl refl)
+either [] (y ∷ ys) = inl tt
+either (x ∷ xs) [] = inr (inr tt)
+either (x ∷ xs) (y ∷ ys) = ⊎_elim
+    (λ (less : (x < y) × (nat_cmp x y ≡ Less)). inl (inl less.0))
+    (λ (more : ((x ≡ y) × (nat_cmp x y ≡ Equal)) ⊎ ((y < x) × (nat_cmp x y ≡ Greater))). ⊎_elim
+    (λ (same : (x ≡ y) × (nat_cmp x y ≡ Equal)). ⊎_elim
+    (λ (one : Before xs ys). inl (inr (same.0, one)))
+    (λ (two : (xs ≡ ys) ⊎ Before ys xs). ⊎_elim
+    (λ (is : xs ≡ ys). inr (inl (let head = same.0 in cc)))
+    (λ (other : Before ys xs). inr (inr (inr (sym same.0, other))))
+    two)
+    (either xs ys))
+    (λ (greater : (y < x) × (nat_cmp x y ≡ Greater)). inr (inr (inl greater.0)))
+    more)
+    (three x y)
+
+pub comes_first_trans : (xs ys zs : List ℕ) → ComesBefore xs ys → ComesBefore ys zs → ComesBefore xs zs
+comes_first_trans xs ys zs one two = by_bytes_before xs zs (before_trans xs ys zs (before_by_bytes xs ys one) (before_by_bytes ys zs two))
+
+pub never_before_itself : (xs : List ℕ) → ¬ ComesBefore xs xs
+never_before_itself xs h = never_itself xs (before_by_bytes xs xs h)
+
+-- what doesn't come behind another text, and isn't it, comes before it
+pub comes_before_other : (xs ys : List ℕ) → ¬ ComesBefore ys xs → xs ≢ ys → ComesBefore xs ys
+comes_before_other xs ys late other = ⊎_elim
+    (λ (one : Before xs ys). by_bytes_before xs ys one)
+    (λ (more : (xs ≡ ys) ⊎ Before ys xs). ⊎_elim
+    (λ (is : xs ≡ ys). absurd (other is))
+    (λ (behind : Before ys xs). absurd (late (by_bytes_before ys xs behind)))
+    more)
+    (either xs ys)
+
+-- and so it goes on
+pub not_behind_trans : (xs ys zs : List ℕ) → ¬ ComesBefore ys xs → ¬ ComesBefore zs ys → ¬ ComesBefore zs xs
+not_behind_trans xs ys zs one two late = ⊎_elim
+    (λ (first : Before xs ys). two (by_bytes_before zs ys (before_trans zs xs ys (before_by_bytes zs xs late) first)))
+    (λ (more : (xs ≡ ys) ⊎ Before ys xs). ⊎_elim
+    (λ (is : xs ≡ ys). two (subst (ComesBefore zs) is late))
+    (λ (behind : Before ys xs). one (by_bytes_before ys xs behind))
+    more)
+    (either xs ys)
+
+-- of two texts neither of which comes before the other one, each is the other
+pub same_between : (xs ys : List ℕ) → ¬ ComesBefore xs ys → ¬ ComesBefore ys xs → xs ≡ ys
+same_between xs ys one two = ⊎_elim
+    (λ (before : Before xs ys). absurd (one (by_bytes_before xs ys before)))
+    (λ (more : (xs ≡ ys) ⊎ Before ys xs). ⊎_elim
+    (λ (is : xs ≡ ys). is)
+    (λ (behind : Before ys xs). absurd (two (by_bytes_before ys xs behind)))
+    more)
+    (either xs ys)

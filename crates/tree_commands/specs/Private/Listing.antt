@@ -13,7 +13,7 @@ use Rattle.told_paths.specs.Paths.{IsLastName}
 use Rattle.tree_commands.specs.declared.files.pending.Pending.{Pending}
 use Rattle.tree_commands.specs.declared.files.source.EntryKind.{EntryKind}
 use Rattle.tree_commands.specs.FileTrees.{FileTree, names_in}
-use Rattle.tree_commands.specs.Files.{BeginsAt, ComesBefore, IsEntryName, IsFound, IsLeaf, Rules, is_folder, is_git, lists_to}
+use Rattle.tree_commands.specs.Files.{BeginsAt, ComesBefore, IsEntryName, IsFound, IsLeaf, Basis, is_folder, is_git, lists_to}
 use Rattle.tree_commands.specs.Ignoring.{IsIgnored}
 
 -- a list as plain data, and lists, with nothing seen of the values
@@ -133,9 +133,9 @@ Visits Known case next old_lists new_lists old new listed = MatchOption listed
 -- ---- where a listing begins
 
 -- the lists before the folder's own: those before all folders, and for another folder than the top those to its path
-abbrev pub lists_before : Rules → FileTree → Folder → List (EntryList (Unit {0}))
-lists_before rules tree [] = rules.fronts
-lists_before rules tree (b ∷ folder) = lists_to rules tree (b ∷ folder)
+abbrev pub lists_before : Basis → FileTree → Folder → List (EntryList (Unit {0}))
+lists_before basis tree [] = basis.fronts
+lists_before basis tree (b ∷ folder) = lists_to basis tree (b ∷ folder)
 
 -- a folder that is no repository, and has no name of a repository's files
 pub record IsPassed (case : Case) (tree : FileTree) (folder : Folder) : Type 0 where
@@ -153,16 +153,16 @@ pub record StandsAtStart (tree : FileTree) (path : List ℕ) (is_told : Bool) (f
   pub none : found ≡ None → (kind : EntryKind) → tree.kind path ≡ Some kind → (is_told ≡ true) × (is_folder kind ≡ false)
 
 -- no folder above the path is ignored
-abbrev pub AreOpen : Rules → FileTree → List ℕ → Type 0
-AreOpen rules tree path = (folder : Folder) → IsAbove folder path → ¬ IsIgnored (lists_to rules tree folder) rules.case folder true
+abbrev pub AreOpen : Basis → FileTree → List ℕ → Type 0
+AreOpen basis tree path = (folder : Folder) → IsAbove folder path → ¬ IsIgnored (lists_to basis tree folder) basis.case folder true
 
 -- the lists are those to the path, and no folder above it is ignored; or one is
-abbrev pub PutsListsTo : Rules → FileTree → List ℕ → List (EntryList (Unit {0})) → Bool → Type 0
-PutsListsTo rules tree path lists is_open = MatchBool is_open ((lists ≡ lists_to rules tree path) × AreOpen rules tree path) (¬ AreOpen rules tree path)
+abbrev pub PutsListsTo : Basis → FileTree → List ℕ → List (EntryList (Unit {0})) → Bool → Type 0
+PutsListsTo basis tree path lists is_open = MatchBool is_open ((lists ≡ lists_to basis tree path) × AreOpen basis tree path) (¬ AreOpen basis tree path)
 
 -- nothing is pending, and the listing begins nowhere
-abbrev pub BeginsNowhere : (FileTree → Type 0) → Rules → List ℕ → Bool → List Pending → Type 0
-BeginsNowhere Known rules path is_told pending = (pending ≡ []) × ((tree : FileTree) → Known tree → (start : List ℕ) → ¬ BeginsAt rules tree path is_told start)
+abbrev pub BeginsNowhere : (FileTree → Type 0) → Basis → List ℕ → Bool → List Pending → Type 0
+BeginsNowhere Known basis path is_told pending = (pending ≡ []) × ((tree : FileTree) → Known tree → (start : List ℕ) → ¬ BeginsAt basis tree path is_told start)
 
 -- the path is one that may be visited: what lies behind that of a folder are paths
 pub record MayVisit (case : Case) (path : List ℕ) : Type 0 where
@@ -170,17 +170,17 @@ pub record MayVisit (case : Case) (path : List ℕ) : Type 0 where
   pub plain : (folder : Folder) → path ≡ start_of folder → LeadsOn case path
 
 -- the path at which the listing begins is pending, and begins nowhere else
-pub record BeginsSomewhere (Known : FileTree → Type 0) (rules : Rules) (path : List ℕ) (is_told : Bool) (lists : List (EntryList (Unit {0}))) (pending : List Pending) : Type 0 where
+pub record BeginsSomewhere (Known : FileTree → Type 0) (basis : Basis) (path : List ℕ) (is_told : Bool) (lists : List (EntryList (Unit {0}))) (pending : List Pending) : Type 0 where
   pub next : Pending
   pub one : pending ≡ next ∷ []
-  pub may : MayVisit rules.case (path_of next)
+  pub may : MayVisit basis.case (path_of next)
   pub count : next.list_count ≤ length lists
-  pub begins : (tree : FileTree) → Known tree → BeginsAt rules tree path is_told (path_of next)
-  pub only : (tree : FileTree) → Known tree → (start : List ℕ) → BeginsAt rules tree path is_told start → start ≡ path_of next
-  pub standing : (tree : FileTree) → Known tree → (folder : Folder) → path_of next ≡ start_of folder → take next.list_count lists ≡ lists_before rules tree folder
+  pub begins : (tree : FileTree) → Known tree → BeginsAt basis tree path is_told (path_of next)
+  pub only : (tree : FileTree) → Known tree → (start : List ℕ) → BeginsAt basis tree path is_told start → start ≡ path_of next
+  pub standing : (tree : FileTree) → Known tree → (folder : Folder) → path_of next ≡ start_of folder → take next.list_count lists ≡ lists_before basis tree folder
 
-abbrev pub Begins : (FileTree → Type 0) → Rules → List ℕ → Bool → List (EntryList (Unit {0})) → List Pending → Type 0
-Begins Known rules path is_told lists pending = BeginsNowhere Known rules path is_told pending ⊎ BeginsSomewhere Known rules path is_told lists pending
+abbrev pub Begins : (FileTree → Type 0) → Basis → List ℕ → Bool → List (EntryList (Unit {0})) → List Pending → Type 0
+Begins Known basis path is_told lists pending = BeginsNowhere Known basis path is_told pending ⊎ BeginsSomewhere Known basis path is_told lists pending
 
 -- ---- what is written
 

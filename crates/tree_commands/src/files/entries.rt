@@ -109,9 +109,10 @@ fn push_found<S: FileSource>(
     let mut path = Vec::with_capacity(alloc, start.len() + name.len() + 1)?;
     path.extend_from_slice(start)?;
     path.extend_from_slice(name)?;
-    if let Some(kind) = what_stands(source, on_way, &path)? {
-        push_marked(paths, path, kind)?;
-    }
+    let Some(kind) = what_stands(source, on_way, &path)? else {
+        return Ok(());
+    };
+    push_marked(paths, path, kind)?;
     Ok(())
 }
 
@@ -151,16 +152,30 @@ fn what_stands<S: FileSource>(
     ensures stays { StaysKnown S.shows source.old source.new }
     ensures asks { GivesOnly (λ _. ⊥) (S.asked source.old) (S.asked source.new) }
 {
-    let ignoring = ignoring_by(&on_way.lists, on_way.case, path);
-    if ignoring == Ignoring::Always {
-        return Ok(None);
+    match ignoring_by(&on_way.lists, on_way.case, path) {
+        Ignoring::Always => Ok(None),
+        Ignoring::Never => source.kind(path).map_err(TreeFault::Source),
+        Ignoring::ByKind => kept_by_kind(source, on_way, path),
     }
+}
+
+/// What stands at a path, where that isn't ignored.
+fn kept_by_kind<S: FileSource>(
+    source: &mut S,
+    on_way: &ListsOnWay,
+    path: &[u8],
+) -> Result<Option<EntryKind>, TreeFault<S::Fault>>
+    requires folders { BasesAreFolders (seen_lists on_way.now.lists.items) }
+    requires plain { IsPlainPath path.now }
+    ensures found { IfOk result (λ found. (tree : FileTree) → S.shows source.old tree →
+        StandsThere (seen_lists on_way.now.lists.items) on_way.now.case tree path.now found) }
+    ensures stays { StaysKnown S.shows source.old source.new }
+    ensures asks { GivesOnly (λ _. ⊥) (S.asked source.old) (S.asked source.new) }
+{
     let Some(kind) = source.kind(path).map_err(TreeFault::Source)? else {
         return Ok(None);
     };
-    if ignoring == Ignoring::ByKind
-        && is_ignored_by(&on_way.lists, on_way.case, path, is_folder(kind))
-    {
+    if is_ignored_by(&on_way.lists, on_way.case, path, is_folder(kind)) {
         return Ok(None);
     }
     Ok(Some(kind))

@@ -15,7 +15,7 @@ use gix_glob::{Pattern, search};
 use glob_lists::{PreparedList, RepositoryPath, decide_prepared};
 
 /// Whether a path is ignored, as far as that can be said whatever stands there.
-#[derive(Clone, Copy, PartialEq, Eq)]
+#[derive(Clone, Copy)]
 pub(crate) enum Ignoring {
     /// It is ignored, whatever it is.
     Always,

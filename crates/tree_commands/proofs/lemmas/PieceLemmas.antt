@@ -2,10 +2,14 @@
 use Rattle.std.proofs.Common.{◌≡◌, ◌≢◌, ℕ, ◌+◌, false, List, [], ◌∷◌, ◌++◌, take, drop, ap, ◌∙◌, refl, arith, eq-eqb}
 use Rattle.std.specs.Prelude.{◌==◌, Some, None}
 use Rattle.std.proofs.lemmas.Grind.{common_steps}
+use Rattle.std.specs.List.{slice_split}
 use Rattle.memchr.specs.Find.{IsFirstByte, is_byte}
 use Rattle.glob_lines.specs.Lines.{HasNo}
 use Rattle.glob_lines.proofs.lemmas.LinesLemmas.{HasNo-not_found, IsCutAt-found}
-use Rattle.globtree.specs.ConfigKeys.{pieces}
+
+-- what stands between such bytes
+abbrev pub pieces : ℕ → List ℕ → List (List ℕ)
+pieces end bytes = slice_split (λ b. b == end) bytes
 
 other_byte : (end b : ℕ) → b ≢ end → (b == end) ≡ false
 other_byte end b other = grind (arith, common_steps)
