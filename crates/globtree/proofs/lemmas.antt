@@ -1,2 +1,1 @@
 pub mod AddedLemmas
-pub mod IgnoringLemmas

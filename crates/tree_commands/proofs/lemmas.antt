@@ -1,4 +1,5 @@
 pub mod AmongLemmas
+pub mod BeginLemmas
 pub mod EntryLemmas
 pub mod IgnoringLemmas
 pub mod ListingLemmas
@@ -9,5 +10,6 @@ pub mod PathLemmas
 pub mod PieceLemmas
 pub mod PuttingLemmas
 pub mod RunLemmas
+pub mod SourceLemmas
 pub mod StackLemmas
 pub mod StartLemmas

@@ -1,5 +1,6 @@
 //! The command `files`: which files of a work tree aren't ignored, in order of their paths.
-ghost use Rattle.std.specs.Prelude.{◌≡◌, ◌↔◌, ℕ, List, [], Some, None, false, AllPairs, IfErr, IfOk, IsErrOf, OnErr, OnOk, is_ok, map};
+ghost use Rattle.std.specs.Prelude.{◌≡◌, ◌↔◌, ℕ, List, [], Some, None, false, AllPairs, IfErr, IfOk, IsErrOf, OnErr, OnOk, is_ok, map, option_map};
+ghost use Rattle.std.specs.Vec.{vec_items};
 ghost use Rattle.std.specs.Io.KnownBytes.{Appends};
 ghost use Rattle.std.specs.List.{Contains, flat_map};
 ghost use Rattle.gix_glob.specs.EntryLists.{entry_list_of};
@@ -13,9 +14,10 @@ ghost use Rattle.tree_commands.specs.declared.files.fault.FilesFault.TheVariants
 ghost use Rattle.tree_commands.specs.FileTrees.{FileTree, StaysKnown};
 ghost use Rattle.tree_commands.specs.Files.{ComesBefore, IsLeaf, IsMet, IsReached, path_line, basis_of};
 ghost use Rattle.tree_commands.specs.Private.Faults.{is_of_start};
-ghost use Rattle.tree_commands.specs.Private.Listing.{seen_lists};
+ghost use Rattle.tree_commands.specs.Private.Listing.{WritesOut, seen_lists, with_line};
 ghost use Rattle.tree_commands.specs.Private.UnderWay.{IsUnderWay, OfKnown, WritesAll, WritesFront, beginning_of};
 
+mod asking;
 mod entries;
 pub mod fault;
 mod ignoring;
@@ -23,8 +25,6 @@ mod lister;
 mod pending;
 pub mod source;
 mod start;
-#[cfg(test)]
-mod tests;
 mod writing;
 
 use crate::files::entries::ListsOnWay;
@@ -146,12 +146,30 @@ fn write_listed<S: FileSource, W: Write>(
         let Some(next) = lister.pending.pop() else {
             return as_written(lines.write_rest(writer));
         };
-        if let Some(path) = lister.visit(source, next)? {
-            lines.append(&path)?;
-            as_written(lines.write_much(writer))?;
-        }
+        let listed = lister.visit(source, next)?;
+        write_line(lines, listed, writer)?;
     }
     Err(FilesFault::Endless)
+}
+
+/// Writes the line of a path that is listed, once there is much to write.
+fn write_line<W: Write, F: Drop>(
+    lines: &mut PathLines,
+    listed: Option<Vec<u8>>,
+    writer: &mut Watched<W>,
+) -> Result<(), FilesFault<F>>
+    ensures ok { OnOk result (WritesOut (W.contents (inner writer.old)) (W.contents (inner writer.new))
+        (with_line (path_line lines.old.standpoint lines.old.form) lines.old.text.items (option_map vec_items listed)) lines.new.text.items) }
+    ensures kept { OnErr result (has_failed writer.new ≡ false → writer.new ≡ writer.old) }
+    ensures standpoint { lines.new.standpoint ≡ lines.old.standpoint }
+    ensures form { lines.new.form ≡ lines.old.form }
+    ensures begun { IfErr result (λ fault. is_of_start fault ≡ false) }
+{
+    let Some(path) = listed else {
+        return Ok(());
+    };
+    lines.append(&path)?;
+    as_written(lines.write_much(writer))
 }
 
 /// The fault of a write that failed.

@@ -43,50 +43,58 @@ module _ (Known : FileTree → Type 0) (lists : List (EntryList (Unit {0}))) (ca
     old tree path found = record { name = found.name; among = among_left it.passed (name ∷ []) found.name found.among; may = found.may; here = found.here }
 
     -- a name that can't be an entry's finds nothing
+    passed_over : ¬ IsEntryName case name → (tree : FileTree) (path : List ℕ) → IsFoundAmong lists case tree start (it.passed ++ name ∷ []) path → IsFoundAmong lists case tree start it.passed path
+    passed_over other tree path found = record {
+      name = found.name;
+      among = ⊎_elim
+          (λ (passed : Among it.passed found.name). passed)
+          (λ (last : Among (name ∷ []) found.name). ⊎_elim (λ (is : name ≡ found.name). absurd (other (subst (IsEntryName case) (sym is) found.may))) (λ (never : ⊥). absurd never) last)
+          (among_cases it.passed (name ∷ []) found.name found.among);
+      may = found.may;
+      here = found.here;
+    }
+
     pub going_past : ¬ IsEntryName case name → IsGoingOver Known lists case start names left paths
     going_past other = record {
       passed = it.passed ++ name ∷ [];
       joined = further;
       each = it.each;
       found = λ tree known path. (
-        let before = it.found tree known path in
-            (λ among. old tree path (before.0 among)),
-        (λ found. before.1 (record {
-          name = found.name;
-          among = ⊎_elim
-              (λ (passed : Among it.passed found.name). passed)
-              (λ (last : Among (name ∷ []) found.name). ⊎_elim (λ (is : name ≡ found.name). absurd (other (subst (IsEntryName case) (sym is) found.may))) (λ (never : ⊥). absurd never) last)
-              (among_cases it.passed (name ∷ []) found.name found.among);
-          may = found.may;
-          here = found.here;
-        })),
+        λ among. (let each = it.found tree known path in old tree path (each.0 among)),
+        λ found. (let each = it.found tree known path in each.1 (passed_over other tree path found)),
       );
     }
 
     -- and another one finds what is added
-    pub going_on : IsEntryName case name → (Now : FileTree → Type 0) → ((tree : FileTree) → Known tree → Now tree) → (more : List (List ℕ)) → AddsFound Now lists case (start ++ name) paths more → IsGoingOver Known lists case start names left more
-    going_on may Now stays more adds = subst (λ all. IsGoingOver Known lists case start names left all) (sym adds.joined) (record {
-      passed = it.passed ++ name ∷ [];
-      joined = further;
-      each = all_of (EndsInName case start) (paths ++ adds.added) (λ path among. ⊎_elim
-          (λ (before : Among paths path). of_all (EndsInName case start) paths it.each path before)
-          (λ (new : Among adds.added path). record { name = name; may = may; joined = of_all (λ found. (found ≡ start ++ name) ⊎ (found ≡ (start ++ name) ++ slash ∷ [])) adds.added adds.each path new })
-          (among_cases paths adds.added path among));
-      found = λ tree known path. (
-        let before = it.found tree known path in let new = adds.found tree (stays tree known) path in
-            (λ among. ⊎_elim
-            (λ (one : Among paths path). old tree path (before.0 one))
-            (λ (one : Among adds.added path). record { name = name; among = among_last it.passed name; may = may; here = new.0 one })
-            (among_cases paths adds.added path among)),
-        (λ found. ⊎_elim
-            (λ (passed : Among it.passed found.name). among_left paths adds.added path (before.1 (record { name = found.name; among = passed; may = found.may; here = found.here })))
-            (λ (last : Among (name ∷ []) found.name). ⊎_elim
-            (λ (is : name ≡ found.name). among_right paths adds.added path (new.1 (subst (λ n. IsFound lists case tree (start ++ n) path) (sym is) found.here)))
-            (λ (never : ⊥). absurd never)
-            last)
-            (among_cases it.passed (name ∷ []) found.name found.among)),
-      );
-    })
+    module _ (may : IsEntryName case name) (Now : FileTree → Type 0) (stays : (tree : FileTree) → Known tree → Now tree) (more : List (List ℕ)) (adds : AddsFound Now lists case (start ++ name) paths more) where
+      found_new : (tree : FileTree) → Known tree → (path : List ℕ) → Among (paths ++ adds.added) path → IsFoundAmong lists case tree start (it.passed ++ name ∷ []) path
+      found_new tree known path among = ⊎_elim
+          (λ (one : Among paths path). (let each = it.found tree known path in old tree path (each.0 one)))
+          (λ (one : Among adds.added path). (let each = adds.found tree (stays tree known) path in record { name = name; among = among_last it.passed name; may = may; here = each.0 one }))
+          (among_cases paths adds.added path among)
+
+      is_among : (tree : FileTree) → Known tree → (path : List ℕ) → IsFoundAmong lists case tree start (it.passed ++ name ∷ []) path → Among (paths ++ adds.added) path
+      is_among tree known path found = ⊎_elim
+          (λ (passed : Among it.passed found.name). (let each = it.found tree known path in among_left paths adds.added path (each.1 (record { name = found.name; among = passed; may = found.may; here = found.here }))))
+          (λ (last : Among (name ∷ []) found.name). ⊎_elim
+          (λ (is : name ≡ found.name). (let each = adds.found tree (stays tree known) path in among_right paths adds.added path (each.1 (subst (λ n. IsFound lists case tree (start ++ n) path) (sym is) found.here))))
+          (λ (never : ⊥). absurd never)
+          last)
+          (among_cases it.passed (name ∷ []) found.name found.among)
+
+      going_joined : IsGoingOver Known lists case start names left (paths ++ adds.added)
+      going_joined = record {
+        passed = it.passed ++ name ∷ [];
+        joined = further;
+        each = all_of (EndsInName case start) (paths ++ adds.added) (λ path among. ⊎_elim
+            (λ (before : Among paths path). of_all (EndsInName case start) paths it.each path before)
+            (λ (new : Among adds.added path). record { name = name; may = may; joined = of_all (λ found. (found ≡ start ++ name) ⊎ (found ≡ (start ++ name) ++ slash ∷ [])) adds.added adds.each path new })
+            (among_cases paths adds.added path among));
+        found = λ tree known path. (found_new tree known path, is_among tree known path);
+      }
+
+      pub going_on : IsGoingOver Known lists case start names left more
+      going_on = subst (λ all. IsGoingOver Known lists case start names left all) (sym adds.joined) going_joined
 
 -- ---- what stands at a path
 

@@ -1,18 +1,20 @@
 -- The lists that decide about the entries of a folder, and those whose bases are folders.
 use Rattle.std.proofs.Common.{◌≡◌, ◌≢◌, ⊎_elim, inr, ℕ, List, [], ◌∷◌, ◌++◌, take, None, Some, map, refl, sym, ap, subst, ◌∙◌, append_assoc, append-nil}
-use Rattle.std.proofs.lemmas.List.{map-append}
+use Rattle.std.proofs.lemmas.List.{map-append, take-map}
 use Rattle.std.proofs.lemmas.List.Elements.{All-append, All-cons, All-nil, All-take}
 use Rattle.std.proofs.lemmas.Option.{same_Some}
 use Rattle.gix_glob.specs.Bytes.{slash}
-use Rattle.gix_glob.specs.EntryLists.{EntryList}
+use Rattle.gix_glob.specs.declared.search.pattern.list.List as patterns
+use Rattle.gix_glob.specs.Entries.{Entry}
+use Rattle.gix_glob.specs.EntryLists.{EntryList, entry_list_of}
 use Rattle.glob_lines.specs.Lines.{HasNo}
 use Rattle.glob_lists.specs.Deciding.{BasesAreFolders, HasFolder}
-use Rattle.glob_trees.specs.Ways.{Folder, base_of_folder, folders_to, start_of, unless_empty, with_entries}
+use Rattle.glob_trees.specs.Ways.{Folder, base_of_folder, folders_to, if_any, start_of, unless_empty, with_entries}
 use Rattle.glob_trees.proofs.lemmas.WayLemmas.{folders_other, folders_slash}
 use Rattle.glob_trees.proofs.lemmas.WithEntries.{empty_or_not, with_entries_more}
 use Rattle.tree_commands.specs.FileTrees.{FileTree}
 use Rattle.tree_commands.specs.Files.{Basis, lists_to}
-use Rattle.tree_commands.specs.Private.Listing.{lists_before}
+use Rattle.tree_commands.specs.Private.Listing.{lists_before, seen_lists}
 
 -- ---- the folders on the way
 
@@ -66,3 +68,11 @@ module _ {V : Type 0} where
       (λ (none : unless_empty list ≡ []). subst (λ own. BasesAreFolders (lists ++ own)) (sym none) (bases_joined lists [] bases (All-nil HasFolder)))
       (λ (some : unless_empty list ≡ list ∷ []). subst (λ own. BasesAreFolders (lists ++ own)) (sym some) (bases_joined lists (list ∷ []) bases (bases_one list (of_folder list folder of))))
       (empty_or_not list)
+
+-- ---- the list of a folder that was found to have none
+
+pub no_list : (tree : FileTree) (folder : Folder) → (tree.list folder).entries ≡ [] → [] ≡ unless_empty (tree.list folder)
+no_list tree folder none = sym (ap (λ (entries : List (Entry (Unit {0}))). if_any entries (tree.list folder)) none)
+
+pub seen_taken : {T X : Type 0} (n : ℕ) (lists : List (patterns.List T X)) → take n (seen_lists lists) ≡ seen_lists (take n lists)
+seen_taken n lists = take-map (entry_list_of (λ _. tt)) n lists

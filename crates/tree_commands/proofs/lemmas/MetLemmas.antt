@@ -1,5 +1,6 @@
 -- The paths that are met from one on.
-use Rattle.std.proofs.Common.{◌≡◌, ◌≢◌, ◌⊎◌, inl, inr, ⊎_elim, ℕ, true, false, List, [], ◌∷◌, ◌++◌, refl, sym, ap, subst, ◌∙◌}
+use Rattle.std.proofs.Common.{◌≡◌, ◌≢◌, ◌⊎◌, inl, inr, ⊎_elim, ℕ, Bool, true, false, List, [], ◌∷◌, ◌++◌, refl, sym, ap, subst, ◌∙◌}
+use Rattle.std.specs.Prelude.{IsTrue}
 use Rattle.std.proofs.lemmas.Bool.{false≢true}
 use Rattle.gix_glob.specs.Bytes.{EndsInSlash}
 use Rattle.glob_trees.specs.Ways.{Folder, start_of}
@@ -62,3 +63,12 @@ module _ (basis : Basis) (tree : FileTree) where
       let same : first.folder ≡ folder = one_folder first.folder folder (sym first.is_start) in
       (first.found, subst (λ at. IsEntryOf basis tree at first.found) same first.entry, first.rest))
       (meets_first met)
+
+-- whether a folder is entered, by what is told of it
+pub open_by : (shut git : Bool) (folder : Folder) → ((IsTrue shut → (git ≡ true) × (folder ≢ [])) × ((git ≡ true) × (folder ≢ []) → IsTrue shut)) → shut ≡ false → (folder ≡ []) ⊎ (git ≡ false)
+open_by shut git [] tells is = inl refl
+open_by shut true (b ∷ folder) tells is = absurd (false≢true (sym is ∙ tells.1 (refl, λ none. absurd (cc))))
+open_by shut false (b ∷ folder) tells is = inr refl
+
+pub shut_by : (shut git : Bool) (folder : Folder) → ((IsTrue shut → (git ≡ true) × (folder ≢ [])) × ((git ≡ true) × (folder ≢ []) → IsTrue shut)) → shut ≡ true → (git ≡ true) × (folder ≢ [])
+shut_by shut git folder tells is = tells.0 is

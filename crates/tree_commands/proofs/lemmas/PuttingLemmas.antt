@@ -1,11 +1,14 @@
 -- Paths that are put in order, each once.
-use Rattle.std.proofs.Common.{◌≡◌, ◌≢◌, ◌⊎◌, inl, inr, ⊎_elim, ℕ, zero, suc, ◌+◌, ◌<◌, ◌≤◌, true, false, List, [], ◌∷◌, ◌++◌, length, get_or, map, refl, sym, ap, subst, ◌∙◌, append_assoc, append-nil, arith}
-use Rattle.std.specs.Prelude.{◌↔◌, IsPermutation, IsSorted}
+use Rattle.std.proofs.Common.{◌≡◌, ◌≢◌, ◌⊎◌, inl, inr, ⊎_elim, ℕ, zero, suc, ◌+◌, ◌<◌, ◌≤◌, true, false, List, [], ◌∷◌, ◌++◌, length, get_or, map, take, refl, sym, ap, subst, ◌∙◌, append_assoc, append-nil, arith}
+use Rattle.std.specs.Prelude.{◌↔◌, ◌-◌, Bool, IsPermutation, IsSorted, IsTrue, Some, slice_get}
 use Rattle.std.specs.Cmp.Lexicographic.{slice_cmp}
 use Rattle.std.specs.List.{AllByRecursion, Contains}
 use Rattle.std.specs.Ordering.{is_lt, nat_cmp}
 use Rattle.std.proofs.lemmas.Bool.{false≢true}
-use Rattle.std.proofs.lemmas.List.{map-append, same_from_push}
+use Rattle.std.specs.Str.{bytes_eq}
+use Rattle.std.proofs.lemmas.List.{map-append, map_push, same_from_push, take_all, take_more}
+use Rattle.std.proofs.lemmas.Option.{get_or_from_slice_get, slice_get_within}
+use Rattle.std.proofs.lemmas.Slice.Eq.{bytes_eq-Decides}
 use Rattle.std.proofs.lemmas.List.Sorted.{Contains-permutation, IsPermutation-sym}
 use Rattle.tree_commands.specs.declared.files.pending.Pending.{Pending}
 use Rattle.tree_commands.specs.Files.{ComesBefore}
@@ -22,13 +25,20 @@ AreRising (path ∷ paths) = AllByRecursion (λ later. ¬ ComesBefore later path
 
 module _ {X : Type 0} (bytes : X → List ℕ) where
   not_less : (x y : X) → is_lt (slice_cmp nat_cmp (bytes y) (bytes x)) ≡ false → ¬ ComesBefore (bytes y) (bytes x)
-  not_less x y no before = false≢true (sym no ∙ ap is_lt before)
+  not_less x y later before = false≢true (sym later ∙ ap is_lt before)
+
+  next_sorted : (x y : X) (xs : List X) → IsSorted (λ a b. slice_cmp nat_cmp (bytes a) (bytes b)) (x ∷ y ∷ xs) → (k : ℕ) (d : X) → k + 1 < length (y ∷ xs)
+      → is_lt (slice_cmp nat_cmp (bytes (get_or (y ∷ xs) (k + 1) d)) (bytes (get_or (y ∷ xs) k d))) ≡ false
+  next_sorted x y xs sorted k d inside =
+      let there = sorted (suc k) d (omega arith) (omega arith) in
+      let place : suc k + 1 ≡ suc (k + 1) = omega arith in
+      subst (λ n. is_lt (slice_cmp nat_cmp (bytes (get_or (x ∷ y ∷ xs) n d)) (bytes (get_or (y ∷ xs) k d))) ≡ false) place there
 
   pub rising : (xs : List X) → IsSorted (λ x y. slice_cmp nat_cmp (bytes x) (bytes y)) xs → AreRising (map bytes xs)
   rising [] sorted = tt
   rising (x ∷ []) sorted = (tt, tt)
   rising (x ∷ y ∷ xs) sorted =
-      let rest = rising (y ∷ xs) (λ k d low high. sorted (suc k) d (omega arith) (omega arith)) in
+      let rest = rising (y ∷ xs) (λ k d low high. next_sorted x y xs sorted k d high) in
       let first : ¬ ComesBefore (bytes y) (bytes x) = not_less x y (sorted 0 x (omega arith) (omega arith)) in
       ((first, all_of (λ later. ¬ ComesBefore later (bytes x)) (map bytes xs) (λ later among. not_behind_trans (bytes x) (bytes y) later first (of_all (λ l. ¬ ComesBefore l (bytes y)) (map bytes xs) rest.0 later among))), rest)
 
@@ -58,6 +68,24 @@ descending_push (first ∷ paths) path ordered before = (
       (among_cases paths (path ∷ []) other among)),
   descending_push paths path ordered.1 (λ one among. before one (inr among)),
 )
+
+-- ---- the last path
+
+last_split : {X : Type 0} (xs : List X) (last : X) → slice_get xs (length xs - 1) ≡ Some last → xs ≡ take (length xs - 1) xs ++ last ∷ []
+last_split xs last there =
+    let n : ℕ = length xs - 1 in
+    let inside = slice_get_within xs (length xs - 1) last there in
+    sym (take_all (length xs - 1 + 1) xs (omega arith)) ∙ take_more xs (length xs - 1) last inside ∙ ap (λ x. take (length xs - 1) xs ++ x ∷ []) (get_or_from_slice_get xs (length xs - 1) last last there)
+
+module _ {X : Type 0} (bytes : X → List ℕ) (xs : List X) (last : X) (path : List ℕ) (there : slice_get xs (length xs - 1) ≡ Some last) where
+  mapped : map bytes xs ≡ map bytes (take (length xs - 1) xs) ++ bytes last ∷ []
+  mapped = ap (map bytes) (last_split xs last there) ∙ map_push bytes (take (length xs - 1) xs) last
+
+  pub is_last_of : (test : Bool) → test ≡ bytes_eq (bytes last) path → IsTrue test ↔ EndsWith (map bytes xs) path
+  is_last_of test same = (
+    λ yes. (map bytes (take (length xs - 1) xs), mapped ∙ ap (λ b. map bytes (take (length xs - 1) xs) ++ b ∷ []) (let is = bytes_eq-Decides (bytes last) path in is.0 (sym same ∙ yes))),
+    λ ends. (let both = same_from_push (map bytes (take (length xs - 1) xs)) ends.0 (bytes last) path (sym mapped ∙ ends.1) in let is = bytes_eq-Decides (bytes last) path in same ∙ is.1 both.1),
+  )
 
 -- ---- some are put, and some are left
 

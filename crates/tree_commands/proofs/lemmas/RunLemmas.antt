@@ -7,10 +7,11 @@ use Rattle.std.proofs.lemmas.List.{flat_map_more, take_at}
 use Rattle.gix_glob.specs.declared.pattern.Case.{Case}
 use Rattle.gix_glob.specs.EntryLists.{EntryList}
 use Rattle.glob_lines.specs.Transfers.{AppendsFront}
+use Rattle.glob_trees.specs.Ways.{Folder, start_of}
 use Rattle.tree_commands.specs.declared.files.pending.Pending.{Pending}
 use Rattle.tree_commands.specs.FileTrees.{FileTree}
 use Rattle.tree_commands.specs.Files.{IsLeaf, IsMet, Basis}
-use Rattle.tree_commands.specs.Private.Listing.{Among, Enters, IsEntered, IsToList, path_of}
+use Rattle.tree_commands.specs.Private.Listing.{Among, Enters, IsEntered, IsToList, Visits, WritesOut, path_of, with_line}
 use Rattle.tree_commands.specs.Private.UnderWay.{Beginning, IsHalfway, IsUnderWay, IsWriting, OfKnown, WritesAll, WritesFront}
 use Rattle.tree_commands.proofs.lemmas.AmongLemmas.{among_last}
 use Rattle.tree_commands.proofs.lemmas.ListingLemmas.{halfway_entered, halfway_listed, under_way_entered, under_way_listed}
@@ -105,3 +106,29 @@ module _ (line : List ℕ → List ℕ) (Known : FileTree → Type 0) (case : Ca
           (it.under_way.counts next (among_last pending next))
           Now (stays tree known) new_lists new_pending (subst (λ c. Enters Now c is.folder next.list_count lists new_lists pending new_pending) (sym same) is.enters);
     }
+
+    -- what is written beside it goes on what was
+    pub asked_is_met : (folder : Folder) → path_of next ≡ start_of folder → OfKnown Known case beginning (λ basis tree start. IsMet basis tree start (start_of folder))
+    asked_is_met folder is = λ tree known basis same start halfway.
+        let now = it.halfway tree known basis same start halfway in subst (IsMet basis tree start) is (now.met next (among_last pending next))
+
+  -- of the text a front is written
+  writes_out : (middle new : Option (List ℕ)) (text left written : List ℕ) (pending : List Pending) (lists : List (EntryList (Unit {0}))) → IsWriting line Known case beginning old middle text pending lists
+      → Appends middle new written → text ≡ written ++ left → IsWriting line Known case beginning old new left pending lists
+  writes_out middle new text left written pending lists it out cut = record {
+    listed = it.listed;
+    under_way = it.under_way;
+    written = it.written ++ written;
+    appended = appends_more old middle new it.written written it.appended out;
+    joined = it.joined ∙ ap (λ l. it.written ++ l) cut ∙ sym (append_assoc it.written written left);
+    halfway = it.halfway;
+  }
+
+  -- the next path was visited, and of what is to be written a front is
+  pub writes_on : (Now : FileTree → Type 0) (stays : (tree : FileTree) → Known tree → Now tree) (middle new : Option (List ℕ)) (text left : List ℕ) (next : Pending) (pending new_pending : List Pending) (lists new_lists : List (EntryList (Unit {0})))
+      (listed : Option (List ℕ)) → IsWriting line Known case beginning old middle text (pending ++ next ∷ []) lists → Visits Now case next lists new_lists pending new_pending listed
+      → WritesOut middle new (with_line line text listed) left → IsWriting line Known case beginning old new left new_pending new_lists
+  writes_on Now stays middle new text left next pending new_pending lists new_lists None it visited out =
+      writes_out middle new text left out.0 new_pending new_lists (writes_entered Now stays middle text next pending lists it new_pending new_lists visited) out.1 out.2
+  writes_on Now stays middle new text left next pending new_pending lists new_lists (Some path) it visited out =
+      writes_listed Now stays middle text next pending lists it new new_pending new_lists path (text ++ line path) left out.0 visited refl out.1 out.2

@@ -1,6 +1,7 @@
 -- The way to the path at which a listing begins.
 use Rattle.std.proofs.Common.{◌≡◌, ◌≢◌, ◌⊎◌, inl, inr, ⊎_elim, ℕ, zero, suc, ◌+◌, ◌<◌, ◌≤◌, true, false, List, [], ◌∷◌, ◌++◌, length, map, take, refl, sym, ap, subst, ◌∙◌, append_assoc, arith}
-use Rattle.std.specs.Prelude.{slice_index}
+use Rattle.std.specs.Prelude.{Bool, MatchBool, slice_index}
+use Rattle.gix_glob.specs.declared.pattern.Case.{Case}
 use Rattle.std.proofs.lemmas.Bool.{cases_lt, false≢true}
 use Rattle.std.proofs.lemmas.List.{length-take-le, take_all, take_more}
 use Rattle.gix_glob.specs.Bytes.{HasByte, slash}
@@ -13,9 +14,9 @@ use Rattle.glob_trees.proofs.lemmas.Folders.{above_is_front, above_is_shorter, a
 use Rattle.glob_trees.proofs.lemmas.WayLemmas.{folders_other}
 use Rattle.told_paths.specs.Paths.{IsLastName}
 use Rattle.tree_commands.specs.FileTrees.{FileTree}
-use Rattle.tree_commands.specs.Files.{Basis, lists_to}
+use Rattle.tree_commands.specs.Files.{Basis, is_git, lists_to}
 use Rattle.tree_commands.specs.Ignoring.{IsIgnored}
-use Rattle.tree_commands.specs.Private.Listing.{AreOpen, lists_before}
+use Rattle.tree_commands.specs.Private.Listing.{AreOpen, IsClear, IsPassed, lists_before}
 use Rattle.tree_commands.proofs.lemmas.ListsLemmas.{lists_before_some, lists_in}
 
 -- ---- one last name
@@ -42,6 +43,24 @@ one_last_name path name other one two = ⊎_elim
     two.1)
     one.1
 
+-- ---- folders that are passed
+
+module _ (case : Case) (tree : FileTree) where
+  -- by its last name, and by whether `.git` lies in it
+  pub passed_by : (folder name : List ℕ) → IsLastName folder name → is_git case name ≡ false → (found : Bool) → found ≡ tree.has_git folder → MatchBool found (¬ IsPassed case tree folder) (IsPassed case tree folder)
+  passed_by folder name last other true is = λ passed. false≢true (sym passed.git ∙ sym is)
+  passed_by folder name last other false is = record {
+    other = λ text also. subst (λ n. is_git case n ≡ false) (one_last_name folder name text last also) other;
+    git = sym is;
+  }
+
+  pub clear_by : (path name : List ℕ) → IsLastName path name → ((folder : Folder) → IsAbove folder path → IsPassed case tree folder) → (git : Bool) → git ≡ is_git case name → MatchBool git (¬ IsClear case tree path) (IsClear case tree path)
+  clear_by path name last above true is = λ clear. false≢true (sym (clear.other name last) ∙ sym is)
+  clear_by path name last above false is = record {
+    above = above;
+    other = λ text also. subst (λ n. is_git case n ≡ false) (one_last_name path name text last also) (sym is);
+  }
+
 -- ---- the lists of the folders on the way, as far as a place
 
 pub record IsOnWayTo (basis : Basis) (tree : FileTree) (path : List ℕ) (place : ℕ) (lists : List (EntryList (Unit {0}))) : Type 0 where
@@ -49,7 +68,7 @@ pub record IsOnWayTo (basis : Basis) (tree : FileTree) (path : List ℕ) (place 
   pub open_so_far : (folder : Folder) → IsAbove folder path → length folder < place → ¬ IsIgnored (lists_to basis tree folder) basis.case folder true
 
 -- a folder above a path that is shorter than the next place is so already, or ends at the place
-above_or_here : {P : Type 0} (folder path : List ℕ) (place : ℕ) → IsAbove folder path → length folder < place + 1 → (length folder < place → P) → (HasByte path place slash → folder ≡ take place path → P) → P
+pub above_or_here : {P : Type 0} (folder path : List ℕ) (place : ℕ) → IsAbove folder path → length folder < place + 1 → (length folder < place → P) → (HasByte path place slash → folder ≡ take place path → P) → P
 above_or_here {P} folder path place above less before here = elim (cases_lt (length folder) place) [
   | inl shorter ↦ before shorter
   | inr longer ↦ (

@@ -4,7 +4,7 @@ use Rattle.std.specs.List.{AllByRecursion}
 use Rattle.std.specs.Io.KnownBytes.{Appends}
 use Rattle.gix_glob.specs.declared.pattern.Case.{Case}
 use Rattle.gix_glob.specs.declared.search.pattern.list.List as patterns
-use Rattle.gix_glob.specs.Bytes.{slash}
+use Rattle.gix_glob.specs.Bytes.{EndsInSlash, slash}
 use Rattle.gix_glob.specs.EntryLists.{EntryList, entry_list_of}
 use Rattle.glob_lists.specs.Paths.{IsPlainPath}
 use Rattle.glob_trees.specs.Trees.{IsAbove}
@@ -13,7 +13,7 @@ use Rattle.told_paths.specs.Paths.{IsLastName}
 use Rattle.tree_commands.specs.declared.files.pending.Pending.{Pending}
 use Rattle.tree_commands.specs.declared.files.source.EntryKind.{EntryKind}
 use Rattle.tree_commands.specs.FileTrees.{FileTree, names_in}
-use Rattle.tree_commands.specs.Files.{BeginsAt, ComesBefore, IsEntryName, IsFound, IsLeaf, Basis, is_folder, is_git, lists_to}
+use Rattle.tree_commands.specs.Files.{BeginsAt, BeginsBelow, ComesBefore, IsEntryName, IsFound, IsLeaf, Basis, is_folder, is_git, lists_to}
 use Rattle.tree_commands.specs.Ignoring.{IsIgnored}
 
 -- a list as plain data, and lists, with nothing seen of the values
@@ -152,6 +152,12 @@ pub record StandsAtStart (tree : FileTree) (path : List ℕ) (is_told : Bool) (f
   pub there : (kind : EntryKind) → found ≡ Some kind → (tree.kind path ≡ Some kind) × (is_told ≡ true → is_folder kind ≡ true)
   pub none : found ≡ None → (kind : EntryKind) → tree.kind path ≡ Some kind → (is_told ≡ true) × (is_folder kind ≡ false)
 
+-- what stands where a listing is to begin, where it may; or it begins nowhere
+abbrev pub MayBegin : (FileTree → Type 0) → Case → List ℕ → Bool → Option EntryKind → Type 0
+MayBegin Known case path is_told found = MatchOption found
+    ((tree : FileTree) → Known tree → (basis : Basis) → basis.case ≡ case → (start : List ℕ) → ¬ BeginsBelow basis tree path is_told start)
+    (λ kind. IsPlainPath path × (¬ EndsInSlash path) × ((tree : FileTree) → Known tree → StandsAtStart tree path is_told (Some kind)) × ((tree : FileTree) → Known tree → IsClear case tree path))
+
 -- no folder above the path is ignored
 abbrev pub AreOpen : Basis → FileTree → List ℕ → Type 0
 AreOpen basis tree path = (folder : Folder) → IsAbove folder path → ¬ IsIgnored (lists_to basis tree folder) basis.case folder true
@@ -183,6 +189,11 @@ abbrev pub Begins : (FileTree → Type 0) → Basis → List ℕ → Bool → Li
 Begins Known basis path is_told lists pending = BeginsNowhere Known basis path is_told pending ⊎ BeginsSomewhere Known basis path is_told lists pending
 
 -- ---- what is written
+
+-- a text with the line of a path, if one is listed
+abbrev pub with_line : (List ℕ → List ℕ) → List ℕ → Option (List ℕ) → List ℕ
+with_line line text None = text
+with_line line text (Some path) = text ++ line path
 
 -- the text was written, and none is left; or nothing was written, and all is left
 abbrev pub WritesOut : Option (List ℕ) → Option (List ℕ) → List ℕ → List ℕ → Type 0

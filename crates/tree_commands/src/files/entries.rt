@@ -12,6 +12,7 @@ ghost use Rattle.tree_commands.specs.FileTrees.{FileTree, StaysKnown, names_in};
 ghost use Rattle.tree_commands.specs.Files.{IsEntryName, is_folder, is_git};
 ghost use Rattle.tree_commands.specs.Private.Listing.{AddsFound, Among, EndsInName, IsFoundAmong, LeadsOn, StandsThere, names_left, seen_lists};
 
+use crate::files::asking::kind_at;
 use crate::files::ignoring::{Ignoring, ignoring_by, is_ignored_by};
 use crate::files::source::{EntryKind, FileSource};
 use gix_glob::pattern::Case;
@@ -154,7 +155,7 @@ fn what_stands<S: FileSource>(
 {
     match ignoring_by(&on_way.lists, on_way.case, path) {
         Ignoring::Always => Ok(None),
-        Ignoring::Never => source.kind(path).map_err(TreeFault::Source),
+        Ignoring::Never => kind_at(source, path),
         Ignoring::ByKind => kept_by_kind(source, on_way, path),
     }
 }
@@ -172,7 +173,7 @@ fn kept_by_kind<S: FileSource>(
     ensures stays { StaysKnown S.shows source.old source.new }
     ensures asks { GivesOnly (λ _. ⊥) (S.asked source.old) (S.asked source.new) }
 {
-    let Some(kind) = source.kind(path).map_err(TreeFault::Source)? else {
+    let Some(kind) = kind_at(source, path)? else {
         return Ok(None);
     };
     if is_ignored_by(&on_way.lists, on_way.case, path, is_folder(kind)) {

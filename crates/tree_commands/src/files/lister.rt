@@ -1,5 +1,5 @@
 //! A listing under way: the paths that are still to be visited, and the lists of the folders on the way to the next one.
-ghost use Rattle.std.specs.Prelude.{◌≡◌, ◌≢◌, ◌∷◌, ◌++◌, [], IfOk, MatchOption, OnOk, option_map};
+ghost use Rattle.std.specs.Prelude.{◌≡◌, ◌≢◌, ◌∷◌, ◌++◌, ◌↔◌, [], true, IfOk, IsTrue, MatchOption, OnOk, option_map};
 ghost use Rattle.std.specs.Vec.{vec_items};
 ghost use Rattle.gix_glob.specs.Bytes.{EndsInSlash, slash};
 ghost use Rattle.glob_lists.specs.Deciding.{BasesAreFolders};
@@ -7,6 +7,7 @@ ghost use Rattle.glob_trees.specs.Ways.{GivesOnly, start_of, unless_empty};
 ghost use Rattle.tree_commands.specs.FileTrees.{AreFoundIn, FileTree, StaysKnown};
 ghost use Rattle.tree_commands.specs.Private.Listing.{AddsOwn, Enters, LeadsOn, MayVisit, Visits, seen_list, seen_lists};
 
+use crate::files::asking::{list_of, names_in};
 use crate::files::entries::{ListsOnWay, entries_of};
 use crate::files::pending::{Pending, put_in_order};
 use crate::files::source::{FileSource, FolderNames};
@@ -58,8 +59,8 @@ impl Lister {
         let Some(folder) = folder_at(&next.path) else {
             return Ok(Some(next.path));
         };
-        let names = source.names(folder).map_err(TreeFault::Source)?;
-        if names.has_git && !folder.is_empty() {
+        let names = names_in(source, folder)?;
+        if is_shut(&names, folder) {
             return Ok(Some(next.path));
         }
         self.enter(source, &next, folder, &names)?;
@@ -84,13 +85,39 @@ impl Lister {
         ensures asks { GivesOnly (λ _. ⊥) (S.asked source.old) (S.asked source.new) }
     {
         self.on_way.lists.truncate(next.list_count);
-        if names.has_patterns {
-            push_own(self.alloc, source, &mut self.on_way, folder)?;
-        }
+        push_list_of(self.alloc, source, &mut self.on_way, folder, names)?;
         let paths = entries_of(self.alloc, source, &self.on_way, &next.path, &names.bytes)?;
         put_in_order(&mut self.pending, paths, self.on_way.lists.len())?;
         Ok(())
     }
+}
+
+/// Whether a folder is a repository of its own below the top.
+fn is_shut(names: &FolderNames, folder: &[u8]) -> bool
+    ensures { IsTrue result ↔ (names.now.has_git ≡ true) × (folder.now ≢ []) }
+{
+    names.has_git && !folder.is_empty()
+}
+
+/// Pushes the list of a folder behind the others, where the folder may have patterns by what is found in it, and has.
+fn push_list_of<S: FileSource>(
+    alloc: Global,
+    source: &mut S,
+    on_way: &mut ListsOnWay,
+    folder: &[u8],
+    names: &FolderNames,
+) -> Result<(), TreeFault<S::Fault>>
+    requires folders { BasesAreFolders (seen_lists on_way.old.lists.items) }
+    ensures adds { OnOk result (AddsOwn (λ tree. S.shows source.old tree × AreFoundIn tree folder.now names.now) folder.now (seen_lists on_way.old.lists.items) (seen_lists on_way.new.lists.items)) }
+    ensures case { on_way.new.case ≡ on_way.old.case }
+    ensures folders { OnOk result (BasesAreFolders (seen_lists on_way.new.lists.items)) }
+    ensures stays { StaysKnown S.shows source.old source.new }
+    ensures asks { GivesOnly (λ _. ⊥) (S.asked source.old) (S.asked source.new) }
+{
+    if !names.has_patterns {
+        return Ok(());
+    }
+    push_own(alloc, source, on_way, folder)
 }
 
 /// Pushes the list of a folder behind the others, where it has patterns.
@@ -107,7 +134,7 @@ pub(crate) fn push_own<S: FileSource>(
     ensures stays { StaysKnown S.shows source.old source.new }
     ensures asks { GivesOnly (λ _. ⊥) (S.asked source.old) (S.asked source.new) }
 {
-    let list = source.list_of(folder).map_err(TreeFault::Source)?;
+    let list = list_of(source, folder)?;
     push_if_any(alloc, on_way, list)?;
     Ok(())
 }

@@ -5,8 +5,9 @@ ghost use Rattle.glob_lists.specs.Deciding.{BasesAreFolders};
 ghost use Rattle.glob_lists.specs.Paths.{IsPlainPath};
 ghost use Rattle.glob_trees.specs.Ways.{GivesOnly};
 ghost use Rattle.tree_commands.specs.FileTrees.{FileTree, StaysKnown};
-ghost use Rattle.tree_commands.specs.Private.Listing.{Begins, IsClear, IsPassed, PutsListsTo, StandsAtStart, seen_lists};
+ghost use Rattle.tree_commands.specs.Private.Listing.{Begins, IsClear, IsPassed, MayBegin, PutsListsTo, StandsAtStart, seen_lists};
 
+use crate::files::asking::{has_git_in, kind_at};
 use crate::files::entries::{ListsOnWay, append_mark, is_folder, is_git};
 use crate::files::ignoring::is_ignored_by;
 use crate::files::lister::{Lister, push_own};
@@ -43,7 +44,8 @@ impl Lister {
 
     /// Puts the path at which the listing begins, with all lists.
     fn put_start(&mut self, path: Vec<u8>) -> Result<(), AllocError>
-        ensures { OnOk result ((self.new.pending.items ≡ self.old.pending.items ++ record { path = path; list_count = length self.old.on_way.lists.items } ∷ []) × (self.new.on_way ≡ self.old.on_way)) }
+        ensures pending { OnOk result (self.new.pending.items ≡ self.old.pending.items ++ record { path = path; list_count = length self.old.on_way.lists.items } ∷ []) }
+        ensures on_way { self.new.on_way ≡ self.old.on_way }
     {
         self.pending.push(Pending {
             path,
@@ -68,27 +70,55 @@ impl Lister {
         ensures stays { StaysKnown S.shows source.old source.new }
         ensures asks { GivesOnly (λ _. ⊥) (S.asked source.old) (S.asked source.new) }
     {
-        if !is_whole(&path) || is_of_repository(source, self.on_way.case, &path)? {
-            return Ok(());
-        }
-        let Some(kind) = kind_at_start(source, &path, is_told_folder)? else {
+        let case = self.on_way.case;
+        let Some(kind) = kind_to_begin(source, case, &path, is_told_folder)? else {
             return Ok(());
         };
-        if put_lists_to(self.alloc, source, &mut self.on_way, &path)?
-            && !is_ignored_by(&self.on_way.lists, self.on_way.case, &path, is_folder(kind))
-        {
-            append_mark(&mut path, kind)?;
-            self.put_start(path)?;
+        if !put_lists_to(self.alloc, source, &mut self.on_way, &path)? {
+            return Ok(());
         }
+        if is_ignored_by(&self.on_way.lists, case, &path, is_folder(kind)) {
+            return Ok(());
+        }
+        append_mark(&mut path, kind)?;
+        self.put_start(path)?;
         Ok(())
     }
+}
+
+/// What stands where a listing is to begin, where no folder above it is a repository of its own; `None` where it begins nowhere.
+fn kind_to_begin<S: FileSource>(
+    source: &mut S,
+    case: Case,
+    path: &[u8],
+    is_told_folder: bool,
+) -> Result<Option<EntryKind>, TreeFault<S::Fault>>
+    ensures may { IfOk result (λ found. MayBegin (S.shows source.old) case path.now is_told_folder found) }
+    ensures stays { StaysKnown S.shows source.old source.new }
+    ensures asks { GivesOnly (λ _. ⊥) (S.asked source.old) (S.asked source.new) }
+{
+    if !is_whole(path) {
+        return Ok(None);
+    }
+    if is_of_repository(source, case, path)? {
+        return Ok(None);
+    }
+    let found = kind_at_start(source, path, is_told_folder)?;
+    Ok(found)
 }
 
 /// Whether the bytes are a path, with no slash at its end.
 fn is_whole(path: &[u8]) -> bool
     ensures { IsTrue result ↔ IsPlainPath path.now × (¬ EndsInSlash path.now) }
 {
-    plain_path(path) && !path.ends_with(b"/")
+    plain_path(path) && !ends_in_slash(path)
+}
+
+/// Whether the last byte is a slash.
+fn ends_in_slash(path: &[u8]) -> bool
+    ensures { IsTrue result ↔ EndsInSlash path.now }
+{
+    matches!(path, [.., b'/'])
 }
 
 /// Whether a folder above a path is a repository of its own, or one of them or the path has the name of a repository's files.
@@ -102,7 +132,10 @@ fn is_of_repository<S: FileSource>(
     ensures asks { GivesOnly (λ _. ⊥) (S.asked source.old) (S.asked source.new) }
 {
     'bytes: for place in 0..path.len() {
-        if path[place] == b'/' && is_repository(source, case, &path[..place])? {
+        if path[place] != b'/' {
+            continue;
+        }
+        if is_repository(source, case, &path[..place])? {
             return Ok(true);
         }
     }
@@ -122,7 +155,8 @@ fn is_repository<S: FileSource>(
     if is_git(case, last_name(folder)) {
         return Ok(true);
     }
-    source.has_git(folder).map_err(TreeFault::Source)
+    let has_git = has_git_in(source, folder)?;
+    Ok(has_git)
 }
 
 /// What stands where a listing is to begin; `None` where nothing is listed there. A path that is told as a folder's has to be one.
@@ -135,7 +169,7 @@ fn kind_at_start<S: FileSource>(
     ensures stays { StaysKnown S.shows source.old source.new }
     ensures asks { GivesOnly (λ _. ⊥) (S.asked source.old) (S.asked source.new) }
 {
-    let found = source.kind(path).map_err(TreeFault::Source)?;
+    let found = kind_at(source, path)?;
     if !is_told_folder || matches!(found, Some(EntryKind::Folder)) {
         return Ok(found);
     }
