@@ -13,3 +13,4 @@ pub mod RunLemmas
 pub mod SourceLemmas
 pub mod StackLemmas
 pub mod StartLemmas
+pub mod VisitLemmas

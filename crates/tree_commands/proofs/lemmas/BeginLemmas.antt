@@ -5,6 +5,7 @@ use Rattle.std.specs.List.{AllByRecursion, Contains}
 use Rattle.std.proofs.lemmas.List.{take_all}
 use Rattle.std.proofs.lemmas.List.Elements.{All-from_recursion}
 use Rattle.std.proofs.lemmas.List.Kept.{AllPairs-cons}
+use Rattle.std.proofs.lemmas.Bool.{false≢true}
 use Rattle.std.proofs.lemmas.Option.{same_Some}
 use Rattle.gix_glob.specs.Bytes.{EndsInSlash, slash}
 use Rattle.gix_glob.specs.EntryLists.{EntryList}
@@ -20,7 +21,7 @@ use Rattle.tree_commands.specs.declared.files.source.EntryKind.TheVariants as ki
 use Rattle.tree_commands.specs.FileTrees.{FileTree}
 use Rattle.tree_commands.specs.Files.{Basis, BeginsAt, BeginsBelow, ComesBefore, IsFound, IsLeaf, IsMet, IsReached, begins, is_folder, lists_to}
 use Rattle.tree_commands.specs.Ignoring.{IsIgnored}
-use Rattle.tree_commands.specs.Private.Listing.{Among, AreAscending, AreOpen, Begins, BeginsNowhere, BeginsSomewhere, IsClear, MayVisit, StandsAtStart, lists_before, path_of}
+use Rattle.tree_commands.specs.Private.Listing.{Among, AreAscending, AreOpen, Begins, BeginsNowhere, BeginsSomewhere, IsClear, MayVisit, PutsListsTo, StandsAtStart, lists_before, path_of}
 use Rattle.tree_commands.specs.Private.UnderWay.{Beginning, IsHalfway, IsUnderWay, OfKnown, WritesAll, WritesFront, count_of}
 use Rattle.tree_commands.proofs.lemmas.AmongLemmas.{among_contained, contains_among}
 use Rattle.tree_commands.proofs.lemmas.ListsLemmas.{lists_before_some}
@@ -270,3 +271,14 @@ module _ (basis : Basis) (tree : FileTree) (path : List ℕ) (is_told : Bool) (s
   begins_unignored lists kind are there ignored =
       let same : kind ≡ it.here.kind = same_Some kind it.here.kind (sym there ∙ it.here.there) in
       it.here.unignored (subst (λ k. IsIgnored (lists_to basis tree path) basis.case path (is_folder k)) same (subst (λ (l : List (EntryList (Unit {0}))). IsIgnored l basis.case path (is_folder kind)) are ignored))
+
+-- ---- the way to it
+
+module _ (basis : Basis) (tree : FileTree) (path : List ℕ) (lists : List (EntryList (Unit {0}))) where
+  pub way_is_open : (is_open : Bool) → is_open ≡ true → PutsListsTo basis tree path lists is_open → (lists ≡ lists_to basis tree path) × AreOpen basis tree path
+  way_is_open true is puts = puts
+  way_is_open false is puts = absurd (false≢true is)
+
+  pub way_is_not_open : (is_open : Bool) → is_open ≡ false → PutsListsTo basis tree path lists is_open → ¬ AreOpen basis tree path
+  way_is_not_open true is puts = absurd (false≢true (sym is))
+  way_is_not_open false is puts = puts

@@ -1,6 +1,6 @@
 -- The lists that decide about the entries of a folder, and those whose bases are folders.
-use Rattle.std.proofs.Common.{◌≡◌, ◌≢◌, ⊎_elim, inr, ℕ, List, [], ◌∷◌, ◌++◌, take, None, Some, map, refl, sym, ap, subst, ◌∙◌, append_assoc, append-nil}
-use Rattle.std.proofs.lemmas.List.{map-append, take-map}
+use Rattle.std.proofs.Common.{◌≡◌, ◌≢◌, ⊎_elim, inr, ℕ, List, [], ◌∷◌, ◌++◌, length, take, None, Some, map, refl, sym, ap, subst, ◌∙◌, append_assoc, append-nil}
+use Rattle.std.proofs.lemmas.List.{length-map, map-append, take-map}
 use Rattle.std.proofs.lemmas.List.Elements.{All-append, All-cons, All-nil, All-take}
 use Rattle.std.proofs.lemmas.Option.{same_Some}
 use Rattle.gix_glob.specs.Bytes.{slash}
@@ -76,3 +76,6 @@ no_list tree folder none = sym (ap (λ (entries : List (Entry (Unit {0}))). if_a
 
 pub seen_taken : {T X : Type 0} (n : ℕ) (lists : List (patterns.List T X)) → take n (seen_lists lists) ≡ seen_lists (take n lists)
 seen_taken n lists = take-map (entry_list_of (λ _. tt)) n lists
+
+pub seen_length : {T X : Type 0} (lists : List (patterns.List T X)) → length (seen_lists lists) ≡ length lists
+seen_length lists = length-map lists (entry_list_of (λ _. tt))

@@ -132,3 +132,6 @@ module _ (line : List ℕ → List ℕ) (Known : FileTree → Type 0) (case : Ca
       writes_out middle new text left out.0 new_pending new_lists (writes_entered Now stays middle text next pending lists it new_pending new_lists visited) out.1 out.2
   writes_on Now stays middle new text left next pending new_pending lists new_lists (Some path) it visited out =
       writes_listed Now stays middle text next pending lists it new new_pending new_lists path (text ++ line path) left out.0 visited refl out.1 out.2
+
+pub nothing_in_front : (line : List ℕ → List ℕ) (old : Option (List ℕ)) → AppendsFront old old (flat_map line [])
+nothing_in_front line old = record { count = 0; appended = appends_none old }

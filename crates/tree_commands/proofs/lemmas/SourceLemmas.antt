@@ -33,10 +33,11 @@ on_ok_through (Ok x) (Err f) same then p = tt
 on_ok_through (Err e) (Ok y) same then p = absurd (cc)
 on_ok_through (Err e) (Err f) same then p = tt
 
-pub at_true : {P Q : Type 0} (b : Bool) → b ≡ true → MatchBool b P Q → P
-at_true true is p = p
-at_true false is p = absurd (false≢true is)
+-- what a test tells, by how it came out
+pub at_true : (P Q : Type 0) (b : Bool) → b ≡ true → MatchBool b P Q → P
+at_true P Q true is p = p
+at_true P Q false is p = absurd (false≢true is)
 
-pub at_false : {P Q : Type 0} (b : Bool) → b ≡ false → MatchBool b P Q → Q
-at_false true is p = absurd (false≢true (sym is))
-at_false false is p = p
+pub at_false : (P Q : Type 0) (b : Bool) → b ≡ false → MatchBool b P Q → Q
+at_false P Q true is p = absurd (false≢true (sym is))
+at_false P Q false is p = p
