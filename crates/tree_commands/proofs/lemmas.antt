@@ -9,7 +9,7 @@ pub mod OrderLemmas
 pub mod PathLemmas
 pub mod PieceLemmas
 pub mod PuttingLemmas
-pub mod RunLemmas
+pub mod ListingRuns
 pub mod SourceLemmas
 pub mod StackLemmas
 pub mod StartLemmas

@@ -13,7 +13,7 @@ ghost use Rattle.told_paths.specs.Standpoints.{led};
 ghost use Rattle.tree_commands.specs.declared.files.fault.FilesFault.TheVariants as faults;
 ghost use Rattle.tree_commands.specs.FileTrees.{FileTree, StaysKnown};
 ghost use Rattle.tree_commands.specs.Files.{ComesBefore, IsLeaf, IsMet, IsReached, path_line, basis_of};
-ghost use Rattle.tree_commands.specs.Private.Faults.{is_of_start};
+ghost use Rattle.tree_commands.specs.Private.ListingFaults.{is_of_start};
 ghost use Rattle.tree_commands.specs.Private.Listing.{WritesOut, seen_lists, with_line};
 ghost use Rattle.tree_commands.specs.Private.UnderWay.{IsUnderWay, OfKnown, WritesAll, WritesFront, beginning_of};
 

@@ -1,6 +1,6 @@
 //! Why files aren't listed to the end.
 ghost use Rattle.std.specs.Prelude.{◌≡◌, false};
-ghost use Rattle.tree_commands.specs.Private.Faults.{is_of_start};
+ghost use Rattle.tree_commands.specs.Private.ListingFaults.{is_of_start};
 
 use glob_trees::TreeFault;
 use std::alloc::AllocError;

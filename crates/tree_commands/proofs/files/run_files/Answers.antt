@@ -9,7 +9,7 @@ use Rattle.tree_commands.specs.Files.{Basis, IsMet, IsReached, basis_of, path_li
 use Rattle.tree_commands.specs.Private.Listing.{Begins, seen_lists}
 use Rattle.tree_commands.specs.Private.UnderWay.{OfKnown, beginning_of}
 use Rattle.tree_commands.proofs.lemmas.BeginLemmas.{all_is_listed, all_pairs, folder_is_reached, some_is_listed}
-use Rattle.tree_commands.proofs.lemmas.RunLemmas.{nothing_in_front}
+use Rattle.tree_commands.proofs.lemmas.ListingRuns.{nothing_in_front}
 use Rattle.tree_commands.proofs.lemmas.SourceLemmas.{gives_further, on_any_err}
 use Rattle.tree_commands.proofs.files.run_files.Goals as goal
 

@@ -12,7 +12,7 @@ use Rattle.tree_commands.specs.Files.{IsMet, path_line}
 use Rattle.tree_commands.specs.Private.Listing.{MayVisit, Visits, WritesOut, seen_lists, with_line}
 use Rattle.tree_commands.specs.Private.UnderWay.{IsUnderWay, IsWriting, OfKnown, WritesFront, beginning_of}
 use Rattle.tree_commands.proofs.lemmas.ListingLemmas.{may_next}
-use Rattle.tree_commands.proofs.lemmas.RunLemmas.{all_is_written, asked_is_met, front_is_written, writes_on}
+use Rattle.tree_commands.proofs.lemmas.ListingRuns.{all_is_written, asked_is_met, front_is_written, writes_on}
 use Rattle.tree_commands.proofs.lemmas.SourceLemmas.{gives_further, on_any_err, on_ok_through, stays_further}
 use Rattle.tree_commands.proofs.files.write_listed.Goals as goal
 
