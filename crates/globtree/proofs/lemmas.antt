@@ -1,3 +1,1 @@
 pub mod AddedLemmas
-pub mod IgnoringLemmas
-pub mod PieceLemmas

@@ -1,3 +1,6 @@
 pub mod Answering
 pub mod CheckIgnore
+pub mod Files
+pub mod FileTrees
+pub mod Ignoring
 pub mod Private

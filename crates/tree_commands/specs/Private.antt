@@ -2,3 +2,7 @@
 pub mod Answering
 pub mod Faults
 pub mod Finding
+pub mod Ignoring
+pub mod Listing
+pub mod ListingFaults
+pub mod UnderWay

@@ -4,5 +4,6 @@
 
 mod answering;
 pub mod check_ignore;
+pub mod files;
 
 pub use answering::{answer_paths, answer_records};
