@@ -1,0 +1,2 @@
+pub mod CheckAttr
+pub mod Private

@@ -1,0 +1,4 @@
+-- Words that only private clauses cite: what the functions of the crate say to one another.
+pub mod AttributeAnswers
+pub mod AttributeRuns
+pub mod AttributeWays
