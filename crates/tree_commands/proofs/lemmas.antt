@@ -1,1 +1,5 @@
+pub mod AttributeEntries
+pub mod AttributeLeaves
 pub mod AttributeLists
+pub mod AttributePaths
+pub mod AttributeWalks

@@ -80,7 +80,7 @@ module _ (names : List (Bor (List ℕ))) (macros : List Definition) where
   -- a file's list keeps the same, whether by the one test or by the other
   narrowed_is_kept : (folder : Folder) (bytes : List ℕ) → narrowed (list_in folder bytes) ≡ kept_list (named (map (λ (name : Bor (List ℕ)). name.now) names)) macros folder bytes
   narrowed_is_kept folder bytes =
-      ap (λ entries. record list_in folder bytes { entries = entries })
+      ap (λ entries. record (list_in folder bytes) { entries = entries })
       (filter-alike (needed names macros) (λ entry. concerns (map (λ (name : Bor (List ℕ)). name.now) names) macros entry.value) (λ entry. concerns-named names macros entry.value) (attributes_of bytes))
 
 -- ---- the lists to a path

@@ -123,47 +123,69 @@ abbrev pub IsListed : Bool → Lists → Type 0
 IsListed true own = (list : EntryList (List Assigned)) × (own ≡ list ∷ [])
 IsListed false own = own ≡ []
 
+-- the top, of which nothing is kept, and the folder that was sighted last
+abbrev pub top_sight : Sighting
+top_sight = record { folder = []; file = None }
+
+abbrev pub last_sight : List Sighting → Sighting
+last_sight [] = top_sight
+last_sight (at ∷ []) = at
+last_sight (at ∷ next ∷ sights) = last_sight (next ∷ sights)
+
+-- this was sighted at a place: at the first one the top, and behind it the others in order
+abbrev pub IsAt : List Sighting → ℕ → Sighting → Type 0
+IsAt sights place at = slice_get (top_sight ∷ sights) place ≡ Some at
+
 -- a folder on the way: at which place it is known, how many bytes of a path name it, and whether its list is on the way
-pub record IsOnWay (own : Sighting → Lists) (sights : ℕ → Sighting) (count : ℕ) (folder : Folder) (there : FolderOnWay) : Type 0 where
-  pub inside : there.place < count
-  pub sighted : (sights there.place).folder ≡ folder
+pub record IsOnWay (own : Sighting → Lists) (sights : List Sighting) (at : Sighting) (there : FolderOnWay) : Type 0 where
+  pub sighted : IsAt sights there.place at
   pub file : List ℕ
-  pub stands : (sights there.place).file ≡ Some file
-  pub long : there.length ≡ length (start_of folder)
-  pub listed : IsListed there.has_list (own (sights there.place))
+  pub stands : at.file ≡ Some file
+  pub long : there.length ≡ length (start_of at.folder)
+  pub listed : IsListed there.has_list (own at)
+
+-- a folder is found by a name in another one
+pub record IsLinked (sights : List Sighting) (outer : ℕ) (name : List ℕ) (place : ℕ) : Type 0 where
+  pub above : Sighting
+  pub at_outer : IsAt sights outer above
+  pub below : Sighting
+  pub at_place : IsAt sights place below
+  pub deep : 0 < place
+  pub folder : below.folder ≡ start_of above.folder ++ name
 
 module _ (asked : Asked) (macros : List Definition) (shows : Folder → Option (List ℕ) → Type 0) where
+  -- a folder may look so, and where it has a file, this was read
+  pub record IsSighted (read : List (List ℕ)) (at : Sighting) : Type 0 where
+    pub shown : shows at.folder at.file
+    pub has_read : (bytes : List ℕ) → at.file ≡ Some bytes → Contains read bytes
+
   -- what is known of the folders by whose places something is kept, and of the names by which they are found
-  pub record AreKnown (sights : ℕ → Sighting) (names : FolderNames) (held : List FoundFolder) (way : List ℕ) : Type 0 where
+  pub record AreKnown (sights : List Sighting) (names : FolderNames) (held : List FoundFolder) (way : List ℕ) (read : List (List ℕ)) : Type 0 where
     pub count : names.count ≡ length held
-    pub some : 0 < length held
-    pub top : (sights 0).folder ≡ []
-    pub links : (outer : ℕ) (name : List ℕ) (place : ℕ) → names.found outer name ≡ Some place
-        → (0 < place) × ((sights place).folder ≡ start_of (sights outer).folder ++ name)
-    pub shown : (place : ℕ) → 0 < place → place < length held → shows (sights place).folder (sights place).file
-    pub kept : (place : ℕ) (found : FoundFolder) → slice_get held place ≡ Some found → Holds (own_lists asked macros (sights place)) (sights place).file way place found
+    pub level : length held ≡ length (top_sight ∷ sights)
+    pub links : (outer : ℕ) (name : List ℕ) (place : ℕ) → names.found outer name ≡ Some place → IsLinked sights outer name place
+    pub sighted : AllByRecursion (IsSighted read) sights
+    pub kept : (place : ℕ) (found : FoundFolder) (at : Sighting) → slice_get held place ≡ Some found → IsAt sights place at → Holds (own_lists asked macros at) at.file way place found
 
-  -- the files that were read so far, among them those of all known folders
-  pub record HaveRead (sights : ℕ → Sighting) (count : ℕ) (read : List (List ℕ)) : Type 0 where
-    pub shown : AllByRecursion (λ bytes. (folder : Folder) × shows folder (Some bytes)) read
-    pub each : (place : ℕ) (bytes : List ℕ) → 0 < place → place < count → (sights place).file ≡ Some bytes → Contains read bytes
-
-  -- The folders on the way to what lies right in the folder are entered, and their lists stand before the last one.
+  -- The folders on the way to what lies right in the folder are entered, and their lists stand before the last one. These files were read
+  -- of folders so far.
   pub record AreEntered (info : EntryList (List Assigned)) (lists : Lists) (folder : List ℕ) (way : List FolderOnWay) (names : FolderNames) (held : List FoundFolder) (read : List (List ℕ)) : Type 0 where
-    pub sights : ℕ → Sighting
-    pub known : AreKnown sights names held (places_of way)
-    pub folders : List Folder
-    pub joined : folders_to folder ≡ [] ∷ folders
-    pub on_way : AllZip (IsOnWay (own_lists asked macros) sights (length held)) folders way
-    pub standing : lists ≡ flat_map (λ there. own_lists asked macros (sights there.place)) way ++ info ∷ []
-    pub have_read : HaveRead sights (length held) read
+    pub sights : List Sighting
+    pub known : AreKnown sights names held (places_of way) read
+    pub on_way : List Sighting
+    pub joined : folders_to folder ≡ [] ∷ map (λ at. at.folder) on_way
+    pub each : AllZip (IsOnWay (own_lists asked macros) sights) on_way way
+    pub standing : lists ≡ flat_map (own_lists asked macros) on_way ++ info ∷ []
+    pub shown : AllByRecursion (λ bytes. (folder : Folder) × shows folder (Some bytes)) read
     -- what lies right in the last of them begins with the folder
-    pub starts : folder ≡ start_of (sights (last_on way).place).folder
+    pub starts : folder ≡ start_of (last_sight on_way).folder
 
-  -- a place at which the folder is known
-  abbrev pub IsPlaceOf : {info : EntryList (List Assigned)} {lists : Lists} {folder : List ℕ} {way : List FolderOnWay} {names : FolderNames} {held : List FoundFolder} {read : List (List ℕ)}
-      → AreEntered info lists folder way names held read → Folder → ℕ → Type 0
-  IsPlaceOf {held = held} entered folder place = (0 < place) × (place < length held) × ((entered.sights place).folder ≡ folder)
+-- a folder is known at a place
+pub record IsPlaceOf (sights : List Sighting) (folder : Folder) (place : ℕ) : Type 0 where
+  pub deep : 0 < place
+  pub at : Sighting
+  pub there : IsAt sights place at
+  pub named : at.folder ≡ folder
 
 -- ---- the state of a walk
 
@@ -186,7 +208,7 @@ module _ {S Q : Type 0} (files : Files) (asked : Asked) (shows : Folder → Opti
   -- the same, and a folder is known at a place
   pub record Knows (walk : FolderAttributes S Q) (folder : Folder) (place : ℕ) : Type 0 where
     pub walks : IsEntered walk
-    pub here : IsPlaceOf asked (macros_for files) shows walks.entered folder place
+    pub here : IsPlaceOf walks.entered.sights folder place
 
   -- the folders on the way to a path are entered as far as folders stand there: their files are found, and their lists stand before the
   -- repository's own
