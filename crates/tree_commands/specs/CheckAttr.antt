@@ -1,5 +1,5 @@
 -- What is written about the attributes of told paths: which files count for a path, in which order, and which of them define macros.
-use Rattle.std.specs.Prelude.{◌≡◌, ◌⊎◌, ℕ, false, true, List, [], ◌∷◌, ◌++◌, Option, None, Some, codes, map}
+use Rattle.std.specs.Prelude.{◌≡◌, ◌⊎◌, ◌↔◌, ℕ, false, true, List, [], ◌∷◌, ◌++◌, Option, None, Some, codes, map}
 use Rattle.std.specs.List.{AllByRecursion, Contains, flat_map}
 use Rattle.gix_glob.specs.declared.pattern.Case.TheVariants.{Sensitive}
 use Rattle.gix_glob.specs.EntryLists.{EntryList}
@@ -53,6 +53,10 @@ macros_for files = flat_map macros_of (built_in ∷ files_of files)
 -- the names of attributes in the order in which they are read: of these files, and then of those of folders, which were read in this order
 abbrev pub names_of : Files → List (List ℕ) → List (List ℕ)
 names_of files read = with_names (with_names [] (flat_map (names_read true) (built_in ∷ files_of files))) (flat_map (names_read false) read)
+
+-- both say the same of what may be found
+abbrev pub ShowsSame : (Folder → Option (List ℕ) → Type 0) → (Folder → Option (List ℕ) → Type 0) → Type 0
+ShowsSame shows other = (folder : Folder) (file : Option (List ℕ)) → shows folder file ↔ other folder file
 
 -- The folders on the way to a path, the top left out, from outer to inner, as far as folders stand there, each with its file:
 -- `shows folder file` says what may be found there, `None` where no folder stands.

@@ -47,13 +47,23 @@ module _ (asked : Asked) (macros : List Definition) (shows : Folder → Option (
   -- ---- one more file was read
 
   pub read_more : (bytes : List ℕ) (at : Folder) → shows at (Some bytes) → AreEntered asked macros shows info lists folder way names held (read ++ bytes ∷ [])
-  read_more bytes at shown = record e {
-    known = record (e.known) {
+  read_more bytes at shown = record {
+    sights = e.sights;
+    known = record {
+      count = e.known.count;
+      level = e.known.level;
+      links = e.known.links;
       sighted = all_weaker (IsSighted asked macros shows read) (IsSighted asked macros shows (read ++ bytes ∷ []))
           (λ s h. record { shown = h.shown; has_read = λ b is. Contains-append_left read (bytes ∷ []) b (h.has_read b is) })
           e.sights e.known.sighted;
+      kept = e.known.kept;
     };
+    on_way = e.on_way;
+    joined = e.joined;
+    each = e.each;
+    standing = e.standing;
     shown = all_push (λ bytes. (folder : Folder) × shows folder (Some bytes)) read bytes e.shown (at, shown);
+    starts = e.starts;
   }
 
   -- ---- a folder is known

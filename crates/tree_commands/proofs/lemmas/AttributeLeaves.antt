@@ -20,6 +20,15 @@ use Rattle.tree_commands.specs.CheckAttr.{Asked}
 use Rattle.tree_commands.specs.Private.AttributeWays.{AreEntered, AreKnown, Holds, IsAt, IsListed, IsOnWay, IsSighted, PatternList, Sighting, held_lists, last_on, last_sight, own_lists, places_of, top_sight, unknown}
 use Rattle.tree_commands.proofs.lemmas.AttributeWalks.{HasOuter, IsLower, flat_last, has_outer, holds_less, last_long, left_level, last_sight-push, set_apart, set_at}
 
+-- the same, by equal texts and lists
+pub moved : {asked : Asked} {macros : List Definition} {shows : Folder → Option (List ℕ) → Type 0} {info : EntryList (List Assigned)} {lists : Lists} {folder : List ℕ} {way : List FolderOnWay} {names : FolderNames} {held : List FoundFolder} {read : List (List ℕ)}
+    (other : List ℕ) (longer : List FolderOnWay) (now : List FoundFolder) → other ≡ folder → longer ≡ way → now ≡ held
+    → AreEntered asked macros shows info lists folder way names held read → AreEntered asked macros shows info lists other longer names now read
+moved {asked = asked} {macros = macros} {shows = shows} {info = info} {lists = lists} {folder = folder} {way = way} {names = names} {held = held} {read = read} other longer now same_folder same_way same_held e =
+    subst (λ f. AreEntered asked macros shows info lists f longer names now read) (sym same_folder)
+    (subst (λ w. AreEntered asked macros shows info lists folder w names now read) (sym same_way)
+    (subst (λ h. AreEntered asked macros shows info lists folder way names h read) (sym same_held) e))
+
 module _ (asked : Asked) (macros : List Definition) (shows : Folder → Option (List ℕ) → Type 0) (info : EntryList (List Assigned)) where
   -- ---- the top alone is entered
 
@@ -60,7 +69,7 @@ module _ (asked : Asked) (macros : List Definition) (shows : Folder → Option (
         none_sighted (at ∷ ats) each = absurd each
 
     module _ (deep : 0 < length folder) (above : List FolderOnWay) (left : FolderOnWay) (is : way ≡ above ++ left ∷ []) where
-      zips : ZipsLast (IsOnWay (own_lists asked macros) e.sights) e.on_way above left
+      pub zips : ZipsLast (IsOnWay (own_lists asked macros) e.sights) e.on_way above left
       zips = zip_last (IsOnWay (own_lists asked macros) e.sights) e.on_way above left (subst (AllZip (IsOnWay (own_lists asked macros) e.sights) e.on_way) is e.each)
 
       abbrev own : Lists

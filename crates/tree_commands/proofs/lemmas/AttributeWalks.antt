@@ -1,5 +1,5 @@
 -- Folders that are entered and left, and what is kept of each.
-use Rattle.std.proofs.Common.{◌≡◌, ◌⊎◌, inl, inr, ⊎_elim, ℕ, zero, suc, ◌+◌, ◌<◌, ◌≤◌, Bool, true, false, List, [], ◌∷◌, ◌++◌, length, map, take, drop, Option, None, Some, refl, sym, ap, subst, ◌∙◌, append_assoc, append-nil, length-append, arith}
+use Rattle.std.proofs.Common.{◌≡◌, ◌⊎◌, inl, inr, ⊎_elim, ℕ, zero, suc, ◌+◌, ◌-◌, ◌<◌, ◌≤◌, Bool, true, false, List, [], ◌∷◌, ◌++◌, length, map, take, drop, Option, None, Some, refl, sym, ap, subst, ◌∙◌, append_assoc, append-nil, length-append, arith}
 use Rattle.std.specs.Prelude.{is_some, slice_get, slice_set}
 use Rattle.std.specs.List.{AllByRecursion, AllZip, Contains, flat_map}
 use Rattle.std.proofs.Math.Seq.{take-append_seam}
@@ -17,6 +17,7 @@ use Rattle.glob_trees.specs.declared.on_way.FolderOnWay.{FolderOnWay}
 use Rattle.glob_trees.specs.Known.{AddsFolder, FolderNames, KnowsNone}
 use Rattle.glob_trees.specs.Ways.{Folder, folders_to, start_of}
 use Rattle.glob_trees.proofs.lemmas.Entering.{name_follows}
+use Rattle.glob_trees.proofs.lemmas.InFolder.{last_splits}
 use Rattle.glob_trees.proofs.lemmas.OnWay.{none_contained, not_on_own_way}
 use Rattle.glob_trees.proofs.lemmas.WayLemmas.{HasLastFolder, LastFolder, ZipsLast, folders_slash, last_folder, last_same, zip_last, zip_more}
 use Rattle.tree_commands.specs.declared.check_attr.walk.FoundFolder.{FoundFolder}
@@ -100,6 +101,11 @@ pub last_on-push : (way : List FolderOnWay) (there : FolderOnWay) → last_on (w
 last_on-push [] there = refl
 last_on-push (w ∷ []) there = refl
 last_on-push (w ∷ v ∷ way) there = last_on-push (v ∷ way) there
+
+pub last_on-get : (way : List FolderOnWay) (there : FolderOnWay) → slice_get way (length way - 1) ≡ Some there → there ≡ last_on way
+last_on-get way there is =
+    let split = last_splits way there is in
+    sym (ap last_on split.1 ∙ last_on-push split.0 there)
 
 pub last_sight-push : (sights : List Sighting) (at : Sighting) → last_sight (sights ++ at ∷ []) ≡ at
 last_sight-push [] at = refl

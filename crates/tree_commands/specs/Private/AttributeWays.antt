@@ -24,7 +24,7 @@ use Rattle.tree_commands.specs.declared.check_attr.walk.Asking.{Asking}
 use Rattle.tree_commands.specs.declared.check_attr.walk.Asking.TheVariants as asking
 use Rattle.tree_commands.specs.declared.check_attr.walk.FolderAttributes.{FolderAttributes}
 use Rattle.tree_commands.specs.declared.check_attr.walk.FoundFolder.{FoundFolder}
-use Rattle.tree_commands.specs.CheckAttr.{AreRead, Asked, FolderFile, Files, IsWayTo, all, macros_for, named, names_of}
+use Rattle.tree_commands.specs.CheckAttr.{AreRead, Asked, FolderFile, Files, IsWayTo, ShowsSame, all, macros_for, named, names_of}
 
 -- ---- what is asked, as plain data
 
@@ -194,7 +194,7 @@ module _ {S Q : Type 0} (files : Files) (asked : Asked) (shows : Folder → Opti
   pub record IsEntered (walk : FolderAttributes S Q) : Type 0 where
     pub asks : asked_by walk.asking ≡ asked
     pub macros : walk.macros.now ≡ macros_for files
-    pub source : shows_of walk.source ≡ shows
+    pub source : ShowsSame (shows_of walk.source) shows
     pub read : List (List ℕ)
     pub has_read : HasRead walk.asking (names_of files read)
     pub entered : AreEntered asked (macros_for files) shows (kept_list asked (macros_for files) [] files.info) (map (entry_list_of seen_assignments) walk.lists.items) walk.folder.items walk.way.items (known_names walk.known) walk.found.items read

@@ -26,11 +26,11 @@ use tree_answers::{Form, PathAnswerer, append_answer, append_label, path_text};
 
 /// What answers each told path by the states of its attributes. Contracts see whether a path got no answer: then none gets one any more.
 #[derive(Drop)]
-pub(crate) struct AttributeAnswerer<'a, S: AttributeFolders, Q: Question> {
-    asker: AttributeAsker<'a, S, Q>,
+pub(crate) struct AttributeAnswerer<'q, 'm, S: AttributeFolders, Q: Question> {
+    asker: AttributeAsker<'q, 'm, S, Q>,
 }
 
-impl<'a, S: AttributeFolders, Q: Question> Model for AttributeAnswerer<'a, S, Q> {
+impl<'q, 'm, S: AttributeFolders, Q: Question> Model for AttributeAnswerer<'q, 'm, S, Q> {
     ghost use Rattle.std.specs.Prelude.{Bool};
     ghost use Rattle.tree_commands.specs.Private.AttributeAnswers.{IsReady};
 
@@ -41,7 +41,7 @@ impl<'a, S: AttributeFolders, Q: Question> Model for AttributeAnswerer<'a, S, Q>
     ghost invariant = { λ answerer. IsReady Q.files Q.asked Q.shows Q.allows S.shows answerer.asker };
 }
 
-impl<'a, S: AttributeFolders + Drop, Q: Question> PathAnswerer for AttributeAnswerer<'a, S, Q> {
+impl<'q, 'm, S: AttributeFolders, Q: Question> PathAnswerer for AttributeAnswerer<'q, 'm, S, Q> {
     type Fault = AttributeFault<S::Fault>;
 
     ghost answers = { λ _ told text. Q.allows told text };
@@ -56,9 +56,9 @@ impl<'a, S: AttributeFolders + Drop, Q: Question> PathAnswerer for AttributeAnsw
     }
 }
 
-impl<'a, S: AttributeFolders, Q: Question> AttributeAnswerer<'a, S, Q> {
+impl<'q, 'm, S: AttributeFolders, Q: Question> AttributeAnswerer<'q, 'm, S, Q> {
     /// What answers by an asker.
-    pub(crate) fn new(asker: AttributeAsker<'a, S, Q>) -> AttributeAnswerer<'a, S, Q>
+    pub(crate) fn new(asker: AttributeAsker<'q, 'm, S, Q>) -> AttributeAnswerer<'q, 'm, S, Q>
         requires { IsReady Q.files Q.asked Q.shows Q.allows S.shows asker }
     {
         AttributeAnswerer { asker }
@@ -67,13 +67,13 @@ impl<'a, S: AttributeFolders, Q: Question> AttributeAnswerer<'a, S, Q> {
 
 /// What is asked of each path, and what is known of folders.
 #[derive(Drop)]
-pub(crate) struct AttributeAsker<'a, S, Q> {
+pub(crate) struct AttributeAsker<'q, 'm, S, Q> {
     pub(crate) alloc: Global,
-    pub(crate) standpoint: &'a Standpoint,
+    pub(crate) standpoint: &'q Standpoint,
     pub(crate) form: Form,
     /// The lists that are weaker than those of all folders below the top.
-    pub(crate) index: &'a ListIndex<'a, AttributeLines>,
-    pub(crate) walk: FolderAttributes<'a, S, Q>,
+    pub(crate) index: &'m ListIndex<'m, AttributeLines>,
+    pub(crate) walk: FolderAttributes<'q, 'm, S, Q>,
     /// The label of each attribute that is asked for, where not all are.
     pub(crate) labels: Vec<Vec<u8>>,
     /// The path that was asked last.
@@ -82,7 +82,7 @@ pub(crate) struct AttributeAsker<'a, S, Q> {
     pub(crate) is_spent: bool,
 }
 
-impl<'a, S: AttributeFolders, Q: Question> AttributeAsker<'a, S, Q> {
+impl<'q, 'm, S: AttributeFolders, Q: Question> AttributeAsker<'q, 'm, S, Q> {
     /// Appends what is written about a told path.
     ///
     /// # Errors
@@ -232,6 +232,7 @@ fn or_dot(told: &[u8]) -> &[u8]
 ///
 /// # Errors
 /// Only where memory was refused.
+#[tactic(auto, using(crate::proofs::lemmas::AttributeTexts::front_of_front))]
 fn append_named(
     text: &mut Vec<u8>,
     shown: &[u8],
@@ -255,6 +256,7 @@ fn append_named(
 ///
 /// # Errors
 /// Only where memory was refused.
+#[tactic(auto, using(crate::proofs::lemmas::AttributeTexts::front_of_front))]
 fn append_all(
     alloc: Global,
     text: &mut Vec<u8>,
@@ -278,6 +280,7 @@ fn append_all(
 ///
 /// # Errors
 /// Only where memory was refused.
+#[tactic(auto, using(crate::proofs::lemmas::AttributeTexts::front_of_front))]
 fn append_unspecified(
     text: &mut Vec<u8>,
     shown: &[u8],

@@ -3,9 +3,10 @@
 /// A source of the attribute file of each folder below the top of a work tree.
 ///
 /// A folder is named by its path from the top, without a slash at its end.
-pub trait AttributeFolders {
-    ghost use Rattle.std.specs.Prelude.{◌≡◌, ℕ, List, Option, None, Some, IfOk, if◌then◌else◌};
+pub trait AttributeFolders: Drop {
+    ghost use Rattle.std.specs.Prelude.{ℕ, List, Option, None, Some, IfOk, if◌then◌else◌};
     ghost use Rattle.glob_trees.specs.Ways.{Folder};
+    ghost use Rattle.tree_commands.specs.CheckAttr.{ShowsSame};
 
     /// Why a file could not be had.
     type Fault: Drop;
@@ -22,5 +23,5 @@ pub trait AttributeFolders {
     fn read_file(&mut self, folder: &[u8], bytes: &mut Vec<u8>) -> Result<bool, Self::Fault>
         ensures shown { IfOk result (λ is_there. shows self.new folder.now (if is_there then Some bytes.new.items else None)) }
         // What the source shows doesn't change.
-        ensures stays { shows self.new ≡ shows self.old };
+        ensures stays { ShowsSame (shows self.new) (shows self.old) };
 }

@@ -1,9 +1,10 @@
 //! The lists of attribute files, with the patterns alone that are asked for.
-ghost use Rattle.std.specs.Prelude.{◌≡◌, [], IfOk};
+ghost use Rattle.std.specs.Prelude.{◌≡◌, [], IfOk, map};
+ghost use Rattle.gix_glob.specs.Entries.{entry_of};
 ghost use Rattle.gix_glob.specs.EntryLists.{entry_list_of};
 ghost use Rattle.glob_attributes.specs.Views.{seen_assignments};
 ghost use Rattle.tree_commands.specs.CheckAttr.{all};
-ghost use Rattle.tree_commands.specs.Private.AttributeWays.{asked_of, kept_list};
+ghost use Rattle.tree_commands.specs.Private.AttributeWays.{asked_of, kept_entries, kept_list};
 
 use crate::check_attr::question::AskedAttributes;
 use gix_glob::search::Pattern;
@@ -25,11 +26,26 @@ pub(crate) fn kept_list(
 ) -> Result<List<AttributeLines>, AllocError>
     ensures { IfOk result (λ list. entry_list_of seen_assignments list ≡ kept_list (asked_of asked.entry) macros.now folder.now bytes.now) }
 {
-    let mut list = list_of(alloc, bytes)?;
-    if let AskedAttributes::Names(names) = asked {
-        keep_named(&mut list, names, macros);
-    }
+    let list = keep_asked(list_of(alloc, bytes)?, asked, macros);
     list_in_folder(alloc, list, folder)
+}
+
+/// The list with the patterns alone that the states of these attributes rest on.
+fn keep_asked(
+    mut list: List<AttributeLines>,
+    asked: AskedAttributes<'_>,
+    macros: &MacroTable,
+) -> List<AttributeLines>
+    ensures entries { map (entry_of seen_assignments) result.patterns.items ≡ kept_entries (asked_of asked.entry) macros.now (map (entry_of seen_assignments) list.patterns.items) }
+    ensures source { result.source ≡ list.source }
+{
+    match asked {
+        AskedAttributes::Names(names) => {
+            keep_named(&mut list, names, macros);
+            list
+        }
+        AskedAttributes::All => list,
+    }
 }
 
 /// The list of a file, without a base.

@@ -50,7 +50,7 @@ use tree_answers::{Form, PathAnswerer, RecordAnswerer, append_label};
 /// The first fault, and [`RecordFault::Write`] before another one. All records before it have their text written, and nothing else is; after
 /// [`RecordFault::Read`] these are all that ended in what was read. But after `RecordFault::Write` what was written may end anywhere in their
 /// text. [`RecordFault::Memory`] and [`AttributeFault::Memory`] where memory was refused.
-pub fn run_check_attr<R: Read, W: Write, S: AttributeFolders + Drop>(
+pub fn run_check_attr<R: Read, W: Write, S: AttributeFolders>(
     alloc: Global,
     question: &AttributeQuestion<'_>,
     source: S,
@@ -89,7 +89,7 @@ pub fn run_check_attr<R: Read, W: Write, S: AttributeFolders + Drop>(
 ///
 /// # Errors
 /// The first fault. Then the text of the paths before it is appended, and nothing else is.
-pub fn append_check_attr<S: AttributeFolders + Drop>(
+pub fn append_check_attr<S: AttributeFolders>(
     alloc: Global,
     question: &AttributeQuestion<'_>,
     source: S,
@@ -103,7 +103,7 @@ pub fn append_check_attr<S: AttributeFolders + Drop>(
 }
 
 /// Answers the records of a reader.
-fn run_question<R: Read, W: Write, S: AttributeFolders + Drop, Q: Question>(
+fn run_question<R: Read, W: Write, S: AttributeFolders, Q: Question>(
     alloc: Global,
     question: &AttributeQuestion<'_>,
     source: S,
@@ -150,7 +150,7 @@ fn run_question<R: Read, W: Write, S: AttributeFolders + Drop, Q: Question>(
 }
 
 /// Appends what is written about the paths.
-fn append_question<S: AttributeFolders + Drop, Q: Question>(
+fn append_question<S: AttributeFolders, Q: Question>(
     alloc: Global,
     question: &AttributeQuestion<'_>,
     source: S,
@@ -169,8 +169,8 @@ fn append_question<S: AttributeFolders + Drop, Q: Question>(
 }
 
 /// Appends what is written about each path, up to the first that gets no answer: of that nothing is appended.
-fn append_each<S: AttributeFolders + Drop, Q: Question>(
-    answerer: &mut AttributeAnswerer<'_, S, Q>,
+fn append_each<S: AttributeFolders, Q: Question>(
+    answerer: &mut AttributeAnswerer<'_, '_, S, Q>,
     paths: &[&[u8]],
     text: &mut Vec<u8>,
 ) -> Result<(), AttributeFault<S::Fault>>
@@ -202,13 +202,13 @@ fn index_of(
 }
 
 /// What answers each path by a question.
-fn answerer_of<'a, S: AttributeFolders, Q: Question>(
+fn answerer_of<'q, 'm, S: AttributeFolders, Q: Question>(
     alloc: Global,
-    question: &AttributeQuestion<'a>,
+    question: &AttributeQuestion<'q>,
     source: S,
-    macros: &'a MacroTable,
-    index: &'a ListIndex<'a, AttributeLines>,
-) -> Result<AttributeAnswerer<'a, S, Q>, AllocError>
+    macros: &'m MacroTable,
+    index: &'m ListIndex<'m, AttributeLines>,
+) -> Result<AttributeAnswerer<'q, 'm, S, Q>, AllocError>
     requires asks { AsksFor Q.files Q.asked Q.shows Q.allows question.now (S.shows source) }
     requires macros { macros.now ≡ macros_for Q.files }
     requires lists { map (entry_list_of seen_assignments) index.now.lists ≡ front_lists Q.asked (macros_for Q.files) Q.files }
@@ -229,12 +229,12 @@ fn answerer_of<'a, S: AttributeFolders, Q: Question>(
 }
 
 /// A walk that has entered the top.
-fn walk_of<'a, S: AttributeFolders, Q: Question>(
+fn walk_of<'q, 'm, S: AttributeFolders, Q: Question>(
     alloc: Global,
-    question: &AttributeQuestion<'a>,
+    question: &AttributeQuestion<'q>,
     source: S,
-    macros: &'a MacroTable,
-) -> Result<FolderAttributes<'a, S, Q>, AllocError>
+    macros: &'m MacroTable,
+) -> Result<FolderAttributes<'q, 'm, S, Q>, AllocError>
     requires asks { AsksFor Q.files Q.asked Q.shows Q.allows question.now (S.shows source) }
     requires macros { macros.now ≡ macros_for Q.files }
     ensures { IfOk result (IsEntered Q.files Q.asked Q.shows S.shows) }

@@ -5,7 +5,7 @@ ghost use Rattle.gix_glob.specs.EntryLists.{entry_list_of};
 ghost use Rattle.glob_attributes.specs.Views.{seen_assignments};
 ghost use Rattle.glob_trees.specs.Known.{KnowsNone, names_of};
 ghost use Rattle.glob_trees.specs.Ways.{unless_empty};
-ghost use Rattle.tree_commands.specs.CheckAttr.{macros_for, names_of as outer_names};
+ghost use Rattle.tree_commands.specs.CheckAttr.{ShowsSame, macros_for, names_of as outer_names};
 ghost use Rattle.tree_commands.specs.declared.check_attr.walk.FoundFolder.{FoundFolder};
 ghost use Rattle.tree_commands.specs.Private.AttributeWays.{EndsFolders, HasGoneTo, HasLooked, HasRead, IsBefore, IsEntered, KeepsList, Knows, NotesNames, PutsList, asked_by, file_seen, kept_list, last_on, lists_held, own_lists, unknown};
 
@@ -28,9 +28,9 @@ const BYTES_OF_BYTE: usize = 8;
 
 /// The attributes that are asked for.
 #[derive(Drop)]
-pub(crate) enum Asking<'a> {
+pub(crate) enum Asking<'q> {
     /// Those of these names.
-    Names(&'a [&'a [u8]]),
+    Names(&'q [&'q [u8]]),
     /// All, with the names that were read so far.
     All(AttributeNames),
 }
@@ -38,11 +38,11 @@ pub(crate) enum Asking<'a> {
 /// The attribute files of the folders on the way to the path that was asked last, and what is known of each folder that was looked at. Each
 /// file is read once, and again only where folders were so many that all were forgotten.
 #[derive(Drop)]
-pub(crate) struct FolderAttributes<'a, S, Q> {
+pub(crate) struct FolderAttributes<'q, 'm, S, Q> {
     pub(crate) alloc: Global,
     pub(crate) source: S,
-    pub(crate) asking: Asking<'a>,
-    pub(crate) macros: &'a MacroTable,
+    pub(crate) asking: Asking<'q>,
+    pub(crate) macros: &'m MacroTable,
     /// The lists of the folders on the way that have patterns, from outer to inner, and behind them the repository's own.
     pub(crate) lists: Vec<List<AttributeLines>>,
     /// The path of the folder entered last, with a slash at its end; no bytes where that is the top.
@@ -68,7 +68,7 @@ pub(crate) struct FoundFolder {
     pub(crate) list: Option<List<AttributeLines>>,
 }
 
-impl<'a, S: AttributeFolders, Q: Question> FolderAttributes<'a, S, Q> {
+impl<'q, 'm, S: AttributeFolders, Q: Question> FolderAttributes<'q, 'm, S, Q> {
     /// A walk that has entered the top alone, over a source of the files of folders. `info` is the repository's own list.
     ///
     /// # Errors
@@ -76,13 +76,13 @@ impl<'a, S: AttributeFolders, Q: Question> FolderAttributes<'a, S, Q> {
     pub(crate) fn new(
         alloc: Global,
         source: S,
-        asking: Asking<'a>,
-        macros: &'a MacroTable,
+        asking: Asking<'q>,
+        macros: &'m MacroTable,
         info: List<AttributeLines>,
-    ) -> Result<FolderAttributes<'a, S, Q>, AllocError>
+    ) -> Result<FolderAttributes<'q, 'm, S, Q>, AllocError>
         requires asks { asked_by asking ≡ Q.asked }
         requires macros { macros.now ≡ macros_for Q.files }
-        requires source { S.shows source ≡ Q.shows }
+        requires source { ShowsSame (S.shows source) Q.shows }
         requires read { HasRead asking (outer_names Q.files []) }
         requires info { entry_list_of seen_assignments info ≡ kept_list Q.asked (macros_for Q.files) [] Q.files.info }
         ensures { IfOk result (IsEntered Q.files Q.asked Q.shows S.shows) }
