@@ -3,5 +3,7 @@ pub mod AttributeKept
 pub mod AttributeLeaves
 pub mod AttributeLists
 pub mod AttributePaths
+pub mod AttributePuts
+pub mod AttributeSteps
 pub mod AttributeTexts
 pub mod AttributeWalks

@@ -165,7 +165,7 @@ module _ (asked : Asked) (macros : List Definition) (shows : Folder → Option (
         not_on_own_way (x ∷ xs) (λ none. absurd (cc)) (subst (Contains (folders_to (x ∷ xs))) its (subst (λ fs. Contains fs there.at.folder) (sym (level ∙ e.joined)) among))
 
     -- what is kept of it is its list
-    held_own : (found : FoundFolder) → slice_get held place ≡ Some found → held_lists found ≡ own
+    pub held_own : (found : FoundFolder) → slice_get held place ≡ Some found → held_lists found ≡ own
     held_own found is = let h = e.known.kept place found p.at is p.there in ⊎_elim
         (λ (same : held_lists found ≡ own). same)
         (λ (away : Contains (places_of way) place × (held_lists found ≡ [])). absurd (not_on_way away.0))

@@ -117,10 +117,7 @@ impl<'q, 'm, S: AttributeFolders, Q: Question> FolderAttributes<'q, 'm, S, Q> {
         requires entered { IsEntered Q.files Q.asked Q.shows S.shows self.old }
         ensures { OnOk result (HasGoneTo Q.files Q.asked Q.shows S.shows self.new path.now) }
     {
-        // most paths lie in the folder of the one before, and mostly others differ in their first bytes
-        if !path.starts_with(&self.folder) {
-            self.leave_to(path);
-        }
+        self.keep_common(path);
         let end = end_of_folders(path);
         if end <= self.folder.as_slice().len() {
             return Ok(());
@@ -129,6 +126,20 @@ impl<'q, 'm, S: AttributeFolders, Q: Question> FolderAttributes<'q, 'm, S, Q> {
     }
 
     /// Leaves the folders that aren't on the way to a path.
+    #[inline(always)]
+    fn keep_common(&mut self, path: &[u8])
+        requires entered { IsEntered Q.files Q.asked Q.shows S.shows self.old }
+        ensures entered { IsEntered Q.files Q.asked Q.shows S.shows self.new }
+        ensures begins { self.new.folder.items ≡ take (length self.new.folder.items) path.now }
+    {
+        // most paths lie in the folder of the one before
+        if path.starts_with(&self.folder) {
+            return;
+        }
+        self.leave_to(path);
+    }
+
+    /// Leaves the folders that aren't on the way to a path, one after the other.
     fn leave_to(&mut self, path: &[u8])
         requires entered { IsEntered Q.files Q.asked Q.shows S.shows self.old }
         ensures entered { IsEntered Q.files Q.asked Q.shows S.shows self.new }
@@ -293,10 +304,11 @@ impl<'q, 'm, S: AttributeFolders, Q: Question> FolderAttributes<'q, 'm, S, Q> {
             .source
             .read_file(folder, &mut self.file)
             .map_err(AttributeFault::Source)?;
-        if is_there {
-            self.note_names()?;
+        if !is_there {
+            return Ok(false);
         }
-        Ok(is_there)
+        self.note_names()?;
+        Ok(true)
     }
 
     /// Keeps the names of the file that was read last, where all are asked for.
@@ -367,6 +379,7 @@ impl<'q, 'm, S: AttributeFolders, Q: Question> FolderAttributes<'q, 'm, S, Q> {
     fn put_on_way(&mut self, path: &[u8], place: usize, known: usize) -> Result<(), AllocError>
         requires slash { HasByte path.now place slash }
         requires before { IsBefore self.old.folder.items path.now place }
+        requires deep { ¬ (place ≡ 0) }
         requires knows { Knows Q.files Q.asked Q.shows S.shows self.old (take place path.now) known }
         requires there { (found : FoundFolder) → slice_get self.old.found.items known ≡ Some found → found.is_there ≡ true }
         ensures entered { OnOk result (IsEntered Q.files Q.asked Q.shows S.shows self.new) }

@@ -3,6 +3,7 @@ use Rattle.std.proofs.Common.{◌≡◌, ◌<◌, ◌≤◌, ◌++◌, ◌∷◌
 use Rattle.std.specs.Prelude.{IsSome}
 use Rattle.std.specs.List.{flat_map}
 use Rattle.std.specs.Option.{option_to_list}
+use Rattle.std.proofs.lemmas.Bool.{false≢true}
 use Rattle.std.proofs.lemmas.List.{length-map, map-append}
 use Rattle.gix_glob.specs.EntryLists.{EntryList, entry_list_of}
 use Rattle.glob_attributes.specs.States.{Assigned, Lists}
@@ -43,7 +44,7 @@ returns-in_default-clause-less g c =
     ⊎_elim
     (λ (none : c.args.self.now.way.items ≡ []). omega (arith, c.requires.deep, ap length (none_on_way _ _ _ _ _ _ _ _ _ _ e none)))
     (λ (some : (init : List FolderOnWay) × (last : FolderOnWay) × (c.args.self.now.way.items ≡ init ++ last ∷ [])).
-    absurd (subst IsSome c.in_default.is (c.pop.ensures.variant.1 (omega (arith, ap length some.2, length-append some.0 (some.1 ∷ []))))))
+    absurd (false≢true (subst IsSome c.in_default.is (c.pop.ensures.variant.1 (omega (arith, ap length some.2, length-append some.0 (some.1 ∷ [])))))))
     (last_cases c.args.self.now.way.items)
 
 pub keep_list-requires-clause-place : goal.keep_list-requires-clause-place
