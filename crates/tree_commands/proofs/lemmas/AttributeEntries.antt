@@ -127,15 +127,15 @@ module _ (asked : Asked) (macros : List Definition) (shows : Folder → Option (
         (get_push_cases (top_sight ∷ e.sights) new at k sees))
         (get_push_cases held found one k stands)
 
-    pub known_more : AreEntered asked macros shows info lists folder way more (held ++ found ∷ []) read
-    known_more = record {
+    pub known_more : (now : List FoundFolder) → now ≡ held ++ found ∷ [] → AreEntered asked macros shows info lists folder way more now read
+    known_more now grown = record {
       sights = e.sights ++ new ∷ [];
       known = record {
-        count = adds.count ∙ (let count = e.known.count in omega (arith, length-append held (found ∷ [])));
-        level = let level = e.known.level in omega (arith, length-append held (found ∷ []), length-append e.sights (new ∷ []));
+        count = adds.count ∙ (let count = e.known.count in omega (arith, ap length grown, length-append held (found ∷ [])));
+        level = let level = e.known.level in omega (arith, ap length grown, length-append held (found ∷ []), length-append e.sights (new ∷ []));
         links = links;
         sighted = all_push (IsSighted asked macros shows read) e.sights new e.known.sighted sighted;
-        kept = kept;
+        kept = λ k one at stands sees. kept k one at (subst (λ h. slice_get h k ≡ Some one) grown stands) sees;
       };
       on_way = e.on_way;
       joined = e.joined;

@@ -57,6 +57,11 @@ module _ (asked : Asked) (macros : List Definition) (shows : Folder → Option (
     starts = refl;
   }
 
+  pub top_entered_as : (lists : Lists) (folder : List ℕ) (way : List FolderOnWay) (names : FolderNames) (held : List FoundFolder) (read : List (List ℕ)) → lists ≡ info ∷ [] → folder ≡ [] → way ≡ [] → held ≡ unknown ∷ [] → KnowsNone names 1
+      → AllByRecursion (λ bytes. (folder : Folder) × shows folder (Some bytes)) read → AreEntered asked macros shows info lists folder way names held read
+  top_entered_as lists folder way names held read only top none nothing knows shown =
+      subst (λ ls. AreEntered asked macros shows info ls folder way names held read) (sym only) (moved folder way held top none nothing (top_entered names read knows shown))
+
   -- ---- the folder entered last is left
 
   module _ (lists : Lists) (folder : List ℕ) (way : List FolderOnWay) (names : FolderNames) (held : List FoundFolder) (read : List (List ℕ)) (e : AreEntered asked macros shows info lists folder way names held read) where

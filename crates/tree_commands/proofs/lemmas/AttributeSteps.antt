@@ -16,19 +16,25 @@ use Rattle.glob_attributes.proofs.lemmas.ToldLemmas.{with_names-append}
 use Rattle.glob_trees.specs.declared.on_way.FolderOnWay.{FolderOnWay}
 use Rattle.glob_trees.specs.Known.{FolderNames}
 use Rattle.glob_trees.specs.Ways.{Folder, folders_to, start_of}
+use Rattle.glob_trees.proofs.lemmas.InFolder.{tail}
 use Rattle.glob_trees.proofs.lemmas.Stepping.{passing_way, slash_next}
 use Rattle.glob_trees.proofs.lemmas.WayLemmas.{folders_more, further}
 use Rattle.tree_commands.specs.declared.check_attr.walk.FoundFolder.{FoundFolder}
 use Rattle.tree_commands.specs.CheckAttr.{Asked, Files, built_in, files_of, names_of}
 use Rattle.tree_commands.specs.Private.AttributeWays.{AreEntered, IsBefore, IsOnWay, IsPlaceOf, IsSighted, Sighting, last_on, last_sight, own_lists}
 use Rattle.tree_commands.proofs.lemmas.AttributePaths.{level_end}
-use Rattle.tree_commands.proofs.lemmas.AttributeWalks.{all_at, last_long}
+use Rattle.tree_commands.proofs.lemmas.AttributeWalks.{all_at, get_inside, last_long}
 
 -- ---- texts
 
 -- a text that another one begins with, and the rest of it
 pub joined_at : (folder text : List ℕ) → folder ≡ take (length folder) text → folder ++ drop (length folder) text ≡ text
 joined_at folder text begins = ap (λ f. f ++ drop (length folder) text) begins ∙ take-append-drop (length folder) text
+
+-- the same, with the rest cut out so
+pub named_at : (folder text : List ℕ) (count : ℕ) → folder ≡ take (length folder) text → count ≡ length folder → text ≡ folder ++ take (length text - count) (drop count text)
+named_at folder text count begins is =
+    sym (joined_at folder text begins) ∙ ap (λ n. folder ++ drop n text) (sym is) ∙ ap (λ t. folder ++ t) (sym (tail count text))
 
 pub begins_before : (folder path : List ℕ) (k : ℕ) → folder ≡ take (length folder) path → length folder ≤ k → folder ≡ take (length folder) (take k path)
 begins_before folder path k begins inside = begins ∙ sym (take-take (length folder) k path inside)
@@ -136,3 +142,7 @@ module _ (asked : Asked) (macros : List Definition) (shows : Folder → Option (
       top_at [] [] each none standing = (refl, standing)
       top_at [] (w ∷ on) each none standing = absurd each
       top_at (a ∷ ats) on each none standing = absurd (cc)
+
+  -- what is kept by its place
+  pub place_inside : (t : Folder) (place : ℕ) → IsPlaceOf e.sights t place → place < length held
+  place_inside t place p = let inside = get_inside (record { folder = []; file = None } ∷ e.sights) place p.at p.there in omega (arith, inside, e.known.level)

@@ -228,7 +228,8 @@ impl<'q, 'm, S: AttributeFolders, Q: Question> FolderAttributes<'q, 'm, S, Q> {
         self.known = KnownFolders::new(self.alloc);
         self.found = Vec::new(self.alloc);
         self.bytes = 0;
-        know_top(&mut self.known, &mut self.found)
+        know_top(&mut self.known, &mut self.found)?;
+        Ok(())
     }
 
     /// Enters the folder that stands before the slash at a place of a path, in the one entered last. It answers whether there is one.
@@ -300,15 +301,14 @@ impl<'q, 'm, S: AttributeFolders, Q: Question> FolderAttributes<'q, 'm, S, Q> {
         ensures looked { IfOk result (λ is_there. HasLooked Q.files Q.asked Q.shows S.shows self.new folder.now (file_seen is_there self.new)) }
         ensures folder { OnOk result (self.new.folder.items ≡ self.old.folder.items) }
     {
-        let is_there = self
-            .source
-            .read_file(folder, &mut self.file)
-            .map_err(AttributeFault::Source)?;
-        if !is_there {
-            return Ok(false);
+        match self.source.read_file(folder, &mut self.file) {
+            Ok(true) => {
+                self.note_names()?;
+                Ok(true)
+            }
+            Ok(false) => Ok(false),
+            Err(fault) => Err(AttributeFault::Source(fault)),
         }
-        self.note_names()?;
-        Ok(true)
     }
 
     /// Keeps the names of the file that was read last, where all are asked for.
@@ -369,7 +369,8 @@ impl<'q, 'm, S: AttributeFolders, Q: Question> FolderAttributes<'q, 'm, S, Q> {
         let bytes = read.saturating_add(name.len().saturating_add(KnownFolders::FOLDER_BYTES));
         self.bytes = self.bytes.saturating_add(bytes);
         self.found.push(FoundFolder { is_there, list })?;
-        self.known.add(outer.place, name)
+        let place = self.known.add(outer.place, name)?;
+        Ok(place)
     }
 
     /// Puts a known folder behind the others on the way, by its path and the slash at a place of a path, and its list where it has one.
