@@ -150,6 +150,10 @@ module _ (asked : Asked) (macros : List Definition) (shows : Folder → Option (
     pub is_known : IsPlaceOf (e.sights ++ new ∷ []) (folder ++ name) place
     is_known = record { deep = omega (arith, here); at = new; there = at_new; named = named }
 
+    pub known_place : (now : List FoundFolder) (grown : now ≡ held ++ found ∷ []) (text : Folder) → text ≡ folder ++ name → IsPlaceOf (known_more now grown).sights text place
+    unfolding known_more
+    known_place now grown text is = subst (λ f. IsPlaceOf (e.sights ++ new ∷ []) f place) (sym is) is_known
+
   -- ---- a known folder is entered
 
   module _ (x : ℕ) (xs : List ℕ) (place : ℕ) (p : IsPlaceOf e.sights (x ∷ xs) place) (level : folders_to (x ∷ xs) ≡ folders_to folder) where

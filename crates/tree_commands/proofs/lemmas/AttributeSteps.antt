@@ -146,3 +146,11 @@ module _ (asked : Asked) (macros : List Definition) (shows : Folder → Option (
   -- what is kept by its place
   pub place_inside : (t : Folder) (place : ℕ) → IsPlaceOf e.sights t place → place < length held
   place_inside t place p = let inside = get_inside (record { folder = []; file = None } ∷ e.sights) place p.at p.there in omega (arith, inside, e.known.level)
+
+pub some_of : {X : Type 0} (o : Option X) → true ≡ is_some o → (x : X) × (o ≡ Some x)
+some_of None is = absurd (false≢true (sym is))
+some_of (Some x) is = (x, refl)
+
+pub none_of : {X : Type 0} (o : Option X) → false ≡ is_some o → o ≡ None
+none_of None is = refl
+none_of (Some x) is = absurd (false≢true is)

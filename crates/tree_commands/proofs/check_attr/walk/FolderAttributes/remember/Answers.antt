@@ -3,8 +3,8 @@ use Rattle.std.proofs.Common.{◌≡◌, ◌<◌, ◌≤◌, ◌++◌, ◌∷◌
 use Rattle.glob_trees.specs.declared.on_way.FolderOnWay.{FolderOnWay}
 use Rattle.glob_trees.specs.Known.{AddsFolder, names_of}
 use Rattle.tree_commands.specs.declared.check_attr.walk.FoundFolder.{FoundFolder}
-use Rattle.tree_commands.specs.Private.AttributeWays.{IsPlaceOf, Sighting, file_seen, last_on}
-use Rattle.tree_commands.proofs.lemmas.AttributeEntries.{is_known, known_more, outer_inside}
+use Rattle.tree_commands.specs.Private.AttributeWays.{Sighting, file_seen, last_on}
+use Rattle.tree_commands.proofs.lemmas.AttributeEntries.{known_more, known_place, outer_inside}
 use Rattle.tree_commands.proofs.lemmas.AttributeSteps.{begins_before, is_seen, named_at, outer_long}
 use Rattle.tree_commands.proofs.check_attr.walk.FolderAttributes.remember.Goals as goal
 
@@ -46,6 +46,5 @@ returns-clause-knows g c =
         has_read = w.has_read;
         entered = known_more _ _ _ _ _ _ _ _ _ _ e new found name named (record { shown = c.requires.looked.shown; has_read = c.requires.looked.noted }) (is_seen c.args.is_there c.args.self.now.file.items) c.requires.list (names_of c.add.new.self) c.in_ok-place.place adds c.push.new.self.items c.in_ok-push.ensures.items;
       };
-      here = subst (λ f. IsPlaceOf _ f c.in_ok-place.place) (sym named)
-          (is_known _ _ _ _ _ _ _ _ _ _ e new found name named (record { shown = c.requires.looked.shown; has_read = c.requires.looked.noted }) (is_seen c.args.is_there c.args.self.now.file.items) c.requires.list (names_of c.add.new.self) c.in_ok-place.place adds);
+      here = known_place _ _ _ _ _ _ _ _ _ _ e new found name named (record { shown = c.requires.looked.shown; has_read = c.requires.looked.noted }) (is_seen c.args.is_there c.args.self.now.file.items) c.requires.list (names_of c.add.new.self) c.in_ok-place.place adds c.push.new.self.items c.in_ok-push.ensures.items folder named;
     }
