@@ -1,3 +1,4 @@
+pub mod AttributeAllowed
 pub mod AttributeEntries
 pub mod AttributeKept
 pub mod AttributeLeaves
