@@ -61,13 +61,22 @@ fn decision(
 
 /// A source that has the ignore files of its folders in fields, and notes each folder that it is asked for.
 #[derive(Drop)]
-struct Table<'a> {
+pub(crate) struct Table<'a> {
     alloc: Global,
     folders: &'a [Field],
     asked: Vec<u8>,
 }
 
 impl<'a> Table<'a> {
+    /// A table of folders, each with the bytes of its ignore file behind it. None was asked for yet.
+    pub(crate) fn new(alloc: Global, folders: &'a [Field]) -> Table<'a> {
+        Table {
+            alloc,
+            folders,
+            asked: Vec::new(alloc),
+        }
+    }
+
     /// The bytes of a folder's ignore file.
     fn bytes_of(&self, folder: &[u8]) -> &'a [u8] {
         for file in self.folders.chunks_exact(2) {
@@ -106,11 +115,7 @@ pub(crate) fn trees_asked(
     question: &Question,
     answer: &mut Answer,
 ) -> Result<(), RowFault> {
-    let source = Table {
-        alloc,
-        folders: question.rest(1),
-        asked: Vec::new(alloc),
-    };
+    let source = Table::new(alloc, question.rest(1));
     let fronts = Vec::new(alloc);
     let mut tree = Tree::new(alloc, source, fronts, Case::Sensitive).ok_or(RowFault::Call(
         "Tree::new",

@@ -2,71 +2,41 @@
 ghost use Rattle.std.specs.Prelude.{◌≡◌, false};
 ghost use Rattle.gix_glob.specs.Watched.{has_failed};
 
+use crate::check_ignore::bytes_of;
 use crate::fault::CheckFault;
-use anyhow::{Context, Result};
+use anyhow::Result;
 use gix_glob::search::Watched;
-use record_streams::RecordStream;
 use std::alloc::Global;
 use std::io::{Read, Write};
-use told_paths::are_usual_names;
-use tree_answers::{Form, PathAnswerer, RecordAnswerer};
+use tree_answers::{Form, PathAnswerer};
 
-/// Answers the paths of the words, writes the answers, and gives the answerer back. Where a path gets none, the answers of those before
-/// it are written if they are to be kept.
+/// Answers the paths of the words, and writes the answers. Where a path gets none, the answers of those before it are written if they
+/// are to be kept.
 pub(crate) fn answer_paths<A: PathAnswerer<Fault = CheckFault>, O: Write>(
     alloc: Global,
-    mut answerer: A,
+    answerer: A,
     paths: &[&str],
     keeps_answers: bool,
     output: &mut Watched<O>,
-) -> Result<A> {
-    let mut text = Vec::new(alloc);
-    let answered = append_each(&mut answerer, &mut text, paths);
-    if answered.is_ok() || keeps_answers {
-        output.write_all(&text).context("writing")?;
-        output.flush().context("writing")?;
-    }
-    answered?;
-    Ok(answerer)
-}
-
-/// Appends what is written about each path, up to the first that gets no answer: of that nothing is appended.
-fn append_each<A: PathAnswerer<Fault = CheckFault>>(
-    answerer: &mut A,
-    text: &mut Vec<u8>,
-    paths: &[&str],
-) -> Result<(), CheckFault> {
-    'paths: for path in paths {
-        let whole = text.len();
-        let told = path.as_bytes();
-        if let Err(fault) = answerer.answer_path(text, told, are_usual_names(told)) {
-            text.truncate(whole);
-            return Err(fault);
-        }
-    }
+) -> Result<()>
+    requires { has_failed output.old ≡ false }
+{
+    let paths = bytes_of(alloc, paths)?;
+    tree_commands::answer_paths(alloc, answerer, &paths, keeps_answers, output).1?;
     Ok(())
 }
 
-/// Answers the paths that are read, each in a line or before a NUL, and gives the answerer back.
+/// Answers the paths that are read, each in a line or before a NUL.
 pub(crate) fn answer_records<A: PathAnswerer<Fault = CheckFault>, I: Read, O: Write>(
     alloc: Global,
     answerer: A,
     form: Form,
     input: &mut Watched<I>,
     output: &mut Watched<O>,
-) -> Result<A>
+) -> Result<()>
     requires readable { has_failed input.old ≡ false }
     requires writable { has_failed output.old ≡ false }
 {
-    let mut records = RecordAnswerer {
-        paths: answerer,
-        form,
-        alloc,
-    };
-    let stream = RecordStream {
-        alloc,
-        end: form.end(),
-    };
-    stream.run(input, output, &mut records)?;
-    Ok(records.paths)
+    tree_commands::answer_records(alloc, answerer, form, input, output).1?;
+    Ok(())
 }

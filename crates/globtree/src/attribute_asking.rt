@@ -31,6 +31,10 @@ impl<'a, R: Files + Eprint> PathAnswerer for AttributeAsker<'a, R> {
 
     ghost answers = { λ _ _ _. Unit {0} };
 
+    ghost answered = { λ _ _. ⊥ };
+
+    ghost refuses = { λ _ _. Unit {0} };
+
     fn answer_path(
         &mut self,
         text: &mut Vec<u8>,

@@ -3,7 +3,6 @@
 #![tactic(auto)]
 
 mod answering;
-mod asking;
 mod attribute_asking;
 mod attribute_files;
 mod attribute_flags;
@@ -14,9 +13,9 @@ mod command_words;
 mod config_keys;
 mod excludes;
 mod fault;
+mod file_kinds;
 mod files;
 mod files_flags;
-mod finding;
 mod flags;
 mod folder_attributes;
 mod folder_names;
@@ -32,7 +31,6 @@ mod signs;
 mod sources;
 mod standing;
 mod telling;
-mod unlinked;
 mod words;
 mod work_tree;
 

@@ -1,3 +1,4 @@
+pub mod AnswerLemmas
 pub mod AttributeAllowed
 pub mod AttributeEntries
 pub mod AttributeKept
@@ -8,3 +9,6 @@ pub mod AttributePuts
 pub mod AttributeSteps
 pub mod AttributeTexts
 pub mod AttributeWalks
+pub mod FindingLemmas
+pub mod IgnoreLemmas
+pub mod RunLemmas

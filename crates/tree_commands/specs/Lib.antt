@@ -1,2 +1,4 @@
+pub mod Answering
 pub mod CheckAttr
+pub mod CheckIgnore
 pub mod Private

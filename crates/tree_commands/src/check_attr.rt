@@ -12,4 +12,4 @@ mod walk;
 pub use fault::AttributeFault;
 pub use folders::AttributeFolders;
 pub use question::{AskedAttributes, AttributeQuestion, OuterFiles};
-pub use running::{append_check_attr, run_check_attr};
+pub use running::{check_attr_paths, run_check_attr};

@@ -46,6 +46,10 @@ impl<'q, 'm, S: AttributeFolders, Q: Question> PathAnswerer for AttributeAnswere
 
     ghost answers = { λ _ told text. Q.allows told text };
 
+    ghost answered = { λ _ _. Unit {0} };
+
+    ghost refuses = { λ _ _. Unit {0} };
+
     fn answer_path(
         &mut self,
         text: &mut Vec<u8>,

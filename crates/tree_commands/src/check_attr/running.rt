@@ -1,23 +1,26 @@
 //! `check-attr`: told paths that are read, or given, each answered by the states of its attributes.
-ghost use Rattle.std.specs.Prelude.{◌≡◌, ℕ, IfOk, IsTrue, OnErr, OnOk, false, map, take, true};
-ghost use Rattle.std.specs.Io.KnownBytes.{Appends, Consumes};
+ghost use Rattle.std.specs.Prelude.{◌≡◌, IfOk, OnErr, OnOk, false, map, true};
+ghost use Rattle.std.specs.Io.KnownBytes.{Appends};
+ghost use Rattle.std.specs.List.{AllByRecursion};
 ghost use Rattle.std.specs.Vec.{vec_items};
 ghost use Rattle.gix_glob.specs.declared.pattern.Case.TheVariants.{Sensitive};
 ghost use Rattle.gix_glob.specs.EntryLists.{entry_list_of};
 ghost use Rattle.gix_glob.specs.Watched.{has_failed, inner};
 ghost use Rattle.glob_attributes.specs.Views.{seen_assignments};
+ghost use Rattle.glob_lines.specs.Transfers.{AppendsFront};
 ghost use Rattle.glob_lists.specs.Deciding.{BasesAreFolders};
-ghost use Rattle.glob_lines.specs.Transfers.{AppendsFront, ReadsWhole, Run};
-ghost use Rattle.record_streams.specs.Faults.{is_read_fault, is_write_fault};
-ghost use Rattle.record_streams.specs.Records.{Adds, AnswersAll, AnswersEnded, AnswersFirst, AnswersSome, TextOf};
+ghost use Rattle.record_streams.specs.Faults.{is_write_fault, told_refusal};
+ghost use Rattle.record_streams.specs.Records.{TextOf};
 ghost use Rattle.tree_answers.specs.Attributes.{label_text};
 ghost use Rattle.tree_answers.specs.Lines.{behind};
 ghost use Rattle.tree_answers.specs.Records.{IsTextOf};
+ghost use Rattle.tree_commands.specs.Answering.{EndsRun, IsTextOfFirst, StopsAt, TextOfNamed, TextOfPaths, Writes};
 ghost use Rattle.tree_commands.specs.CheckAttr.{IsStatesText, macros_for};
 ghost use Rattle.tree_commands.specs.Private.AttributeAnswers.{labels_of};
 ghost use Rattle.tree_commands.specs.Private.AttributeRuns.{AsksFor};
 ghost use Rattle.tree_commands.specs.Private.AttributeWays.{IsEntered, asked_of, front_lists};
 
+use crate::answering::{answer_paths, answer_records};
 use crate::check_attr::answering::{AttributeAnswerer, AttributeAsker};
 use crate::check_attr::fault::AttributeFault;
 use crate::check_attr::folders::AttributeFolders;
@@ -30,161 +33,138 @@ use gix_glob::search::Watched;
 use gix_glob::search::pattern::List;
 use glob_attributes::{AttributeLines, MacroTable};
 use glob_lists::ListIndex;
-use record_streams::{RecordFault, RecordStream};
+use record_streams::RecordFault;
 use std::alloc::{AllocError, Global};
 use std::io::{Read, Write};
 use std::marker::Brand;
-use tree_answers::{Form, PathAnswerer, RecordAnswerer, append_label};
+use tree_answers::{Form, append_label};
 
 /// Reads records that name paths, to the reader's end, and writes for each the states of its attributes, in order, as `git check-attr --stdin`
 /// does: in lines, or in records that a NUL ends. A line in double quotes is read as Git writes names.
 ///
-/// The files that count for a path are those of the question and those that the source has of the folders on the way to it. The source is
+/// The files that count for a path are those of the question, and those that the source has of the folders on the way to it. The source is
 /// asked for a folder when a path first lies there, and again only where folders were so many that all were forgotten; for none below one
-/// that doesn't stand there.
-///
-/// A record is answered, and its text written and flushed, before a read that comes after its end. No call on the reader or the writer may
-/// have failed before, and none that fails is tried again.
+/// that doesn't stand there. How records are read and answers written, [`RecordStream::run`](record_streams::RecordStream::run) tells. No
+/// call on the reader or the writer may have failed before, and none that fails is tried again.
 ///
 /// # Errors
-/// The first fault, and [`RecordFault::Write`] before another one. All records before it have their text written, and nothing else is; after
-/// [`RecordFault::Read`] these are all that ended in what was read. But after `RecordFault::Write` what was written may end anywhere in their
-/// text. [`RecordFault::Memory`] and [`AttributeFault::Memory`] where memory was refused.
+/// Those of `RecordStream::run`; its [`RecordFault::Answer`] has why a record got no answer. All records before it have their text
+/// written, and nothing else is.
 pub fn run_check_attr<R: Read, W: Write, S: AttributeFolders>(
     alloc: Global,
     question: &AttributeQuestion<'_>,
     source: S,
-    input: &mut Watched<R>,
-    output: &mut Watched<W>,
+    records: &mut Watched<R>,
+    writer: &mut Watched<W>,
 ) -> Result<(), RecordFault<AttributeFault<S::Fault>>>
-    requires readable { has_failed input.old ≡ false }
-    requires writable { has_failed output.old ≡ false }
-    // On success, all of the input was read, and the text of all its records was written.
-    ensures ok { OnOk result
-        (Run (ReadsWhole (R.remaining (inner input.old)) (R.remaining (inner input.new)))
-        (AnswersAll (TextOf (IsTextOf (IsStatesText question.now (S.shows source)) question.now.form)) (behind question.now.form 10))
-        (Appends (W.contents (inner output.old)) (W.contents (inner output.new)))) }
-    // After a fault that is none of the writer's, that of the first records was.
-    ensures err { OnErr result (has_failed output.new ≡ false →
-        Run (Consumes (R.remaining (inner input.old)) (R.remaining (inner input.new)))
-        (AnswersFirst (TextOf (IsTextOf (IsStatesText question.now (S.shows source)) question.now.form)) (behind question.now.form 10))
-        (Appends (W.contents (inner output.old)) (W.contents (inner output.new)))) }
-    // After a failed read, these are all that ended in what was read.
-    ensures unread { IsTrue (is_read_fault result) →
-        Run (Consumes (R.remaining (inner input.old)) (R.remaining (inner input.new)))
-        (AnswersEnded (TextOf (IsTextOf (IsStatesText question.now (S.shows source)) question.now.form)) (behind question.now.form 10))
-        (Appends (W.contents (inner output.old)) (W.contents (inner output.new))) }
-    // After a fault of the writer's, a beginning of such a text was written.
-    ensures cut { OnErr result
-        (Run (Consumes (R.remaining (inner input.old)) (R.remaining (inner input.new)))
-        (AnswersSome (TextOf (IsTextOf (IsStatesText question.now (S.shows source)) question.now.form)) (behind question.now.form 10))
-        (AppendsFront (W.contents (inner output.old)) (W.contents (inner output.new)))) }
-    ensures read { is_read_fault result ≡ has_failed input.new }
-    ensures write { is_write_fault result ≡ has_failed output.new }
+    requires readable { has_failed records.old ≡ false }
+    requires writable { has_failed writer.old ≡ false }
+    ensures { EndsRun (λ _. TextOfNamed (IsStatesText question.now (S.shows source)) (λ _. Unit {0}) question.now.form)
+        (TextOf (IsTextOf (IsStatesText question.now (S.shows source)) question.now.form)) (behind question.now.form 10) result
+        (R.remaining (inner records.old)) (R.remaining (inner records.new)) (W.contents (inner writer.old)) (W.contents (inner writer.new))
+        (has_failed records.new) (has_failed writer.new) }
 {
-    run_question::<R, W, S, Brand>(alloc, question, source, input, output)
+    run_question::<R, W, S, Brand>(alloc, question, source, records, writer)
 }
 
-/// Appends for each told path the states of its attributes, in order, as `git check-attr` does for the paths of its words.
-///
-/// # Errors
-/// The first fault. Then the text of the paths before it is appended, and nothing else is.
-pub fn append_check_attr<S: AttributeFolders>(
-    alloc: Global,
-    question: &AttributeQuestion<'_>,
-    source: S,
-    paths: &[&[u8]],
-    text: &mut Vec<u8>,
-) -> Result<(), AttributeFault<S::Fault>>
-    ensures ok { OnOk result (Adds (TextOf (IsStatesText question.now (S.shows source)) (map (λ told. told.now) paths.now)) text.old.items text.new.items) }
-    ensures err { OnErr result ((count : ℕ) × Adds (TextOf (IsStatesText question.now (S.shows source)) (take count (map (λ told. told.now) paths.now))) text.old.items text.new.items) }
-{
-    append_question::<S, Brand>(alloc, question, source, paths, text)
-}
-
-/// Answers the records of a reader.
+/// Answers the records of a reader by a question that a type names.
 fn run_question<R: Read, W: Write, S: AttributeFolders, Q: Question>(
     alloc: Global,
     question: &AttributeQuestion<'_>,
     source: S,
-    input: &mut Watched<R>,
-    output: &mut Watched<W>,
+    records: &mut Watched<R>,
+    writer: &mut Watched<W>,
 ) -> Result<(), RecordFault<AttributeFault<S::Fault>>>
     requires asks { AsksFor Q.files Q.asked Q.shows Q.allows question.now (S.shows source) }
-    requires readable { has_failed input.old ≡ false }
-    requires writable { has_failed output.old ≡ false }
-    ensures ok { OnOk result
-        (Run (ReadsWhole (R.remaining (inner input.old)) (R.remaining (inner input.new)))
-        (AnswersAll (TextOf (IsTextOf Q.allows question.now.form)) (behind question.now.form 10))
-        (Appends (W.contents (inner output.old)) (W.contents (inner output.new)))) }
-    ensures err { OnErr result (has_failed output.new ≡ false →
-        Run (Consumes (R.remaining (inner input.old)) (R.remaining (inner input.new)))
-        (AnswersFirst (TextOf (IsTextOf Q.allows question.now.form)) (behind question.now.form 10))
-        (Appends (W.contents (inner output.old)) (W.contents (inner output.new)))) }
-    ensures unread { IsTrue (is_read_fault result) →
-        Run (Consumes (R.remaining (inner input.old)) (R.remaining (inner input.new)))
-        (AnswersEnded (TextOf (IsTextOf Q.allows question.now.form)) (behind question.now.form 10))
-        (Appends (W.contents (inner output.old)) (W.contents (inner output.new))) }
-    ensures cut { OnErr result
-        (Run (Consumes (R.remaining (inner input.old)) (R.remaining (inner input.new)))
-        (AnswersSome (TextOf (IsTextOf Q.allows question.now.form)) (behind question.now.form 10))
-        (AppendsFront (W.contents (inner output.old)) (W.contents (inner output.new)))) }
-    ensures read { is_read_fault result ≡ has_failed input.new }
-    ensures write { is_write_fault result ≡ has_failed output.new }
+    requires readable { has_failed records.old ≡ false }
+    requires writable { has_failed writer.old ≡ false }
+    ensures { EndsRun (λ _. TextOfNamed Q.allows (λ _. Unit {0}) question.now.form)
+        (TextOf (IsTextOf Q.allows question.now.form)) (behind question.now.form 10) result
+        (R.remaining (inner records.old)) (R.remaining (inner records.new)) (W.contents (inner writer.old)) (W.contents (inner writer.new))
+        (has_failed records.new) (has_failed writer.new) }
 {
     let form = question.form;
-    let macros = macros_of_files(alloc, question.files)?;
-    let lists = front_lists(alloc, question.files, question.asked, &macros)?;
-    let index = index_of(alloc, &lists)?;
-    let answerer = answerer_of::<S, Q>(alloc, question, source, &macros, &index)?;
-    let mut records = RecordAnswerer {
-        paths: answerer,
-        form,
-        alloc,
+    let Ok(macros) = macros_of_files(alloc, question.files) else {
+        return Err(RecordFault::Memory);
     };
-    let stream = RecordStream {
-        alloc,
-        end: form.end(),
+    let Ok(lists) = front_lists(alloc, question.files, question.asked, &macros) else {
+        return Err(RecordFault::Memory);
     };
-    stream.run(input, output, &mut records)
+    let Ok(index) = index_of(alloc, &lists) else {
+        return Err(RecordFault::Memory);
+    };
+    let Ok(answerer) = answerer_of::<S, Q>(alloc, question, source, &macros, &index) else {
+        return Err(RecordFault::Memory);
+    };
+    let (_answerer, told) = answer_records(alloc, answerer, form, records, writer);
+    told
 }
 
-/// Appends what is written about the paths.
-fn append_question<S: AttributeFolders, Q: Question>(
+/// Writes for each told path the states of its attributes, in order, as [`run_check_attr`] does for those that records name. Where a path
+/// gets no answer, the text of those before it is written.
+///
+/// # Errors
+/// [`RecordFault::Answer`] of the fault of the first path that got no answer, [`RecordFault::Memory`] where memory was refused before the first
+/// one, and [`RecordFault::Write`] where a write or a flush failed: then what was written may end anywhere in the text.
+pub fn check_attr_paths<W: Write, S: AttributeFolders>(
     alloc: Global,
     question: &AttributeQuestion<'_>,
     source: S,
     paths: &[&[u8]],
-    text: &mut Vec<u8>,
-) -> Result<(), AttributeFault<S::Fault>>
-    requires asks { AsksFor Q.files Q.asked Q.shows Q.allows question.now (S.shows source) }
-    ensures ok { OnOk result (Adds (TextOf Q.allows (map (λ told. told.now) paths.now)) text.old.items text.new.items) }
-    ensures err { OnErr result ((count : ℕ) × Adds (TextOf Q.allows (take count (map (λ told. told.now) paths.now))) text.old.items text.new.items) }
+    writer: &mut Watched<W>,
+) -> Result<(), RecordFault<AttributeFault<S::Fault>>>
+    requires { has_failed writer.old ≡ false }
+    ensures ok { OnOk result
+        (Writes (TextOfPaths (IsStatesText question.now (S.shows source)) (λ _. Unit {0}) (map (λ path. path.now) paths.now))
+        (Appends (W.contents (inner writer.old)) (W.contents (inner writer.new)))) }
+    // After the fault of a path, the text of those before it was written.
+    ensures refused { AllByRecursion
+        (StopsAt (IsStatesText question.now (S.shows source)) (λ _ _. Unit {0}) (map (λ path. path.now) paths.now) true (W.contents (inner writer.old)) (W.contents (inner writer.new)))
+        (told_refusal result) }
+    // After one of the writer's, a beginning of the text of the first paths was.
+    ensures cut { OnErr result
+        (Writes (IsTextOfFirst (IsStatesText question.now (S.shows source)) (map (λ path. path.now) paths.now))
+        (AppendsFront (W.contents (inner writer.old)) (W.contents (inner writer.new)))) }
+    ensures write { is_write_fault result ≡ has_failed writer.new }
 {
-    let macros = macros_of_files(alloc, question.files)?;
-    let lists = front_lists(alloc, question.files, question.asked, &macros)?;
-    let index = index_of(alloc, &lists)?;
-    let mut answerer = answerer_of::<S, Q>(alloc, question, source, &macros, &index)?;
-    append_each::<S, Q>(&mut answerer, paths, text)
+    check_paths::<W, S, Brand>(alloc, question, source, paths, writer)
 }
 
-/// Appends what is written about each path, up to the first that gets no answer: of that nothing is appended.
-fn append_each<S: AttributeFolders, Q: Question>(
-    answerer: &mut AttributeAnswerer<'_, '_, S, Q>,
+/// Answers told paths by a question that a type names.
+fn check_paths<W: Write, S: AttributeFolders, Q: Question>(
+    alloc: Global,
+    question: &AttributeQuestion<'_>,
+    source: S,
     paths: &[&[u8]],
-    text: &mut Vec<u8>,
-) -> Result<(), AttributeFault<S::Fault>>
-    ensures ok { OnOk result (Adds (TextOf Q.allows (map (λ told. told.now) paths.now)) text.old.items text.new.items) }
-    ensures err { OnErr result ((count : ℕ) × Adds (TextOf Q.allows (take count (map (λ told. told.now) paths.now))) text.old.items text.new.items) }
+    writer: &mut Watched<W>,
+) -> Result<(), RecordFault<AttributeFault<S::Fault>>>
+    requires asks { AsksFor Q.files Q.asked Q.shows Q.allows question.now (S.shows source) }
+    requires writable { has_failed writer.old ≡ false }
+    ensures ok { OnOk result
+        (Writes (TextOfPaths Q.allows (λ _. Unit {0}) (map (λ path. path.now) paths.now))
+        (Appends (W.contents (inner writer.old)) (W.contents (inner writer.new)))) }
+    ensures refused { AllByRecursion
+        (StopsAt Q.allows (λ _ _. Unit {0}) (map (λ path. path.now) paths.now) true (W.contents (inner writer.old)) (W.contents (inner writer.new)))
+        (told_refusal result) }
+    ensures cut { OnErr result
+        (Writes (IsTextOfFirst Q.allows (map (λ path. path.now) paths.now))
+        (AppendsFront (W.contents (inner writer.old)) (W.contents (inner writer.new)))) }
+    ensures write { is_write_fault result ≡ has_failed writer.new }
 {
-    'paths: for told in paths {
-        let whole = text.as_slice().len();
-        if let Err(fault) = answerer.answer_path(text, told, false) {
-            text.truncate(whole);
-            return Err(fault);
-        }
-    }
-    Ok(())
+    let Ok(macros) = macros_of_files(alloc, question.files) else {
+        return Err(RecordFault::Memory);
+    };
+    let Ok(lists) = front_lists(alloc, question.files, question.asked, &macros) else {
+        return Err(RecordFault::Memory);
+    };
+    let Ok(index) = index_of(alloc, &lists) else {
+        return Err(RecordFault::Memory);
+    };
+    let Ok(answerer) = answerer_of::<S, Q>(alloc, question, source, &macros, &index) else {
+        return Err(RecordFault::Memory);
+    };
+    let (_answerer, told) = answer_paths(alloc, answerer, paths, true, writer);
+    told
 }
 
 /// An index of the lists that are weaker than those of folders. These files have fewer patterns than would be too many.

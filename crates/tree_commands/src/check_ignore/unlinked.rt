@@ -1,16 +1,17 @@
 //! The folders that are no links, nor lie below one, as far as they were looked at.
+ghost use Rattle.std.specs.Prelude.{◌≡◌, IfErr};
+ghost use Rattle.tree_commands.specs.Private.Faults.{IsOfSources};
 
-use crate::fault::CheckFault;
-use crate::standing::folder_text;
+use crate::check_ignore::fault::IgnoreFault;
+use crate::check_ignore::kinds::{PathKinds, check_folder};
 use glob_trees::KnownFolders;
+use memchr::memrchr;
 use std::alloc::{AllocError, Global};
-use std::fs;
-use std::rt::Files;
 
 /// About how many bytes are kept of folders.
 const MOST_BYTES: usize = 4 << 20;
 
-/// Folders that were found to be no links, nor to lie below one. They are remembered, so that the file system isn't asked for each
+/// Folders that were found to be no links, nor to lie below one. They are remembered, so that what stands there isn't asked for each
 /// path in them, until they are too many; then all are forgotten, and looked at again.
 #[derive(Drop)]
 pub(crate) struct UnlinkedFolders {
@@ -38,16 +39,45 @@ impl UnlinkedFolders {
         !folder.is_empty() && folder == self.last.as_slice()
     }
 
+    /// Refuses a path of which a folder is a link. Its first `entered` bytes name one that isn't.
+    ///
+    /// # Errors
+    /// Where it is, where that can't be told, and where memory was refused.
+    pub(crate) fn check_path<K: PathKinds>(
+        &mut self,
+        kinds: &mut K,
+        path: &[u8],
+        is_told_folder: bool,
+        entered: usize,
+    ) -> Result<(), IgnoreFault<K::Fault>>
+        ensures kept { K.kind_of kinds.new ≡ K.kind_of kinds.old }
+        ensures faults { IfErr result IsOfSources }
+    {
+        if is_told_folder && entered < path.len() {
+            check_folder(kinds, path)?;
+        }
+        let Some(last) = memrchr(b'/', path) else {
+            return Ok(());
+        };
+        if last < entered {
+            return Ok(());
+        }
+        self.check(kinds, &path[..last + 1], entered)
+    }
+
     /// Refuses a folder, told with a slash at its end, that is a link or lies below one. Its first `entered` bytes name one that isn't.
     ///
     /// # Errors
-    /// [`CheckFault::BeyondLink`] where it is, or where the name is no text, and where memory was refused.
-    pub(crate) fn check<R: Files>(
+    /// Where it is, where that can't be told, and where memory was refused.
+    fn check<K: PathKinds>(
         &mut self,
-        rt: &R,
+        kinds: &mut K,
         folder: &[u8],
         entered: usize,
-    ) -> Result<(), CheckFault> {
+    ) -> Result<(), IgnoreFault<K::Fault>>
+        ensures kept { K.kind_of kinds.new ≡ K.kind_of kinds.old }
+        ensures faults { IfErr result IsOfSources }
+    {
         if self.is_last(folder) {
             return Ok(());
         }
@@ -66,7 +96,7 @@ impl UnlinkedFolders {
                 Some(place) => place,
                 None => {
                     if is_folder && end >= entered {
-                        is_folder = check_folder(rt, self.alloc, &folder[..end])?;
+                        is_folder = check_folder(kinds, &folder[..end])?;
                     }
                     self.add(outer, name)?
                 }
@@ -99,19 +129,5 @@ impl UnlinkedFolders {
             .bytes
             .saturating_add(name.len().saturating_add(KnownFolders::FOLDER_BYTES));
         self.known.add(outer, name)
-    }
-}
-
-/// Refuses a folder that is a link. It answers whether a folder stands there.
-pub(crate) fn check_folder<R: Files>(
-    rt: &R,
-    alloc: Global,
-    folder: &[u8],
-) -> Result<bool, CheckFault> {
-    let name = folder_text(alloc, folder)?;
-    match fs::symlink_metadata(rt, name.as_str()) {
-        Ok(found) if found.is_symlink() => Err(CheckFault::BeyondLink(name)),
-        Ok(found) => Ok(found.is_dir()),
-        Err(_missing) => Ok(false),
     }
 }

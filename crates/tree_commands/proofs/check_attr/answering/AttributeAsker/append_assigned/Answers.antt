@@ -1,0 +1,24 @@
+-- What is assigned is by the lists that were gone to, so its text is allowed.
+use Rattle.std.proofs.Common.{◌≡◌, ◌++◌, map, ap, sym, subst, ◌∙◌}
+use Rattle.gix_glob.specs.EntryLists.{entry_list_of}
+use Rattle.glob_attributes.specs.States.{IsAssigned}
+use Rattle.glob_attributes.specs.Views.{seen_assignments}
+use Rattle.glob_lists.specs.Deciding.{BasesAreFolders}
+use Rattle.glob_lists.specs.Paths.{Path}
+use Rattle.glob_trees.proofs.lemmas.Stepping.{ok_gives}
+use Rattle.tree_commands.specs.CheckAttr.{macros_for}
+use Rattle.tree_commands.proofs.lemmas.AttributeAllowed.{assigned_allowed, bases_of_way}
+use Rattle.tree_commands.proofs.check_attr.answering.AttributeAsker.append_assigned.Goals as goal
+
+pub with_index-requires : goal.with_index-requires
+with_index-requires g c = record {
+  folders = subst BasesAreFolders
+      (sym (ap (map (entry_list_of seen_assignments)) c.deref-2.ensures.value ∙ c.requires.gone.standing))
+      (bases_of_way g.Q.Question.asked (macros_for g.Q.Question.files) c.requires.gone.way g.Q.Question.files.info);
+}
+
+pub returns-clause-written : goal.returns-clause-written
+returns-clause-written g c =
+    let its = c.in_ok-assigned.ensures in
+    let path = c.from_plain-path.ensures in
+    ?
