@@ -1,3 +1,2 @@
-pub mod AddedLemmas
 pub mod IgnoringLemmas
 pub mod PieceLemmas

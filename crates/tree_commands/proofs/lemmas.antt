@@ -6,6 +6,7 @@ pub mod AttributeLeaves
 pub mod AttributeLists
 pub mod AttributePaths
 pub mod AttributePuts
+pub mod AttributeRuns
 pub mod AttributeSteps
 pub mod AttributeTexts
 pub mod AttributeWalks

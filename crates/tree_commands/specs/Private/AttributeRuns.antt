@@ -8,4 +8,4 @@ pub record AsksFor (files : Files) (asked : Asked) (shows : Folder → Option (L
   pub of_files : query.files ≡ files
   pub asks : query.asked ≡ asked
   pub source : ShowsSame shown shows
-  pub allowed : (told text : List ℕ) → IsStatesText query shown told text → allows told text
+  pub allowed : (told text : List ℕ) → IsStatesText query shows told text → allows told text
