@@ -1,5 +1,7 @@
 -- Nothing was read or written where memory was refused.
+use Rattle.std.proofs.Common.{◌≡◌, ap, sym}
 use Rattle.tree_answers.specs.Records.{IsTextOf}
+use Rattle.tree_commands.specs.CheckAttr.{Query}
 use Rattle.tree_commands.proofs.lemmas.AttributeRuns.{refused_run}
 use Rattle.tree_commands.proofs.check_attr.running.run_question.Goals as goal
 
@@ -14,5 +16,5 @@ returns-in_default-answerer_of g c = refused_run (IsTextOf g.Q.Question.allows c
 
 pub returns : goal.returns
 returns g c =
-    let ends = c.answer_records.ensures in
-    ?
+    let form : c.args.question.now.form ≡ c.question.inside.form = sym (ap (λ (q : Query). q.form) c.question.view_is) in
+    rw form c.answer_records-answerer.ensures.ends
