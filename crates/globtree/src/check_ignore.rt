@@ -64,7 +64,12 @@ fn sources_of<'a, R: Files + Env + Eprint + AllocGlobal>(
     alloc: Global,
     options: Options<'_>,
     flags: Flags,
-) -> Result<(Standpoint, IgnoreSources<FolderFiles<'a, R>, FileKinds<'a, R>>)> {
+) -> Result<
+    (
+        Standpoint,
+        IgnoreSources<FolderFiles<'a, R>, FileKinds<'a, R>>,
+    ),
+> {
     let concerns = Concerns {
         are_attributes: false,
         is_nul: flags.nul,

@@ -137,7 +137,7 @@ module _ {S Q : Type 0} (files : Files) (asked : Asked) (shows : Folder → Opti
   unassigned_allowed top shown old new is written =
       let text : List ℕ = unspecified_text asker.form shown (map vec_items asker.labels.items) in
       let same : text ≡ unspecified_text asker.form (name_text asker.form told) (labels_of asker.form asked) =
-          ap (λ s. unspecified_text asker.form s (map vec_items asker.labels.items)) is ∙ ap (unspecified_text asker.form (name_text asker.form told)) ready.labels in
+      ap (λ s. unspecified_text asker.form s (map vec_items asker.labels.items)) is ∙ ap (unspecified_text asker.form (name_text asker.form told)) ready.labels in
       record {
         added = text;
         allowed = ready.allowed told text (record {

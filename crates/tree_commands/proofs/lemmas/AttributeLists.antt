@@ -124,7 +124,7 @@ module _ (macros : List Definition) (files : Files) (path : Path) where
         ∙ ap (λ l. kept [] files.system ∷ l ∷ n (list_in [] files.top) ∷ more) (narrowed_is_kept names macros [] files.user)
         ∙ ap (λ l. kept [] files.system ∷ kept [] files.user ∷ l ∷ more) (narrowed_is_kept names macros [] files.top)
         ∙ ap (λ ls. kept [] files.system ∷ kept [] files.user ∷ kept [] files.top ∷ ls)
-            (way_narrowed way (list_in [] files.info ∷ []) ∙ ap (λ l. map (λ at. kept at.0 at.1) way ++ l ∷ []) (narrowed_is_kept names macros [] files.info))
+        (way_narrowed way (list_in [] files.info ∷ []) ∙ ap (λ l. map (λ at. kept at.0 at.1) way ++ l ∷ []) (narrowed_is_kept names macros [] files.info))
 
     pub told_same_named : (way : List FolderFile) (filled other : List Assigned) (read : List (List ℕ)) → IsAssigned (lists_to files way) macros path Sensitive filled → IsAssigned (lists_if_any asked_names way) macros path Sensitive other
         → told_states asked_names read other ≡ told_states asked_names read filled

@@ -56,7 +56,7 @@ module _ (asked : Asked) (macros : List Definition) (shows : Folder → Option (
         (λ (none : lists ≡ []). absurd (omega (arith, ap length (sym (ap (map (entry_list_of seen_assignments)) none) ∙ e.standing), length-append (flat_map (own_lists asked macros) e.on_way) (info ∷ []))))
         (λ (any : (init : List PatternList) × (last : PatternList) × (lists ≡ init ++ last ∷ [])).
         ap (map (entry_list_of seen_assignments))
-            (puts.put any.0 any.1 any.2 ∙ ap (λ (f : FoundFolder). any.0 ++ (option_to_list f.list ++ any.1 ∷ [])) old_is ∙ ap (λ o. any.0 ++ (option_to_list o ++ any.1 ∷ [])) some)
+        (puts.put any.0 any.1 any.2 ∙ ap (λ (f : FoundFolder). any.0 ++ (option_to_list f.list ++ any.1 ∷ [])) old_is ∙ ap (λ o. any.0 ++ (option_to_list o ++ any.1 ∷ [])) some)
         ∙ put_lists any.0 any.1 (flat_map (own_lists asked macros) e.on_way) info list (sym (ap (map (entry_list_of seen_assignments)) any.2) ∙ e.standing))
         (last_cases lists)
 
@@ -67,8 +67,8 @@ module _ (asked : Asked) (macros : List Definition) (shows : Folder → Option (
         let file = file_at x xs p in
         let own = own_lists asked macros p.at in
         let holds : own ≡ entry_list_of seen_assignments list ∷ [] =
-            sym (held_own asked macros shows info (map (entry_list_of seen_assignments) lists) folder way names held read e x xs place p level found is)
-            ∙ ap (λ o. map (entry_list_of seen_assignments) (option_to_list o)) some in
+        sym (held_own asked macros shows info (map (entry_list_of seen_assignments) lists) folder way names held read e x xs place p level found is)
+        ∙ ap (λ o. map (entry_list_of seen_assignments) (option_to_list o)) some in
         let here : now ≡ slice_set held place (record { is_there = found.is_there; list = None }) = puts.here ∙ ap (λ (f : FoundFolder). slice_set held place (record { is_there = f.is_there; list = None })) old_is in
         subst (λ h. AreEntered asked macros shows info (map (entry_list_of seen_assignments) more) (start_of (x ∷ xs)) (way ++ there ∷ []) names h read) (sym here)
         (enters_list asked macros shows info (map (entry_list_of seen_assignments) lists) folder way names held read e x xs place p level found is (map (entry_list_of seen_assignments) more) there (entry_list_of seen_assignments list) its long listed file.0 file.1 holds

@@ -53,10 +53,10 @@ module _ (form : Form) where
         added ∙ ap (λ t. t ++ answer_text form shown (vec_items label) state) before
         ∙ append_assoc old (shown_text form shown (map state_of (take k names))) (answer_text form shown (vec_items label) state)
         ∙ ap (λ t. old ++ t)
-            (ap (λ l. shown_text form shown (map state_of (take k names)) ++ answer_text form shown l state) (labelled names labels k d label inside same is)
-            ∙ ap (λ s. shown_text form shown (map state_of (take k names)) ++ answer_text form shown (label_text form name.now) s) its
-            ∙ sym (flat_last each (map state_of (take k names)) (state_of name))
-            ∙ ap (shown_text form shown) (sym (map-append state_of (take k names) (name ∷ [])) ∙ ap (map state_of) (sym (take_more names k d inside))))
+        (ap (λ l. shown_text form shown (map state_of (take k names)) ++ answer_text form shown l state) (labelled names labels k d label inside same is)
+        ∙ ap (λ s. shown_text form shown (map state_of (take k names)) ++ answer_text form shown (label_text form name.now) s) its
+        ∙ sym (flat_last each (map state_of (take k names)) (state_of name))
+        ∙ ap (shown_text form shown) (sym (map-append state_of (take k names) (name ∷ [])) ∙ ap (map state_of) (sym (take_more names k d inside))))
 
   -- the answer of one label more was appended
   pub unspecified_more : (shown : List ℕ) (labels : List (Vec ℕ Global)) (k : ℕ) (label : Vec ℕ Global) (old text new : List ℕ) → k < length labels → label ≡ slice_index_or labels k label
@@ -66,5 +66,5 @@ module _ (form : Form) where
       added ∙ ap (λ t. t ++ each (vec_items label)) before
       ∙ append_assoc old (unspecified_text form shown (map vec_items (take k labels))) (each (vec_items label))
       ∙ ap (λ t. old ++ t)
-          (sym (flat_last each (map vec_items (take k labels)) (vec_items label))
-          ∙ ap (unspecified_text form shown) (sym (map-append vec_items (take k labels) (label ∷ [])) ∙ ap (map vec_items) (ap (λ l. take k labels ++ l ∷ []) is ∙ sym (take_more labels k label inside))))
+      (sym (flat_last each (map vec_items (take k labels)) (vec_items label))
+      ∙ ap (unspecified_text form shown) (sym (map-append vec_items (take k labels) (label ∷ [])) ∙ ap (map vec_items) (ap (λ l. take k labels ++ l ∷ []) is ∙ sym (take_more labels k label inside))))

@@ -17,8 +17,8 @@ new-requires-2 g c =
     let by_standpoint : Standpoint → Query = λ other. record { files = query.files; asked = query.asked; standpoint = other; form = form } in
     let by_form : Form → Query = λ other. record { files = query.files; asked = query.asked; standpoint = query.standpoint; form = other } in
     let same : by_files g.Q.Question.files ≡ query =
-        ap by_files (sym asks.of_files) ∙ ap by_asked (sym asks.asks)
-        ∙ ap by_standpoint (ap (λ (q : Query). q.standpoint) c.question.view_is) ∙ ap by_form (ap (λ (q : Query). q.form) c.question.view_is) in
+    ap by_files (sym asks.of_files) ∙ ap by_asked (sym asks.asks)
+    ∙ ap by_standpoint (ap (λ (q : Query). q.standpoint) c.question.view_is) ∙ ap by_form (ap (λ (q : Query). q.form) c.question.view_is) in
     record {
       allowed = λ told text is. asks.allowed told text (subst (λ q. IsStatesText q g.Q.Question.shows told text) same is);
       lists = c.requires.lists;

@@ -17,7 +17,7 @@ returns-in_ok-note_names-in-Ok-true-clause-looked g c =
     let file : List ℕ = c.read_file.new.bytes.items in
     let stays = c.in-Ok-true.ensures.stays in
     let told : g.S.AttributeFolders.shows c.read_file.new.self folder (Some file) =
-        subst (λ b. g.S.AttributeFolders.shows c.read_file.new.self folder (if b then Some file else None)) c.in-Ok-true.field-0-test c.in-Ok-true.ensures.shown in
+    subst (λ b. g.S.AttributeFolders.shows c.read_file.new.self folder (if b then Some file else None)) c.in-Ok-true.field-0-test c.in-Ok-true.ensures.shown in
     let shown : g.Q.Question.shows folder (Some file) = (w.source folder (Some file)).0 ((stays folder (Some file)).0 told) in
     subst (λ walk. HasLooked g.Q.Question.files g.Q.Question.asked g.Q.Question.shows g.S.AttributeFolders.shows walk folder (file_seen true walk)) (sym notes.0)
     (record {
