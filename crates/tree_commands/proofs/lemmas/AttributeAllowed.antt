@@ -1,11 +1,9 @@
 -- What is written about a path is allowed by what is asked.
-use Rattle.std.proofs.Common.{◌≡◌, ◌⊎◌, inl, inr, ⊎_elim, ℕ, Bool, false, List, [], ◌∷◌, ◌++◌, map, Option, None, Some, Bor, refl, sym, ap, subst, ◌∙◌}
-use Rattle.std.specs.Prelude.{All}
+use Rattle.std.proofs.Common.{◌≡◌, inl, inr, ⊎_elim, ℕ, Bool, false, List, [], ◌∷◌, ◌++◌, map, Option, Some, refl, sym, ap, subst, ◌∙◌}
 use Rattle.std.specs.List.{flat_map}
 use Rattle.std.specs.Vec.{vec_items}
 use Rattle.std.proofs.lemmas.List.Elements.{All-append, All-cons, All-nil}
 use Rattle.std.proofs.lemmas.Option.{none-some, same_Some}
-use Rattle.gix_glob.specs.declared.pattern.Case.{Case}
 use Rattle.gix_glob.specs.declared.pattern.Case.TheVariants.{Sensitive}
 use Rattle.gix_glob.specs.Bytes.{slash}
 use Rattle.gix_glob.specs.EntryLists.{EntryList, entry_list_of}
@@ -13,7 +11,7 @@ use Rattle.glob_lists.specs.Deciding.{BasesAreFolders, HasFolder}
 use Rattle.glob_lists.specs.Paths.{IsPlainPath, Path}
 use Rattle.glob_attributes.specs.declared.assignment.State.TheVariants.{Unspecified}
 use Rattle.glob_attributes.specs.Macros.{Definition}
-use Rattle.glob_attributes.specs.States.{Assigned, IsAssigned, Lists, states_in}
+use Rattle.glob_attributes.specs.States.{Assigned, IsAssigned, states_in}
 use Rattle.glob_attributes.specs.Views.{seen_assignments}
 use Rattle.glob_trees.specs.Ways.{Folder, unless_empty}
 use Rattle.glob_trees.proofs.lemmas.WithEntries.{empty_or_not}
@@ -26,7 +24,7 @@ use Rattle.tree_answers.specs.Lines.{name_text}
 use Rattle.tree_commands.specs.declared.check_attr.answering.AttributeAsker.{AttributeAsker}
 use Rattle.tree_commands.specs.declared.check_attr.walk.Asking.{Asking}
 use Rattle.tree_commands.specs.declared.check_attr.walk.Asking.TheVariants as asking
-use Rattle.tree_commands.specs.CheckAttr.{Asked, FolderFile, Files, IsAssignedTo, IsStatesText, all, lists_to, macros_for, named, names_of, or_dot, states_text, told_states}
+use Rattle.tree_commands.specs.CheckAttr.{Asked, FolderFile, Files, IsAssignedTo, all, lists_to, macros_for, named, names_of, or_dot, states_text, told_states}
 use Rattle.tree_commands.specs.Private.AttributeAnswers.{IsReady, labels_of, unspecified_text}
 use Rattle.tree_commands.specs.Private.AttributeWays.{HasGoneTo, HasRead, asked_by, front_lists, kept_list}
 use Rattle.tree_commands.proofs.lemmas.AttributeLists.{lists_if_any, told_same_all, told_same_named}

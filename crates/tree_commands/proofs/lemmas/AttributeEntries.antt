@@ -1,17 +1,14 @@
 -- A folder is looked at, and a known one is entered.
-use Rattle.std.proofs.Common.{◌≡◌, ◌⊎◌, inl, inr, ⊎_elim, ℕ, zero, suc, ◌+◌, ◌<◌, ◌≤◌, Bool, true, false, List, [], ◌∷◌, ◌++◌, length, map, take, drop, Option, None, Some, refl, sym, ap, subst, ◌∙◌, append_assoc, append-nil, length-append, arith}
+use Rattle.std.proofs.Common.{◌≡◌, inl, inr, ⊎_elim, ℕ, ◌<◌, true, false, List, [], ◌∷◌, ◌++◌, length, map, Option, None, Some, refl, sym, ap, subst, ◌∙◌, append-nil, length-append, arith}
 use Rattle.std.specs.Prelude.{is_some, slice_get, slice_set}
-use Rattle.std.specs.List.{AllByRecursion, AllZip, Contains, flat_map}
-use Rattle.std.specs.Option.{option_to_list}
-use Rattle.std.proofs.lemmas.Bool.{cases_eq, false≢true}
+use Rattle.std.specs.List.{Contains, flat_map}
+use Rattle.std.proofs.lemmas.Bool.{cases_eq}
 use Rattle.std.proofs.lemmas.List.{length-set, map-append}
 use Rattle.std.proofs.lemmas.List.Elements.{Contains-append_left, Contains-append_right, Contains-push}
 use Rattle.std.proofs.lemmas.Option.{same_Some}
-use Rattle.gix_glob.specs.Bytes.{slash}
-use Rattle.gix_glob.specs.EntryLists.{EntryList, entry_list_of}
+use Rattle.gix_glob.specs.EntryLists.{EntryList}
 use Rattle.glob_attributes.specs.Macros.{Definition}
 use Rattle.glob_attributes.specs.States.{Assigned, Lists}
-use Rattle.glob_attributes.specs.Views.{seen_assignments}
 use Rattle.glob_trees.specs.declared.on_way.FolderOnWay.{FolderOnWay}
 use Rattle.glob_trees.specs.Known.{AddsFolder, FolderNames}
 use Rattle.glob_trees.specs.Ways.{Folder, folders_to, start_of}
@@ -20,8 +17,8 @@ use Rattle.glob_trees.proofs.lemmas.OnWay.{not_on_own_way}
 use Rattle.glob_trees.proofs.lemmas.WayLemmas.{folders_slash, zip_more}
 use Rattle.tree_commands.specs.declared.check_attr.walk.FoundFolder.{FoundFolder}
 use Rattle.tree_commands.specs.CheckAttr.{Asked}
-use Rattle.tree_commands.specs.Private.AttributeWays.{AreEntered, AreKnown, Holds, IsAt, IsLinked, IsListed, IsOnWay, IsPlaceOf, IsSighted, PatternList, Sighting, held_lists, last_on, last_sight, lists_held, own_lists, places_of, top_sight}
-use Rattle.tree_commands.proofs.lemmas.AttributeWalks.{IsPlaced, all_push, all_weaker, flat_last, get_inside, get_push_cases, get_push_here, get_push_old, holds_more, last_at, last_sight-push, placed, set_apart, set_at, zip_weaker}
+use Rattle.tree_commands.specs.Private.AttributeWays.{AreEntered, Holds, IsAt, IsLinked, IsListed, IsOnWay, IsPlaceOf, IsSighted, Sighting, held_lists, last_on, last_sight, own_lists, places_of, top_sight}
+use Rattle.tree_commands.proofs.lemmas.AttributeWalks.{all_push, all_weaker, flat_last, get_inside, get_push_cases, get_push_here, get_push_old, holds_more, last_at, last_sight-push, placed, set_apart, set_at, zip_weaker}
 
 module _ (asked : Asked) (macros : List Definition) (shows : Folder → Option (List ℕ) → Type 0) (info : EntryList (List Assigned)) (lists : Lists) (folder : List ℕ) (way : List FolderOnWay) (names : FolderNames) (held : List FoundFolder) (read : List (List ℕ)) (e : AreEntered asked macros shows info lists folder way names held read) where
   -- ---- the last folder on the way

@@ -1,11 +1,10 @@
 -- The top is entered, and the folder entered last is left.
-use Rattle.std.proofs.Common.{◌≡◌, ◌⊎◌, inl, inr, ⊎_elim, ℕ, zero, suc, ◌+◌, ◌<◌, ◌≤◌, Bool, true, false, List, [], ◌∷◌, ◌++◌, length, map, take, Option, None, Some, refl, sym, ap, subst, ◌∙◌, append_assoc, append-nil, length-append, arith}
-use Rattle.std.specs.Prelude.{is_some, slice_get, slice_set}
-use Rattle.std.specs.List.{AllByRecursion, AllZip, Contains, flat_map}
+use Rattle.std.proofs.Common.{◌≡◌, inl, ⊎_elim, ℕ, zero, suc, ◌<◌, List, [], ◌∷◌, ◌++◌, length, map, take, Option, None, Some, refl, sym, ap, subst, ◌∙◌, append-nil, length-append, arith}
+use Rattle.std.specs.Prelude.{slice_get, slice_set}
+use Rattle.std.specs.List.{AllByRecursion, AllZip, flat_map}
 use Rattle.std.proofs.Math.Seq.{take-append_seam}
 use Rattle.std.proofs.lemmas.Bool.{cases_eq}
 use Rattle.std.proofs.lemmas.List.{length-set, map-append}
-use Rattle.std.proofs.lemmas.List.Elements.{Contains-push_cases}
 use Rattle.std.proofs.lemmas.Option.{same_Some}
 use Rattle.gix_glob.specs.EntryLists.{EntryList, entry_list_of}
 use Rattle.glob_attributes.specs.Macros.{Definition}
@@ -14,10 +13,10 @@ use Rattle.glob_attributes.specs.Views.{seen_assignments}
 use Rattle.glob_trees.specs.declared.on_way.FolderOnWay.{FolderOnWay}
 use Rattle.glob_trees.specs.Known.{FolderNames, KnowsNone}
 use Rattle.glob_trees.specs.Ways.{Folder, folders_to, start_of}
-use Rattle.glob_trees.proofs.lemmas.WayLemmas.{ZipsLast, last_same, zip_last}
+use Rattle.glob_trees.proofs.lemmas.WayLemmas.{ZipsLast, zip_last}
 use Rattle.tree_commands.specs.declared.check_attr.walk.FoundFolder.{FoundFolder}
 use Rattle.tree_commands.specs.CheckAttr.{Asked}
-use Rattle.tree_commands.specs.Private.AttributeWays.{AreEntered, AreKnown, Holds, IsAt, IsListed, IsOnWay, IsSighted, PatternList, Sighting, held_lists, last_on, last_sight, own_lists, places_of, top_sight, unknown}
+use Rattle.tree_commands.specs.Private.AttributeWays.{AreEntered, Holds, IsAt, IsListed, IsOnWay, PatternList, Sighting, last_on, last_sight, own_lists, places_of, top_sight, unknown}
 use Rattle.tree_commands.proofs.lemmas.AttributeWalks.{HasOuter, IsLower, flat_last, has_outer, holds_less, last_long, left_level, last_sight-push, set_apart, set_at}
 
 -- the same, by equal texts and lists

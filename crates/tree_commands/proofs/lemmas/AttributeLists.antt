@@ -1,5 +1,5 @@
 -- Lists of which one keeps the entries that are asked for, and which stand only where they have entries: what is told stays.
-use Rattle.std.proofs.Common.{◌≡◌, ◌⊎◌, ℕ, suc, List, [], ◌∷◌, ◌++◌, length, map, reverse, Bor, refl, sym, subst, ap, ◌∙◌, append_assoc, append-nil, arith}
+use Rattle.std.proofs.Common.{◌≡◌, ℕ, suc, List, [], ◌∷◌, ◌++◌, map, Bor, refl, sym, subst, ap, ◌∙◌, append_assoc, arith}
 use Rattle.std.specs.Prelude.{All, filter}
 use Rattle.std.specs.List.{flat_map}
 use Rattle.std.proofs.lemmas.List.Folds.{flat_map-map}
@@ -16,7 +16,7 @@ use Rattle.glob_attributes.specs.States.{Assigned, IsAssigned, IsRow, Lists, sta
 use Rattle.glob_attributes.proofs.lemmas.GivenLemmas.{EntriesGive, ListsGive, given-row, row-given}
 use Rattle.glob_attributes.proofs.lemmas.KeptLemmas.{concerns-named, filter-alike, needed, states_kept}
 use Rattle.glob_attributes.proofs.lemmas.OneRowLemmas.{assigned-one}
-use Rattle.tree_commands.specs.CheckAttr.{Asked, FolderFile, Files, all, list_in, lists_to, macros_for, named, told_states}
+use Rattle.tree_commands.specs.CheckAttr.{Asked, FolderFile, Files, all, list_in, lists_to, named, told_states}
 use Rattle.tree_commands.specs.Private.AttributeWays.{front_lists, kept_list}
 
 -- ---- lists without entries

@@ -1,20 +1,16 @@
 -- What is known when the folders on the way to a path are entered.
-use Rattle.std.proofs.Common.{◌≡◌, ◌⊎◌, inl, inr, ⊎_elim, ℕ, zero, suc, ◌+◌, ◌<◌, ◌≤◌, List, [], ◌∷◌, ◌++◌, ◌-◌, length, map, take, take_all, Option, None, Some, refl, sym, ap, subst, ◌∙◌, append-nil, arith}
-use Rattle.std.specs.Prelude.{slice_get, slice_index}
+use Rattle.std.proofs.Common.{◌≡◌, ℕ, zero, suc, ◌+◌, ◌≤◌, List, [], ◌∷◌, ◌++◌, ◌-◌, length, map, take, take_all, Option, None, Some, refl, sym, ap, subst, ◌∙◌, append-nil, arith}
 use Rattle.std.specs.List.{AllByRecursion, AllZip, Contains, flat_map}
 use Rattle.std.specs.Option.{option_map_or}
 use Rattle.std.proofs.lemmas.Option.{same_Some}
 use Rattle.gix_glob.specs.Bytes.{HasByte, slash}
-use Rattle.gix_glob.specs.EntryLists.{EntryList, entry_list_of}
 use Rattle.glob_attributes.specs.Macros.{Definition}
-use Rattle.glob_attributes.specs.States.{Assigned, Lists}
-use Rattle.glob_attributes.specs.Views.{seen_assignments}
 use Rattle.glob_trees.specs.declared.on_way.FolderOnWay.{FolderOnWay}
 use Rattle.glob_trees.specs.Ways.{Folder, folders_to, unless_empty}
 use Rattle.glob_trees.proofs.lemmas.Stepping.{passing_way}
 use Rattle.tree_commands.specs.declared.check_attr.walk.FolderAttributes.{FolderAttributes}
-use Rattle.tree_commands.specs.CheckAttr.{AreRead, Asked, FolderFile, Files, IsWayTo, macros_for}
-use Rattle.tree_commands.specs.Private.AttributeWays.{HasGoneTo, IsAt, IsBefore, IsEntered, IsOnWay, IsSighted, Sighting, kept_list, own_lists, top_sight}
+use Rattle.tree_commands.specs.CheckAttr.{Asked, FolderFile, Files, macros_for}
+use Rattle.tree_commands.specs.Private.AttributeWays.{HasGoneTo, IsAt, IsEntered, IsOnWay, IsSighted, Sighting, kept_list, own_lists, top_sight}
 use Rattle.tree_commands.proofs.lemmas.AttributeWalks.{all_at}
 
 -- ---- paths and their slashes

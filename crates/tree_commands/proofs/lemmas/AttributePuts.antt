@@ -1,5 +1,5 @@
 -- A known folder is entered: its list, where it has one, is put before the last one.
-use Rattle.std.proofs.Common.{◌≡◌, ◌⊎◌, inl, inr, ⊎_elim, ℕ, ◌+◌, ◌<◌, ◌≤◌, Bool, true, false, List, [], ◌∷◌, ◌++◌, length, map, Option, None, Some, refl, sym, ap, subst, ◌∙◌, append_assoc, append-nil, length-append, arith}
+use Rattle.std.proofs.Common.{◌≡◌, ⊎_elim, ℕ, true, false, List, [], ◌∷◌, ◌++◌, length, map, Option, None, Some, refl, sym, ap, subst, ◌∙◌, append_assoc, length-append, arith}
 use Rattle.std.specs.Prelude.{is_some, slice_get, slice_set}
 use Rattle.std.specs.List.{flat_map}
 use Rattle.std.specs.Option.{option_to_list}
@@ -15,7 +15,7 @@ use Rattle.glob_trees.specs.Ways.{Folder, folders_to, start_of}
 use Rattle.glob_trees.proofs.lemmas.WayLemmas.{last_same}
 use Rattle.tree_commands.specs.declared.check_attr.walk.FoundFolder.{FoundFolder}
 use Rattle.tree_commands.specs.CheckAttr.{Asked}
-use Rattle.tree_commands.specs.Private.AttributeWays.{AreEntered, Holds, IsPlaceOf, PatternList, PutsList, held_lists, own_lists}
+use Rattle.tree_commands.specs.Private.AttributeWays.{AreEntered, IsPlaceOf, PatternList, PutsList, own_lists}
 use Rattle.tree_commands.proofs.lemmas.AttributeEntries.{enters_list, enters_none, held_own}
 use Rattle.tree_commands.proofs.lemmas.AttributeWalks.{last_cases}
 

@@ -1,10 +1,9 @@
 -- Runs that stop before a path was answered.
-use Rattle.std.proofs.Common.{◌≡◌, ℕ, Bool, false, List, [], Option, Err, refl, sym, arith}
+use Rattle.std.proofs.Common.{◌≡◌, ℕ, Bool, false, List, [], Option, Err, refl, sym}
 use Rattle.std.proofs.KnownBytes.{Appends-nil, Consumes-nil}
 use Rattle.std.proofs.lemmas.Bool.{false≢true}
 use Rattle.std.specs.Io.KnownBytes.{Appends, Consumes}
 use Rattle.glob_lines.specs.Transfers.{AppendsFront, Run}
-use Rattle.record_streams.specs.declared.fault.RecordFault.{RecordFault}
 use Rattle.record_streams.specs.declared.fault.RecordFault.TheVariants.{Memory}
 use Rattle.record_streams.specs.Records.{AnswersFirst, TextOf}
 use Rattle.record_streams.proofs.lemmas.RunLemmas.{Run-cut}

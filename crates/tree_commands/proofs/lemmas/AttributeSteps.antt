@@ -1,12 +1,11 @@
 -- What one call does to the folders that are entered.
-use Rattle.std.proofs.Common.{◌≡◌, ◌⊎◌, inl, inr, ⊎_elim, ℕ, zero, suc, ◌+◌, ◌-◌, ◌<◌, ◌≤◌, Bool, true, false, List, [], ◌∷◌, ◌++◌, length, map, take, take_all, drop, Option, None, Some, refl, sym, ap, subst, ◌∙◌, append_assoc, append-nil, length-take-le, arith}
+use Rattle.std.proofs.Common.{◌≡◌, ◌⊎◌, inl, inr, ⊎_elim, ℕ, zero, suc, ◌+◌, ◌-◌, ◌<◌, ◌≤◌, Bool, true, false, List, [], ◌∷◌, ◌++◌, length, map, take, take_all, drop, Option, None, Some, refl, sym, ap, subst, ◌∙◌, append-nil, length-take-le, arith}
 use Rattle.std.specs.Prelude.{if◌then◌else◌, is_some, slice_get, slice_index}
-use Rattle.std.specs.List.{AllByRecursion, AllZip, Contains, flat_map}
+use Rattle.std.specs.List.{AllZip, flat_map}
 use Rattle.std.proofs.Math.Seq.{split_at}
 use Rattle.std.proofs.lemmas.Bool.{false≢true}
 use Rattle.std.proofs.lemmas.Grind.{flat_map-append}
 use Rattle.std.proofs.lemmas.List.{take-append-drop, take-take}
-use Rattle.std.proofs.lemmas.Option.{same_Some}
 use Rattle.gix_glob.specs.Bytes.{HasByte, slash}
 use Rattle.gix_glob.specs.EntryLists.{EntryList}
 use Rattle.glob_attributes.specs.Macros.{Definition}
@@ -17,11 +16,11 @@ use Rattle.glob_trees.specs.declared.on_way.FolderOnWay.{FolderOnWay}
 use Rattle.glob_trees.specs.Known.{FolderNames}
 use Rattle.glob_trees.specs.Ways.{Folder, folders_to, start_of}
 use Rattle.glob_trees.proofs.lemmas.InFolder.{tail}
-use Rattle.glob_trees.proofs.lemmas.Stepping.{passing_way, slash_next}
+use Rattle.glob_trees.proofs.lemmas.Stepping.{passing_way}
 use Rattle.glob_trees.proofs.lemmas.WayLemmas.{folders_more, further}
 use Rattle.tree_commands.specs.declared.check_attr.walk.FoundFolder.{FoundFolder}
 use Rattle.tree_commands.specs.CheckAttr.{Asked, Files, built_in, files_of, names_of}
-use Rattle.tree_commands.specs.Private.AttributeWays.{AreEntered, IsBefore, IsOnWay, IsPlaceOf, IsSighted, Sighting, last_on, last_sight, own_lists}
+use Rattle.tree_commands.specs.Private.AttributeWays.{AreEntered, IsBefore, IsOnWay, IsPlaceOf, IsSighted, Sighting, last_on, own_lists}
 use Rattle.tree_commands.proofs.lemmas.AttributePaths.{level_end}
 use Rattle.tree_commands.proofs.lemmas.AttributeWalks.{all_at, get_inside, last_long}
 

@@ -1,28 +1,21 @@
 -- Folders that are entered and left, and what is kept of each.
-use Rattle.std.proofs.Common.{◌≡◌, ◌⊎◌, inl, inr, ⊎_elim, ℕ, zero, suc, ◌+◌, ◌-◌, ◌<◌, ◌≤◌, Bool, true, false, List, [], ◌∷◌, ◌++◌, length, map, take, drop, Option, None, Some, refl, sym, ap, subst, ◌∙◌, append_assoc, append-nil, length-append, arith}
-use Rattle.std.specs.Prelude.{is_some, slice_get, slice_set}
+use Rattle.std.proofs.Common.{◌≡◌, ◌⊎◌, inl, inr, ⊎_elim, ℕ, zero, suc, ◌-◌, ◌<◌, List, [], ◌∷◌, ◌++◌, length, map, drop, Option, Some, refl, sym, ap, subst, ◌∙◌, append_assoc, append-nil, length-append, arith}
+use Rattle.std.specs.Prelude.{slice_get, slice_set}
 use Rattle.std.specs.List.{AllByRecursion, AllZip, Contains, flat_map}
-use Rattle.std.proofs.Math.Seq.{take-append_seam}
-use Rattle.std.proofs.lemmas.Bool.{cases_eq}
 use Rattle.std.proofs.lemmas.Grind.{flat_map-append}
-use Rattle.std.proofs.lemmas.List.{length-set, map-append}
+use Rattle.std.proofs.lemmas.List.{map-append}
 use Rattle.std.proofs.lemmas.List.Elements.{Contains-append_cases, Contains-append_left, Contains-append_right, Contains-push, Contains-push_cases}
 use Rattle.std.proofs.lemmas.Option.{same_Some}
 use Rattle.gix_glob.specs.Bytes.{slash}
-use Rattle.gix_glob.specs.EntryLists.{EntryList, entry_list_of}
-use Rattle.glob_attributes.specs.Macros.{Definition}
-use Rattle.glob_attributes.specs.States.{Assigned, Lists}
-use Rattle.glob_attributes.specs.Views.{seen_assignments}
+use Rattle.glob_attributes.specs.States.{Lists}
 use Rattle.glob_trees.specs.declared.on_way.FolderOnWay.{FolderOnWay}
-use Rattle.glob_trees.specs.Known.{AddsFolder, FolderNames, KnowsNone}
 use Rattle.glob_trees.specs.Ways.{Folder, folders_to, start_of}
 use Rattle.glob_trees.proofs.lemmas.Entering.{name_follows}
 use Rattle.glob_trees.proofs.lemmas.InFolder.{last_splits}
-use Rattle.glob_trees.proofs.lemmas.OnWay.{none_contained, not_on_own_way}
-use Rattle.glob_trees.proofs.lemmas.WayLemmas.{HasLastFolder, LastFolder, ZipsLast, folders_slash, last_folder, last_same, zip_last, zip_more}
+use Rattle.glob_trees.proofs.lemmas.OnWay.{none_contained}
+use Rattle.glob_trees.proofs.lemmas.WayLemmas.{HasLastFolder, folders_slash, last_folder, last_same}
 use Rattle.tree_commands.specs.declared.check_attr.walk.FoundFolder.{FoundFolder}
-use Rattle.tree_commands.specs.CheckAttr.{Asked}
-use Rattle.tree_commands.specs.Private.AttributeWays.{AreEntered, AreKnown, Holds, IsAt, IsLinked, IsListed, IsOnWay, IsPlaceOf, IsSighted, PatternList, Sighting, held_lists, last_on, last_sight, own_lists, places_of, top_sight, unknown}
+use Rattle.tree_commands.specs.Private.AttributeWays.{Holds, IsAt, IsOnWay, Sighting, held_lists, last_on, last_sight, places_of}
 
 -- ---- lists and their elements
 

@@ -1,11 +1,10 @@
 -- What answers told paths by the states of attributes.
-use Rattle.std.specs.Prelude.{◌≡◌, ℕ, Bool, false, List, [], ◌∷◌, Option, map}
+use Rattle.std.specs.Prelude.{◌≡◌, ℕ, false, List, [], Option, map}
 use Rattle.std.specs.List.{flat_map}
 use Rattle.std.specs.Vec.{vec_items}
 use Rattle.gix_glob.specs.declared.pattern.Case.TheVariants.{Sensitive}
 use Rattle.gix_glob.specs.EntryLists.{entry_list_of}
-use Rattle.glob_attributes.specs.Macros.{Definition}
-use Rattle.glob_attributes.specs.States.{Assigned, Lists}
+use Rattle.glob_attributes.specs.States.{Assigned}
 use Rattle.glob_attributes.specs.Views.{seen_assignments}
 use Rattle.glob_attributes.specs.declared.assignment.State.TheVariants.{Unspecified}
 use Rattle.glob_trees.specs.Ways.{Folder}

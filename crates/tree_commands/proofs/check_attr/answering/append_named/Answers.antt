@@ -1,4 +1,4 @@
-use Rattle.std.proofs.Common.{◌≡◌, ◌++◌, [], ap, ◌∙◌}
+use Rattle.std.proofs.Common.{◌++◌, [], ap, ◌∙◌}
 use Rattle.glob_attributes.specs.Views.{state_with}
 use Rattle.tree_answers.specs.Attributes.{answer_text}
 use Rattle.tree_commands.proofs.lemmas.AttributeTexts.{front_of_front, named_more}

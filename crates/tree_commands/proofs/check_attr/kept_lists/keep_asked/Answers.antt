@@ -1,4 +1,4 @@
-use Rattle.std.proofs.Common.{◌≡◌, map, sym, ap, ◌∙◌}
+use Rattle.std.proofs.Common.{map, sym, ap, ◌∙◌}
 use Rattle.gix_glob.specs.Entries.{entry_of}
 use Rattle.glob_attributes.specs.Narrowing.{concerns}
 use Rattle.glob_attributes.specs.Views.{seen_assignments}

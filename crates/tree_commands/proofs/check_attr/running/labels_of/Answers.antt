@@ -1,5 +1,5 @@
 -- The labels are those of the names.
-use Rattle.std.proofs.Common.{◌≡◌, Bor, List, ℕ, Vec, IfOk, map, sym, subst, ◌∙◌}
+use Rattle.std.proofs.Common.{◌≡◌, Bor, List, ℕ, IfOk, map, sym, subst, ◌∙◌}
 use Rattle.std.specs.Vec.{vec_items}
 use Rattle.tree_answers.specs.Attributes.{label_text}
 use Rattle.tree_commands.specs.Private.AttributeAnswers.{labels_of}

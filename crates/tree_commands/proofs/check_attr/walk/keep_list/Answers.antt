@@ -1,4 +1,4 @@
-use Rattle.std.proofs.Common.{◌≡◌, ◌-◌, length, refl, ap}
+use Rattle.std.proofs.Common.{◌-◌, length, refl, ap}
 use Rattle.std.proofs.lemmas.Option.{slice_get_read}
 use Rattle.tree_commands.proofs.lemmas.AttributeKept.{takes_out}
 use Rattle.tree_commands.proofs.check_attr.walk.keep_list.Goals as goal

@@ -4,7 +4,6 @@ use Rattle.gix_glob.specs.EntryLists.{entry_list_of}
 use Rattle.glob_attributes.specs.States.{IsAssigned}
 use Rattle.glob_attributes.specs.Views.{seen_assignments}
 use Rattle.glob_lists.specs.Deciding.{BasesAreFolders}
-use Rattle.glob_lists.specs.Paths.{Path}
 use Rattle.glob_trees.proofs.lemmas.Stepping.{ok_gives}
 use Rattle.tree_commands.specs.CheckAttr.{macros_for}
 use Rattle.tree_commands.proofs.lemmas.AttributeAllowed.{assigned_allowed, bases_of_way}

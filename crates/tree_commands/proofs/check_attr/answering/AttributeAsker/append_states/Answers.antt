@@ -1,5 +1,5 @@
 -- The states of the attributes that are asked for.
-use Rattle.std.proofs.Common.{◌≡◌, ◌++◌, map, Bor, List, ℕ, ap, sym, subst, ◌∙◌}
+use Rattle.std.proofs.Common.{◌++◌, map, Bor, List, ℕ, ap, sym, ◌∙◌}
 use Rattle.std.specs.Vec.{vec_items}
 use Rattle.glob_attributes.specs.States.{Assigned, state_in}
 use Rattle.glob_trees.proofs.lemmas.Stepping.{ok_gives}

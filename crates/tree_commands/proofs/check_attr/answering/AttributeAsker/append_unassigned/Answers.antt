@@ -1,5 +1,5 @@
 -- Nothing is assigned to the top.
-use Rattle.std.proofs.Common.{◌≡◌, ◌++◌, map, ap, sym, subst, ◌∙◌}
+use Rattle.std.proofs.Common.{◌++◌, map, ap, ◌∙◌}
 use Rattle.std.specs.Vec.{vec_items}
 use Rattle.glob_trees.proofs.lemmas.Stepping.{ok_gives}
 use Rattle.tree_commands.specs.Private.AttributeAnswers.{unspecified_text}

@@ -1,5 +1,5 @@
 -- No folder stands there, or it is entered.
-use Rattle.std.proofs.Common.{◌≡◌, length, take, true, ap, refl, sym, subst, ◌∙◌}
+use Rattle.std.proofs.Common.{◌≡◌, length, take, true, refl, sym, subst, ◌∙◌}
 use Rattle.std.proofs.lemmas.Option.{same_Some, slice_get_read}
 use Rattle.tree_commands.specs.declared.check_attr.walk.FoundFolder.{FoundFolder}
 use Rattle.tree_commands.proofs.lemmas.AttributeSteps.{not_there, place_inside}

@@ -1,5 +1,5 @@
 -- A byte that is no slash is passed; where no folder stands, or no slash is left, the path is gone to.
-use Rattle.std.proofs.Common.{◌≡◌, ◌++◌, ◌<◌, ap, refl, sym, subst, ◌∙◌, arith, length}
+use Rattle.std.proofs.Common.{◌++◌, ◌<◌, ap, sym, subst, ◌∙◌, arith, length}
 use Rattle.gix_glob.specs.Bytes.{HasByte, slash}
 use Rattle.glob_trees.specs.Ways.{folders_to}
 use Rattle.tree_commands.proofs.lemmas.AttributePaths.{gone_as_far, gone_to}

@@ -1,5 +1,5 @@
 -- Nothing but the top is known then.
-use Rattle.std.proofs.Common.{◌≡◌, ◌++◌, ◌∷◌, [], ℕ, List, length, take, ap, refl, sym, subst, ◌∙◌, arith}
+use Rattle.std.proofs.Common.{◌≡◌, ◌++◌, ◌∷◌, [], ℕ, length, take, ap, ◌∙◌, arith}
 use Rattle.tree_commands.specs.Private.AttributeWays.{unknown}
 use Rattle.tree_commands.proofs.lemmas.AttributeLeaves.{top_entered_as}
 use Rattle.tree_commands.proofs.lemmas.AttributeSteps.{at_top}

@@ -1,5 +1,5 @@
 -- The path lies in the folder entered last.
-use Rattle.std.proofs.Common.{◌≡◌, length, ap, sym, ◌∙◌, arith}
+use Rattle.std.proofs.Common.{length, ap, sym, ◌∙◌, arith}
 use Rattle.glob_trees.specs.Ways.{folders_to}
 use Rattle.tree_commands.proofs.lemmas.AttributePaths.{gone_to}
 use Rattle.tree_commands.proofs.lemmas.AttributeSteps.{level_past}

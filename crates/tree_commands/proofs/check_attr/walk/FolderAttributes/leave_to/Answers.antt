@@ -1,5 +1,5 @@
 -- What names the last folder is no longer than what it and the path have alike.
-use Rattle.std.proofs.Common.{◌≡◌, ◌≤◌, length, take, ap, sym, ◌∙◌, arith}
+use Rattle.std.proofs.Common.{◌≤◌, length, take, ap, sym, ◌∙◌, arith}
 use Rattle.std.proofs.lemmas.List.{take-take}
 use Rattle.tree_commands.proofs.check_attr.walk.FolderAttributes.leave_to.Goals as goal
 

@@ -1,5 +1,5 @@
 -- The top alone is entered.
-use Rattle.std.proofs.Common.{◌≡◌, ◌++◌, ◌∷◌, [], map, ap, refl, sym, subst, ◌∙◌}
+use Rattle.std.proofs.Common.{◌++◌, ◌∷◌, [], map, ap, ◌∙◌}
 use Rattle.gix_glob.specs.EntryLists.{entry_list_of}
 use Rattle.glob_attributes.specs.Views.{seen_assignments}
 use Rattle.tree_commands.specs.Private.AttributeWays.{unknown}

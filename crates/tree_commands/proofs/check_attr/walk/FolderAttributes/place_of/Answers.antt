@@ -1,8 +1,8 @@
 -- The folder is found by its name, or looked at.
-use Rattle.std.proofs.Common.{◌≡◌, ◌<◌, ◌≤◌, ◌++◌, ◌-◌, List, ℕ, length, take, take_all, drop, ap, refl, sym, subst, ◌∙◌, length-take-le, arith}
+use Rattle.std.proofs.Common.{◌-◌, List, ℕ, length, take, drop, ap, sym, subst, ◌∙◌, length-take-le, arith}
 use Rattle.glob_trees.specs.declared.on_way.FolderOnWay.{FolderOnWay}
 use Rattle.glob_trees.specs.Known.{names_of}
-use Rattle.tree_commands.specs.Private.AttributeWays.{IsPlaceOf, last_on}
+use Rattle.tree_commands.specs.Private.AttributeWays.{IsPlaceOf}
 use Rattle.tree_commands.proofs.lemmas.AttributeEntries.{is_found}
 use Rattle.tree_commands.proofs.lemmas.AttributeSteps.{begins_before, named_at, outer_long}
 use Rattle.tree_commands.proofs.check_attr.walk.FolderAttributes.place_of.Goals as goal

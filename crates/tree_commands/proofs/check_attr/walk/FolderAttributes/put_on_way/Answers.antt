@@ -1,5 +1,5 @@
 -- The folder is entered: its list, where it has one, is put on the way.
-use Rattle.std.proofs.Common.{◌≡◌, ◌≤◌, ◌<◌, ◌++◌, ◌∷◌, ◌+◌, ◌-◌, [], List, ℕ, None, Some, true, false, length, take, drop, ap, refl, sym, subst, ◌∙◌, arith}
+use Rattle.std.proofs.Common.{◌≡◌, ◌++◌, ◌∷◌, ◌+◌, ◌-◌, [], List, ℕ, Some, length, take, drop, ap, refl, sym, ◌∙◌, arith}
 use Rattle.std.specs.Prelude.{is_some, slice_get}
 use Rattle.std.proofs.lemmas.Option.{slice_get_read}
 use Rattle.glob_trees.specs.declared.on_way.FolderOnWay.{FolderOnWay}

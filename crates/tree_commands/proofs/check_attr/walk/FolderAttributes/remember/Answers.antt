@@ -1,11 +1,11 @@
 -- What was found of the folder is kept by the next place.
-use Rattle.std.proofs.Common.{◌≡◌, ◌<◌, ◌≤◌, ◌++◌, ◌∷◌, ◌-◌, [], List, ℕ, length, take, drop, ap, refl, sym, subst, ◌∙◌, arith}
+use Rattle.std.proofs.Common.{◌-◌, List, ℕ, length, take, drop, ap, subst, ◌∙◌, arith}
 use Rattle.glob_trees.specs.declared.on_way.FolderOnWay.{FolderOnWay}
 use Rattle.glob_trees.specs.Known.{AddsFolder, names_of}
 use Rattle.tree_commands.specs.declared.check_attr.walk.FoundFolder.{FoundFolder}
-use Rattle.tree_commands.specs.Private.AttributeWays.{Sighting, file_seen, last_on}
+use Rattle.tree_commands.specs.Private.AttributeWays.{Sighting, file_seen}
 use Rattle.tree_commands.proofs.lemmas.AttributeEntries.{known_more, known_place, outer_inside}
-use Rattle.tree_commands.proofs.lemmas.AttributeSteps.{begins_before, is_seen, named_at, outer_long}
+use Rattle.tree_commands.proofs.lemmas.AttributeSteps.{is_seen, named_at, outer_long}
 use Rattle.tree_commands.proofs.check_attr.walk.FolderAttributes.remember.Goals as goal
 
 pub slice_bounds-name-count : goal.slice_bounds-name-count
