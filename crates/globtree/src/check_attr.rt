@@ -7,7 +7,7 @@ use crate::attribute_flags::AttributeFlags;
 use crate::check_ignore::bytes_of;
 use crate::command_words::operands_of;
 use crate::fault::CheckFault;
-use crate::outer_attributes::outer_attributes;
+use crate::outer_attributes::{OuterAttributes, outer_attributes};
 use crate::running::{ANSWERED, WRONG_WORDS};
 use crate::telling::{tell_line, tell_usage};
 use crate::words::Options;
@@ -64,26 +64,38 @@ pub(crate) fn check_attr<R: Files + Env + Eprint + AllocGlobal, I: Read, O: Writ
         )?;
         return Ok(NO_NAME);
     }
-    let names = bytes_of(alloc, names)?;
-    let paths = bytes_of(alloc, paths)?;
-    let asked = if flags.all {
-        AskedAttributes::All
-    } else {
-        AskedAttributes::Names(&names)
-    };
-    let form = Form::ended_by(flags.nul);
-    let question = AttributeQuestion::new(outer.files(), asked, &outer.standpoint, form);
+    let asked_names = bytes_of(alloc, names)?;
+    let told = bytes_of(alloc, paths)?;
+    let question = question_of(&outer, &asked_names, flags);
     let source = AttributeFiles { rt, alloc };
     let outcome = if flags.stdin {
         run_check_attr(alloc, &question, source, input, output)
     } else {
-        check_attr_paths(alloc, &question, source, &paths, output)
+        check_attr_paths(alloc, &question, source, &told, output)
     };
     match outcome {
         Ok(()) => Ok(ANSWERED),
         Err(RecordFault::Answer(fault)) => Err(CheckFault::of_attributes(alloc, fault).into()),
         Err(fault) => Err(fault.into()),
     }
+}
+
+/// What is asked of each path, by the flags.
+fn question_of<'a>(
+    outer: &'a OuterAttributes,
+    names: &'a [&'a [u8]],
+    flags: AttributeFlags,
+) -> AttributeQuestion<'a> {
+    let form = Form::ended_by(flags.nul);
+    if flags.all {
+        return AttributeQuestion::new(outer.files(), AskedAttributes::All, &outer.standpoint, form);
+    }
+    AttributeQuestion::new(
+        outer.files(),
+        AskedAttributes::Names(names),
+        &outer.standpoint,
+        form,
+    )
 }
 
 /// The first name that no attribute can have.
