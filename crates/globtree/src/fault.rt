@@ -6,6 +6,7 @@ use std::alloc::{AllocError, Global};
 use thiserror::Error;
 use told_paths::LeadFault;
 use tree_answers::NameFault;
+use tree_commands::check_attr::AttributeFault;
 use tree_commands::check_ignore::IgnoreFault;
 
 /// Why a path got no answer.
@@ -17,9 +18,6 @@ pub(crate) enum CheckFault {
     /// The path has no bytes.
     #[error("an empty text is no path: write . where the folder is meant")]
     Empty,
-    /// The base of a list is no folder's.
-    #[error("the bases of lists")]
-    Base,
     /// A line begins with a double quote, and is no name in quotes.
     #[error("line is badly quoted")]
     BadlyQuoted,
@@ -75,6 +73,16 @@ impl CheckFault {
             IgnoreFault::Outside(told) => CheckFault::of_outside(alloc, &told),
             IgnoreFault::BadlyQuoted => CheckFault::BadlyQuoted,
             IgnoreFault::Source(fault) => fault,
+        }
+    }
+
+    /// The fault of a path that `check-attr` has no answer for.
+    pub(crate) fn of_attributes(alloc: Global, fault: AttributeFault<CheckFault>) -> CheckFault {
+        match fault {
+            AttributeFault::Memory | AttributeFault::Spent => CheckFault::Memory,
+            AttributeFault::BadlyQuoted => CheckFault::BadlyQuoted,
+            AttributeFault::Outside(told) => CheckFault::of_outside(alloc, &told),
+            AttributeFault::Source(fault) => fault,
         }
     }
 

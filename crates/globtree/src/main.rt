@@ -2,8 +2,6 @@
 //! states attributes have for paths.
 #![tactic(auto)]
 
-mod answering;
-mod attribute_asking;
 mod attribute_files;
 mod attribute_flags;
 mod check_attr;
@@ -17,7 +15,6 @@ mod file_kinds;
 mod files;
 mod files_flags;
 mod flags;
-mod folder_attributes;
 mod folder_names;
 mod index_head;
 mod list_files;
@@ -29,6 +26,7 @@ mod signs;
 mod sources;
 mod standing;
 mod telling;
+mod unparsed;
 mod words;
 mod work_tree;
 

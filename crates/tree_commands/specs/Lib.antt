@@ -1,4 +1,5 @@
 pub mod Answering
+pub mod CheckAttr
 pub mod CheckIgnore
 pub mod Files
 pub mod FileTrees

@@ -3,6 +3,7 @@
 #![tactic(auto)]
 
 mod answering;
+pub mod check_attr;
 pub mod check_ignore;
 pub mod files;
 

@@ -1,5 +1,5 @@
 -- The pattern that decides about a path, by the kind of what stands there.
-use Rattle.std.proofs.Common.{◌≡◌, ◌↔◌, inl, inr, ⊎_elim, ℕ, Bool, true, false, List, map, Option, None, Some, IfSome, IfOk, IsTrue, Result, take, string_bytes, option_map, refl, sym, ap, subst, ◌∙◌}
+use Rattle.std.proofs.Common.{◌≡◌, ◌↔◌, inl, inr, ⊎_elim, ℕ, Bool, true, false, List, map, Option, None, Some, IfSome, IfOk, IsTrue, Result, take, refl, sym, ap, subst, ◌∙◌}
 use Rattle.std.specs.Prelude.{slice_get}
 use Rattle.std.proofs.lemmas.Bool.{cases_Bool, false≢true}
 use Rattle.std.proofs.lemmas.Option.{same_Some}
@@ -13,7 +13,7 @@ use Rattle.gix_glob.specs.PatternParts.{mode_of}
 use Rattle.gix_glob.specs.Patterns.{is_for_directories}
 use Rattle.glob_attributes.proofs.lemmas.RowLemmas.{get-map, get-unmap}
 use Rattle.glob_lists.proofs.lemmas.Deciding.DecidingLemmas.{Decides-inside}
-use Rattle.glob_lists.specs.Deciding.{AnswersUnder, HasEntryAt, IsEntryAt, PairAnswers}
+use Rattle.glob_lists.specs.Deciding.{HasEntryAt, IsEntryAt, PairAnswers}
 use Rattle.glob_trees.proofs.lemmas.AnyKind.{file_as_folder, no_file_as_no_folder}
 use Rattle.glob_trees.specs.TreeParts.{HasMappingAt, StandAt, TreeParts}
 use Rattle.glob_trees.specs.Trees.{DecidesInTree}

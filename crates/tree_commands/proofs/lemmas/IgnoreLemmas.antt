@@ -1,16 +1,15 @@
 -- The line that decides about a told path, and what is kept account of, as what the source shows grows.
 use Rattle.std.proofs.Common.{◌≡◌, ◌⊎◌, inl, inr, ℕ, Bool, true, false, ◌||◌, List, [], ◌∷◌, ◌++◌, map, take, Option, None, Some, IfSome, Result, Ok, Err, IsErr, refl, sym, ap, subst, ◌∙◌, if◌then◌else◌, append-nil}
-use Rattle.std.specs.Prelude.{is_some, slice_get}
-use Rattle.std.specs.List.{AllZip, list_any}
+use Rattle.std.specs.Prelude.{is_some}
+use Rattle.std.specs.List.{list_any}
 use Rattle.std.proofs.lemmas.Bool.{false≢true}
 use Rattle.std.proofs.lemmas.List.{take-map}
 use Rattle.std.proofs.lemmas.List.Folds.{list_any-append}
 use Rattle.gix_glob.specs.declared.pattern.Case.{Case}
-use Rattle.gix_glob.specs.declared.search.pattern.list.List as patterns
 use Rattle.gix_glob.specs.EntryLists.{EntryList, entry_list_of}
 use Rattle.glob_lists.specs.Paths.{IsPlainPath}
 use Rattle.glob_trees.specs.TreeParts.{HasMappingAt, TreeParts}
-use Rattle.glob_trees.specs.Ways.{AreOnTheWay, Folder, GoesOn, IsListOf}
+use Rattle.glob_trees.specs.Ways.{AreOnTheWay, Folder, IsListOf}
 use Rattle.record_streams.specs.Records.{Adds, GrowsBy, StaysAllowed, answered_by}
 use Rattle.told_paths.specs.declared.standpoint.Standpoint.{Standpoint}
 use Rattle.told_paths.specs.Paths.{names_folder, parts_of}
@@ -26,7 +25,7 @@ use Rattle.tree_commands.specs.CheckIgnore.{IsDeciding, IsIgnoreAnswer, IsLineAt
 use Rattle.tree_commands.specs.Private.Finding.{FindsTold, IsFound, KeepsTree, lists_of, told_kind}
 use Rattle.tree_answers.proofs.lemmas.RecordLemmas.{AllZip-append}
 use Rattle.tree_commands.proofs.lemmas.AnswerLemmas.{AllZip-weaker}
-use Rattle.tree_commands.proofs.lemmas.FindingLemmas.{Stands, stands_there}
+use Rattle.tree_commands.proofs.lemmas.FindingLemmas.{stands_there}
 
 -- ---- what is shown stays shown
 

@@ -1,4 +1,4 @@
-use Rattle.std.proofs.Common.{Bool, List, [], ◌∷◌, subst, sym, ap, ◌∙◌, ◌||◌}
+use Rattle.std.proofs.Common.{Bool, [], ◌∷◌, subst, sym, ap, ◌∙◌, ◌||◌}
 use Rattle.std.specs.Prelude.{is_some}
 use Rattle.record_streams.specs.Records.{GrowsBy}
 use Rattle.tree_commands.specs.CheckIgnore.{IsStatus, Question, counted}
