@@ -8,7 +8,8 @@ use Rattle.record_streams.specs.declared.fault.RecordFault.TheVariants.{Memory}
 use Rattle.record_streams.specs.Records.{AnswersFirst, TextOf}
 use Rattle.record_streams.proofs.lemmas.RunLemmas.{Run-cut}
 use Rattle.record_streams.proofs.lemmas.StreamLemmas.{AppendsFront-whole}
-use Rattle.tree_commands.specs.Answering.{EndsRun, IsTextOfFirst, Writes}
+use Rattle.record_streams.specs.Runs.{EndsRun}
+use Rattle.tree_commands.specs.Answering.{IsTextOfFirst, Writes}
 
 none_answered : (Answers : List ℕ → List ℕ → Type 0) → TextOf Answers [] []
 none_answered Answers = record { written = []; each = tt; joined = refl }
