@@ -18,6 +18,9 @@ pub(crate) enum CheckFault {
     /// The path has no bytes.
     #[error("an empty text is no path: write . where the folder is meant")]
     Empty,
+    /// The base of a list is no folder's.
+    #[error("the bases of lists")]
+    Base,
     /// A line begins with a double quote, and is no name in quotes.
     #[error("line is badly quoted")]
     BadlyQuoted,
