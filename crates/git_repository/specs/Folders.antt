@@ -1,5 +1,5 @@
 -- The folders of a repository.
-use Rattle.std.specs.Prelude.{ℕ, Bool, true, false, not, ◌&&◌, ◌||◌, if◌then◌else◌, List, ◌++◌, codes, Option, Some, None, option_map, unwrap_or, is_some, Result, Ok, Err}
+use Rattle.std.specs.Prelude.{ℕ, Bool, true, false, not, ◌&&◌, ◌||◌, if◌then◌else◌, List, ◌++◌, codes, Option, Some, None, option_map, unwrap_or, is_some, Result, Ok}
 use Rattle.git_repository.specs.FileTree.{FileTree}
 use Rattle.git_repository.specs.GitFolders.{◌>>=◌, common_folder_by, real_path_of, told_from}
 use Rattle.git_repository.specs.declared.environment.Environment.{Environment}

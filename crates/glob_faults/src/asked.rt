@@ -4,7 +4,8 @@ use crate::lists::list_of;
 use gix_glob::pattern::Case;
 use glob_lines::{PlainLines, bases_are_folders};
 use glob_lists::{CountedDecision, ListIndex, RepositoryPath};
-use std::alloc::AllocError;
+use std::alloc::{AllocError, Global};
+use std::process::Abort;
 use std::test::Fail;
 
 /// Pattern lines, how many other ones follow, a path, and what an index of the lines answers for it.
@@ -43,22 +44,39 @@ const ROWS: [Row<'static>; 16] = [
     ),
 ];
 
+/// The lines of a row, and so many others behind them.
+fn lines_of(alloc: Global, text: &str, others: usize) -> Result<Vec<u8>, AllocError> {
+    let mut lines = Vec::from_slice(alloc, text.as_bytes())?;
+    for _ in 0..others {
+        // no path of the rows ends so
+        lines.extend_from_slice(b"q\n")?;
+    }
+    Ok(lines)
+}
+
+/// Compares what an index answers for the path of a row.
+fn check_path(
+    rt: &(impl Abort + AllocGlobal),
+    index: &ListIndex<'_, PlainLines>,
+    path: &str,
+    wanted: CountedDecision,
+    row: usize,
+) -> Result<(), Fail> {
+    let named = RepositoryPath::new(path.as_bytes(), false).ok_or("a path")?;
+    same(rt, index.decide_and_count(&named) == wanted, "asked", row);
+    let found = index.matches(rt.alloc(), &named)?;
+    same(rt, found.last().copied() == wanted.pair, "matches", row);
+    Ok(())
+}
+
 #[test]
 fn only_what_can_match_is_asked(rt: HostRuntime) -> Result<(), Fail> {
     for (row, (text, others, path, pair, asked)) in ROWS.into_iter().enumerate() {
-        let mut lines = Vec::from_slice(rt.alloc(), text.as_bytes())?;
-        for _ in 0..others {
-            // no path of the rows ends so
-            lines.extend_from_slice(b"q\n")?;
-        }
+        let lines = lines_of(rt.alloc(), text, others)?;
         let lists = [list_of(rt.alloc(), PlainLines, &lines)?];
         assert!(rt; bases_are_folders(&lists));
         let index = ListIndex::new(rt.alloc(), &lists, Case::Sensitive)?;
-        let named = RepositoryPath::new(path.as_bytes(), false).ok_or("a path")?;
-        let wanted = CountedDecision { pair, asked };
-        same(&rt, index.decide_and_count(&named) == wanted, "asked", row);
-        let found = index.matches(rt.alloc(), &named)?;
-        same(&rt, found.last().copied() == pair, "matches", row);
+        check_path(&rt, &index, path, CountedDecision { pair, asked }, row)?;
     }
     Ok(())
 }
@@ -111,27 +129,49 @@ fn append_pattern(text: &mut String, seed: &mut u32) -> Result<(), AllocError> {
     text.push_str(end)
 }
 
-#[test]
-fn of_a_thousand_patterns_few_are_asked(rt: HostRuntime) -> Result<(), Fail> {
-    let mut seed = 7;
-    let mut lines = String::new(rt.alloc());
+/// A thousand pattern lines.
+fn thousand_lines(alloc: Global, seed: &mut u32) -> Result<String, AllocError> {
+    let mut lines = String::new(alloc);
     for _ in 0..1_000 {
-        append_pattern(&mut lines, &mut seed)?;
+        append_pattern(&mut lines, seed)?;
     }
-    let lists = [list_of(rt.alloc(), PlainLines, lines.as_bytes())?];
-    assert!(rt; bases_are_folders(&lists));
-    let index = ListIndex::new(rt.alloc(), &lists, Case::Sensitive)?;
+    Ok(lines)
+}
+
+/// A path of a folder and a name with an ending.
+fn path_of(alloc: Global, seed: &mut u32) -> Result<String, AllocError> {
+    let mut path = String::new(alloc);
+    append_name(&mut path, seed, "", 3)?;
+    append_name(&mut path, seed, "/", 3)?;
+    append_name(&mut path, seed, ".", 2)?;
+    Ok(path)
+}
+
+/// How many patterns are asked for 300 paths, and about how many of these none decides.
+fn count_asked(
+    alloc: Global,
+    index: &ListIndex<'_, PlainLines>,
+    seed: &mut u32,
+) -> Result<(usize, usize), Fail> {
     let (mut asked, mut undecided): (usize, usize) = (0, 0);
     for _ in 0..300 {
-        let mut path = String::new(rt.alloc());
-        append_name(&mut path, &mut seed, "", 3)?;
-        append_name(&mut path, &mut seed, "/", 3)?;
-        append_name(&mut path, &mut seed, ".", 2)?;
+        let path = path_of(alloc, seed)?;
         let named = RepositoryPath::new(path.as_bytes(), false).ok_or("a path")?;
         let counted = index.decide_and_count(&named);
         asked = asked.saturating_add(counted.asked);
         undecided = undecided.saturating_add(usize::from(counted.pair.is_none()));
     }
+    Ok((asked, undecided))
+}
+
+#[test]
+fn of_a_thousand_patterns_few_are_asked(rt: HostRuntime) -> Result<(), Fail> {
+    let mut seed = 7;
+    let lines = thousand_lines(rt.alloc(), &mut seed)?;
+    let lists = [list_of(rt.alloc(), PlainLines, lines.as_bytes())?];
+    assert!(rt; bases_are_folders(&lists));
+    let index = ListIndex::new(rt.alloc(), &lists, Case::Sensitive)?;
+    let (asked, undecided) = count_asked(rt.alloc(), &index, &mut seed)?;
     // A path shows its own ending, one of 144, which some two patterns ask for, and few that ask for a part of its name. In
     // turn each of the 1,000 would be asked where none decides.
     assert!(rt; asked <= 1_500 && undecided >= 30);

@@ -69,6 +69,8 @@ impl FolderLists<IgnoreLines> for Failing {
         };
         list_in_folder(self.alloc, list, folder).map_err(|_| SourceFault::Memory)
     }
+
+    fn forget(&mut self) {}
 }
 
 /// The tree of the source whose call of this number fails, with lists before all folders.

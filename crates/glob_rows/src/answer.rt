@@ -1,5 +1,6 @@
 //! The answer to a row, spelt as the rows are: fields with a tab between each two.
 
+use crate::texts::text_of;
 use std::alloc::{AllocError, Global};
 
 /// The fields that were answered so far.
@@ -58,7 +59,7 @@ impl Answer {
         number: Option<usize>,
     ) -> Result<(), AllocError> {
         match number {
-            Some(number) => self.push(format!(in alloc; "{number}")?.as_bytes()),
+            Some(number) => self.push(text_of(alloc, &number)?.as_bytes()),
             None => self.push_option(None),
         }
     }

@@ -3,6 +3,10 @@
 use crate::answer::Answer;
 use crate::fault::RowFault;
 use crate::question::Question;
+use crate::subjects::{
+    AttributeSubject, LineSubject, ListSubject, PatternSubject, RepositorySubject, Subject,
+    TreeSubject,
+};
 use crate::{
     attempts, attribute_files, attribute_states, bases, config_files, config_includes, index_files,
     lines, lists, matching, patterns, repositories, streams, trees,
@@ -10,44 +14,19 @@ use crate::{
 use std::alloc::Global;
 
 /// Asks what a row of a subject asks.
-pub(crate) fn ask(alloc: Global, subject: &str, question: &Question) -> Result<Answer, RowFault> {
+pub(crate) fn ask(
+    alloc: Global,
+    subject: Subject,
+    question: &Question,
+) -> Result<Answer, RowFault> {
     let mut answer = Answer::new(alloc);
     match subject {
-        "matching"
-        | "starts"
-        | "attempts"
-        | "reading"
-        | "wildcards"
-        | "parts"
-        | "shown"
-        | "values"
-        | "basenames"
-        | "repository_paths"
-        | "git_reading"
-        | "git_paths" => ask_patterns(alloc, subject, question, &mut answer)?,
-        "file_parts" | "bases" | "stripping" | "folders" | "decided" | "listed" | "answered" => {
-            ask_lists(alloc, subject, question, &mut answer)?
-        }
-        "ignore_files" => lines::ignore_files(alloc, question, &mut answer)?,
-        "ignore_lines" => lines::ignore_lines(question, &mut answer)?,
-        "git_files" => lines::git_files(alloc, question, &mut answer)?,
-        "git_lines" => lines::git_lines(question, &mut answer)?,
-        "marks" => lines::marks(question, &mut answer)?,
-        "labels" => lines::labels(alloc, question, &mut answer)?,
-        "trees" => trees::trees(alloc, question, &mut answer)?,
-        "trees_told" => trees::trees_told(alloc, question, &mut answer)?,
-        "trees_asked" => trees::trees_asked(alloc, question, &mut answer)?,
-        "records" => streams::records(alloc, question, &mut answer)?,
-        "config_files" => config_files::config_files(alloc, question, &mut answer)?,
-        "config_includes" => config_includes::config_includes(alloc, question, &mut answer)?,
-        "config_booleans" => config_files::config_booleans(question, &mut answer)?,
-        "index_files" => index_files::index_files(alloc, question, &mut answer)?,
-        "index_paths" => index_files::index_paths(alloc, question, &mut answer)?,
-        "repositories" => repositories::repositories(alloc, question, &mut answer)?,
-        "exclude_names" => repositories::exclude_names(alloc, question, &mut answer)?,
-        "safe_directories" => repositories::safe_directories(alloc, question, &mut answer)?,
-        "work_trees" => repositories::work_trees(alloc, question, &mut answer)?,
-        _ => ask_attributes(alloc, subject, question, &mut answer)?,
+        Subject::Pattern(it) => ask_patterns(alloc, it, question, &mut answer)?,
+        Subject::List(it) => ask_lists(alloc, it, question, &mut answer)?,
+        Subject::Line(it) => ask_lines(alloc, it, question, &mut answer)?,
+        Subject::Tree(it) => ask_trees(alloc, it, question, &mut answer)?,
+        Subject::Attribute(it) => ask_attributes(alloc, it, question, &mut answer)?,
+        Subject::Repository(it) => ask_repositories(alloc, it, question, &mut answer)?,
     }
     Ok(answer)
 }
@@ -55,64 +34,119 @@ pub(crate) fn ask(alloc: Global, subject: &str, question: &Question) -> Result<A
 /// The same of patterns.
 fn ask_patterns(
     alloc: Global,
-    subject: &str,
+    subject: PatternSubject,
     question: &Question,
     answer: &mut Answer,
 ) -> Result<(), RowFault> {
     match subject {
-        "matching" => matching::matching(alloc, question, answer),
-        "starts" => attempts::starts(alloc, question, answer),
-        "attempts" => attempts::attempts(alloc, question, answer),
-        "reading" => patterns::reading(alloc, question, answer),
-        "wildcards" => patterns::wildcards(alloc, question, answer),
-        "parts" => patterns::parts(alloc, question, answer),
-        "shown" => patterns::shown(alloc, question, answer),
-        "values" => patterns::values(alloc, question, answer),
-        "basenames" => patterns::basenames(alloc, question, answer),
-        "git_reading" => patterns::git_reading(alloc, question, answer),
-        "git_paths" => patterns::git_paths(alloc, question, answer),
-        _ => patterns::repository_paths(alloc, question, answer),
+        PatternSubject::Matching => matching::matching(alloc, question, answer),
+        PatternSubject::Starts => attempts::starts(alloc, question, answer),
+        PatternSubject::Attempts => attempts::attempts(alloc, question, answer),
+        PatternSubject::Reading => patterns::reading(alloc, question, answer),
+        PatternSubject::Wildcards => patterns::wildcards(alloc, question, answer),
+        PatternSubject::Parts => patterns::parts(alloc, question, answer),
+        PatternSubject::Shown => patterns::shown(alloc, question, answer),
+        PatternSubject::Values => patterns::values(alloc, question, answer),
+        PatternSubject::Basenames => patterns::basenames(alloc, question, answer),
+        PatternSubject::RepositoryPaths => patterns::repository_paths(alloc, question, answer),
+        PatternSubject::GitReading => patterns::git_reading(alloc, question, answer),
+        PatternSubject::GitPaths => patterns::git_paths(alloc, question, answer),
     }
 }
 
 /// The same of lists and of what the engines of lines write.
 fn ask_lists(
     alloc: Global,
-    subject: &str,
+    subject: ListSubject,
     question: &Question,
     answer: &mut Answer,
 ) -> Result<(), RowFault> {
     match subject {
-        "file_parts" => bases::file_parts(question, answer),
-        "bases" => bases::bases(alloc, question, answer),
-        "stripping" => bases::stripping(alloc, question, answer),
-        "folders" => lists::folders(alloc, question, answer),
-        "decided" => lists::decided(alloc, question, answer),
-        "listed" => lists::listed(alloc, question, answer),
-        _ => matching::answered(alloc, question, answer),
+        ListSubject::FileParts => bases::file_parts(question, answer),
+        ListSubject::Bases => bases::bases(alloc, question, answer),
+        ListSubject::Stripping => bases::stripping(alloc, question, answer),
+        ListSubject::Answered => matching::answered(alloc, question, answer),
+        ListSubject::Listed => lists::listed(alloc, question, answer),
+        ListSubject::Decided => lists::decided(alloc, question, answer),
+        ListSubject::Folders => lists::folders(alloc, question, answer),
+    }
+}
+
+/// The same of lines and records.
+fn ask_lines(
+    alloc: Global,
+    subject: LineSubject,
+    question: &Question,
+    answer: &mut Answer,
+) -> Result<(), RowFault> {
+    match subject {
+        LineSubject::IgnoreFiles => lines::ignore_files(alloc, question, answer),
+        LineSubject::IgnoreLines => lines::ignore_lines(question, answer),
+        LineSubject::GitFiles => lines::git_files(alloc, question, answer),
+        LineSubject::GitLines => lines::git_lines(question, answer),
+        LineSubject::Marks => lines::marks(question, answer),
+        LineSubject::Labels => lines::labels(alloc, question, answer),
+        LineSubject::Records => streams::records(alloc, question, answer),
+    }
+}
+
+/// The same of work trees.
+fn ask_trees(
+    alloc: Global,
+    subject: TreeSubject,
+    question: &Question,
+    answer: &mut Answer,
+) -> Result<(), RowFault> {
+    match subject {
+        TreeSubject::Decided => trees::trees(alloc, question, answer),
+        TreeSubject::Told => trees::trees_told(alloc, question, answer),
+        TreeSubject::Asked => trees::trees_asked(alloc, question, answer),
     }
 }
 
 /// The same of attributes.
 fn ask_attributes(
     alloc: Global,
-    subject: &str,
+    subject: AttributeSubject,
     question: &Question,
     answer: &mut Answer,
 ) -> Result<(), RowFault> {
     match subject {
-        "attribute_lines" => attribute_files::attribute_lines(alloc, question, answer),
-        "attribute_names" => attribute_files::attribute_names(question, answer),
-        "attribute_files" => attribute_files::attribute_files(alloc, question, answer),
-        "attribute_macros" => attribute_files::attribute_macros(alloc, question, answer),
-        "attribute_matches" => attribute_files::attribute_matches(alloc, question, answer),
-        "attribute_folders" => attribute_files::attribute_folders(alloc, question, answer),
-        "silent_lines" => attribute_files::silences(alloc, question, answer),
-        "names_read" => attribute_files::names_read(alloc, question, answer),
-        "attributes_kept" => attribute_states::attributes_kept(alloc, question, answer),
-        "attribute_states" => attribute_states::attribute_states(alloc, question, answer),
-        "all_states" => attribute_states::all_states(alloc, question, answer),
-        "attribute_streams" => streams::attribute_streams(alloc, question, answer),
-        _ => Err(RowFault::Subject),
+        AttributeSubject::Lines => attribute_files::attribute_lines(alloc, question, answer),
+        AttributeSubject::Names => attribute_files::attribute_names(question, answer),
+        AttributeSubject::Files => attribute_files::attribute_files(alloc, question, answer),
+        AttributeSubject::Macros => attribute_files::attribute_macros(alloc, question, answer),
+        AttributeSubject::Matches => attribute_files::attribute_matches(alloc, question, answer),
+        AttributeSubject::Folders => attribute_files::attribute_folders(alloc, question, answer),
+        AttributeSubject::SilentLines => attribute_files::silences(alloc, question, answer),
+        AttributeSubject::NamesRead => attribute_files::names_read(alloc, question, answer),
+        AttributeSubject::Kept => attribute_states::attributes_kept(alloc, question, answer),
+        AttributeSubject::States => attribute_states::attribute_states(alloc, question, answer),
+        AttributeSubject::AllStates => attribute_states::all_states(alloc, question, answer),
+        AttributeSubject::Streams => streams::attribute_streams(alloc, question, answer),
+    }
+}
+
+/// The same of Git's index, configuration and repositories.
+fn ask_repositories(
+    alloc: Global,
+    subject: RepositorySubject,
+    question: &Question,
+    answer: &mut Answer,
+) -> Result<(), RowFault> {
+    match subject {
+        RepositorySubject::IndexFiles => index_files::index_files(alloc, question, answer),
+        RepositorySubject::IndexPaths => index_files::index_paths(alloc, question, answer),
+        RepositorySubject::ConfigFiles => config_files::config_files(alloc, question, answer),
+        RepositorySubject::ConfigIncludes => config_includes::config_includes(
+            alloc, question, answer,
+        ),
+        RepositorySubject::ConfigBooleans => config_files::config_booleans(question, answer),
+        RepositorySubject::Repositories => repositories::repositories(alloc, question, answer),
+        RepositorySubject::WorkTrees => repositories::work_trees(alloc, question, answer),
+        RepositorySubject::ExcludeNames => repositories::exclude_names(alloc, question, answer),
+        RepositorySubject::SafeDirectories => repositories::safe_directories(
+            alloc, question, answer,
+        ),
     }
 }

@@ -3,6 +3,7 @@
 use crate::answer::Answer;
 use crate::fault::RowFault;
 use crate::question::Question;
+use crate::texts::{push_debug_text, push_text};
 use gix_glob::wildmatch::{attempt, is_start};
 use std::alloc::Global;
 
@@ -16,8 +17,10 @@ pub(crate) fn starts(
     let mut text = Vec::new(alloc);
     for place in 0..=pattern.len() {
         if is_start(pattern, place, mode) {
-            let separator = if text.is_empty() { "" } else { " " };
-            text.extend_from_slice(format!(in alloc; "{separator}{place}")?.as_bytes())?;
+            if !text.is_empty() {
+                text.push(b' ')?;
+            }
+            push_text(alloc, &mut text, &place)?;
         }
     }
     Ok(answer.push(&text)?)
@@ -50,5 +53,7 @@ pub(crate) fn attempts(
         return Err(RowFault::Field("a depth"));
     }
     let told = attempt(pattern, place, value, at, mode, depth);
-    Ok(answer.push(format!(in alloc; "{told:?}")?.as_bytes())?)
+    let mut text = Vec::new(alloc);
+    push_debug_text(alloc, &mut text, &told)?;
+    Ok(answer.push(&text)?)
 }

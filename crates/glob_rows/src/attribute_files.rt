@@ -3,6 +3,7 @@
 use crate::answer::Answer;
 use crate::fault::RowFault;
 use crate::question::Question;
+use crate::texts::{push_debug_text, push_text};
 use gix_glob::pattern::Case;
 use gix_glob::search::Pattern as _;
 use glob_attributes::{
@@ -24,7 +25,7 @@ pub(crate) fn attribute_lines(
     match &reading {
         LineReading::Nothing => {}
         LineReading::Silent(silence) => {
-            text.extend_from_slice(format!(in alloc; "{silence:?}")?.as_bytes())?;
+            push_debug_text(alloc, &mut text, silence)?;
         }
         LineReading::Macro { name, assignments } => {
             text.push(b'[')?;
@@ -109,9 +110,9 @@ pub(crate) fn attribute_files(
     let mappings = AttributeLines.bytes_to_patterns(alloc, question.bytes(0)?, "")?;
     let mut text = Vec::new(alloc);
     for mapping in &mappings {
-        let number = mapping.sequence_number;
-        let pattern = &mapping.pattern;
-        text.extend_from_slice(format!(in alloc; "{number}:{pattern}")?.as_bytes())?;
+        push_text(alloc, &mut text, &mapping.sequence_number)?;
+        text.push(b':')?;
+        push_text(alloc, &mut text, &mapping.pattern)?;
         push_assignments(&mut text, &mapping.value)?;
         text.push(b'\n')?;
     }
@@ -178,8 +179,10 @@ pub(crate) fn silences(
 ) -> Result<(), RowFault> {
     let mut text = Vec::new(alloc);
     for line in &silent_lines(alloc, question.bytes(1)?, question.is_top(0)?)? {
-        let (number, silence) = (line.number, line.silence);
-        text.extend_from_slice(format!(in alloc; "{number}:{silence:?}\n")?.as_bytes())?;
+        push_text(alloc, &mut text, &line.number)?;
+        text.push(b':')?;
+        push_debug_text(alloc, &mut text, &line.silence)?;
+        text.push(b'\n')?;
     }
     Ok(answer.push(&text)?)
 }

@@ -4,6 +4,7 @@ use crate::answer::Answer;
 use crate::attribute_files::push_state;
 use crate::fault::RowFault;
 use crate::question::{Field, Question};
+use crate::texts::push_text;
 use gix_glob::pattern::Case;
 use gix_glob::search::has_file_part;
 use gix_glob::search::pattern::List;
@@ -108,6 +109,22 @@ fn list_of(alloc: Global, bytes: &[u8]) -> Result<List<AttributeLines>, RowFault
     Ok(List::from_bytes(alloc, bytes, source, None, AttributeLines)?)
 }
 
+/// The index of lists.
+pub(crate) fn index_of<'a>(
+    alloc: Global,
+    lists: &'a [List<AttributeLines>],
+    case: Case,
+) -> Result<ListIndex<'a, AttributeLines>, RowFault> {
+    if !bases_are_folders(lists) {
+        return Err(RowFault::Field("bases of folders"));
+    }
+    match ListIndex::new(alloc, lists, case) {
+        Ok(index) => Ok(index),
+        Err(IndexError::Memory) => Err(RowFault::Memory),
+        Err(IndexError::TooMany) => Err(RowFault::Call("ListIndex::new")),
+    }
+}
+
 /// The place of a file among all, by its kind: the system's, the user's, those of folders by their depth, and the strongest.
 fn rank(name: &[u8]) -> usize {
     match name {
@@ -152,11 +169,23 @@ pub(crate) fn attributes_kept(
     keep_named(&mut list, &names, &macros);
     let mut text = Vec::new(alloc);
     for mapping in &list.patterns {
-        let number = mapping.sequence_number;
-        let separator = if text.is_empty() { "" } else { " " };
-        text.extend_from_slice(format!(in alloc; "{separator}{number}")?.as_bytes())?;
+        if !text.is_empty() {
+            text.push(b' ')?;
+        }
+        push_text(alloc, &mut text, &mapping.sequence_number)?;
     }
     Ok(answer.push(&text)?)
+}
+
+/// The macros and the names of two files.
+fn tables_of(alloc: Global, files: [&[u8]; 2]) -> Result<(MacroTable, AttributeNames), AllocError> {
+    let mut macros = MacroTable::new(alloc)?;
+    let mut names = AttributeNames::new(alloc)?;
+    for bytes in files {
+        macros.add_file(alloc, bytes)?;
+        names.add_file(alloc, bytes, true)?;
+    }
+    Ok((macros, names))
 }
 
 /// A word for the state of each attribute of a path that isn't unspecified, by an index of a file and a stronger one.
@@ -165,31 +194,32 @@ pub(crate) fn all_states(
     question: &Question,
     answer: &mut Answer,
 ) -> Result<(), RowFault> {
-    let path = RepositoryPath::of_line(question.bytes(0)?).ok_or(RowFault::Field("a path"))?;
-    let mut macros = MacroTable::new(alloc)?;
-    let mut names = AttributeNames::new(alloc)?;
-    for bytes in [question.bytes(1)?, question.bytes(2)?] {
-        macros.add_file(alloc, bytes)?;
-        names.add_file(alloc, bytes, true)?;
-    }
-    let weaker = vec![in alloc; list_of(alloc, question.bytes(1)?)?]?;
-    let stronger = vec![in alloc; list_of(alloc, question.bytes(2)?)?]?;
-    let (weaker, stronger) = (weaker.as_slice(), stronger.as_slice());
-    if !bases_are_folders(weaker) {
-        return Err(RowFault::Field("bases of folders"));
-    }
-    let index = match ListIndex::new(alloc, weaker, Case::Sensitive) {
-        Ok(index) => index,
-        Err(IndexError::Memory) => return Err(RowFault::Memory),
-        Err(IndexError::TooMany) => return Err(RowFault::Call("ListIndex::new")),
-    };
+    let (path, files) = (question.bytes(0)?, [question.bytes(1)?, question.bytes(2)?]);
+    let (macros, names) = tables_of(alloc, files)?;
+    let weaker = vec![in alloc; list_of(alloc, files[0])?]?;
+    let stronger = vec![in alloc; list_of(alloc, files[1])?]?;
+    let index = index_of(alloc, &weaker, Case::Sensitive)?;
+    let text = all_text(alloc, &index, &stronger, &macros, &names, path)?;
+    Ok(answer.push(&text)?)
+}
+
+/// The words for a path, by an index and stronger lists.
+fn all_text(
+    alloc: Global,
+    index: &ListIndex<'_, AttributeLines>,
+    stronger: &[List<AttributeLines>],
+    macros: &MacroTable,
+    names: &AttributeNames,
+    path: &[u8],
+) -> Result<Vec<u8>, RowFault> {
+    let path = RepositoryPath::of_line(path).ok_or(RowFault::Field("a path"))?;
     if !bases_are_folders(stronger) {
         return Err(RowFault::Field("bases of folders"));
     }
-    let attributes = PathAttributes::with_index(alloc, &index, stronger, &macros, &path)?;
+    let attributes = PathAttributes::with_index(alloc, index, stronger, macros, &path)?;
     let mut text = Vec::new(alloc);
     for told in &attributes.states_of(alloc, names.as_slice())? {
         push_state(&mut text, told.name, &told.state)?;
     }
-    Ok(answer.push(&text)?)
+    Ok(text)
 }

@@ -3,6 +3,7 @@
 use crate::answer::Answer;
 use crate::fault::RowFault;
 use crate::question::Question;
+use crate::texts::push_text;
 use git_config::{ConfigFault, ConfigFile, Entry, Item, boolean};
 use std::alloc::{AllocError, Global};
 
@@ -16,7 +17,9 @@ pub(crate) fn config_files(
         Ok(file) => push_items(alloc, &file.items, answer),
         Err(ConfigFault::Memory) => Err(RowFault::Memory),
         Err(ConfigFault::Line { line, .. }) => {
-            Ok(answer.push(format!(in alloc; "bad {line}")?.as_bytes())?)
+            let mut text = Vec::from_slice(alloc, b"bad ")?;
+            push_text(alloc, &mut text, &line)?;
+            Ok(answer.push(&text)?)
         }
     }
 }

@@ -4,6 +4,7 @@ use crate::answer::Answer;
 use crate::config_files::push_line;
 use crate::fault::RowFault;
 use crate::question::{Field, Question};
+use crate::texts::push_text;
 use git_config::{
     Config, ConfigFiles, FoundFile, ReadFault, ReadSetting, Source, Surroundings, WrongSetting,
     split_word,
@@ -149,8 +150,8 @@ fn fault_text<F: Drop>(alloc: Global, fault: ReadFault<F>) -> Result<Vec<u8>, Ro
     match &told.file {
         Some(path) => {
             if has_line(told.what) {
-                let line = told.line;
-                text.extend_from_slice(format!(in alloc; "{line} ")?.as_bytes())?;
+                push_text(alloc, &mut text, &told.line)?;
+                text.push(b' ')?;
             }
             text.extend_from_slice(path)?;
         }

@@ -17,9 +17,6 @@ pub(crate) enum RowFault {
     /// A call of the library fails, where none should.
     #[error("a fault: {0}")]
     Call(&'static str),
-    /// No subject has this name.
-    #[error("no such subject")]
-    Subject,
 }
 
 impl From<AllocError> for RowFault {

@@ -3,6 +3,7 @@
 use crate::answer::Answer;
 use crate::fault::RowFault;
 use crate::question::Question;
+use crate::texts::text_of;
 use git_index::{Entry, Index, IndexFault, Kind, ObjectFormat};
 use std::alloc::{AllocError, Global};
 
@@ -16,7 +17,7 @@ pub(crate) fn index_files(
     match Index::from_bytes(alloc, question.bytes(1)?, format) {
         Ok(index) => push_lines(alloc, index.entries(), answer),
         Err(IndexFault::Memory) => Err(RowFault::Memory),
-        Err(fault) => Ok(answer.push(format!(in alloc; "{fault}")?.as_bytes())?),
+        Err(fault) => Ok(answer.push(text_of(alloc, &fault)?.as_bytes())?),
     }
 }
 

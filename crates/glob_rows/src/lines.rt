@@ -3,6 +3,7 @@
 use crate::answer::Answer;
 use crate::fault::RowFault;
 use crate::question::Question;
+use crate::texts::{push_text, text_of};
 use gix_glob::search::Pattern as _;
 use gix_glob::search::pattern::Mapping;
 use glob_lines::{
@@ -36,14 +37,14 @@ fn push_patterns(
     mappings: &[Mapping<()>],
     answer: &mut Answer,
 ) -> Result<(), RowFault> {
-    let mut text = String::new(alloc);
+    let mut text = Vec::new(alloc);
     for mapping in mappings {
-        let number = mapping.sequence_number;
-        let pattern = &mapping.pattern;
-        let line = format!(in alloc; "{number}:{pattern}\n")?;
-        text.push_str(&line)?;
+        push_text(alloc, &mut text, &mapping.sequence_number)?;
+        text.push(b':')?;
+        push_text(alloc, &mut text, &mapping.pattern)?;
+        text.push(b'\n')?;
     }
-    Ok(answer.push(text.as_bytes())?)
+    Ok(answer.push(&text)?)
 }
 
 /// What the first line of an ignore file gives, and what follows it.
@@ -79,9 +80,7 @@ pub(crate) fn labels(
             answer.push_option(None)?;
         }
         [mapping] => {
-            let pattern = &mapping.pattern;
-            let shown = format!(in alloc; "{pattern}")?;
-            answer.push(shown.as_bytes())?;
+            answer.push(text_of(alloc, &mapping.pattern)?.as_bytes())?;
             answer.push(&mapping.value)?;
         }
         _ => return Err(RowFault::Field("one line")),

@@ -5,6 +5,7 @@ ghost use Rattle.gix_glob.specs.Bytes.{HasByte, slash};
 use crate::answer::Answer;
 use crate::fault::RowFault;
 use crate::question::Question;
+use crate::texts::text_of;
 use bitflags::Flags;
 use gix_glob::parse;
 use gix_glob::pattern::{Mode, Pattern, PatternView, basename_start};
@@ -23,23 +24,36 @@ pub(crate) fn reading(
         _ => return Err(RowFault::Field("a way to read")),
     };
     let read = parse::pattern(line, is_line);
-    let view = pattern.as_ref().map(|pattern| pattern.view());
-    if view.map(|view| (view.text, view.mode, view.first_wildcard_pos)) != read {
-        return Err(RowFault::Call("both readings differ"));
-    }
-    match read {
-        None => {
+    match (read, &pattern) {
+        (None, None) => {
             answer.push_option(None)?;
             answer.push_option(None)?;
-            answer.push_option(None)?;
+            Ok(answer.push_option(None)?)
         }
-        Some((text, mode, wildcard)) => {
-            answer.push(text)?;
-            answer.push(format!(in alloc; "{bits}", bits = mode.bits())?.as_bytes())?;
-            answer.push_number(alloc, wildcard)?;
+        (Some(read), Some(pattern)) if is_reading(pattern.view(), read) => {
+            push_reading(alloc, read, answer)
         }
+        _ => Err(RowFault::Call("both readings differ")),
     }
-    Ok(())
+}
+
+/// The text of a pattern, its bits, and the place of its first special byte.
+type Reading<'a> = (&'a [u8], Mode, Option<usize>);
+
+/// Whether a pattern is of a reading.
+fn is_reading(view: PatternView<'_>, (text, mode, wildcard): Reading<'_>) -> bool {
+    view.text == text && view.mode == mode && view.first_wildcard_pos == wildcard
+}
+
+/// Adds a reading.
+fn push_reading(
+    alloc: Global,
+    (text, mode, wildcard): Reading<'_>,
+    answer: &mut Answer,
+) -> Result<(), RowFault> {
+    answer.push(text)?;
+    answer.push(text_of(alloc, &mode.bits())?.as_bytes())?;
+    Ok(answer.push_number(alloc, wildcard)?)
 }
 
 /// What is read of a line as Git reads it.
@@ -49,16 +63,12 @@ pub(crate) fn git_reading(
     answer: &mut Answer,
 ) -> Result<(), RowFault> {
     let line = question.bytes(0)?;
-    let (text, mode, wildcard) = parse::git_pattern(line);
+    let read = parse::git_pattern(line);
     let pattern = Pattern::from_git_line(alloc, line)?;
-    for view in [pattern.view(), PatternView::from_git_line(line)] {
-        if (view.text, view.mode, view.first_wildcard_pos) != (text, mode, wildcard) {
-            return Err(RowFault::Call("both readings differ"));
-        }
+    if !is_reading(pattern.view(), read) || !is_reading(PatternView::from_git_line(line), read) {
+        return Err(RowFault::Call("both readings differ"));
     }
-    answer.push(text)?;
-    answer.push(format!(in alloc; "{bits}", bits = mode.bits())?.as_bytes())?;
-    Ok(answer.push_number(alloc, wildcard)?)
+    push_reading(alloc, read, answer)
 }
 
 /// The pattern of a line.
@@ -98,8 +108,7 @@ pub(crate) fn shown(
     answer: &mut Answer,
 ) -> Result<(), RowFault> {
     let pattern = pattern_of(alloc, question.bytes(0)?)?;
-    let text = format!(in alloc; "{pattern}")?;
-    Ok(answer.push(text.as_bytes())?)
+    Ok(answer.push(text_of(alloc, &pattern)?.as_bytes())?)
 }
 
 /// Whether the pattern of a line matches a value.

@@ -4,6 +4,7 @@ use crate::answer::Answer;
 use crate::fault::RowFault;
 use crate::file_table::FileTable;
 use crate::question::Question;
+use crate::texts::text_of;
 use git_config::{
     ConfigFault, ConfigFile, Entry, Item, boolean, integer, last_boolean, split_word,
 };
@@ -83,7 +84,7 @@ fn push_fault(
 ) -> Result<(), RowFault> {
     match fault {
         FindFault::Memory => Err(RowFault::Memory),
-        other => Ok(answer.push(format!(in alloc; "{other}")?.as_bytes())?),
+        other => Ok(answer.push(text_of(alloc, &other)?.as_bytes())?),
     }
 }
 
@@ -153,15 +154,7 @@ impl<'a> Row<'a> {
     fn take(&mut self, alloc: Global, line: &'a [u8]) -> Result<(), RowFault> {
         let (key, value) = split_word(line);
         match key {
-            b"GIT_DIR" => self.words.git_dir = value,
-            b"GIT_WORK_TREE" => self.words.work_tree = value,
-            b"GIT_COMMON_DIR" => self.words.common_dir = value,
-            b"GIT_INDEX_FILE" => self.words.index_file = value,
-            b"GIT_OBJECT_DIRECTORY" => self.words.object_directory = value,
-            b"GIT_CEILING_DIRECTORIES" => self.words.ceiling_directories = value,
-            b"GIT_DISCOVERY_ACROSS_FILESYSTEM" => {
-                self.words.across_file_systems = boolean(value).unwrap_or(false);
-            }
+            _ if set_variable(&mut self.words, key, value) => {}
             b"GIT_TEST_ASSUME_DIFFERENT_OWNER" => self.table.is_ours = false,
             b"device" => self.table.device = value,
             b"safe.bareRepository" => self.bare_is_refused = value == Some(b"explicit"),
@@ -191,7 +184,7 @@ impl<'a> Row<'a> {
         let config = self.config(alloc, &folders, RepositoryFile::Config)?;
         let version = version_of(alloc, &config)?;
         if let Err(fault) = check_format(version, &extensions_of(alloc, &config)?) {
-            return Err(Told::Text(format!(in alloc; "{fault}")?));
+            return Err(Told::Text(text_of(alloc, &fault)?));
         }
         let shared = config.entries_of(alloc, b"extensions.worktreeconfig")?;
         let has_worktree_config = last_boolean(&shared).unwrap_or(None).unwrap_or(false);
@@ -243,9 +236,30 @@ impl<'a> Row<'a> {
         match ConfigFile::from_bytes(alloc, bytes.as_deref().unwrap_or(b"")) {
             Ok(config) => Ok(config),
             Err(ConfigFault::Memory) => Err(Told::Found(FindFault::Memory)),
-            Err(fault) => Err(Told::Text(format!(in alloc; "{fault}")?)),
+            Err(fault) => Err(Told::Text(text_of(alloc, &fault)?)),
         }
     }
+}
+
+/// Sets a variable of the environment that Git asks for. It answers whether the key is one of these.
+fn set_variable<'a>(
+    words: &mut Environment<&'a [u8]>,
+    key: &[u8],
+    value: Option<&'a [u8]>,
+) -> bool {
+    match key {
+        b"GIT_DIR" => words.git_dir = value,
+        b"GIT_WORK_TREE" => words.work_tree = value,
+        b"GIT_COMMON_DIR" => words.common_dir = value,
+        b"GIT_INDEX_FILE" => words.index_file = value,
+        b"GIT_OBJECT_DIRECTORY" => words.object_directory = value,
+        b"GIT_CEILING_DIRECTORIES" => words.ceiling_directories = value,
+        b"GIT_DISCOVERY_ACROSS_FILESYSTEM" => {
+            words.across_file_systems = boolean(value).unwrap_or(false);
+        }
+        _ => return false,
+    }
+    true
 }
 
 /// The entries of a key in two files, one behind the other.

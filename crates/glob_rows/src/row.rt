@@ -10,13 +10,9 @@ pub(crate) struct Row<'a> {
     pub(crate) wanted: &'a [u8],
 }
 
-/// The row of a line that is written out.
-pub(crate) fn row_of<'a>(
-    alloc: Global,
-    subject: &str,
-    line: &'a [u8],
-) -> Result<Row<'a>, AllocError> {
-    let (asked, wanted) = split_answer(without_git(line), answer_count(subject));
+/// The row of a line that is written out, of whose last fields so many are the answer.
+pub(crate) fn row_of(alloc: Global, line: &[u8], answers: usize) -> Result<Row<'_>, AllocError> {
+    let (asked, wanted) = split_answer(without_git(line), answers);
     let mut fields: Vec<Field> = Vec::new(alloc);
     for text in asked.split(|byte| *byte == b'\t') {
         fields.push(field_of(alloc, text)?)?;
@@ -34,22 +30,6 @@ fn without_git(line: &[u8]) -> &[u8] {
         front
     } else {
         line
-    }
-}
-
-/// How many fields of a row are the answer.
-fn answer_count(subject: &str) -> usize {
-    match subject {
-        "reading" | "git_reading" => 3,
-        "wildcards"
-        | "stripping"
-        | "ignore_lines"
-        | "git_lines"
-        | "labels"
-        | "trees_asked"
-        | "index_paths"
-        | "work_trees" => 2,
-        _ => 1,
     }
 }
 

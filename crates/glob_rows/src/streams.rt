@@ -1,12 +1,11 @@
 //! Rows of streams: records of bytes, and the states of attributes for the paths of a stream.
 
 use crate::answer::Answer;
-use crate::attribute_states::Sources;
+use crate::attribute_states::{Sources, index_of};
 use crate::fault::RowFault;
 use crate::question::Question;
 use gix_glob::search::Watched;
 use glob_attributes::{AttributeQuery, run_attributes};
-use glob_lists::{IndexError, ListIndex, bases_are_folders};
 use record_streams::{Answerer, RecordFault, RecordStream};
 use std::alloc::{AllocError, Global};
 
@@ -65,27 +64,31 @@ pub(crate) fn attribute_streams(
     answer: &mut Answer,
 ) -> Result<(), RowFault> {
     let (case, paths) = (question.case(0)?, question.bytes(2)?);
+    let names = names_of(alloc, question.option(1)?)?;
+    let sources = Sources::new(alloc, question.rest(3))?;
+    let index = index_of(alloc, &sources.lists, case)?;
+    let query = AttributeQuery::new(&index, &sources.macros, &names);
+    let written = written(alloc, &query, paths)?;
+    Ok(answer.push(&written)?)
+}
+
+/// The names that words are, with a byte 0 between each two; none where there are no words.
+fn names_of(alloc: Global, words: Option<&[u8]>) -> Result<Vec<&[u8]>, AllocError> {
     let mut names = Vec::new(alloc);
-    if let Some(words) = question.option(1)? {
+    if let Some(words) = words {
         for name in words.split(|byte| *byte == 0) {
             names.push(name)?;
         }
     }
-    let sources = Sources::new(alloc, question.rest(3))?;
-    let lists = sources.lists.as_slice();
-    if !bases_are_folders(lists) {
-        return Err(RowFault::Field("bases of folders"));
-    }
-    let index = match ListIndex::new(alloc, lists, case) {
-        Ok(index) => index,
-        Err(IndexError::Memory) => return Err(RowFault::Memory),
-        Err(IndexError::TooMany) => return Err(RowFault::Call("ListIndex::new")),
-    };
-    let query = AttributeQuery::new(&index, &sources.macros, &names);
+    Ok(names)
+}
+
+/// What is written of the paths of a stream.
+fn written(alloc: Global, query: &AttributeQuery<'_>, paths: &[u8]) -> Result<Vec<u8>, RowFault> {
     let mut reader = Watched::new(paths);
     let mut writer = Watched::new(room(alloc)?);
-    match run_attributes(alloc, &query, &mut reader, &mut writer) {
-        Ok(()) => Ok(answer.push(&writer.into_inner())?),
+    match run_attributes(alloc, query, &mut reader, &mut writer) {
+        Ok(()) => Ok(writer.into_inner()),
         Err(RecordFault::Memory | RecordFault::Answer(_)) => Err(RowFault::Memory),
         Err(_fault) => Err(RowFault::Call("run_attributes")),
     }

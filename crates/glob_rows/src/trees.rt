@@ -4,6 +4,7 @@ use crate::answer::Answer;
 use crate::fault::RowFault;
 use crate::lists::lists_of;
 use crate::question::{Field, Question};
+use crate::texts::push_text;
 use gix_glob::pattern::Case;
 use gix_glob::search::Pattern as _;
 use gix_glob::search::pattern::List;
@@ -51,8 +52,11 @@ fn decision(
         .patterns
         .get(pattern)
         .ok_or(RowFault::Call("decide_in_tree"))?;
-    let (list, line) = (list.saturating_add(1), mapping.sequence_number);
-    Ok(answer.push(format!(in alloc; "{list}:{line}")?.as_bytes())?)
+    let mut text = Vec::new(alloc);
+    push_text(alloc, &mut text, &list.saturating_add(1))?;
+    text.push(b':')?;
+    push_text(alloc, &mut text, &mapping.sequence_number)?;
+    Ok(answer.push(&text)?)
 }
 
 /// A source that has the ignore files of its folders in fields, and notes each folder that it is asked for.
@@ -92,6 +96,8 @@ impl<'a> FolderLists<IgnoreLines> for Table<'a> {
         list.patterns = IgnoreLines.bytes_to_patterns(self.alloc, self.bytes_of(folder), "")?;
         list_in_folder(self.alloc, list, folder)
     }
+
+    fn forget(&mut self) {}
 }
 
 /// Which line decides about each path, one after the other, and for which folders the source was asked.
@@ -139,6 +145,6 @@ fn push_decision(
     if let Some(base) = &decision.list.base {
         text.extend_from_slice(base)?;
     }
-    let number = decision.mapping.sequence_number;
-    Ok(text.extend_from_slice(format!(in alloc; ":{number}")?.as_bytes())?)
+    text.push(b':')?;
+    Ok(push_text(alloc, text, &decision.mapping.sequence_number)?)
 }

@@ -1,5 +1,6 @@
+pub mod AnyKind
 pub mod Asking
-pub mod AtHand
+pub mod Cases
 pub mod Emptied
 pub mod Entering
 pub mod FoldedMatches
@@ -9,12 +10,16 @@ pub mod Folders
 pub mod Ignoring
 pub mod InFolder
 pub mod InTree
-pub mod Kept
+pub mod Known
+pub mod Leaving
+pub mod Links
 pub mod OnWay
 pub mod OneMore
-pub mod Rooms
-pub mod Settled
+pub mod OneWay
+pub mod Places
+pub mod Putting
 pub mod Stepping
 pub mod Standing
 pub mod Topmost
 pub mod WayLemmas
+pub mod WithEntries

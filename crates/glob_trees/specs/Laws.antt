@@ -1,2 +1,3 @@
 -- Words that only laws state: no call's contract rests on them.
 pub mod Emptying
+pub mod Kept

@@ -1,5 +1,7 @@
 pub mod Trees
 pub mod Ways
+pub mod Links
+pub mod Known
 pub mod TreeParts
 pub mod Laws
 pub mod Private

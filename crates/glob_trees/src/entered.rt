@@ -1,35 +1,44 @@
-//! The folders on the way to the path that was asked last, with their lists, and those that were left.
-ghost use Rattle.std.specs.Prelude.{◌≡◌, ◌+◌, ◌<◌, ℕ, [], false, IfOk, IsSome, IsTrue, MatchOption, OnErr, OnOk, length, map, option_map, take};
+//! The folders on the way to the path that was asked last, and what is kept of each folder that is known.
+ghost use Rattle.std.specs.Prelude.{◌≡◌, ◌⊎◌, ◌+◌, ◌<◌, ◌≤◌, ℕ, [], None, Some, false, IfOk, IsTrue, OnErr, OnOk, length, map, take};
 ghost use Rattle.std.specs.List.{Contains};
-ghost use Rattle.std.specs.Vec.{vec_items};
 ghost use Rattle.gix_glob.specs.Bytes.{HasByte, slash};
 ghost use Rattle.gix_glob.specs.EntryLists.{entry_list_of};
-ghost use Rattle.glob_trees.specs.Private.Entered.{EndsInFolder, IsAsideOrNew, IsFresh, IsFrontOf, IsReady, IsSomewhere, IsUnderWay, KeepsOn};
-ghost use Rattle.glob_trees.specs.Private.Left.{HasMoreRooms, HasRoom};
+ghost use Rattle.glob_trees.specs.Private.Entered.{EndsWith, HasFronts, IsFresh, IsNamed, IsReady, IsSomewhere, IsUnderWay, KeepsOn, gave_but};
 ghost use Rattle.glob_trees.specs.Trees.{DecidesInTree, Ignores};
 ghost use Rattle.glob_trees.specs.Ways.{AreOnTheWay, GivesOnly, GoesOn, IsAskedFor, IsListOf, folders_to};
 
 use crate::deciding::ignoring;
 use crate::fault::TreeFault;
 use crate::folders::FolderLists;
-use crate::left::LeftLists;
+use crate::keeping::{bytes_of, keep_last, prepared_if_any, put_known_on_way, put_on_way};
+use crate::known::KnownFolders;
+use crate::on_way::{FolderOnWay, common_length};
 use gix_glob::pattern::Case;
 use gix_glob::search;
 use gix_glob::search::pattern::List;
 use glob_lists::{PreparedList, RepositoryPath, decide_prepared};
 use std::alloc::{AllocError, Global};
 
-/// A source of lists, and the lists that it was asked for.
+/// A source of lists, the folders on the way, and what is kept of those that are known.
 #[derive(Drop)]
 pub(crate) struct Entered<T: search::Pattern, S: FolderLists<T>> {
+    pub(crate) alloc: Global,
     pub(crate) source: S,
     pub(crate) case: Case,
     /// How many lists stand before those of all folders.
     pub(crate) front_count: usize,
-    /// The lists that stand before those of all folders, then those of the folders entered, from the top down.
+    /// The lists that stand before those of all folders, then those with patterns of the folders on the way, from the top down.
     pub(crate) lists: Vec<PreparedList<T>>,
-    /// The lists of the folders that were left.
-    pub(crate) left: LeftLists<T>,
+    /// The path of the folder entered last, with a slash at its end; no bytes where that is the top.
+    pub(crate) folder: Vec<u8>,
+    /// The top and the folders on the way, from the top down.
+    pub(crate) way: Vec<FolderOnWay>,
+    pub(crate) known: KnownFolders,
+    /// By its place, the list with patterns of each known folder, while the folder isn't on the way.
+    pub(crate) kept: Vec<Option<PreparedList<T>>>,
+    /// About how many bytes what is kept takes, and how many it may.
+    pub(crate) bytes: usize,
+    pub(crate) most_bytes: usize,
 }
 
 impl<T: search::Pattern, S: FolderLists<T>> Entered<T, S> {
@@ -61,16 +70,12 @@ impl<T: search::Pattern, S: FolderLists<T>> Entered<T, S> {
         requires ready { IsReady (S.shows T.Seen) S.gave T.seen self.now }
         ensures { IsTrue result → IsUnderWay (S.shows T.Seen) S.gave T.seen self.now path.now.bytes }
     {
-        if self.lists.len() <= self.front_count {
+        if self.way.as_slice().is_empty() {
             return false;
         }
-        let Some(list) = self.lists.last() else {
-            return false;
-        };
-        match (&list.list().base, path.basename_start()) {
-            (Some(base), Some(start)) => base.len() == start && path.bytes().starts_with(base),
-            (None, None) => true,
-            _ => false,
+        match path.basename_start() {
+            Some(start) => self.folder.len() == start && path.bytes().starts_with(&self.folder),
+            None => self.folder.as_slice().is_empty(),
         }
     }
 
@@ -90,6 +95,7 @@ impl<T: search::Pattern, S: FolderLists<T>> Entered<T, S> {
         ensures keeps { KeepsOn (S.shows T.Seen) self.old self.new }
         ensures asks { GivesOnly (IsAskedFor (map (entry_list_of T.seen) self.new.lists.items) self.new.case path.now.bytes) (S.gave self.old.source) (S.gave self.new.source) }
     {
+        self.keep_to_bound();
         self.enter_top()?;
         let bytes = path.bytes();
         let start = self.leave_to(bytes);
@@ -97,9 +103,9 @@ impl<T: search::Pattern, S: FolderLists<T>> Entered<T, S> {
             if bytes[place] != b'/' {
                 continue;
             }
-            // a folder that was left isn't ignored: it had been entered
-            let was_left = self.enter_again(bytes, place)?;
-            if was_left {
+            // a folder that is known isn't ignored: it had been entered
+            let is_known = self.enter_known(bytes, place)?;
+            if is_known {
                 continue;
             }
             let folder = path.folder_before(place);
@@ -109,6 +115,35 @@ impl<T: search::Pattern, S: FolderLists<T>> Entered<T, S> {
             self.enter(bytes, place)?;
         }
         Ok(decide_prepared(&self.lists, path, self.case))
+    }
+
+    /// Forgets all folders where what is kept of them has grown beyond the bound. No path lies in any of them between two calls.
+    #[inline(always)]
+    fn keep_to_bound(&mut self)
+        requires ready { IsReady (S.shows T.Seen) S.gave T.seen self.old }
+        ensures ready { IsReady (S.shows T.Seen) S.gave T.seen self.new }
+        ensures keeps { KeepsOn (S.shows T.Seen) self.old self.new }
+        ensures asks { GivesOnly (λ _. ⊥) (S.gave self.old.source) (S.gave self.new.source) }
+    {
+        if self.bytes > self.most_bytes {
+            self.forget();
+        }
+    }
+
+    /// Forgets all folders, and tells it to the source.
+    #[inline(never)]
+    fn forget(&mut self)
+        requires fronts { HasFronts T.seen self.old }
+        ensures fresh { IsFresh (S.shows T.Seen) S.gave T.seen self.new }
+        ensures keeps { KeepsOn (S.shows T.Seen) self.old self.new }
+    {
+        self.lists.truncate(self.front_count);
+        self.folder.clear();
+        self.way.clear();
+        self.known = KnownFolders::new(self.alloc);
+        self.kept = Vec::new(self.alloc);
+        self.bytes = 0;
+        self.source.forget();
     }
 
     /// Asks for the list of the top, where it wasn't asked for.
@@ -123,10 +158,10 @@ impl<T: search::Pattern, S: FolderLists<T>> Entered<T, S> {
         ensures keeps { KeepsOn (S.shows T.Seen) self.old self.new }
         ensures asks { GivesOnly (λ folder. folder ≡ []) (S.gave self.old.source) (S.gave self.new.source) }
     {
-        if self.lists.len() > self.front_count {
-            return Ok(());
+        if self.way.as_slice().is_empty() {
+            return self.ask_for_top();
         }
-        self.ask_for_top()
+        Ok(())
     }
 
     /// Asks for the list of the top, and enters it.
@@ -141,40 +176,112 @@ impl<T: search::Pattern, S: FolderLists<T>> Entered<T, S> {
         ensures keeps { KeepsOn (S.shows T.Seen) self.old self.new }
         ensures asks { GivesOnly (λ folder. folder ≡ []) (S.gave self.old.source) (S.gave self.new.source) }
     {
-        self.lists.reserve(1)?;
         let list = self.source.list_of(&[]).map_err(TreeFault::Source)?;
-        let prepared = PreparedList::new(self.left.alloc, list);
-        self.lists.push(prepared).map_err(|_| TreeFault::Memory)?;
-        Ok(())
+        match self.put_top(list) {
+            Ok(()) => Ok(()),
+            Err(_refused) => {
+                self.forget();
+                Err(TreeFault::Memory)
+            }
+        }
     }
 
-    /// Enters the folder that stands before the slash at a place of a path, where its list was left. It answers whether it was.
+    /// Enters the top, which was asked for.
+    ///
+    /// # Errors
+    /// Only where memory was refused.
+    fn put_top(&mut self, list: List<T>) -> Result<(), AllocError>
+        requires fresh { IsFresh (S.shows T.Seen) (gave_but S.gave []) T.seen self.old }
+        requires of { IsListOf (S.shows T.Seen self.old.source) [] (entry_list_of T.seen list) }
+        ensures under { OnOk result (IsUnderWay (S.shows T.Seen) S.gave T.seen self.new []) }
+        ensures fails { OnErr result (HasFronts T.seen self.new) }
+        ensures keeps { KeepsOn (S.shows T.Seen) self.old self.new }
+        ensures source { self.new.source ≡ self.old.source }
+    {
+        self.known.add_top()?;
+        self.kept.push(None)?;
+        let list = prepared_if_any(self.alloc, list);
+        let top = FolderOnWay {
+            place: 0,
+            length: 0,
+            has_list: list.is_some(),
+        };
+        put_on_way(&mut self.way, &mut self.lists, top, list)
+    }
+
+    /// Enters the folder that stands before the slash at a place of a path, where it is known. It answers whether it is.
     ///
     /// # Errors
     /// Only where memory was refused.
     #[inline(never)]
-    fn enter_again(&mut self, path: &[u8], place: usize) -> Result<bool, AllocError>
+    fn enter_known(&mut self, path: &[u8], place: usize) -> Result<bool, AllocError>
         requires slash { HasByte path.now place slash }
         requires under { IsUnderWay (S.shows T.Seen) S.gave T.seen self.old (take place path.now) }
-        ensures entered { IfOk result (λ was_left. IsTrue was_left → IsUnderWay (S.shows T.Seen) S.gave T.seen self.new (take (place + 1) path.now)) }
-        ensures under { IfOk result (λ was_left. was_left ≡ false → IsUnderWay (S.shows T.Seen) S.gave T.seen self.new (take place path.now)) }
-        ensures none { IfOk result (λ was_left. was_left ≡ false → IsAsideOrNew self.new (take place path.now)) }
-        ensures fails { OnErr result (IsUnderWay (S.shows T.Seen) S.gave T.seen self.new (take place path.now)) }
+        ensures entered { IfOk result (λ is_known. IsTrue is_known → IsUnderWay (S.shows T.Seen) S.gave T.seen self.new (take (place + 1) path.now)) }
+        ensures under { IfOk result (λ is_known. is_known ≡ false → IsUnderWay (S.shows T.Seen) S.gave T.seen self.new (take place path.now)) }
+        ensures none { IfOk result (λ is_known. is_known ≡ false → ¬ (place ≡ 0) → IsNamed self.new path.now place None) }
+        ensures fails { OnErr result (IsFresh (S.shows T.Seen) S.gave T.seen self.new) }
         ensures keeps { KeepsOn (S.shows T.Seen) self.old self.new }
-        ensures source { self.new.source ≡ self.old.source }
+        ensures asks { GivesOnly (λ _. ⊥) (S.gave self.old.source) (S.gave self.new.source) }
     {
         if place == 0 {
             return Ok(false);
         }
-        self.lists.reserve(1)?;
-        let Some(list) = self.left.take(&path[..place + 1]) else {
+        let Some(known) = self.place_of(path, place) else {
             return Ok(false);
         };
-        self.lists.push(list)?;
-        Ok(true)
+        match self.put_known(path, place, known) {
+            Ok(()) => Ok(true),
+            Err(refused) => {
+                self.forget();
+                Err(refused)
+            }
+        }
     }
 
-    /// Enters the folder that stands before the slash at a place of a path, and was never entered.
+    /// The place of the folder that stands before the slash at a place of a path, in the folder entered last.
+    fn place_of(&self, path: &[u8], place: usize) -> Option<usize>
+        requires slash { HasByte path.now place slash }
+        requires deep { ¬ (place ≡ 0) }
+        requires under { IsUnderWay (S.shows T.Seen) S.gave T.seen self.now (take place path.now) }
+        ensures { IsNamed self.now path.now place result }
+    {
+        let outer = self.last_on_way();
+        let name = &path[..place][outer.length..];
+        self.known.place_in(outer.place, name)
+    }
+
+    /// The folder entered last.
+    fn last_on_way(&self) -> FolderOnWay
+        ensures { EndsWith self.now.way.items result }
+    {
+        match self.way.last() {
+            Some(last) => *last,
+            None => FolderOnWay::TOP,
+        }
+    }
+
+    /// Enters a folder that is known.
+    ///
+    /// # Errors
+    /// Only where memory was refused.
+    fn put_known(&mut self, path: &[u8], place: usize, known: usize) -> Result<(), AllocError>
+        requires slash { HasByte path.now place slash }
+        requires deep { ¬ (place ≡ 0) }
+        requires under { IsUnderWay (S.shows T.Seen) S.gave T.seen self.old (take place path.now) }
+        requires named { IsNamed self.old path.now place (Some known) }
+        ensures entered { OnOk result (IsUnderWay (S.shows T.Seen) S.gave T.seen self.new (take (place + 1) path.now)) }
+        ensures fails { OnErr result (HasFronts T.seen self.new) }
+        ensures keeps { KeepsOn (S.shows T.Seen) self.old self.new }
+        ensures source { self.new.source ≡ self.old.source }
+    {
+        let start = self.folder.as_slice().len();
+        self.folder.extend_from_slice(&path[..place + 1][start..])?;
+        let bytes = self.folder.as_slice().len();
+        put_known_on_way(&mut self.way, &mut self.lists, &mut self.kept, known, bytes)
+    }
+
+    /// Asks for the list of the folder that stands before the slash at a place of a path, and enters it. It wasn't known.
     ///
     /// # Errors
     /// Where the source fails, or memory was refused.
@@ -183,9 +290,9 @@ impl<T: search::Pattern, S: FolderLists<T>> Entered<T, S> {
         requires slash { HasByte path.now place slash }
         requires under { IsUnderWay (S.shows T.Seen) S.gave T.seen self.old (take place path.now) }
         requires kept { (pair : ℕ × ℕ) → ¬ Ignores (map (entry_list_of T.seen) self.old.lists.items) self.old.case (take place path.now) pair }
-        requires none { IsAsideOrNew self.old (take place path.now) }
+        requires none { ¬ (place ≡ 0) → IsNamed self.old path.now place None }
         ensures entered { OnOk result (IsUnderWay (S.shows T.Seen) S.gave T.seen self.new (take (place + 1) path.now)) }
-        ensures under { OnErr result (IsUnderWay (S.shows T.Seen) S.gave T.seen self.new (take place path.now)) }
+        ensures ready { OnErr result (IsFresh (S.shows T.Seen) S.gave T.seen self.new ⊎ IsUnderWay (S.shows T.Seen) S.gave T.seen self.new (take place path.now)) }
         ensures keeps { KeepsOn (S.shows T.Seen) self.old self.new }
         ensures asks { OnOk result (GivesOnly (Contains (folders_to (take (place + 1) path.now))) (S.gave self.old.source) (S.gave self.new.source)) }
         ensures fails { OnErr result (GivesOnly (λ _. ⊥) (S.gave self.old.source) (S.gave self.new.source)) }
@@ -193,10 +300,49 @@ impl<T: search::Pattern, S: FolderLists<T>> Entered<T, S> {
         if place == 0 {
             return Ok(());
         }
-        self.lists.reserve(1)?;
-        let list = ask(&mut self.source, &mut self.left, path, place)?;
-        self.lists.push(list).map_err(|_| TreeFault::Memory)?;
-        Ok(())
+        let list = self
+            .source
+            .list_of(&path[..place])
+            .map_err(TreeFault::Source)?;
+        match self.put_new(path, place, list) {
+            Ok(()) => Ok(()),
+            Err(_refused) => {
+                self.forget();
+                Err(TreeFault::Memory)
+            }
+        }
+    }
+
+    /// Enters a folder that was just asked for.
+    ///
+    /// # Errors
+    /// Only where memory was refused.
+    fn put_new(&mut self, path: &[u8], place: usize, list: List<T>) -> Result<(), AllocError>
+        requires slash { HasByte path.now place slash }
+        requires deep { ¬ (place ≡ 0) }
+        requires under { IsUnderWay (S.shows T.Seen) (gave_but S.gave (take place path.now)) T.seen self.old (take place path.now) }
+        requires kept { (pair : ℕ × ℕ) → ¬ Ignores (map (entry_list_of T.seen) self.old.lists.items) self.old.case (take place path.now) pair }
+        requires none { IsNamed self.old path.now place None }
+        requires of { IsListOf (S.shows T.Seen self.old.source) (take place path.now) (entry_list_of T.seen list) }
+        ensures entered { OnOk result (IsUnderWay (S.shows T.Seen) S.gave T.seen self.new (take (place + 1) path.now)) }
+        ensures fails { OnErr result (HasFronts T.seen self.new) }
+        ensures keeps { KeepsOn (S.shows T.Seen) self.old self.new }
+        ensures source { self.new.source ≡ self.old.source }
+    {
+        let outer = self.last_on_way();
+        let name = &path[..place][outer.length..];
+        let known = self.known.add(outer.place, name)?;
+        self.kept.push(None)?;
+        self.bytes = self.bytes.saturating_add(bytes_of(name.len(), &list));
+        self.folder
+            .extend_from_slice(&path[..place + 1][outer.length..])?;
+        let list = prepared_if_any(self.alloc, list);
+        let there = FolderOnWay {
+            place: known,
+            length: self.folder.as_slice().len(),
+            has_list: list.is_some(),
+        };
+        put_on_way(&mut self.way, &mut self.lists, there, list)
     }
 
     /// Leaves the folders that aren't on the way to a path. The answer is how many of the path's bytes name the folder that is
@@ -207,66 +353,31 @@ impl<T: search::Pattern, S: FolderLists<T>> Entered<T, S> {
         ensures keeps { KeepsOn (S.shows T.Seen) self.old self.new }
         ensures source { self.new.source ≡ self.old.source }
     {
-        'folders: while let Some(list) = self.lists.last() {
-            if let Some(length) = length_on_the_way(list, path) {
-                return length;
-            }
+        let alike = common_length(&self.folder, path);
+        'folders: while self.folder.as_slice().len() > alike {
             self.leave();
         }
-        0
+        self.folder.as_slice().len()
     }
 
-    /// Leaves the folder entered last, which isn't the top.
+    /// Leaves the folder entered last, which isn't the top, and keeps its list by its place.
     #[inline(never)]
     fn leave(&mut self)
         requires under { IsSomewhere (S.shows T.Seen) S.gave T.seen self.old }
-        requires deep { EndsInFolder self.old.lists.items }
+        requires deep { 0 < length self.old.folder.items }
         ensures under { IsSomewhere (S.shows T.Seen) S.gave T.seen self.new }
-        ensures less { length self.new.lists.items < length self.old.lists.items }
+        ensures less { length self.new.folder.items < length self.old.folder.items }
+        ensures front { self.new.folder.items ≡ take (length self.new.folder.items) self.old.folder.items }
         ensures keeps { KeepsOn (S.shows T.Seen) self.old self.new }
         ensures source { self.new.source ≡ self.old.source }
     {
-        if let Some(list) = self.lists.pop() {
-            self.left.put(list);
+        let Some(left) = self.way.pop() else {
+            return;
+        };
+        let outer = self.last_on_way();
+        self.folder.truncate(outer.length);
+        if left.has_list {
+            keep_last(&mut self.lists, &mut self.kept, left.place);
         }
     }
-}
-
-/// How many bytes of a path name the folder of a list, with the slash at its end, and 0 for the top; `None` where the path
-/// doesn't lie in that folder.
-fn length_on_the_way<T: search::Pattern>(list: &PreparedList<T>, path: &[u8]) -> Option<usize>
-    ensures { MatchOption result
-        (IsSome (option_map vec_items list.now.base))
-        (IsFrontOf (option_map vec_items list.now.base) path.now) }
-{
-    match &list.list().base {
-        Some(base) if path.starts_with(base) => Some(base.len()),
-        Some(_) => None,
-        None => Some(0),
-    }
-}
-
-/// The source's list of the folder that stands before the slash at a place of a path, prepared, with room for it among those that are
-/// left.
-///
-/// # Errors
-/// Where the source fails, or memory was refused.
-fn ask<T: search::Pattern, S: FolderLists<T>>(
-    source: &mut S,
-    left: &mut LeftLists<T>,
-    path: &[u8],
-    place: usize,
-) -> Result<PreparedList<T>, TreeFault<S::Fault>>
-    requires slash { HasByte path.now place slash }
-    requires once { ¬ S.gave source.old (take place path.now) }
-    ensures list { IfOk result (λ list. IsListOf (S.shows T.Seen source.new) (take place path.now) (entry_list_of T.seen list)) }
-    ensures more { HasMoreRooms left.old.lists.entries left.new.lists.entries }
-    ensures room { OnOk result (HasRoom left.new.lists.entries (take (place + 1) path.now)) }
-    ensures goes_on { GoesOn (S.shows T.Seen) source.old source.new }
-    ensures gives { OnOk result (GivesOnly (λ given. given ≡ take place path.now) (S.gave source.old) (S.gave source.new)) }
-    ensures fails { OnErr result (GivesOnly (λ _. ⊥) (S.gave source.old) (S.gave source.new)) }
-{
-    left.make_room(&path[..place + 1])?;
-    let list = source.list_of(&path[..place]).map_err(TreeFault::Source)?;
-    Ok(PreparedList::new(left.alloc, list))
 }

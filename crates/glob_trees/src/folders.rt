@@ -25,10 +25,11 @@ pub trait FolderLists<T: search::Pattern> {
     // files allows each list.
     ghost shows: { (V : Type 0) → Self → Folder → EntryList V → Type 0 };
 
-    // Whether the source gave the list of a folder. One that keeps no account of it may say so of none: `λ _ _. ⊥`.
+    // Whether the source gave the list of a folder since it was told to forget last. One that keeps no account of it may say so of
+    // none: `λ _ _. ⊥`.
     ghost gave: { Self → Folder → Type 0 };
 
-    /// The list of a folder. It is asked for once, and again only where that failed.
+    /// The list of a folder. It is asked for once, and again only where that failed, or after [`FolderLists::forget`].
     ///
     /// # Errors
     /// Where the list could not be had. A later call may have it.
@@ -39,6 +40,12 @@ pub trait FolderLists<T: search::Pattern> {
         ensures goes_on { GoesOn (shows T.Seen) self.old self.new }
         ensures gives { OnOk result (GivesOnly (λ given. given ≡ folder.now) (gave self.old) (gave self.new)) }
         ensures fails { OnErr result (GivesOnly (λ _. ⊥) (gave self.old) (gave self.new)) };
+
+    /// Hears that nothing is kept any more of what the source gave: from now on each folder may be asked for again. A source that
+    /// keeps no account does nothing.
+    fn forget(&mut self)
+        ensures goes_on { GoesOn (shows T.Seen) self.old self.new }
+        ensures none { (folder : Folder) → ¬ gave self.new folder };
 }
 
 /// The list with the base of a folder: the folder's path and a slash, and none for the top, which is named by no bytes.

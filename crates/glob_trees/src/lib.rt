@@ -5,11 +5,15 @@ mod deciding;
 mod entered;
 mod fault;
 mod folders;
+mod keeping;
+mod known;
 pub mod laws;
-mod left;
+mod on_way;
 mod tree;
 
 pub use deciding::{decide_in_tree, decide_in_tree_by};
 pub use fault::TreeFault;
 pub use folders::{FolderLists, list_in_folder};
+pub use known::KnownFolders;
+pub use on_way::{FolderOnWay, common_length};
 pub use tree::{Decision, Tree};

@@ -9,7 +9,7 @@ ghost use Rattle.glob_trees.specs.Ways.{AreOnTheWay, Folder, GivesOnly, GoesOn, 
 use crate::entered::Entered;
 use crate::fault::TreeFault;
 use crate::folders::FolderLists;
-use crate::left::LeftLists;
+use crate::known::KnownFolders;
 use gix_glob::pattern::Case;
 use gix_glob::search;
 use gix_glob::search::pattern::{List, Mapping};
@@ -18,8 +18,8 @@ use std::alloc::Global;
 use std::marker::Model;
 
 /// A work tree: lists that stand before those of all folders, and a source that has the list of each folder, and is asked for it
-/// when a path first lies there. What the source gave is kept, so that each folder is asked for once, and none below an ignored
-/// folder.
+/// when a path first lies there. What the source gave is kept up to a bound, so that each folder is asked for once until it is
+/// forgotten, and none below an ignored folder. Lists without patterns aren't kept: that a folder has none is known.
 ///
 /// Contracts see the source, the lists that decided about the path asked last, how many of them stand before those of all
 /// folders, and whether the case of letters counts.
@@ -71,13 +71,27 @@ impl<T: search::Pattern, S: FolderLists<T> + Drop> Tree<T, S> {
             return None;
         }
         let entered = Entered {
+            alloc,
             source,
             case,
             front_count: fronts.len(),
             lists: fronts,
-            left: LeftLists::new(alloc),
+            folder: Vec::new(alloc),
+            way: Vec::new(alloc),
+            known: KnownFolders::new(alloc),
+            kept: Vec::new(alloc),
+            bytes: 0,
+            most_bytes: usize::MAX,
         };
         Some(Tree { entered })
+    }
+
+    /// Sets about how many bytes may be kept of the folders that were asked for, besides those on the way to one path: beyond it all
+    /// are forgotten before the next path is gone to, which changes no answer, and asked for again. There is no bound at first.
+    pub fn keep_at_most(&mut self, bytes: usize)
+        ensures { self.new ≡ self.old }
+    {
+        self.entered.most_bytes = bytes;
     }
 
     /// Which pattern decides about a path, as [`decide_in_tree`](crate::decide_in_tree) answers it over the lists that stand before
@@ -86,7 +100,8 @@ impl<T: search::Pattern, S: FolderLists<T> + Drop> Tree<T, S> {
     /// where no pattern decides. It holds until the next call.
     ///
     /// Paths may come in any order. What two paths in a row have in common isn't decided about again, so paths in order cost the
-    /// least. Memory grows with the folders that were asked for, and not with the number of paths.
+    /// least. What a path costs is its parts and its bytes, not one times the other, besides what the source does. Memory grows with
+    /// the folders that were asked for, and not with the number of paths; [`Tree::keep_at_most`] sets a bound.
     ///
     /// # Errors
     /// [`TreeFault::Source`] where the source has no list of a folder, and [`TreeFault::Memory`] where memory was refused. The tree
@@ -108,7 +123,7 @@ impl<T: search::Pattern, S: FolderLists<T> + Drop> Tree<T, S> {
     }
 
     /// The lists in which the last answer of [`Tree::find`] has its places: those that stand before all folders, and those of the
-    /// folders on the way.
+    /// folders on the way that have patterns.
     pub fn lists(&self) -> &[PreparedList<T>]
         ensures { result.now ≡ self.now.lists }
     {
@@ -125,6 +140,12 @@ impl<T: search::Pattern, S: FolderLists<T> + Drop> Tree<T, S> {
         let list = self.entered.lists.get(pair.0)?.list();
         let mapping = list.patterns.get(pair.1)?;
         Some(Decision { list, mapping })
+    }
+
+    /// The path of the folder that was entered last on the way to the path asked last, with a slash at its end; no bytes where it
+    /// is the top, or none was entered.
+    pub fn folder(&self) -> &[u8] {
+        &self.entered.folder
     }
 
     /// The source.

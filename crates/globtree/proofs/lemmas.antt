@@ -1,3 +1,3 @@
 pub mod AddedLemmas
+pub mod IgnoringLemmas
 pub mod PieceLemmas
-pub mod RecordLemmas

@@ -1,12 +1,12 @@
 pub mod AttributeFlags
-pub mod AttributeText
 pub mod CommandWords
 pub mod ConfigKeys
 pub mod Files
 pub mod FilesFlags
 pub mod Flags
+pub mod Ignoring
 pub mod IndexHead
-pub mod Lines
-pub mod RecordNames
+pub mod OnWay
+pub mod SeenFiles
 pub mod Telling
 pub mod Words

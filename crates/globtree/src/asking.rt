@@ -2,17 +2,16 @@
 ghost use Rattle.std.specs.Prelude.{IsTrue};
 ghost use Rattle.glob_lists.specs.Paths.{IsPlainPath};
 
-use crate::answering::PathAnswerer;
 use crate::fault::CheckFault;
 use crate::finding::Finder;
 use crate::flags::Flags;
-use crate::lines::{DecidingLine, append_line};
 use crate::sources::FolderFiles;
 use glob_lines::IgnoreLines;
 use glob_trees::Tree;
 use std::alloc::Global;
 use std::rt::Files;
 use told_paths::Standpoint;
+use tree_answers::{DecidingLine, Form, PathAnswerer, append_line};
 
 /// What answers each told path by the tree.
 #[derive(Drop)]
@@ -28,7 +27,9 @@ pub(crate) struct Asker<'a, R: Files + Eprint> {
 }
 
 impl<'a, R: Files + Eprint> PathAnswerer for Asker<'a, R> {
-    const KEEPS_ANSWERS: bool = false;
+    type Fault = CheckFault;
+
+    ghost answers = { λ _ _ _. Unit {0} };
 
     fn answer_path(
         &mut self,
@@ -42,7 +43,8 @@ impl<'a, R: Files + Eprint> PathAnswerer for Asker<'a, R> {
             self.is_any = true;
         }
         if !self.flags.quiet && (line.is_some() || self.flags.non_matching) {
-            append_line(text, told, is_usual, &line, self.flags)?;
+            let form = Form::ended_by(self.flags.nul);
+            append_line(text, told, is_usual, &line, self.flags.verbose, form)?;
         }
         Ok(())
     }

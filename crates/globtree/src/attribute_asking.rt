@@ -2,8 +2,6 @@
 
 ghost use Rattle.std.specs.Io.{StartsWith};
 
-use crate::answering::PathAnswerer;
-use crate::attribute_text::{append_answer, append_label, path_text};
 use crate::fault::CheckFault;
 use crate::folder_attributes::FolderAttributes;
 use glob_attributes::{Assignment, AttributeLines, PathAttributes, State};
@@ -11,14 +9,14 @@ use glob_lists::{ListIndex, RepositoryPath, bases_are_folders};
 use std::alloc::{AllocError, Global};
 use std::rt::Files;
 use told_paths::Standpoint;
+use tree_answers::{Form, PathAnswerer, append_answer, append_label, path_text};
 
 /// What answers each told path by the states of its attributes.
 #[derive(Drop)]
 pub(crate) struct AttributeAsker<'a, R> {
     pub(crate) alloc: Global,
     pub(crate) standpoint: Standpoint,
-    /// Whether a NUL ends each field.
-    pub(crate) is_nul: bool,
+    pub(crate) form: Form,
     /// The lists that are weaker than those of all folders below the top.
     pub(crate) index: &'a ListIndex<'a, AttributeLines>,
     pub(crate) folders: FolderAttributes<'a, R>,
@@ -29,7 +27,9 @@ pub(crate) struct AttributeAsker<'a, R> {
 }
 
 impl<'a, R: Files + Eprint> PathAnswerer for AttributeAsker<'a, R> {
-    const KEEPS_ANSWERS: bool = true;
+    type Fault = CheckFault;
+
+    ghost answers = { λ _ _ _. Unit {0} };
 
     fn answer_path(
         &mut self,
@@ -39,7 +39,7 @@ impl<'a, R: Files + Eprint> PathAnswerer for AttributeAsker<'a, R> {
     ) -> Result<(), CheckFault> {
         let is_folder = self.lead(told)?;
         let mut quoted = Vec::new(self.alloc);
-        let shown = path_text(&mut quoted, told, self.is_nul)?;
+        let shown = path_text(&mut quoted, told, self.form)?;
         self.append(text, shown, is_folder)
     }
 }
@@ -95,7 +95,7 @@ impl<'a, R: Files + Eprint> AttributeAsker<'a, R> {
         }
         'names: for (name, label) in self.folders.names.iter().zip(&self.labels) {
             let state = attributes.state_of(name.as_bytes());
-            append_answer(text, shown, label, &state, self.is_nul)?;
+            append_answer(text, shown, label, &state, self.form)?;
         }
         Ok(())
     }
@@ -113,8 +113,8 @@ impl<'a, R: Files + Eprint> AttributeAsker<'a, R> {
         let mut label = Vec::new(self.alloc);
         'all: for assigned in states {
             label.clear();
-            append_label(&mut label, assigned.name, self.is_nul)?;
-            append_answer(text, shown, &label, &assigned.state, self.is_nul)?;
+            append_label(&mut label, assigned.name, self.form)?;
+            append_answer(text, shown, &label, &assigned.state, self.form)?;
         }
         Ok(())
     }
@@ -125,7 +125,7 @@ impl<'a, R: Files + Eprint> AttributeAsker<'a, R> {
         ensures { StartsWith text.new.items text.old.items }
     {
         'labels: for label in &self.labels {
-            append_answer(text, shown, label, &State::Unspecified, self.is_nul)?;
+            append_answer(text, shown, label, &State::Unspecified, self.form)?;
         }
         Ok(())
     }

@@ -1,7 +1,7 @@
 //! Reading attribute files: their lists, their names, and the lines that say nothing.
 
 use crate::fault::CheckFault;
-use crate::sources::file_list;
+use crate::seen_files::{Sight, file_list, seen_file_list};
 use crate::standing::{OwnFile, Standing, file_in, folder_text, own_file, what_stands};
 use crate::telling::tell_line;
 use gix_glob::search::pattern::List;
@@ -36,12 +36,13 @@ impl<'a, R: Files + Eprint> AttributeReader<'a, R> {
         macros: &mut MacroTable,
     ) -> Result<List<AttributeLines>, CheckFault> {
         self.bytes.clear();
-        if let Ok(found) = fs::metadata(self.rt, file.as_str())
-            && self.is_too_large(file.as_str(), &found)?
-        {
-            return Ok(List::empty(self.alloc));
-        }
-        let list = file_list(self.rt, self.alloc, file, &mut self.bytes, AttributeLines)?;
+        let list = match fs::metadata(self.rt, file.as_str()) {
+            Ok(found) if self.is_too_large(file.as_str(), &found)? => {
+                return Ok(List::empty(self.alloc));
+            }
+            Ok(found) => self.list_of_seen(file, &found)?,
+            Err(_unseen) => file_list(self.rt, self.alloc, file, &mut self.bytes, AttributeLines)?,
+        };
         macros.add_file(self.alloc, &self.bytes)?;
         self.note(&list, true)?;
         Ok(list)
@@ -94,9 +95,26 @@ impl<'a, R: Files + Eprint> AttributeReader<'a, R> {
         if self.is_too_large(file.as_str(), &found)? {
             return Ok(Some(List::empty(self.alloc)));
         }
-        let list = file_list(self.rt, self.alloc, file, &mut self.bytes, AttributeLines)?;
+        let list = self.list_of_seen(file, &found)?;
         self.note(&list, is_top)?;
         Ok(Some(list))
+    }
+
+    /// The list of a file that was looked at.
+    fn list_of_seen(
+        &mut self,
+        file: String,
+        found: &Metadata,
+    ) -> Result<List<AttributeLines>, CheckFault> {
+        let seen = Sight::of(found);
+        seen_file_list(
+            self.rt,
+            self.alloc,
+            file,
+            &seen,
+            &mut self.bytes,
+            AttributeLines,
+        )
     }
 
     /// Keeps the names of the file that was read, and tells its lines that say nothing.

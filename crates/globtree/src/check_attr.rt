@@ -5,7 +5,6 @@ ghost use Rattle.gix_glob.specs.Watched.{has_failed};
 use crate::answering::{answer_paths, answer_records};
 use crate::attribute_asking::AttributeAsker;
 use crate::attribute_flags::AttributeFlags;
-use crate::attribute_text::append_label;
 use crate::command_words::operands_of;
 use crate::folder_attributes::{FolderAttributes, keep_asked};
 use crate::outer_attributes::{OuterAttributes, outer_attributes};
@@ -21,6 +20,7 @@ use glob_lists::{ListIndex, bases_are_folders};
 use std::alloc::{AllocError, Global};
 use std::io::{Read, Write};
 use std::rt::{Env, Files};
+use tree_answers::{Form, append_label};
 
 /// What the command ends with where a name is none that an attribute can have.
 const NO_NAME: u8 = 255;
@@ -74,29 +74,30 @@ pub(crate) fn check_attr<R: Files + Env + Eprint + AllocGlobal, I: Read, O: Writ
         keep_asked_in_each(alloc, &mut info, names, &macros)?;
     }
     let index = index_of(alloc, &lists)?;
+    let form = Form::ended_by(flags.nul);
     let asker = AttributeAsker {
         alloc,
         standpoint,
-        is_nul: flags.nul,
+        form,
         index: &index,
-        folders: FolderAttributes::new(reader, info, names, &macros)?,
-        labels: labels_of(alloc, names, flags.nul)?,
+        folders: FolderAttributes::new(reader, info, names, &macros),
+        labels: labels_of(alloc, names, form)?,
         path: Vec::new(alloc),
     };
     if flags.stdin {
-        answer_records(alloc, asker, flags.nul, input, output)?;
+        answer_records(alloc, asker, form, input, output)?;
     } else {
-        answer_paths(alloc, asker, paths, output)?;
+        answer_paths(alloc, asker, paths, true, output)?;
     }
     Ok(ANSWERED)
 }
 
 /// The label of each of the names.
-fn labels_of(alloc: Global, names: &[&str], is_nul: bool) -> Result<Vec<Vec<u8>>, AllocError> {
+fn labels_of(alloc: Global, names: &[&str], form: Form) -> Result<Vec<Vec<u8>>, AllocError> {
     let mut labels = Vec::with_capacity(alloc, names.len())?;
     for name in names {
         let mut label = Vec::new(alloc);
-        append_label(&mut label, name.as_bytes(), is_nul)?;
+        append_label(&mut label, name.as_bytes(), form)?;
         labels.push(label)?;
     }
     Ok(labels)

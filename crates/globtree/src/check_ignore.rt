@@ -17,6 +17,7 @@ use gix_glob::search::Watched;
 use std::alloc::Global;
 use std::io::{Read, Write};
 use std::rt::{Env, Files};
+use tree_answers::Form;
 
 /// What the command ends with where no line decided about a path.
 const NONE_IGNORED: u8 = 1;
@@ -40,9 +41,9 @@ pub(crate) fn check_ignore<R: Files + Env + Eprint + AllocGlobal, I: Read, O: Wr
     }
     let asker = asker_of(rt, alloc, options, flags)?;
     let asker = if flags.stdin {
-        answer_records(alloc, asker, flags.nul, input, output)?
+        answer_records(alloc, asker, Form::ended_by(flags.nul), input, output)?
     } else {
-        answer_paths(alloc, asker, &paths, output)?
+        answer_paths(alloc, asker, &paths, false, output)?
     };
     Ok(if asker.is_any { ANSWERED } else { NONE_IGNORED })
 }

@@ -1,5 +1,5 @@
 //! The files that count before those of all folders.
-use crate::sources::file_list;
+use crate::seen_files::{file_list, named_list};
 use anyhow::{Context, Result};
 use gix_glob::search::pattern::List;
 use glob_lines::IgnoreLines;
@@ -20,7 +20,7 @@ pub(crate) fn push_excludes<R: Files + Env + Eprint + AllocGlobal>(
     let list = match named {
         Some(name) => {
             let source = String::from_str(alloc, name)?;
-            List::from_file(rt, alloc, source, None, &mut bytes, IgnoreLines)
+            named_list(rt, alloc, source, &mut bytes, IgnoreLines)
                 .context(format_args!("'{name}'"))?
                 .context(format_args!("'{name}' is no file"))?
         }

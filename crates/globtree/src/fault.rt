@@ -5,6 +5,7 @@ ghost use Rattle.globtree.specs.declared.fault.CheckFault.TheVariants.{Memory};
 use std::alloc::{AllocError, Global};
 use thiserror::Error;
 use told_paths::LeadFault;
+use tree_answers::NameFault;
 
 /// Why a path got no answer.
 #[derive(Debug, Drop, Error)]
@@ -41,6 +42,17 @@ impl From<AllocError> for CheckFault {
 
     fn from(_refused: AllocError) -> CheckFault {
         CheckFault::Memory
+    }
+}
+
+impl From<NameFault> for CheckFault {
+    ghost from_gives = { λ _ _. Unit {0} };
+
+    fn from(fault: NameFault) -> CheckFault {
+        match fault {
+            NameFault::Memory => CheckFault::Memory,
+            NameFault::BadlyQuoted => CheckFault::BadlyQuoted,
+        }
     }
 }
 

@@ -3,8 +3,8 @@ ghost use Rattle.glob_lists.specs.Paths.{IsPlainPath};
 
 use crate::fault::CheckFault;
 use crate::sources::FolderFiles;
-use crate::standing::{folder_text, is_folder, is_link};
-use crate::unlinked::UnlinkedFolders;
+use crate::standing::{folder_text, is_folder};
+use crate::unlinked::{UnlinkedFolders, check_folder};
 use bitflags::Flags as _;
 use gix_glob::pattern::Mode;
 use glob_lines::IgnoreLines;
@@ -62,7 +62,7 @@ impl<'a, R: Files + Eprint> Finder<'a, R> {
         let Some(start) = path.basename_start() else {
             return false;
         };
-        start > entered_length(&self.tree) && !self.unlinked.is_last(&path.bytes()[..start - 1])
+        start > self.tree.folder().len() && !self.unlinked.is_last(&path.bytes()[..start])
     }
 
     /// Whether the pattern at a pair of places matches folders alone. Where it doesn't, it decides about a file, too.
@@ -106,20 +106,17 @@ impl<'a, R: Files + Eprint> Finder<'a, R> {
 
     /// Refuses a path of which a folder that the tree didn't enter is a link.
     fn check_links(&mut self, path: &[u8], is_told_folder: bool) -> Result<(), CheckFault> {
-        let entered = entered_length(&self.tree);
+        let entered = self.tree.folder().len();
         if is_told_folder && entered < path.len() {
             check_folder(self.rt, self.alloc, path)?;
         }
         let Some(last) = memrchr(b'/', path) else {
             return Ok(());
         };
-        let folder = &path[..last];
-        if last < entered || self.unlinked.contains(folder)? {
+        if last < entered {
             return Ok(());
         }
-        check_folders(self.rt, self.alloc, folder, entered)?;
-        self.unlinked.insert(folder)?;
-        Ok(())
+        self.unlinked.check(self.rt, &path[..last + 1], entered)
     }
 }
 
@@ -129,39 +126,4 @@ pub(crate) fn fault_of(fault: TreeFault<CheckFault>) -> CheckFault {
         TreeFault::Memory => CheckFault::Memory,
         TreeFault::Source(fault) => fault,
     }
-}
-
-/// How many bytes of a path name the folder that the tree entered last on its way, with the slash at its end.
-fn entered_length<'a, R: Files + Eprint>(tree: &Tree<IgnoreLines, FolderFiles<'a, R>>) -> usize {
-    match tree.lists().last() {
-        Some(prepared) => match &prepared.list().base {
-            Some(base) => base.len(),
-            None => 0,
-        },
-        None => 0,
-    }
-}
-
-/// Refuses a folder that is a link, or that lies below one, from the bytes on that name a folder which was entered.
-fn check_folders<R: Files>(
-    rt: &R,
-    alloc: Global,
-    folder: &[u8],
-    entered: usize,
-) -> Result<(), CheckFault> {
-    'bytes: for (place, byte) in folder.iter().enumerate() {
-        if *byte == b'/' && place >= entered {
-            check_folder(rt, alloc, &folder[..place])?;
-        }
-    }
-    check_folder(rt, alloc, folder)
-}
-
-/// Refuses a folder that is a link.
-fn check_folder<R: Files>(rt: &R, alloc: Global, folder: &[u8]) -> Result<(), CheckFault> {
-    let name = folder_text(alloc, folder)?;
-    if is_link(rt, name.as_str()) {
-        return Err(CheckFault::BeyondLink(name));
-    }
-    Ok(())
 }

@@ -4,14 +4,19 @@ use crate::attribute_files::AttributeReader;
 use crate::fault::CheckFault;
 use gix_glob::search::pattern::List;
 use glob_attributes::{AttributeLines, MacroTable, keep_named};
-use memchr::memchr;
+use glob_trees::{FolderOnWay, KnownFolders, common_length};
+use memchr::memrchr;
 use std::alloc::{AllocError, Global};
-use std::collections::BTreeMap;
 use std::rt::Files;
-use told_paths::last_name;
+
+/// About how many bytes are kept of folders and their patterns.
+const MOST_BYTES: usize = 24 << 20;
+
+/// About how many bytes of memory a byte of an attribute file takes.
+const BYTES_OF_BYTE: usize = 8;
 
 /// The attribute files of the folders on the way to the path that was asked last, and what is known of each folder that was looked
-/// at. Each file is read once.
+/// at. Each file is read once, and again only where folders were so many that all were forgotten.
 #[derive(Drop)]
 pub(crate) struct FolderAttributes<'a, R> {
     pub(crate) reader: AttributeReader<'a, R>,
@@ -22,32 +27,22 @@ pub(crate) struct FolderAttributes<'a, R> {
     pub(crate) macros: &'a MacroTable,
     /// The path of the folder entered last, with a slash at its end; empty where that is the top.
     folder: Vec<u8>,
-    /// The top and the folders on the way, from outer to inner.
+    /// The folders on the way below the top, from outer to inner.
     way: Vec<FolderOnWay>,
-    /// The folders that were looked at. The first is the top.
-    known: Vec<KnownFolder>,
+    /// The folders that were looked at, and by its place what was found of each.
+    known: KnownFolders,
+    found: Vec<FoundFolder>,
+    /// About how many bytes are kept of them.
+    bytes: usize,
 }
 
-/// A folder on the way.
-#[derive(Clone, Copy)]
-struct FolderOnWay {
-    /// Its place among the known folders.
-    place: usize,
-    /// How many bytes of a path name it, with the slash at its end.
-    length: usize,
-    /// Whether its list is on the way: it has patterns.
-    has_list: bool,
-}
-
-/// What is known of a folder.
+/// What was found where a folder may stand.
 #[derive(Drop)]
-struct KnownFolder {
+struct FoundFolder {
     /// Whether a folder stands there.
     is_there: bool,
     /// Its list, where it has patterns, while it isn't on the way.
     list: Option<List<AttributeLines>>,
-    /// The places of the folders in it that were looked at, by their names.
-    inner: BTreeMap<Vec<u8>, usize>,
 }
 
 impl<'a, R: Files + Eprint> FolderAttributes<'a, R> {
@@ -57,49 +52,31 @@ impl<'a, R: Files + Eprint> FolderAttributes<'a, R> {
         lists: Vec<List<AttributeLines>>,
         names: &'a [&'a str],
         macros: &'a MacroTable,
-    ) -> Result<FolderAttributes<'a, R>, AllocError> {
+    ) -> FolderAttributes<'a, R> {
         let alloc = reader.alloc;
-        let mut way = Vec::new(alloc);
-        way.push(FolderOnWay {
-            place: 0,
-            length: 0,
-            has_list: false,
-        })?;
-        let mut known = Vec::new(alloc);
-        known.push(KnownFolder {
-            is_there: true,
-            list: None,
-            inner: BTreeMap::new(alloc),
-        })?;
-        Ok(FolderAttributes {
+        FolderAttributes {
             reader,
             lists,
             names,
             macros,
             folder: Vec::new(alloc),
-            way,
-            known,
-        })
+            way: Vec::new(alloc),
+            known: KnownFolders::new(alloc),
+            found: Vec::new(alloc),
+            bytes: 0,
+        }
     }
 
     /// Goes to the folder that a path lies in, as far as there are folders: the lists are those on the way to it then.
     pub(crate) fn go_to(&mut self, path: &[u8]) -> Result<(), CheckFault> {
-        if !path.starts_with(&self.folder) {
+        // most paths lie in the folder of the one before, and mostly others differ in their first bytes
+        if path.get(..self.folder.len()) != Some(self.folder.as_slice()) {
             self.leave_to(path);
         }
-        let start = self.folder.len();
-        // most paths lie right in the folder that is entered then
-        if let Some(rest) = path.get(start..)
-            && memchr(b'/', rest).is_none()
-        {
-            return Ok(());
+        match memrchr(b'/', path) {
+            Some(last) if last >= self.folder.len() => self.enter_folders(&path[..last + 1]),
+            _ => Ok(()),
         }
-        'bytes: for place in start..path.len() {
-            if path[place] == b'/' && !self.enter(&path[..place])? {
-                break;
-            }
-        }
-        Ok(())
     }
 
     /// Leaves the folders that aren't on the way to a path.
@@ -107,111 +84,155 @@ impl<'a, R: Files + Eprint> FolderAttributes<'a, R> {
         let alike = common_length(&self.folder, path);
         // no more folders can be left than were entered
         'folders: for _ in 0..self.way.len() {
-            let length = self.length();
-            if length <= alike {
-                self.folder.truncate(length);
+            if self.folder.len() <= alike {
                 return;
             }
             self.leave();
         }
     }
 
-    /// How many bytes of a path name the folder entered last, with the slash at its end.
-    fn length(&self) -> usize {
-        match self.way.last() {
-            Some(last) => last.length,
-            None => 0,
-        }
-    }
-
     /// Leaves the folder entered last, and keeps its list.
     fn leave(&mut self) {
-        if let Some(last) = self.way.pop()
-            && last.has_list
+        let left = self.way.pop();
+        let outer = self.last();
+        self.folder.truncate(outer.length);
+        if let Some(left) = left
+            && left.has_list
             && let Some(at) = self.lists.len().checked_sub(2)
-            && let Some(folder) = self.known.get_mut(last.place)
+            && let Some(found) = self.found.get_mut(left.place)
         {
-            folder.list = Some(self.lists.remove(at));
+            found.list = Some(self.lists.remove(at));
         }
     }
 
-    /// Enters a folder in the one entered last. It answers whether there is one.
+    /// The folder entered last, or the top.
+    fn last(&self) -> FolderOnWay {
+        match self.way.last() {
+            Some(last) => *last,
+            None => FolderOnWay::TOP,
+        }
+    }
+
+    /// Enters a folder that lies below the folder entered last, and those on the way to it, as far as they are there. A slash is at
+    /// its end.
+    fn enter_folders(&mut self, folder: &[u8]) -> Result<(), CheckFault> {
+        self.begin()?;
+        'bytes: for place in self.folder.len()..folder.len() {
+            if folder[place] == b'/' && !self.enter(&folder[..place + 1])? {
+                break;
+            }
+        }
+        Ok(())
+    }
+
+    /// Forgets all folders where they are too many, and knows the top.
+    fn begin(&mut self) -> Result<(), AllocError> {
+        if self.bytes > MOST_BYTES {
+            self.forget();
+        }
+        if self.known.count() == 0 {
+            self.known.add_top()?;
+            self.found.push(FoundFolder {
+                is_there: true,
+                list: None,
+            })?;
+        }
+        Ok(())
+    }
+
+    /// Forgets all folders, those on the way too.
+    fn forget(&mut self) {
+        let alloc = self.reader.alloc;
+        self.leave_to(&[]);
+        self.known = KnownFolders::new(alloc);
+        self.found = Vec::new(alloc);
+        self.bytes = 0;
+    }
+
+    /// Enters a folder in the one entered last, by its path with a slash at its end. It answers whether there is one.
     fn enter(&mut self, folder: &[u8]) -> Result<bool, CheckFault> {
-        let place = match self.place_of(last_name(folder)) {
-            Some(place) => place,
-            None => self.look_at(folder)?,
-        };
-        let Some(known) = self.known.get_mut(place) else {
+        let outer = self.last();
+        let Some(rest) = folder.get(outer.length..) else {
             return Ok(false);
         };
-        if !known.is_there {
+        let Some((_slash, name)) = rest.split_last() else {
+            return Ok(false);
+        };
+        let place = match self.known.place_in(outer.place, name) {
+            Some(place) => place,
+            None => self.look_at(outer.place, folder, name)?,
+        };
+        let Some(found) = self.found.get(place) else {
+            return Ok(false);
+        };
+        if !found.is_there {
             return Ok(false);
         }
-        let list = known.list.take();
-        self.put_on_the_way(place, folder, list)?;
+        let has_list = found.list.is_some();
+        self.put_on_way(place, rest, has_list)?;
         Ok(true)
     }
 
-    /// Puts a folder on the way, behind the others, and its list where it has one.
-    fn put_on_the_way(
-        &mut self,
-        place: usize,
-        folder: &[u8],
-        list: Option<List<AttributeLines>>,
-    ) -> Result<(), AllocError> {
-        self.folder.clear();
-        self.folder.extend_from_slice(folder)?;
-        self.folder.push(b'/')?;
+    /// Puts a known folder, by its name and a slash, behind the others on the way, and its list where it has one.
+    fn put_on_way(&mut self, place: usize, name: &[u8], has_list: bool) -> Result<(), AllocError> {
+        self.folder.extend_from_slice(name)?;
         self.way.push(FolderOnWay {
             place,
             length: self.folder.len(),
-            has_list: list.is_some(),
+            has_list,
         })?;
-        if let Some(list) = list {
+        if has_list {
+            self.put_list(place)?;
+        }
+        Ok(())
+    }
+
+    /// Puts the list that is kept of a folder behind those of the other folders on the way.
+    #[inline(never)]
+    fn put_list(&mut self, place: usize) -> Result<(), AllocError> {
+        if let Some(found) = self.found.get_mut(place)
+            && let Some(list) = found.list.take()
+        {
             let last = self.lists.len().saturating_sub(1);
             self.lists.insert(last, list)?;
         }
         Ok(())
     }
 
-    /// The place of a folder of this name in the folder entered last; `None` where it wasn't looked at.
-    fn place_of(&self, name: &[u8]) -> Option<usize> {
-        let outer = self.known.get(self.way.last()?.place)?;
-        outer.inner.get(name).copied()
-    }
-
-    /// Looks at a folder in the one entered last, and answers its place.
-    fn look_at(&mut self, folder: &[u8]) -> Result<usize, CheckFault> {
-        let mut list = self.reader.list_in(folder)?;
+    /// Looks at a folder of this name in the one at a place, and answers its own place.
+    fn look_at(&mut self, outer: usize, folder: &[u8], name: &[u8]) -> Result<usize, CheckFault> {
+        let text = match folder.split_last() {
+            Some((_slash, text)) => text,
+            None => folder,
+        };
+        let mut list = self.reader.list_in(text)?;
         if let Some(list) = &mut list
             && self.reader.names.is_none()
         {
             keep_asked(self.reader.alloc, list, self.names, self.macros)?;
         }
-        let place = self.remember(last_name(folder), list)?;
+        let place = self.remember(outer, name, list)?;
         Ok(place)
     }
 
-    /// Keeps what was found at a name in the folder entered last: the list of a folder, or that none stands there.
+    /// Keeps what was found at a name in the folder at a place: the list of a folder, or that none stands there.
     fn remember(
         &mut self,
+        outer: usize,
         name: &[u8],
         list: Option<List<AttributeLines>>,
     ) -> Result<usize, AllocError> {
-        let alloc = self.reader.alloc;
-        let name = Vec::from_slice(alloc, name)?;
-        let place = self.known.len();
-        self.known.push(KnownFolder {
+        if outer >= self.known.count() {
+            return Ok(outer);
+        }
+        let read = self.reader.bytes.len().saturating_mul(BYTES_OF_BYTE);
+        let bytes = read.saturating_add(name.len().saturating_add(KnownFolders::FOLDER_BYTES));
+        self.bytes = self.bytes.saturating_add(bytes);
+        self.found.push(FoundFolder {
             is_there: list.is_some(),
             list: with_patterns(list),
-            inner: BTreeMap::new(alloc),
         })?;
-        if let Some(outer) = self.way.last()
-            && let Some(outer) = self.known.get_mut(outer.place)
-        {
-            outer.inner.insert(name, place)?;
-        }
-        Ok(place)
+        self.known.add(outer, name)
     }
 }
 
@@ -235,13 +256,5 @@ fn with_patterns(list: Option<List<AttributeLines>>) -> Option<List<AttributeLin
     match list {
         Some(list) if !list.patterns.is_empty() => Some(list),
         _ => None,
-    }
-}
-
-/// How many bytes from the front two texts have alike.
-fn common_length(left: &[u8], right: &[u8]) -> usize {
-    match left.iter().zip(right).position(|(a, b)| a != b) {
-        Some(place) => place,
-        None => left.len().min(right.len()),
     }
 }

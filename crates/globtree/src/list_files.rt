@@ -2,11 +2,13 @@
 
 use crate::files::Lister;
 use crate::files_flags::FilesFlags;
+use crate::folder_names::NameReader;
+use crate::ignoring::ListsOnWay;
 use crate::running::ANSWERED;
 use crate::signs::Concerns;
 use crate::words::Options;
-use crate::work_tree::tree_of;
-use anyhow::Result;
+use crate::work_tree::{case_of, fronts_of};
+use anyhow::{Context, Result};
 use gix_glob::search::Watched;
 use std::alloc::Global;
 use std::io::Write;
@@ -29,15 +31,20 @@ pub(crate) fn list_files<R: Files + Env + Eprint + AllocGlobal + Clone + Drop, O
         is_nul: flags.nul,
         uses_index: true,
     };
-    let (standpoint, tree) = tree_of(rt, alloc, options, concerns)?;
+    let (standpoint, fronts) = fronts_of(rt, alloc, options, concerns)?;
     let mut lister = Lister {
         rt,
         alloc,
         standpoint,
-        tree,
+        lists: ListsOnWay::new(fronts, case_of(options)).context("the bases of lists")?,
         nul: flags.nul,
         folds: options.ignore_case,
+        reader: NameReader::new(alloc)?,
+        path: Vec::new(alloc),
+        folders: Vec::new(alloc),
         pending: Vec::new(alloc),
+        bytes: Vec::new(alloc),
+        seen: Vec::new(alloc),
         text: Vec::new(alloc),
         is_short: false,
     };

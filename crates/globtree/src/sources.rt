@@ -1,19 +1,13 @@
-//! Files of patterns: that of each folder, and those outside all folders.
+//! The ignore files of folders.
 
+use crate::closed_folders::ClosedFolders;
 use crate::fault::CheckFault;
-use crate::standing::{
-    OwnFile, Standing, file_in, folder_text, own_file, tell_unread, what_stands,
-};
-use gix_glob::search;
-use gix_glob::search::LoadFault;
+use crate::seen_files::{Sight, seen_file_list};
+use crate::standing::{OwnFile, Standing, file_in, folder_text, own_file, what_stands};
 use gix_glob::search::pattern::List;
 use glob_lines::IgnoreLines;
 use glob_trees::{FolderLists, list_in_folder};
-use memchr::memrchr;
-use std::alloc::{AllocError, Global};
-use std::collections::HashSet;
-use std::io;
-use std::io::ErrorKind;
+use std::alloc::Global;
 use std::rt::Files;
 
 /// The ignore files of the folders below the one that the program stands in.
@@ -23,10 +17,7 @@ pub(crate) struct FolderFiles<'a, R> {
     alloc: Global,
     /// The bytes of the file that was read last.
     bytes: Vec<u8>,
-    /// The folder that was looked for last and isn't there, with a slash behind it; no bytes where each was there.
-    missing: Vec<u8>,
-    /// The folders that can't be looked at, which was told, and those below them that were asked for.
-    unseen: HashSet<Vec<u8>>,
+    closed: ClosedFolders,
 }
 
 impl<'a, R> FolderFiles<'a, R> {
@@ -36,44 +27,8 @@ impl<'a, R> FolderFiles<'a, R> {
             rt,
             alloc,
             bytes: Vec::new(alloc),
-            missing: Vec::new(alloc),
-            unseen: HashSet::new(alloc),
+            closed: ClosedFolders::new(alloc),
         }
-    }
-
-    /// Whether a folder lies below one that isn't there.
-    fn is_below_missing(&self, folder: &[u8]) -> bool {
-        !self.missing.is_empty() && folder.starts_with(&self.missing)
-    }
-
-    /// Keeps that a folder isn't there.
-    fn miss(&mut self, folder: &[u8]) -> Result<(), AllocError> {
-        self.missing.clear();
-        self.missing.extend_from_slice(folder)?;
-        self.missing.push(b'/')?;
-        Ok(())
-    }
-
-    /// Keeps that a folder can't be looked at.
-    fn leave_unseen(&mut self, folder: &[u8]) -> Result<(), AllocError> {
-        let name = Vec::from_slice(self.alloc, folder)?;
-        self.unseen.insert(name)?;
-        Ok(())
-    }
-
-    /// Whether a folder lies below one that can't be looked at. Then it can't, either.
-    fn is_below_unseen(&mut self, folder: &[u8]) -> Result<bool, AllocError> {
-        if self.unseen.is_empty() {
-            return Ok(false);
-        }
-        let Some(last) = memrchr(b'/', folder) else {
-            return Ok(false);
-        };
-        let is_below = self.unseen.contains(&folder[..last]);
-        if is_below {
-            self.leave_unseen(folder)?;
-        }
-        Ok(is_below)
     }
 }
 
@@ -84,11 +39,11 @@ impl<'a, R: Files + Eprint> FolderFiles<'a, R> {
         match what_stands(self.rt, self.alloc, name.as_str())? {
             Standing::Link => Err(CheckFault::BeyondLink(name)),
             Standing::Nothing => {
-                self.miss(folder)?;
+                self.closed.miss(folder)?;
                 Ok(List::empty(self.alloc))
             }
             Standing::Unseen => {
-                self.leave_unseen(folder)?;
+                self.closed.shut(folder)?;
                 Ok(List::empty(self.alloc))
             }
             Standing::Folder => self.file_list(folder, name.as_str()),
@@ -99,12 +54,20 @@ impl<'a, R: Files + Eprint> FolderFiles<'a, R> {
     fn file_list(&mut self, folder: &[u8], name: &str) -> Result<List<IgnoreLines>, CheckFault> {
         let file = file_in(self.alloc, name, ".gitignore")?;
         match own_file(self.rt, self.alloc, file.as_str())? {
-            OwnFile::Found(_known) => {
-                file_list(self.rt, self.alloc, file, &mut self.bytes, IgnoreLines)
+            OwnFile::Found(found) => {
+                let seen = Sight::of(&found);
+                seen_file_list(
+                    self.rt,
+                    self.alloc,
+                    file,
+                    &seen,
+                    &mut self.bytes,
+                    IgnoreLines,
+                )
             }
             OwnFile::Nothing => Ok(List::empty(self.alloc)),
             OwnFile::Shut => {
-                self.leave_unseen(folder)?;
+                self.closed.shut(folder)?;
                 Ok(List::empty(self.alloc))
             }
         }
@@ -119,42 +82,14 @@ impl<'a, R: Files + Eprint> FolderLists<IgnoreLines> for FolderFiles<'a, R> {
     ghost gave = { λ _ _. ⊥ };
 
     fn list_of(&mut self, folder: &[u8]) -> Result<List<IgnoreLines>, CheckFault> {
-        let list = if self.is_below_missing(folder) || self.is_below_unseen(folder)? {
+        let list = if self.closed.contain(folder)? {
             List::empty(self.alloc)
         } else {
             self.own_list(folder)?
         };
         Ok(list_in_folder(self.alloc, list, folder)?)
     }
-}
 
-/// The list of a file, whose bytes are put into `bytes`; no patterns and no bytes where there is none. One that can't be read is
-/// told, and passed over; but not one that could be read the next time.
-pub(crate) fn file_list<T: search::Pattern, R: Files + Eprint>(
-    rt: &R,
-    alloc: Global,
-    file: String,
-    bytes: &mut Vec<u8>,
-    parser: T,
-) -> Result<List<T>, CheckFault> {
-    let name = file.clone()?;
-    match List::from_file(rt, alloc, file, None, bytes, parser) {
-        Ok(Some(list)) => Ok(list),
-        Ok(None) => Ok(List::empty(alloc)),
-        Err(LoadFault::Memory) => Err(CheckFault::Memory),
-        Err(LoadFault::Read(error)) if is_passing(&error) => {
-            let text = format!(in alloc; "'{name}' wasn't read to its end: {error}")?;
-            Err(CheckFault::Unready(text))
-        }
-        Err(LoadFault::Read(error)) => {
-            bytes.clear();
-            tell_unread(rt, alloc, name.as_str(), error)?;
-            Ok(List::empty(alloc))
-        }
-    }
-}
-
-/// Whether an error says that the same may be done the next time.
-fn is_passing(error: &io::Error) -> bool {
-    matches!(error.kind(), ErrorKind::Interrupted | ErrorKind::WouldBlock)
+    // what can't be looked at was told, and isn't told again
+    fn forget(&mut self) {}
 }

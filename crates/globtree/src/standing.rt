@@ -71,14 +71,6 @@ pub(crate) fn file_in(alloc: Global, folder: &str, file: &str) -> Result<String,
     Ok(name)
 }
 
-/// Whether a link stands there.
-pub(crate) fn is_link<R: Files>(rt: &R, name: &str) -> bool {
-    match fs::symlink_metadata(rt, name) {
-        Ok(found) => found.is_symlink(),
-        Err(_missing) => false,
-    }
-}
-
 /// Whether a folder stands there, and no link to one.
 pub(crate) fn is_folder<R: Files>(rt: &R, name: &str) -> bool {
     match fs::symlink_metadata(rt, name) {

@@ -8,10 +8,14 @@ use crate::words::Options;
 use anyhow::{Context, Result};
 use gix_glob::pattern::Case;
 use glob_lines::IgnoreLines;
+use glob_lists::PreparedList;
 use glob_trees::Tree;
 use std::alloc::Global;
 use std::rt::{Env, Files};
 use told_paths::Standpoint;
+
+/// About how many bytes are kept of folders and their patterns.
+const MOST_BYTES: usize = 24 << 20;
 
 /// Goes to the top by the options: where paths are told from, and the work tree.
 pub(crate) fn tree_of<'a, R: Files + Env + Eprint + AllocGlobal>(
@@ -20,18 +24,35 @@ pub(crate) fn tree_of<'a, R: Files + Env + Eprint + AllocGlobal>(
     options: Options<'_>,
     concerns: Concerns,
 ) -> Result<(Standpoint, Tree<IgnoreLines, FolderFiles<'a, R>>)> {
+    let (standpoint, fronts) = fronts_of(rt, alloc, options, concerns)?;
+    let source = FolderFiles::new(rt, alloc);
+    let case = case_of(options);
+    let mut tree = Tree::new(alloc, source, fronts, case).context("the bases of lists")?;
+    tree.keep_at_most(MOST_BYTES);
+    Ok((standpoint, tree))
+}
+
+/// Goes to the top by the options: where paths are told from, and the lists before those of all folders.
+pub(crate) fn fronts_of<R: Files + Env + Eprint + AllocGlobal>(
+    rt: &R,
+    alloc: Global,
+    options: Options<'_>,
+    concerns: Concerns,
+) -> Result<(Standpoint, Vec<PreparedList<IgnoreLines>>)> {
     go_to_folders(rt, options.words)?;
     let mut fronts = Vec::new(alloc);
     push_excludes(rt, alloc, options.excludes, &mut fronts)?;
     let standpoint = go_to_top(rt, alloc, options.top)?;
     tell_signs(rt, alloc, options, concerns)?;
     push_info(rt, alloc, &mut fronts)?;
-    let case = if options.ignore_case {
+    Ok((standpoint, fronts))
+}
+
+/// Whether the case of letters counts by the options.
+pub(crate) fn case_of(options: Options<'_>) -> Case {
+    if options.ignore_case {
         Case::Fold
     } else {
         Case::Sensitive
-    };
-    let source = FolderFiles::new(rt, alloc);
-    let tree = Tree::new(alloc, source, fronts, case).context("the bases of lists")?;
-    Ok((standpoint, tree))
+    }
 }

@@ -44,7 +44,7 @@ impl From<AllocError> for LeadFault {
 impl Standpoint {
     /// Whether paths are told from the top.
     pub fn is_at_top(&self) -> bool
-        ensures { IsTrue result → (self.now.is_inside ≡ true) × (self.now.here.items ≡ []) }
+        ensures { IsTrue result ↔ (self.now.is_inside ≡ true) × (self.now.here.items ≡ []) }
     {
         self.is_inside && self.here.is_empty()
     }

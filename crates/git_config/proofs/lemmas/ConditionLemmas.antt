@@ -6,8 +6,7 @@ use Rattle.std.proofs.lemmas.Bool.{false≢true}
 use Rattle.std.proofs.lemmas.List.{append_cancel_left, take-append-drop}
 use Rattle.glob_matcher.specs.Matching.{Splits}
 use Rattle.git_config.specs.declared.surroundings.Surroundings.{Surroundings}
-use Rattle.git_config.specs.Includes.{Holds, InFolder}
-use Rattle.git_config.specs.Private.Scopes.{OnBranch}
+use Rattle.git_config.specs.Includes.{Holds}
 use lib.Pointwise.{bytes_decides, pointwise}
 
 -- ---- a word in front
@@ -43,24 +42,6 @@ abbrev pub HasUrl : Surroundings → List ℕ → Type 0
 HasUrl around told = Any (λ url. Splits url.items told (record { 0 = 1 })) around.urls.items
 
 module _ (around : Surroundings) (real : Option (List ℕ)) where
-  of_folder : (told : List ℕ) → Holds around real (codes "gitdir:" ++ told) → InFolder around real false told
-  of_folder told (t, inl (e, h)) = subst (λ (l : List ℕ). InFolder around real false l) (sym (append_cancel_left (codes "gitdir:") told t e)) h
-  of_folder told (t, inr (inl (e, h))) = absurd (other_word (codes "gitdir:" ++ told) (codes "gitdir/i:" ++ t) 7 refl refl e)
-  of_folder told (t, inr (inr (inl (e, h)))) = absurd (other_word (codes "gitdir:" ++ told) (codes "onbranch:" ++ t) 1 refl refl e)
-  of_folder told (t, inr (inr (inr (e, h)))) = absurd (other_word (codes "gitdir:" ++ told) (codes "hasconfig:remote.*.url:" ++ t) 1 refl refl e)
-
-  of_folded : (told : List ℕ) → Holds around real (codes "gitdir/i:" ++ told) → InFolder around real true told
-  of_folded told (t, inl (e, h)) = absurd (other_word (codes "gitdir/i:" ++ told) (codes "gitdir:" ++ t) 7 refl refl e)
-  of_folded told (t, inr (inl (e, h))) = subst (λ (l : List ℕ). InFolder around real true l) (sym (append_cancel_left (codes "gitdir/i:") told t e)) h
-  of_folded told (t, inr (inr (inl (e, h)))) = absurd (other_word (codes "gitdir/i:" ++ told) (codes "onbranch:" ++ t) 1 refl refl e)
-  of_folded told (t, inr (inr (inr (e, h)))) = absurd (other_word (codes "gitdir/i:" ++ told) (codes "hasconfig:remote.*.url:" ++ t) 1 refl refl e)
-
-  of_branch : (told : List ℕ) → Holds around real (codes "onbranch:" ++ told) → OnBranch around told
-  of_branch told (t, inl (e, h)) = absurd (other_word (codes "onbranch:" ++ told) (codes "gitdir:" ++ t) 1 refl refl e)
-  of_branch told (t, inr (inl (e, h))) = absurd (other_word (codes "onbranch:" ++ told) (codes "gitdir/i:" ++ t) 1 refl refl e)
-  of_branch told (t, inr (inr (inl (e, h)))) = subst (λ (l : List ℕ). OnBranch around l) (sym (append_cancel_left (codes "onbranch:") told t e)) h
-  of_branch told (t, inr (inr (inr (e, h)))) = absurd (other_word (codes "onbranch:" ++ told) (codes "hasconfig:remote.*.url:" ++ t) 1 refl refl e)
-
   of_url : (told : List ℕ) → Holds around real (codes "hasconfig:remote.*.url:" ++ told) → HasUrl around told
   of_url told (t, inl (e, h)) = absurd (other_word (codes "hasconfig:remote.*.url:" ++ told) (codes "gitdir:" ++ t) 1 refl refl e)
   of_url told (t, inr (inl (e, h))) = absurd (other_word (codes "hasconfig:remote.*.url:" ++ told) (codes "gitdir/i:" ++ t) 1 refl refl e)
@@ -72,18 +53,6 @@ module _ (around : Surroundings) (real : Option (List ℕ)) where
       → IfOk r (λ so. IsTrue so ↔ P) → IfOk r (λ so. IsTrue so ↔ Holds around real condition)
   answers condition is (Ok so) e f g h = (λ t. subst (λ (l : List ℕ). Holds around real l) (sym e) (f (h.0 t)), λ q. h.1 (g (subst (λ (l : List ℕ). Holds around real l) e q)))
   answers condition is (Err fault) e f g h = tt
-
-  pub holds_folder : (condition told : List ℕ) (r : Result Bool AllocError) → condition ≡ codes "gitdir:" ++ told
-      → IfOk r (λ so. IsTrue so ↔ InFolder around real false told) → IfOk r (λ so. IsTrue so ↔ Holds around real condition)
-  holds_folder condition told r e h = answers condition (codes "gitdir:" ++ told) r e (λ f. (told, inl (refl, f))) (of_folder told) h
-
-  pub holds_folded : (condition told : List ℕ) (r : Result Bool AllocError) → condition ≡ codes "gitdir/i:" ++ told
-      → IfOk r (λ so. IsTrue so ↔ InFolder around real true told) → IfOk r (λ so. IsTrue so ↔ Holds around real condition)
-  holds_folded condition told r e h = answers condition (codes "gitdir/i:" ++ told) r e (λ f. (told, inr (inl (refl, f)))) (of_folded told) h
-
-  pub holds_branch : (condition told : List ℕ) (r : Result Bool AllocError) → condition ≡ codes "onbranch:" ++ told
-      → IfOk r (λ so. IsTrue so ↔ OnBranch around told) → IfOk r (λ so. IsTrue so ↔ Holds around real condition)
-  holds_branch condition told r e h = answers condition (codes "onbranch:" ++ told) r e (λ f. (told, inr (inr (inl (refl, f))))) (of_branch told) h
 
   pub holds_url : (condition told : List ℕ) (so : Bool) → condition ≡ codes "hasconfig:remote.*.url:" ++ told → (IsTrue so ↔ HasUrl around told) → IsTrue so ↔ Holds around real condition
   holds_url condition told so e h = answers condition (codes "hasconfig:remote.*.url:" ++ told) (Ok so) e (λ f. (told, inr (inr (inr (refl, f))))) (of_url told) h

@@ -8,7 +8,7 @@ use Rattle.git_config.specs.declared.fault.ConfigFault.TheVariants as config
 use Rattle.git_config.specs.declared.files.FoundFile.{FoundFile}
 use Rattle.git_config.specs.declared.includes.ReadFault.{ReadFault}
 use Rattle.git_config.specs.declared.item.Entry.{Entry}
-use Rattle.git_config.specs.declared.item.Item.TheVariants.{Section, Sets}
+use Rattle.git_config.specs.declared.item.Item.TheVariants.{Sets}
 use Rattle.git_config.specs.declared.setting.Setting.{Setting}
 use Rattle.git_config.specs.declared.setting.WrongSetting.TheVariants.{Text}
 use Rattle.git_config.specs.declared.surroundings.Surroundings.{Surroundings}
@@ -34,10 +34,6 @@ module _ (Shows : List ℕ → Option (FoundFile (List ℕ)) → Type 0) (around
       same (Left section whole) (begins (FromFile Shows around Deeper rc.value.items found) old)
       (λ out h. subst (λ (r : List ℕ). FromItems Shows around Deeper rc.value.items r [] (items_of found.bytes).0 (items_of found.bytes).1 out) path
       (subst (λ (s : List ℕ). Left s (items_of found.bytes) out) none (subst (λ (w : Reading). Left section w out) (sym items) h)))
-
-  pub section_more : (Whole : Outcome → Type 0) (old now : List Seen) (section next : List ℕ) (whole rest : Reading) → whole ≡ before (Section next) rest
-      → Continues Whole (Left section whole) old now → Continues Whole (Left next rest) old now
-  section_more Whole old now section next whole rest e c = same (Left next rest) c (λ out h. subst (λ (w : Reading). Left section w out) (sym e) h)
 
   behind : (section : List ℕ) (entry : Entry (List ℕ)) (s : Seen) (whole rest : Reading) (out : Outcome) → whole ≡ before (Sets entry) rest → s ≡ told section entry
       → Then (FromEntry Shows around Deeper (Some real) s) (Left section rest) out → Left section whole out

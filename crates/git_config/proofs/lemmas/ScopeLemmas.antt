@@ -15,9 +15,6 @@ use lib.Pointwise.{bytes_decides, pointwise}
 
 -- ---- conditions
 
-pub other_front : (key : List ℕ) → pointwise nat_eq (take 10 key) (codes "includeif.") ≡ false → (c : List ℕ) → ¬ (key ≡ conditional c)
-other_front key h c e = false≢true (sym h ∙ ap (λ (k : List ℕ). pointwise nat_eq (take 10 k) (codes "includeif.")) e)
-
 pub other_back : (key rest : List ℕ) → rest ≡ drop 10 key → pointwise nat_eq (drop (length rest - 5) rest) (codes ".path") ≡ false → (c : List ℕ) → ¬ (key ≡ conditional c)
 other_back key rest r h c e =
     let is : rest ≡ c ++ codes ".path" = r ∙ ap (λ (k : List ℕ). drop 10 k) e in
@@ -62,11 +59,6 @@ by_condition around real key c (Err fault) plain e h = tt
 -- an equal key includes the same
 pub as_key : (around : Surroundings) (real : Option (List ℕ)) (so : Bool) (a b : List ℕ) → a ≡ b → (IsTrue so ↔ Includes around real b) → IsTrue so ↔ Includes around real a
 as_key around real so a b e h = subst (λ (l : List ℕ). IsTrue so ↔ Includes around real l) (sym e) h
-
-pub as_key_of : (around : Surroundings) (real : Option (List ℕ)) (r : Result Bool AllocError) (a b : List ℕ) → a ≡ b → IfOk r (λ so. IsTrue so ↔ Includes around real b)
-    → IfOk r (λ so. IsTrue so ↔ Includes around real a)
-as_key_of around real (Ok so) a b e h = as_key around real so a b e h
-as_key_of around real (Err fault) a b e h = tt
 
 -- ---- names in a section
 

@@ -4,7 +4,6 @@ use Rattle.std.specs.Int.{w32, from_be_bytes, to_be_bytes}
 use Rattle.std.specs.List.{AllByRecursion, flat_map}
 use Rattle.std.proofs.lemmas.Bool.{ltb-false, le-ltb}
 use Rattle.std.proofs.lemmas.List.{length-append}
-use Rattle.std.proofs.lemmas.List.Concat.{flat_map-cons}
 use Rattle.git_index.specs.declared.fault.IndexFault.{IndexFault}
 use Rattle.git_index.specs.declared.fault.IndexFault.TheVariants.{Memory, Extension, Sparse, Split}
 use Rattle.git_index.specs.Format.{ArePassedOver, IsExtension}

@@ -2,7 +2,7 @@
 use Rattle.std.proofs.Common.{◌≡◌, ◌∙◌, sym, refl, ap, subst, ℕ, ◌+◌, ◌-◌, ◌<◌, ◌≤◌, Bool, true, false, cond, not, eqb, List, [], ◌∷◌, ◌++◌, length, get_or, map, take, drop, Option, Some, None, arith, inl, inr}
 use Rattle.std.specs.Prelude.{◌==◌, Vec}
 use Rattle.std.specs.Cmp.Lexicographic.{pointwise}
-use Rattle.std.specs.List.{after_first, before_first, onto_first, position_or_len, slice_split}
+use Rattle.std.specs.List.{onto_first, position_or_len, slice_split}
 use Rattle.std.specs.Vec.{vec_items}
 use Rattle.std.specs.declared.alloc.Global.{Global}
 use Rattle.std.proofs.lemmas.Bool.{cases_Bool, false≢true}
@@ -11,7 +11,7 @@ use Rattle.std.proofs.lemmas.List.{drop_at, length-drop, take-append-drop, take_
 use Rattle.std.proofs.lemmas.List.Splits.{slice_split-cons_no, slice_split_first}
 use Rattle.std.proofs.lemmas.Slice.Eq.{bytes_eq-Decides, starts_is}
 use Rattle.git_repository.specs.Search.{IsAbove}
-use Rattle.git_repository.specs.Private.Ceilings.{AreShorter, Cuts, IsFloor, entries_left}
+use Rattle.git_repository.specs.Private.Ceilings.{AreShorter, Cuts, IsFloor}
 
 -- how much is left of a text
 abbrev pub left_len : Option (List ℕ) → ℕ

@@ -1,10 +1,9 @@
 -- What a function gives that asks a file system.
-use Rattle.std.proofs.Common.{◌≡◌, ◌∙◌, sym, ℕ, List, Result, Ok, Err, inl, inr, ⊎_elim}
-use Rattle.std.specs.Prelude.{Vec, ◌⊎◌}
+use Rattle.std.proofs.Common.{◌≡◌, ◌∙◌, sym, ℕ, List, Result, Ok, Err, inl, inr}
+use Rattle.std.specs.Prelude.{Vec}
 use Rattle.std.specs.Vec.{vec_items}
 use Rattle.std.specs.declared.alloc.Global.{Global}
 use Rattle.git_repository.specs.declared.fault.FindFault.{FindFault}
-use Rattle.git_repository.specs.declared.fault.FindFault.TheVariants.{Memory}
 use Rattle.git_repository.specs.Answers.{Answers, Gives, fault_with}
 
 -- what is given without a premise is given of a known source, where that answers the same

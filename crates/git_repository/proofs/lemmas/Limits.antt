@@ -1,8 +1,7 @@
 -- What the front of a file's bytes tells, where no more is read.
-use Rattle.std.proofs.Common.{◌≡◌, ◌∙◌, sym, refl, ap, ℕ, ◌+◌, ◌^◌, ◌<◌, ◌≤◌, Bool, true, false, ◌||◌, ltb, eqb, List, length, take, Option, Some, None, Result, Ok, Err, option_map, arith, ltb-true, ltb-false, inl, inr}
-use Rattle.std.specs.Prelude.{◌⊎◌}
+use Rattle.std.proofs.Common.{◌≡◌, ◌∙◌, sym, refl, ap, ℕ, ◌+◌, ◌^◌, ◌<◌, ◌≤◌, true, ◌||◌, ltb, eqb, List, length, take, Option, Some, None, Err, option_map, arith, inl, inr}
 use Rattle.std.proofs.lemmas.Bool.{cases_Bool, cases_lt, lt-ltb}
-use Rattle.std.proofs.lemmas.List.{length-take, length-take-le, take_all}
+use Rattle.std.proofs.lemmas.List.{length-take-le, take_all}
 use Rattle.git_repository.specs.declared.fault.FindFault.TheVariants.{At}
 use Rattle.git_repository.specs.declared.fault.Wrong.TheVariants.{CommonFolder, TooLarge}
 use Rattle.git_repository.specs.GitFolders.{common_told, gitfile_told, head_counts, names_commit, names_reference, path_told}
@@ -11,10 +10,6 @@ use Rattle.git_repository.specs.GitFolders.{common_told, gitfile_told, head_coun
 pub head_of_front : (bytes : Option (List ℕ)) (front : List ℕ) → Some front ≡ option_map (λ text. take 255 text) bytes → head_counts None bytes ≡ (names_reference front || names_commit front)
 head_of_front None front e = cc
 head_of_front (Some text) front e = let same : front ≡ take 255 text = cc in rw same refl
-
-pub head_of_none : (bytes : Option (List ℕ)) → None ≡ option_map (λ text. take 255 text) bytes → head_counts None bytes ≡ false
-head_of_none None e = refl
-head_of_none (Some text) e = cc
 
 -- one byte more than the limit tells a file that is too large from others
 front_is_whole : (limit : ℕ) (text : List ℕ) → length text ≤ limit → take (limit + 1) text ≡ text

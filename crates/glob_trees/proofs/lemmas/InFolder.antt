@@ -1,54 +1,69 @@
 -- The folders that are entered lie on the way to what lies right in the last of them.
-use Rattle.std.proofs.Common.{◌≡◌, inl, inr, ℕ, zero, suc, ◌+◌, ◌<◌, ◌≤◌, List, [], ◌∷◌, ◌++◌, length, map, take, take_all, option_map, slice_index, subst, arith}
-use Rattle.std.specs.Vec.{vec_items}
-use Rattle.gix_glob.specs.declared.search.pattern.list.List as patterns
+use Rattle.std.proofs.Common.{◌≡◌, inl, inr, ℕ, suc, ◌-◌, ◌≤◌, List, [], ◌∷◌, ◌++◌, length, map, take, take_all, drop, length-drop, Some, ap, refl, sym, subst, ◌∙◌, arith}
+use Rattle.std.specs.Prelude.{slice_get}
+use Rattle.std.proofs.lemmas.List.{length-map}
+use Rattle.std.proofs.lemmas.Option.{same_Some}
 use Rattle.gix_glob.specs.Bytes.{HasByte, slash}
+use Rattle.gix_glob.specs.declared.pattern.Case.{Case}
+use Rattle.gix_glob.specs.declared.search.pattern.list.List as patterns
 use Rattle.gix_glob.specs.EntryLists.{EntryList, entry_list_of}
 use Rattle.glob_trees.specs.declared.entered.Entered.{Entered}
-use Rattle.glob_trees.specs.Private.Entered.{AreEntered, IsFrontOf, IsReady, IsSomewhere, IsUnderWay}
-use Rattle.glob_trees.specs.Ways.{folders_to}
-use Rattle.glob_trees.proofs.lemmas.AtHand.{at_hand_same_way, rooms_same_way}
-use Rattle.glob_trees.proofs.lemmas.Settled.{settled_same_way}
-use Rattle.glob_trees.proofs.lemmas.Stepping.{passing, passing_way, same_way, staying}
+use Rattle.glob_trees.specs.Private.Entered.{AreEntered, HasFronts, IsFresh, IsReady, IsSomewhere, IsUnderWay}
+use Rattle.glob_trees.specs.Ways.{Folder}
+use Rattle.glob_trees.proofs.lemmas.Known.{under_rest, under_start}
 
-module _ {S T X F V : Type 0} (shows : S → List ℕ → EntryList V → Type 0) (gave : S → List ℕ → Type 0) (seen : X → V) (entered : Entered T S X F) where
-  -- a folder is entered where there are more lists than those before all folders
-  pub somewhere : IsReady shows gave seen entered → entered.front_count < length entered.lists.items → IsSomewhere shows gave seen entered
-  somewhere (inl fresh) more = absurd (let count = fresh.count in omega arith)
-  somewhere (inr some) more = some
+pub nothing : {X : Type 0} (xs : List X) → length xs ≡ 0 → xs ≡ []
+nothing [] none = refl
+nothing (x ∷ xs) none = absurd (cc)
 
-  -- the same folders are on the way
-  under_same_way : (front other : List ℕ) → AreEntered (shows entered.source) entered.front_count (map (entry_list_of seen) entered.lists.items) entered.case other → folders_to other ≡ folders_to front
-      → IsUnderWay shows gave seen entered front → IsUnderWay shows gave seen entered other
-  under_same_way front other stands same under = record {
-    stands = stands;
-    left = under.left;
-    rooms = rooms_same_way entered.left.lists.entries (gave entered.source) front other same under.rooms;
-    at_hand = at_hand_same_way entered.left.lists.entries (gave entered.source) front other same under.at_hand;
-    settled = settled_same_way seen entered.front_count entered.case (map (entry_list_of seen) entered.lists.items) entered.left.lists.entries front other same under.settled;
-  }
+pub last_splits : {X : Type 0} (xs : List X) (x : X) → slice_get xs (length xs - 1) ≡ Some x → (above : List X) × (xs ≡ above ++ x ∷ [])
+last_splits [] x is = absurd (cc)
+last_splits (y ∷ []) x is = let same = same_Some y x is in ([], cc)
+last_splits (y ∷ z ∷ xs) x is =
+    let e : length (y ∷ z ∷ xs) - 1 ≡ suc (length (z ∷ xs) - 1) = omega arith in
+    let rest = last_splits (z ∷ xs) x (subst (λ k. slice_get (y ∷ z ∷ xs) k ≡ Some x) e is) in
+    (y ∷ rest.0, ap (λ l. y ∷ l) rest.1)
 
-  module _ (path : List ℕ) where
-    -- the folder of the last list is on the way to the path
-    pub under_last : (count : ℕ) (above : List (patterns.List T X)) (list : patterns.List T X) → entered.lists.items ≡ above ++ list ∷ [] → IsFrontOf (option_map vec_items list.base) path count
-        → IsSomewhere shows gave seen entered → IsUnderWay shows gave seen entered (take count path)
-    under_last count above list joined begins some =
-        under_same_way some.0 (take count path)
-        (staying seen (shows entered.source) entered.case entered.front_count entered.lists.items above list joined some.0 some.1.stands path count begins)
-        (same_way seen (shows entered.source) entered.case entered.front_count entered.lists.items above list joined some.0 some.1.stands path count begins)
-        some.1
+pub last_there : {X : Type 0} (xs : List X) (x : X) → slice_get (xs ++ x ∷ []) (length (xs ++ x ∷ []) - 1) ≡ Some x
+last_there [] x = refl
+last_there (y ∷ []) x = refl
+last_there (y ∷ z ∷ xs) x =
+    let e : length ((y ∷ z ∷ xs) ++ x ∷ []) - 1 ≡ suc (length ((z ∷ xs) ++ x ∷ []) - 1) = omega arith in
+    subst (λ k. slice_get ((y ∷ z ∷ xs) ++ x ∷ []) k ≡ Some x) (sym e) (last_there (z ∷ xs) x)
 
-    -- a byte more, which is no slash
-    pub under_byte : (place : ℕ) → place < length path → ¬ (slice_index path place ≡ slash) → IsUnderWay shows gave seen entered (take place path) → IsUnderWay shows gave seen entered (take (place + 1) path)
-    under_byte place inside other under =
-        under_same_way (take place path) (take (place + 1) path)
-        (passing (shows entered.source) entered.case entered.front_count (map (entry_list_of seen) entered.lists.items) path place inside other under.stands)
-        (passing_way path place inside other)
-        under
+-- what stands from a place on
+pub tail : {X : Type 0} (n : ℕ) (xs : List X) → take (length xs - n) (drop n xs) ≡ drop n xs
+tail n xs = take_all (length xs - n) (drop n xs) (omega (arith, length-drop n xs))
 
-    -- all bytes more, of which none is a slash
-    pub under_rest : (more place : ℕ) → place + more ≡ length path → ((j : ℕ) → place ≤ j → ¬ HasByte path j slash) → IsUnderWay shows gave seen entered (take place path) → IsUnderWay shows gave seen entered path
-    under_rest zero place ends none under = subst (IsUnderWay shows gave seen entered) (take_all place path (omega arith)) under
-    under_rest (suc more) place ends none under =
-        under_rest more (place + 1) (omega arith) (λ j from. none j (omega arith))
-        (under_byte place (omega arith) (λ is. none place (omega arith) (record { inside = omega arith; is = is })) under)
+pub no_last : {X : Type 0} (xs : List X) (x : X) → ¬ ([] ≡ xs ++ x ∷ [])
+no_last [] x is = absurd (cc)
+no_last (y ∷ xs) x is = absurd (cc)
+
+module _ {S T X F V : Type 0} (shows : S → Folder → EntryList V → Type 0) (gave : S → Folder → Type 0) (seen : X → V) (entered : Entered T S X F) where
+  -- a folder is entered where there is a way
+  pub somewhere : IsReady shows gave seen entered → ¬ (entered.way.items ≡ []) → IsSomewhere shows gave seen entered
+  somewhere (inl fresh) some = absurd (some fresh.way)
+  somewhere (inr under) some = under
+
+  pub fresh_yet : IsReady shows gave seen entered → entered.way.items ≡ [] → IsFresh shows gave seen entered
+  fresh_yet (inl fresh) none = fresh
+  fresh_yet (inr under) none = absurd (no_last under.1.ends.above under.1.ends.last (sym none ∙ under.1.ends.joined))
+
+  module _ (path : List ℕ) (count : ℕ) (begins : entered.folder.items ≡ take count path) (some : IsSomewhere shows gave seen entered) where
+    -- the path begins with the last folder and its slash
+    pub under_at : IsUnderWay shows gave seen entered (take count path)
+    under_at = subst (IsUnderWay shows gave seen entered) begins (under_start _ _ _ _ _ _ _ _ _ _ some.0 some.1)
+
+    -- and has no slash behind it
+    pub under_all : count ≤ length path → ((j : ℕ) → count ≤ j → ¬ HasByte path j slash) → IsUnderWay shows gave seen entered path
+    under_all inside none = under_rest _ _ _ _ _ _ _ _ _ _ path (length path - count) count (omega (arith, inside)) none under_at
+
+-- the lists that stand before those of all folders are there, where folders are entered
+module _ {T X V : Type 0} (seen : X → V) (shows : Folder → EntryList V → Type 0) (n : ℕ) (case : Case) (lists : List (patterns.List T X)) (front : List ℕ) (own : List (EntryList V)) (e : AreEntered shows n (map (entry_list_of seen) lists) case front own) where
+  pub many_fronts : n ≤ length lists
+  many_fronts = let many = e.many in omega (arith, length-map lists (entry_list_of seen))
+
+module _ {S T X F V : Type 0} (shows : S → Folder → EntryList V → Type 0) (gave : S → Folder → Type 0) (seen : X → V) (entered : Entered T S X F) where
+  pub have_fronts : IsReady shows gave seen entered → HasFronts seen entered
+  have_fronts (inl fresh) = record { many = let count = fresh.count in omega (arith, count); bases = fresh.bases }
+  have_fronts (inr some) = let stands = some.1.stands in record { many = many_fronts seen _ _ _ entered.lists.items _ _ stands; bases = stands.bases }

@@ -29,15 +29,6 @@ otherwise : (c x : Bool) → c ≡ false → x ≡ true → (if c then false els
 otherwise true x other is = absurd (false≢true (sym other))
 otherwise false x other is = is
 
--- one byte more
-pub one_more : (told : List ℕ) (i j : ℕ) (found : Bool) → (found ≡ false → HasNoneOdd told i j) → (found || is_odd (slice_index told (j - 1)) (slice_index told j)) ≡ false → HasNoneOdd told i (j + 1)
-one_more told i j found before none k from to =
-    let each = neither found (is_odd (slice_index told (j - 1)) (slice_index told j)) none in
-    elim (cases_lt k j) [
-      | inl early ↦ before each.0 k from early
-      | inr late ↦ (let last : j ≡ k = omega arith in subst (λ m. is_odd (slice_index told (m - 1)) (slice_index told m) ≡ false) last each.1)
-    ]
-
 -- runs that follow one another, or overlap
 pub both_runs : (told : List ℕ) (i j m n : ℕ) → HasNoneOdd told i j → HasNoneOdd told m n → m ≤ j → HasNoneOdd told i n
 both_runs told i j m n first second meet k from to = elim (cases_lt k j) [

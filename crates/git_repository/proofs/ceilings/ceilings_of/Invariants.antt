@@ -1,4 +1,4 @@
-use Rattle.std.proofs.Common.{◌≡◌, ◌+◌, ◌++◌, Option, None, Some, ℕ, List, length, map, option_map}
+use Rattle.std.proofs.Common.{◌≡◌, ◌++◌, map, option_map}
 use Rattle.std.specs.Vec.{vec_items}
 use Rattle.git_repository.specs.Search.{ceilings_of, ceilings_told}
 use Rattle.git_repository.specs.Private.Ceilings.{entries_left}

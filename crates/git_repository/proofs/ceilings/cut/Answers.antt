@@ -1,4 +1,4 @@
-use Rattle.std.proofs.Common.{ℕ, List, ◌+◌, ◌-◌, length, take, drop, Some, sym, subst, arith}
+use Rattle.std.proofs.Common.{ℕ, ◌+◌, ◌-◌, length, take, drop, Some, sym, subst, arith}
 use Rattle.git_repository.specs.Private.Ceilings.{Cuts}
 use Rattle.git_repository.proofs.lemmas.Ceilings.{Cuts-first, Cuts-whole}
 use Rattle.git_repository.proofs.ceilings.cut.Goals as goal

@@ -1,4 +1,4 @@
-use Rattle.std.proofs.Common.{◌≡◌, ◌∙◌, List, ℕ, ◌∷◌, [], sym, subst, arith}
+use Rattle.std.proofs.Common.{List, ℕ, ◌∷◌, [], subst, arith}
 use Rattle.std.specs.Vec.{vec_items}
 use Rattle.git_repository.specs.Private.Ceilings.{IsFloor}
 use Rattle.git_repository.proofs.lemmas.Ceilings.{HasFloor-done, HasFloor-more, first_and_others}

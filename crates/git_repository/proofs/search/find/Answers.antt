@@ -1,10 +1,10 @@
-use Rattle.std.proofs.Common.{◌≡◌, ◌∙◌, ap, refl, sym, subst, List, ℕ, None, Ok, Option, map, option_map}
+use Rattle.std.proofs.Common.{◌≡◌, ap, refl, subst, List, ℕ, None, map, option_map}
 use Rattle.std.specs.Prelude.{Vec}
 use Rattle.std.specs.Vec.{vec_items}
 use Rattle.std.specs.declared.alloc.Global.{Global}
 use Rattle.git_repository.specs.Answers.{found_with}
 use Rattle.git_repository.specs.Environments.{environment_with}
-use Rattle.git_repository.specs.Search.{Finds, Searches, ceilings_of, shows_from, trust_of}
+use Rattle.git_repository.specs.Search.{Finds, Searches, shows_from, trust_of}
 use Rattle.git_repository.specs.Private.Ceilings.{IsFloor}
 use Rattle.git_repository.specs.Private.Searching.{IsOpenFrom}
 use Rattle.git_repository.proofs.lemmas.Giving.{Answers-by, ok_same}

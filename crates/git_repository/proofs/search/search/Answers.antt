@@ -1,4 +1,4 @@
-use Rattle.std.proofs.Common.{◌≡◌, ◌∙◌, ap, sym, Ok, Err, None, Option, ℕ, Result, inl, inr, option_map}
+use Rattle.std.proofs.Common.{◌∙◌, ap, Ok, Err, Option, ℕ, inl, inr, option_map}
 use Rattle.std.specs.Prelude.{Vec}
 use Rattle.std.specs.Vec.{vec_items}
 use Rattle.std.specs.declared.alloc.Global.{Global}

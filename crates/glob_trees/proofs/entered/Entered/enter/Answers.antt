@@ -1,112 +1,74 @@
--- The list of the folder follows those above it.
-use Rattle.std.proofs.Common.{◌≡◌, ◌+◌, ◌++◌, ◌∷◌, [], map, take, is_ok, ap, refl, sym, subst, ◌∙◌}
+-- The folder wasn't known, so its list was never given.
+use Rattle.std.proofs.Common.{rules, ◌≡◌, ◌+◌, [], inr, ⊎_elim, Ok, OnOk, take, ap, sym, subst}
 use Rattle.std.specs.List.{Contains}
-use Rattle.gix_glob.specs.Bytes.{slash}
-use Rattle.gix_glob.specs.EntryLists.{entry_list_of}
-use Rattle.glob_trees.specs.Private.Entered.{AreAtHand, AreEntered, AreSettled, HaveRooms}
-use Rattle.glob_trees.specs.Private.Left.{HasRoom}
-use Rattle.glob_trees.specs.Ways.{folders_to}
+use Rattle.glob_trees.specs.Private.Entered.{AreUnderWay, gave_but}
+use Rattle.glob_trees.specs.Ways.{GivesOnly, folders_to}
 use Rattle.glob_trees.proofs.lemmas.Asking.{gives_allowed}
-use Rattle.glob_trees.proofs.lemmas.AtHand.{at_hand_entering, at_hand_failed, at_hand_same_way, on_way_to_own, once, rooms_entering, rooms_failed, rooms_same_way}
-use Rattle.glob_trees.proofs.lemmas.Rooms.{keeps_with_room}
-use Rattle.glob_trees.proofs.lemmas.Settled.{settled_same_way, settled_with_room}
-use Rattle.glob_trees.proofs.lemmas.Stepping.{entered_goes_on, entering, entering_slash, first_slash_way, folders_go_on, fronts_stay, known_anew, of_folders_with_room, on_err, pushed, slash_next, some_before, some_front}
+use Rattle.glob_trees.proofs.lemmas.Known.{once, under_goes_on, under_slash}
+use Rattle.glob_trees.proofs.lemmas.OnWay.{on_way_to_own}
+use Rattle.glob_trees.proofs.lemmas.Stepping.{keeps_on_further, on_err, slash_next, some_front}
 use Rattle.glob_trees.proofs.entered.Entered.enter.Goals as goal
 
 pub returns-then-place-eq0-clause-entered : goal.returns-then-place-eq0-clause-entered
 returns-then-place-eq0-clause-entered g c =
+    let front = take c.args.place c.args.path.now in
+    let none : front ≡ [] = ap (λ k. take k c.args.path.now) c.if-place-eq0.true in
+    subst (AreUnderWay _ _ _ _ _ _ _ _ _ _) (sym (slash_next c.args.path.now c.args.place c.requires.slash)) (under_slash _ _ _ _ _ _ _ _ _ _ front none c.requires.under c.requires.kept)
+
+pub list_of-requires : goal.list_of-requires
+list_of-requires g c =
+    let front = take c.args.place c.args.path.now in
     let under = c.requires.under in
-    let entries = c.args.self.now.left.lists.entries in
-    let gave = g.S.FolderLists.gave c.args.self.now.source in
-    let same = first_slash_way c.args.path.now c.args.place c.requires.slash c.if-place-eq0.true in
-    record {
-      stands = entering_slash g.T.Pattern.seen (g.S.FolderLists.shows g.T.Pattern.Seen c.args.self.now.source) c.args.self.now.case c.args.self.now.front_count
-          c.args.path.now c.args.place c.requires.slash c.args.self.now.lists.items c.if-place-eq0.true under.stands c.requires.kept;
-      left = under.left;
-      rooms = rooms_same_way entries gave (take c.args.place c.args.path.now) (take (c.args.place + 1) c.args.path.now) same under.rooms;
-      at_hand = at_hand_same_way entries gave (take c.args.place c.args.path.now) (take (c.args.place + 1) c.args.path.now) same under.at_hand;
-      settled = settled_same_way g.T.Pattern.seen c.args.self.now.front_count c.args.self.now.case (map (entry_list_of g.T.Pattern.seen) c.args.self.now.lists.items) entries
-          (take c.args.place c.args.path.now) (take (c.args.place + 1) c.args.path.now) same under.settled;
-    }
+    let deep = some_front c.args.path.now c.args.place c.requires.slash c.if-place-eq0.false in
+    record { once = once _ _ _ _ _ _ _ _ _ _ front deep under (sym (c.requires.none c.if-place-eq0.false under.ends.above under.ends.last under.ends.joined)) }
 
-pub ask-requires-clause-once : goal.ask-requires-clause-once
-ask-requires-clause-once g c =
+pub returns-in_err-list-clause-ready : goal.returns-in_err-list-clause-ready
+returns-in_err-list-clause-ready g c =
     let front = take c.args.place c.args.path.now in
-    let some = some_front c.args.path.now c.args.place c.requires.slash c.if-place-eq0.false in
-    λ given. c.requires.none some (once (g.S.FolderLists.gave c.args.self.now.source) c.args.self.now.left.lists.entries front some c.requires.under.at_hand given)
-
-pub returns-in_err-list-clause-under : goal.returns-in_err-list-clause-under
-returns-in_err-list-clause-under g c =
-    let seen = g.T.Pattern.seen in
-    let old = g.S.FolderLists.shows g.T.Pattern.Seen c.args.self.now.source in
-    let new = g.S.FolderLists.shows g.T.Pattern.Seen c.ask.new.source in
+    let shows = g.S.FolderLists.shows g.T.Pattern.Seen in
     let gave = g.S.FolderLists.gave in
-    let n = c.args.self.now.front_count in
-    let case = c.args.self.now.case in
-    let entries = c.ask.new.left.lists.entries in
-    let front = take c.args.place c.args.path.now in
-    let some = some_front c.args.path.now c.args.place c.requires.slash c.if-place-eq0.false in
-    let none = c.requires.none some in
-    let keeps = keeps_with_room (front ++ slash ∷ []) c.args.self.now.left.lists.entries c.args.self.now.left.lists.entries entries (λ _. refl) c.ask.ensures.more in
-    on_err c.from_residual-in_err-list.result _ (record {
-      stands = subst (λ ls. AreEntered new n (map (entry_list_of seen) ls) case front) (sym c.reserve.ensures.items)
-          (entered_goes_on old new c.ask.ensures.goes_on n (map (entry_list_of seen) c.args.self.now.lists.items) case front c.requires.under.stands);
-      left = folders_go_on old new c.ask.ensures.goes_on seen entries (of_folders_with_room seen old c.args.self.now.left.lists.entries entries c.ask.ensures.more c.requires.under.left);
-      rooms = rooms_failed _ _ (front ++ slash ∷ []) front keeps c.requires.under.rooms;
-      at_hand = at_hand_failed _ _ (front ++ slash ∷ []) front keeps (gave c.args.self.now.source) (gave c.ask.new.source) none c.in_err-list.ensures.fails c.requires.under.at_hand;
-      settled = subst (λ ls. AreSettled seen n (map (entry_list_of seen) ls) case entries front) (sym c.reserve.ensures.items)
-          (settled_with_room seen n case c.args.self.now.left.lists.entries entries c.ask.ensures.more front none (map (entry_list_of seen) c.args.self.now.lists.items) front c.requires.under.settled);
-    })
+    let old = c.args.self.now.source in
+    let new = c.list_of.new.self in
+    let fails : GivesOnly (λ _. ⊥) (gave old) (gave new) = search rules in
+    on_err c.from_residual.result _ (inr
+    (under_goes_on _ _ _ _ _ _ _ _ _ _ (shows new) (gave new) c.list_of.ensures.goes_on
+    (λ folder given. ⊎_elim (λ (before : gave old folder). before) (λ (never : ⊥). absurd never) (fails folder given))
+    front c.requires.under))
 
-pub returns-clause-entered : goal.returns-clause-entered
-returns-clause-entered g c =
-    let seen = g.T.Pattern.seen in
-    let old = g.S.FolderLists.shows g.T.Pattern.Seen c.args.self.now.source in
-    let new = g.S.FolderLists.shows g.T.Pattern.Seen c.ask.new.source in
+pub put_new-requires-clause-under : goal.put_new-requires-clause-under
+put_new-requires-clause-under g c =
+    let front = take c.args.place c.args.path.now in
+    let shows = g.S.FolderLists.shows g.T.Pattern.Seen in
     let gave = g.S.FolderLists.gave in
-    let front = take c.args.place c.args.path.now in
-    let next = slash_next c.args.path.now c.args.place c.requires.slash in
-    let some = some_front c.args.path.now c.args.place c.requires.slash c.if-place-eq0.false in
-    let n = c.args.self.now.front_count in
-    let case = c.args.self.now.case in
-    let entries = c.ask.new.left.lists.entries in
-    let before = c.args.self.now.left.lists.entries in
-    let none = c.requires.none some in
-    let keeps = keeps_with_room (front ++ slash ∷ []) before before entries (λ _. refl) c.ask.ensures.more in
-    let ok = sym c.map_err.ensures.variant ∙ ap is_ok c.in_ok-map_err.was in
-    let items = pushed _ _ _ _ ok c.push.ensures.items ∙ ap (λ l. l ++ c.in_ok-list.list ∷ []) c.reserve.ensures.items in
-    let stands = entered_goes_on old new c.ask.ensures.goes_on c.args.self.now.front_count (map (entry_list_of seen) c.args.self.now.lists.items) c.args.self.now.case front c.requires.under.stands in
-    record {
-      stands = subst (λ ls. AreEntered new c.args.self.now.front_count (map (entry_list_of seen) ls) c.args.self.now.case (take (c.args.place + 1) c.args.path.now)) (sym items)
-          (entering seen new c.args.self.now.case c.args.self.now.front_count c.args.path.now c.args.place c.requires.slash c.args.self.now.lists.items c.in_ok-list.list c.if-place-eq0.false stands c.requires.kept c.in_ok-list.ensures.list);
-      left = folders_go_on old new c.ask.ensures.goes_on seen entries (of_folders_with_room seen old before entries c.ask.ensures.more c.requires.under.left);
-      settled = subst (λ ls. AreSettled seen n (map (entry_list_of seen) ls) case entries (take (c.args.place + 1) c.args.path.now)) (sym items)
-          (subst (AreSettled seen n (map (entry_list_of seen) (c.args.self.now.lists.items ++ c.in_ok-list.list ∷ [])) case entries) (sym next)
-          (known_anew seen n case c.args.self.now.lists.items c.in_ok-list.list (some_before seen old case n c.args.self.now.lists.items front c.requires.under.stands) before entries front some c.ask.ensures.more none c.requires.under.settled));
-      rooms = subst (HaveRooms entries) (sym next)
-          (rooms_entering (gave c.args.self.now.source) (gave c.ask.new.source) c.args.self.now.left.lists.entries entries front some keeps (subst (HasRoom entries) next c.in_ok-list.ensures.room) c.requires.under.rooms);
-      at_hand = subst (AreAtHand (gave c.ask.new.source) entries) (sym next)
-          (at_hand_entering (gave c.args.self.now.source) (gave c.ask.new.source) c.args.self.now.left.lists.entries entries front some keeps c.in_ok-list.ensures.gives c.requires.under.at_hand);
-    }
+    let old = c.args.self.now.source in
+    let new = c.list_of.new.self in
+    let got : c.list_of.result ≡ Ok c.in_ok-list.list = search rules in
+    let gives = subst (λ r. OnOk r (GivesOnly (λ other. other ≡ front) (gave old) (gave new))) got c.list_of.ensures.gives in
+    under_goes_on _ _ _ _ _ _ _ _ _ _ (shows new) (gave_but gave front new) c.list_of.ensures.goes_on
+    (λ folder given. ⊎_elim (λ (before : gave old folder). before) (λ (same : folder ≡ front). absurd (given.1 same)) (gives folder given.0))
+    front c.requires.under
 
-pub returns-clause-keeps : goal.returns-clause-keeps
-returns-clause-keeps g c =
-    let seen = g.T.Pattern.seen in
-    let ok = sym c.map_err.ensures.variant ∙ ap is_ok c.in_ok-map_err.was in
-    let items = pushed _ _ _ _ ok c.push.ensures.items ∙ ap (λ l. l ++ c.in_ok-list.list ∷ []) c.reserve.ensures.items in
-    record {
-      front_count = refl;
-      case = refl;
-      fronts = ap (take c.args.self.now.front_count) items
-          ∙ fronts_stay seen (g.S.FolderLists.shows g.T.Pattern.Seen c.args.self.now.source) c.args.self.now.case c.args.self.now.front_count c.args.self.now.lists.items c.in_ok-list.list (take c.args.place c.args.path.now) c.requires.under.stands;
-      goes_on = c.ask.ensures.goes_on;
-    }
+pub put_new-requires-clause-none : goal.put_new-requires-clause-none
+put_new-requires-clause-none g c = c.requires.none c.if-place-eq0.false
 
-pub returns-clause-asks : goal.returns-clause-asks
-returns-clause-asks g c =
+pub returns-in-Ok-clause-keeps : goal.returns-in-Ok-clause-keeps
+returns-in-Ok-clause-keeps g c =
+    let put = c.put_new.ensures.keeps in
+    record { front_count = put.front_count; case = put.case; fronts = put.fronts; goes_on = λ folder list shown. put.goes_on folder list (c.list_of.ensures.goes_on folder list shown) }
+
+pub returns-in-Ok-clause-asks : goal.returns-in-Ok-clause-asks
+returns-in-Ok-clause-asks g c =
     let gave = g.S.FolderLists.gave in
     let front = take c.args.place c.args.path.now in
     let longer = take (c.args.place + 1) c.args.path.now in
-    let some = some_front c.args.path.now c.args.place c.requires.slash c.if-place-eq0.false in
-    let here = subst (λ f. Contains (folders_to f) front) (sym (slash_next c.args.path.now c.args.place c.requires.slash)) (on_way_to_own front some) in
-    gives_allowed (gave c.args.self.now.source) (gave c.ask.new.source) (λ given. given ≡ front) (Contains (folders_to longer)) (λ folder same. subst (Contains (folders_to longer)) (sym same) here) c.in_ok-list.ensures.gives
+    let deep = some_front c.args.path.now c.args.place c.requires.slash c.if-place-eq0.false in
+    let got : c.list_of.result ≡ Ok c.in_ok-list.list = search rules in
+    let gives = subst (λ r. OnOk r (GivesOnly (λ other. other ≡ front) (gave c.args.self.now.source) (gave c.list_of.new.self))) got c.list_of.ensures.gives in
+    let here = subst (λ f. Contains (folders_to f) front) (sym (slash_next c.args.path.now c.args.place c.requires.slash)) (on_way_to_own front deep) in
+    subst (λ s. GivesOnly (Contains (folders_to longer)) (gave c.args.self.now.source) (gave s)) (sym c.put_new.ensures.source)
+    (gives_allowed (gave c.args.self.now.source) (gave c.list_of.new.self) (λ given. given ≡ front) (Contains (folders_to longer)) (λ folder same. subst (Contains (folders_to longer)) (sym same) here) gives)
+
+pub returns-in-Err-clause-keeps : goal.returns-in-Err-clause-keeps
+returns-in-Err-clause-keeps g c =
+    let further = keeps_on_further (g.S.FolderLists.shows g.T.Pattern.Seen) _ _ _ c.put_new.ensures.keeps c.forget.ensures.keeps in
+    record { front_count = further.front_count; case = further.case; fronts = further.fronts; goes_on = λ folder list shown. further.goes_on folder list (c.list_of.ensures.goes_on folder list shown) }

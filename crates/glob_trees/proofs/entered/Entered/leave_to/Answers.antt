@@ -1,17 +1,19 @@
--- The last list tells whether its folder is on the way.
-use Rattle.std.proofs.Common.{ap, sym, ◌∙◌}
-use Rattle.std.specs.Option.{option_copied}
-use Rattle.glob_trees.proofs.lemmas.InFolder.{under_last}
-use Rattle.glob_trees.proofs.lemmas.Stepping.{last_splits}
+-- What names the last folder is no longer than what it and the path have alike.
+use Rattle.std.proofs.Common.{◌≡◌, ◌≤◌, length, take, ap, sym, subst, ◌∙◌, arith}
+use Rattle.std.proofs.lemmas.List.{take-take}
+use Rattle.glob_trees.specs.Private.Entered.{IsUnderWay}
+use Rattle.glob_trees.proofs.lemmas.InFolder.{under_at}
 use Rattle.glob_trees.proofs.entered.Entered.leave_to.Goals as goal
 
-pub returns-in-Some-length_on_the_way-clause-under : goal.returns-in-Some-length_on_the_way-clause-under
-returns-in-Some-length_on_the_way-clause-under g c =
-    let split = last_splits c.deref.result.now c.in-Some.list.now (sym c.last.ensures.value ∙ ap option_copied c.in-Some.is) in
-    under_last (g.S.FolderLists.shows g.T.Pattern.Seen) g.S.FolderLists.gave g.T.Pattern.seen c.folders.self c.args.path.now c.in-Some-length_on_the_way.length split.0 c.in-Some.list.now
-    (sym c.deref.ensures.value ∙ split.1) c.in-Some-length_on_the_way.ensures c.folders.invariant.0
-
-pub leave-requires-clause-deep : goal.leave-requires-clause-deep
-leave-requires-clause-deep g c =
-    let split = last_splits c.deref.result.now c.in-Some.list.now (sym c.last.ensures.value ∙ ap option_copied c.in-Some.is) in
-    (split.0, c.in-Some.list.now, sym c.deref.ensures.value ∙ split.1, c.in_default-length_on_the_way.ensures)
+pub returns-clause-under : goal.returns-clause-under
+returns-clause-under g c =
+    let shows = g.S.FolderLists.shows g.T.Pattern.Seen in
+    let self = c.folders.self in
+    let path = c.args.path.now in
+    let count = length self.folder.items in
+    let alike = c.common_length-alike.result in
+    let few : count ≤ alike = let past = c.folders-test.false in omega (arith, past, ap length c.as_slice.ensures.value) in
+    let told = c.deref.result.now in
+    let begins : self.folder.items ≡ take count path =
+    c.folders.invariant.3 ∙ ap (take count) (sym c.deref.ensures.value) ∙ sym (take-take count alike told few) ∙ ap (take count) c.common_length-alike.ensures.alike ∙ take-take count alike path few in
+    subst (λ k. IsUnderWay shows g.S.FolderLists.gave g.T.Pattern.seen self (take k path)) (sym (ap length c.as_slice-2.ensures.value)) (under_at shows g.S.FolderLists.gave g.T.Pattern.seen self path count begins c.folders.invariant.0)

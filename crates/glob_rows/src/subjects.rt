@@ -1,0 +1,248 @@
+//! The subjects of the rows: each has a file, and says what its rows ask.
+
+/// A file of rows.
+#[derive(Clone, Copy)]
+pub(crate) struct RowFile {
+    /// Its name without the ending.
+    pub(crate) name: &'static str,
+    /// How many of a row's last fields are the answer.
+    pub(crate) answers: usize,
+    pub(crate) subject: Subject,
+}
+
+/// What rows ask.
+#[derive(Clone, Copy)]
+pub(crate) enum Subject {
+    Pattern(PatternSubject),
+    List(ListSubject),
+    Line(LineSubject),
+    Tree(TreeSubject),
+    Attribute(AttributeSubject),
+    Repository(RepositorySubject),
+}
+
+/// What rows ask of patterns.
+#[derive(Clone, Copy)]
+pub(crate) enum PatternSubject {
+    Matching,
+    Starts,
+    Attempts,
+    Reading,
+    Wildcards,
+    Parts,
+    Shown,
+    Values,
+    Basenames,
+    RepositoryPaths,
+    GitReading,
+    GitPaths,
+}
+
+/// What rows ask of lists, and of what the engines of lines write.
+#[derive(Clone, Copy)]
+pub(crate) enum ListSubject {
+    FileParts,
+    Bases,
+    Stripping,
+    Answered,
+    Listed,
+    Decided,
+    Folders,
+}
+
+/// What rows ask of lines and records.
+#[derive(Clone, Copy)]
+pub(crate) enum LineSubject {
+    IgnoreFiles,
+    IgnoreLines,
+    GitFiles,
+    GitLines,
+    Marks,
+    Labels,
+    Records,
+}
+
+/// What rows ask of work trees.
+#[derive(Clone, Copy)]
+pub(crate) enum TreeSubject {
+    Told,
+    Decided,
+    Asked,
+}
+
+/// What rows ask of attributes.
+#[derive(Clone, Copy)]
+pub(crate) enum AttributeSubject {
+    Lines,
+    Names,
+    Files,
+    Macros,
+    Matches,
+    Folders,
+    Kept,
+    States,
+    Streams,
+    SilentLines,
+    NamesRead,
+    AllStates,
+}
+
+/// What rows ask of Git's index, configuration and repositories.
+#[derive(Clone, Copy)]
+pub(crate) enum RepositorySubject {
+    IndexFiles,
+    IndexPaths,
+    ConfigFiles,
+    ConfigIncludes,
+    ConfigBooleans,
+    Repositories,
+    WorkTrees,
+    ExcludeNames,
+    SafeDirectories,
+}
+
+/// All files of rows, in the order in which they are asked: the name of each, how many fields are the answer, and what is asked.
+pub(crate) const FILES: [(&str, usize, Subject); 50] = [
+    ("matching", 1, Subject::Pattern(PatternSubject::Matching)),
+    ("starts", 1, Subject::Pattern(PatternSubject::Starts)),
+    ("attempts", 1, Subject::Pattern(PatternSubject::Attempts)),
+    ("reading", 3, Subject::Pattern(PatternSubject::Reading)),
+    ("wildcards", 2, Subject::Pattern(PatternSubject::Wildcards)),
+    ("parts", 1, Subject::Pattern(PatternSubject::Parts)),
+    ("shown", 1, Subject::Pattern(PatternSubject::Shown)),
+    ("values", 1, Subject::Pattern(PatternSubject::Values)),
+    ("basenames", 1, Subject::Pattern(PatternSubject::Basenames)),
+    (
+        "repository_paths",
+        1,
+        Subject::Pattern(PatternSubject::RepositoryPaths),
+    ),
+    (
+        "git_reading",
+        3,
+        Subject::Pattern(PatternSubject::GitReading),
+    ),
+    ("git_paths", 1, Subject::Pattern(PatternSubject::GitPaths)),
+    ("file_parts", 1, Subject::List(ListSubject::FileParts)),
+    ("bases", 1, Subject::List(ListSubject::Bases)),
+    ("stripping", 2, Subject::List(ListSubject::Stripping)),
+    ("ignore_files", 1, Subject::Line(LineSubject::IgnoreFiles)),
+    ("ignore_lines", 2, Subject::Line(LineSubject::IgnoreLines)),
+    ("git_files", 1, Subject::Line(LineSubject::GitFiles)),
+    ("git_lines", 2, Subject::Line(LineSubject::GitLines)),
+    ("marks", 1, Subject::Line(LineSubject::Marks)),
+    ("labels", 2, Subject::Line(LineSubject::Labels)),
+    ("answered", 1, Subject::List(ListSubject::Answered)),
+    ("listed", 1, Subject::List(ListSubject::Listed)),
+    ("decided", 1, Subject::List(ListSubject::Decided)),
+    ("folders", 1, Subject::List(ListSubject::Folders)),
+    ("trees", 1, Subject::Tree(TreeSubject::Decided)),
+    ("trees_told", 1, Subject::Tree(TreeSubject::Told)),
+    ("trees_asked", 2, Subject::Tree(TreeSubject::Asked)),
+    (
+        "attribute_lines",
+        1,
+        Subject::Attribute(AttributeSubject::Lines),
+    ),
+    (
+        "attribute_names",
+        1,
+        Subject::Attribute(AttributeSubject::Names),
+    ),
+    (
+        "attribute_files",
+        1,
+        Subject::Attribute(AttributeSubject::Files),
+    ),
+    (
+        "attribute_macros",
+        1,
+        Subject::Attribute(AttributeSubject::Macros),
+    ),
+    (
+        "attribute_matches",
+        1,
+        Subject::Attribute(AttributeSubject::Matches),
+    ),
+    (
+        "attribute_folders",
+        1,
+        Subject::Attribute(AttributeSubject::Folders),
+    ),
+    (
+        "attributes_kept",
+        1,
+        Subject::Attribute(AttributeSubject::Kept),
+    ),
+    (
+        "attribute_states",
+        1,
+        Subject::Attribute(AttributeSubject::States),
+    ),
+    (
+        "attribute_streams",
+        1,
+        Subject::Attribute(AttributeSubject::Streams),
+    ),
+    (
+        "silent_lines",
+        1,
+        Subject::Attribute(AttributeSubject::SilentLines),
+    ),
+    (
+        "names_read",
+        1,
+        Subject::Attribute(AttributeSubject::NamesRead),
+    ),
+    (
+        "all_states",
+        1,
+        Subject::Attribute(AttributeSubject::AllStates),
+    ),
+    ("records", 1, Subject::Line(LineSubject::Records)),
+    (
+        "index_files",
+        1,
+        Subject::Repository(RepositorySubject::IndexFiles),
+    ),
+    (
+        "index_paths",
+        2,
+        Subject::Repository(RepositorySubject::IndexPaths),
+    ),
+    (
+        "config_files",
+        1,
+        Subject::Repository(RepositorySubject::ConfigFiles),
+    ),
+    (
+        "config_includes",
+        1,
+        Subject::Repository(RepositorySubject::ConfigIncludes),
+    ),
+    (
+        "config_booleans",
+        1,
+        Subject::Repository(RepositorySubject::ConfigBooleans),
+    ),
+    (
+        "repositories",
+        1,
+        Subject::Repository(RepositorySubject::Repositories),
+    ),
+    (
+        "work_trees",
+        2,
+        Subject::Repository(RepositorySubject::WorkTrees),
+    ),
+    (
+        "exclude_names",
+        1,
+        Subject::Repository(RepositorySubject::ExcludeNames),
+    ),
+    (
+        "safe_directories",
+        1,
+        Subject::Repository(RepositorySubject::SafeDirectories),
+    ),
+];

@@ -1,0 +1,27 @@
+//! What is shown of values, in bytes.
+
+use std::alloc::{AllocError, Global};
+use std::fmt::{Debug, Display};
+
+/// What is shown of a value.
+pub(crate) fn text_of<T: Display>(alloc: Global, value: &T) -> Result<String, AllocError> {
+    format!(in alloc; "{value}")
+}
+
+/// Adds what is shown of a value to a text.
+pub(crate) fn push_text<T: Display>(
+    alloc: Global,
+    text: &mut Vec<u8>,
+    value: &T,
+) -> Result<(), AllocError> {
+    text.extend_from_slice(text_of(alloc, value)?.as_bytes())
+}
+
+/// Adds what `Debug` shows of a value to a text.
+pub(crate) fn push_debug_text<T: Debug>(
+    alloc: Global,
+    text: &mut Vec<u8>,
+    value: &T,
+) -> Result<(), AllocError> {
+    text.extend_from_slice(format!(in alloc; "{value:?}")?.as_bytes())
+}

@@ -1,0 +1,32 @@
+-- Whether a path is ignored, by a stack of lists.
+use Rattle.std.specs.Prelude.{◌≡◌, ℕ, Bool, true, false, IsTrue, List, Some}
+use Rattle.gix_glob.specs.declared.pattern.Case.{Case}
+use Rattle.gix_glob.specs.declared.Pattern.{Pattern}
+use Rattle.gix_glob.specs.PatternParts.{mode_of}
+use Rattle.gix_glob.specs.Entries.{Entry}
+use Rattle.gix_glob.specs.EntryLists.{EntryList}
+use Rattle.gix_glob.specs.Patterns.{is_for_directories, is_negative}
+use Rattle.glob_lists.specs.Deciding.{Decides, IsEntryAt}
+use Rattle.globtree.specs.declared.ignoring.Ignoring.{Ignoring}
+use Rattle.globtree.specs.declared.ignoring.Ignoring.TheVariants.{Always, Never, ByKind}
+
+-- the entry decides about the path
+pub record IsDecidedBy {V : Type 0} (lists : List (EntryList V)) (case : Case) (path : List ℕ) (is_dir : Bool) (entry : Entry V) : Type 0 where
+  pub pair : ℕ × ℕ
+  pub decides : Decides lists path is_dir case (Some pair)
+  pub there : IsEntryAt lists pair entry
+
+-- the pattern is that of the entry which decides about the path
+abbrev pub HasDecidingPattern : {V : Type 0} → List (EntryList V) → Case → List ℕ → Bool → Pattern → Type 0
+HasDecidingPattern {V} lists case path is_dir pattern = (entry : Entry V) × IsDecidedBy lists case path is_dir entry × (entry.mode ≡ mode_of pattern)
+
+-- the path is ignored: an entry decides about it that isn't negative
+abbrev pub IsIgnored : {V : Type 0} → List (EntryList V) → Case → List ℕ → Bool → Type 0
+IsIgnored {V} lists case path is_dir = (entry : Entry V) × IsDecidedBy lists case path is_dir entry × (is_negative entry.mode ≡ false)
+
+-- What can be said of a path whatever stands there. Only where an entry for folders alone decides about it as about a folder, that depends
+-- on what does.
+abbrev pub IsSaid : {V : Type 0} → List (EntryList V) → Case → List ℕ → Ignoring → Type 0
+IsSaid lists case path Always = (is_dir : Bool) → IsIgnored lists case path is_dir
+IsSaid lists case path Never = (is_dir : Bool) → ¬ IsIgnored lists case path is_dir
+IsSaid {V} lists case path ByKind = (entry : Entry V) × IsDecidedBy lists case path true entry × IsTrue (is_for_directories entry.mode)

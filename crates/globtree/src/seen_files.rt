@@ -1,0 +1,197 @@
+//! Files of patterns, each opened as it was looked at: what stands under its name at the second look has to be what stood there at the
+//! first.
+ghost use Rattle.std.specs.Prelude.{◌≡◌, ◌↔◌, IsTrue};
+ghost use Rattle.globtree.specs.SeenFiles.{IsSameFile};
+
+use crate::fault::CheckFault;
+use crate::standing::tell_unread;
+use gix_glob::search;
+use gix_glob::search::pattern::List;
+use gix_glob::search::{LoadFault, Watched};
+use std::alloc::Global;
+use std::fs::{FileType, Metadata, OpenFile};
+use std::io::ErrorKind;
+use std::os::unix::fs::{FileTypeExt, MetadataExt};
+use std::rt::Files;
+use std::{fs, io};
+
+/// What stands under the name of a file of patterns.
+#[derive(Clone, Copy, PartialEq, Eq)]
+pub(crate) enum FileKind {
+    /// A regular file, whose bytes are read.
+    Regular,
+    /// A pipe or a socket, which might be waited for: it isn't opened.
+    Waiting,
+    /// A device, which has no lines.
+    Device,
+    /// A folder, which is no file.
+    Folder,
+}
+
+/// What is seen of a file.
+#[derive(Clone, Copy)]
+pub(crate) struct Sight {
+    pub(crate) kind: FileKind,
+    /// The device that the file lies on.
+    pub(crate) device: u64,
+    /// Its number on the device.
+    pub(crate) number: u64,
+}
+
+impl Sight {
+    /// What metadata tell.
+    pub(crate) fn of(found: &Metadata) -> Sight {
+        Sight {
+            kind: kind_of(found.file_type()),
+            device: found.dev(),
+            number: found.ino(),
+        }
+    }
+}
+
+fn kind_of(kind: FileType) -> FileKind {
+    if kind.is_file() {
+        FileKind::Regular
+    } else if kind.is_fifo() || kind.is_socket() {
+        FileKind::Waiting
+    } else if kind.is_char_device() || kind.is_block_device() {
+        FileKind::Device
+    } else {
+        FileKind::Folder
+    }
+}
+
+/// Whether what was seen at two looks is one regular file.
+fn is_same_file(seen: &Sight, again: &Sight) -> bool
+    ensures { IsTrue result ↔ IsSameFile seen.now again.now }
+{
+    matches!(seen.kind, FileKind::Regular)
+        && matches!(again.kind, FileKind::Regular)
+        && seen.device == again.device
+        && seen.number == again.number
+}
+
+/// The list of a file by its name, as [`seen_list`] answers it of what stands there; `None` where nothing does. A link is followed.
+///
+/// # Errors
+/// Where memory was refused, or the file can't be read.
+pub(crate) fn named_list<T: search::Pattern, R: Files>(
+    rt: &R,
+    alloc: Global,
+    file: String,
+    bytes: &mut Vec<u8>,
+    parser: T,
+) -> Result<Option<List<T>>, LoadFault> {
+    bytes.clear();
+    let seen = match fs::metadata(rt, file.as_str()) {
+        Ok(found) => Sight::of(&found),
+        Err(error) => return not_opened(error),
+    };
+    seen_list(rt, alloc, file, &seen, bytes, parser)
+}
+
+/// The list of a file that was looked at, whose bytes are put into `bytes`; `None` where a folder stands there. A pipe or a socket isn't opened, and what took the file's place since isn't read.
+///
+/// # Errors
+/// Where memory was refused, the file can't be read, or isn't the one that was seen.
+pub(crate) fn seen_list<T: search::Pattern, R: Files>(
+    rt: &R,
+    alloc: Global,
+    file: String,
+    seen: &Sight,
+    bytes: &mut Vec<u8>,
+    parser: T,
+) -> Result<Option<List<T>>, LoadFault> {
+    bytes.clear();
+    match seen.kind {
+        FileKind::Regular => {}
+        FileKind::Waiting => return Err(unread("it is no regular file")),
+        FileKind::Device => return Ok(Some(List::empty(alloc))),
+        FileKind::Folder => return Ok(None),
+    }
+    let opened = match fs::open(rt, file.as_str()) {
+        Ok(opened) => opened,
+        Err(error) => return not_opened(error),
+    };
+    let again = match opened.metadata() {
+        Ok(found) => Sight::of(&found),
+        Err(error) => return not_opened(error),
+    };
+    if !is_same_file(seen, &again) {
+        return Err(unread("another file took its place"));
+    }
+    let mut reader = Watched::new(opened);
+    List::from_reader(alloc, &mut reader, file, None, bytes, parser)
+}
+
+/// The fault of a file that isn't read.
+fn unread(reason: &'static str) -> LoadFault {
+    LoadFault::Read(io::Error::other(reason))
+}
+
+/// Why there is no list of a file that can't be opened.
+fn not_opened<L>(error: io::Error) -> Result<Option<L>, LoadFault> {
+    match error.kind() {
+        ErrorKind::OutOfMemory => Err(LoadFault::Memory),
+        // (it was removed since)
+        ErrorKind::NotFound | ErrorKind::NotADirectory => Ok(None),
+        _ => Err(LoadFault::Read(error)),
+    }
+}
+
+/// The list of a file that lies outside all folders, whose bytes are put into `bytes`; no patterns and no bytes where there is none. A link
+/// is followed. One that can't be read is told, and passed over; but not one that could be read the next time.
+pub(crate) fn file_list<T: search::Pattern, R: Files + Eprint>(
+    rt: &R,
+    alloc: Global,
+    file: String,
+    bytes: &mut Vec<u8>,
+    parser: T,
+) -> Result<List<T>, CheckFault> {
+    let name = file.clone()?;
+    let list = named_list(rt, alloc, file, bytes, parser);
+    list_or_told(rt, alloc, name.as_str(), list, bytes)
+}
+
+/// The list of a file that was looked at, as [`file_list`] answers it.
+pub(crate) fn seen_file_list<T: search::Pattern, R: Files + Eprint>(
+    rt: &R,
+    alloc: Global,
+    file: String,
+    seen: &Sight,
+    bytes: &mut Vec<u8>,
+    parser: T,
+) -> Result<List<T>, CheckFault> {
+    let name = file.clone()?;
+    let list = seen_list(rt, alloc, file, seen, bytes, parser);
+    list_or_told(rt, alloc, name.as_str(), list, bytes)
+}
+
+/// The list of a file that could be read. Why another couldn't is told.
+fn list_or_told<T: search::Pattern, R: Eprint>(
+    rt: &R,
+    alloc: Global,
+    name: &str,
+    list: Result<Option<List<T>>, LoadFault>,
+    bytes: &mut Vec<u8>,
+) -> Result<List<T>, CheckFault> {
+    match list {
+        Ok(Some(list)) => Ok(list),
+        Ok(None) => Ok(List::empty(alloc)),
+        Err(LoadFault::Memory) => Err(CheckFault::Memory),
+        Err(LoadFault::Read(error)) if is_passing(&error) => {
+            let text = format!(in alloc; "'{name}' wasn't read to its end: {error}")?;
+            Err(CheckFault::Unready(text))
+        }
+        Err(LoadFault::Read(error)) => {
+            bytes.clear();
+            tell_unread(rt, alloc, name, error)?;
+            Ok(List::empty(alloc))
+        }
+    }
+}
+
+/// Whether an error says that the same may be done the next time.
+fn is_passing(error: &io::Error) -> bool {
+    matches!(error.kind(), ErrorKind::Interrupted | ErrorKind::WouldBlock)
+}

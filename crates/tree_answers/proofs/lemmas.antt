@@ -1,0 +1,3 @@
+pub mod PatternLines
+pub mod RecordLemmas
+pub mod ZeroLemmas
