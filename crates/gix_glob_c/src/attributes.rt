@@ -4,20 +4,20 @@ ghost use Rattle.std.specs.List.{flat_map};
 ghost use Rattle.gix_glob_c.specs.Attributes.{IsLawfulAttributes, attribute_list, line_count, path_asked, told_of};
 ghost use Rattle.gix_glob_c.specs.Private.Finding.{IsFoundUpTo, lines_at};
 ghost use Rattle.gix_glob_c.specs.Parsed.{IsPathOfFile};
-ghost use Rattle.gix_glob_c.specs.Parts.{case_of};
+ghost use Rattle.gix_glob_c.specs.Parts.{rules_of};
 ghost use Rattle.glob_attributes.specs.Views.{state_with};
 ghost use Rattle.glob_attributes.specs.Borrowed.{assigned_by, definition_of, row_of};
 ghost use Rattle.glob_attributes.specs.States.{Assigned, IsAssigned, assigned_at, state_in};
 ghost use Rattle.glob_lists.specs.Index.{AreMatches};
 
 use crate::attribute_file::GlobAttributeLine;
-use crate::case_of;
+use crate::rules_of;
 use crate::parsed::{is_matched, path_of_file};
 use crate::paths::GlobPath;
 use crate::tree::is_folder;
 use glob_attributes::State;
 use glob_attributes::borrowed::{Text, TextMacro, tell_state};
-use glob_lists::RepositoryPath;
+use glob_lists::{RepositoryPath, Rules};
 
 /// `struct gix_glob_attribute_list`: the lines of one attribute file that give a pattern, and its folder.
 #[repr(C)]
@@ -69,13 +69,13 @@ pub extern "C" fn gix_glob_attribute_of<'a>(
         → length attributes.now.macros.now ≤ length marks.old → result ≡ true }
     ensures marks { drop (length attributes.now.macros.now) marks.new ≡ drop (length attributes.now.macros.now) marks.old }
     ensures exact { All IsLawfulAttributes attributes.now.lists.now → result ≡ true → (filled : List Assigned)
-        × IsAssigned (map attribute_list attributes.now.lists.now) (map definition_of attributes.now.macros.now) (path_asked path.now) (case_of fold) filled
+        × IsAssigned (map attribute_list attributes.now.lists.now) (map definition_of attributes.now.macros.now) (path_asked path.now) (rules_of fold) filled
         × ((out.new.kind, out.new.value.now) ≡ told_of (state_in filled name.now)) }
 {
     let Some(asked) = path_of_file(path.bytes, path.is_dir) else {
         return false;
     };
-    let Some(count) = push_matches(attributes.lists, &asked, fold, texts) else {
+    let Some(count) = push_matches(attributes.lists, &asked, rules_of(fold), texts) else {
         return false;
     };
     let macros = attributes.macros;
@@ -116,11 +116,11 @@ fn told_of<'a>(state: &State<&'a [u8]>) -> GlobState<'a>
 fn push_matches<'a>(
     lists: &[GlobAttributeList<'a>],
     path: &RepositoryPath<'_>,
-    fold: bool,
+    rules: Rules,
     texts: &mut [Text<'a>],
 ) -> Option<usize>
     ensures row { All IsLawfulAttributes lists.now → IfSome result (λ count. (pairs : List (ℕ × ℕ))
-        × AreMatches (map attribute_list lists.now) path.now.bytes path.now.is_dir (case_of fold) pairs
+        × AreMatches (map attribute_list lists.now) path.now.bytes path.now.is_dir rules pairs
         × (row_of texts.new count ≡ flat_map (assigned_at (map attribute_list lists.now)) pairs)) }
     ensures inside { IfSome result (λ count. count ≤ length texts.new) }
     ensures fewer { IfSome result (λ count. count ≤ line_count lists.now) }
@@ -129,7 +129,7 @@ fn push_matches<'a>(
 {
     let mut count = 0;
     'lists: for i in 0..lists.len() {
-        count = push_list(lists, i, path, fold, texts, count)?;
+        count = push_list(lists, i, path, rules, texts, count)?;
     }
     Some(count)
 }
@@ -139,14 +139,14 @@ fn push_list<'a>(
     lists: &[GlobAttributeList<'a>],
     i: usize,
     path: &RepositoryPath<'_>,
-    fold: bool,
+    rules: Rules,
     texts: &mut [Text<'a>],
     before: usize,
 ) -> Option<usize>
     requires list { i < length lists.now }
     requires inside { before ≤ length texts.old }
-    ensures row { All IsLawfulAttributes lists.now → IsFoundUpTo lists.now path.now (case_of fold) i 0 (row_of texts.old before) → IfSome result (λ count.
-        IsFoundUpTo lists.now path.now (case_of fold) (i + 1) 0 (row_of texts.new count)) }
+    ensures row { All IsLawfulAttributes lists.now → IsFoundUpTo lists.now path.now rules i 0 (row_of texts.old before) → IfSome result (λ count.
+        IsFoundUpTo lists.now path.now rules (i + 1) 0 (row_of texts.new count)) }
     ensures inside { IfSome result (λ count. count ≤ length texts.new) }
     ensures fewer { IfSome result (λ count. count ≤ before + lines_at lists.now i) }
     ensures room { before + lines_at lists.now i ≤ length texts.old → is_some result ≡ true }
@@ -156,13 +156,13 @@ fn push_list<'a>(
     if !is_folder(list.base) {
         return Some(before);
     }
-    let Some(rest) = path.below(list.base, case_of(fold)) else {
+    let Some(rest) = path.below(list.base, rules.case) else {
         return Some(before);
     };
     let lines = list.lines;
     let mut count = before;
     'lines: for m in 0..lines.len() {
-        if is_matched(&lines[m].pattern, &rest, fold) {
+        if is_matched(&lines[m].pattern, &rest, rules) {
             count = push(texts, count, lines[m].words)?;
         }
     }

@@ -7,7 +7,7 @@ ghost use Rattle.glob_lists.specs.Deciding.{AnswersUnder};
 ghost use Rattle.gix_glob.specs.Entries.{Entry};
 ghost use Rattle.gix_glob.specs.Matching.{Splits};
 ghost use Rattle.gix_glob.specs.Patterns.{HasReading, IsPattern, Reads};
-ghost use Rattle.gix_glob_c.specs.Parts.{case_of, place_in};
+ghost use Rattle.gix_glob_c.specs.Parts.{case_of, place_in, rules_of};
 
 pub mod attribute_file;
 pub mod attributes;
@@ -22,6 +22,7 @@ use bitflags::Flags;
 use gix_glob::laws::line_has_one_reading;
 use gix_glob::pattern::{Case, PatternView, basename_start};
 use gix_glob::wildmatch::{Mode, wildmatch};
+use glob_lists::Rules;
 
 /// Whether the pattern matches the whole of the value. The bit of value 1 in `mode` is path
 /// mode, that of value 2 folds; other bits don't count.
@@ -39,7 +40,7 @@ pub extern "C" fn gix_glob_matches_path(line: &[u8], path: &[u8], is_dir: bool, 
     ensures blank { ¬ HasReading line.now true → result ≡ false }
     ensures absolute { HasByte path.now 0 slash → result ≡ false }
     ensures answers { (entry : Entry (Unit {0})) → Reads line.now true entry.text entry.mode entry.place → ¬ HasByte path.now 0 slash
-        → (IsTrue result ↔ AnswersUnder None entry path.now is_dir (case_of fold)) }
+        → (IsTrue result ↔ AnswersUnder None entry path.now is_dir (rules_of fold)) }
 {
     // a law does nothing: it is called for what it ensures
     line_has_one_reading();
@@ -89,6 +90,13 @@ fn place_in(text: &[u8], place: usize) -> Option<usize>
     } else {
         None
     }
+}
+
+/// The rules by which patterns are matched, with the case that `fold` asks for.
+fn rules_of(fold: bool) -> Rules
+    ensures { result ≡ rules_of fold }
+{
+    Rules::by_crate(case_of(fold))
 }
 
 /// The case that `fold` asks for.

@@ -3,12 +3,12 @@ ghost use Rattle.std.specs.Prelude.{◌≡◌, ◌<◌, ◌⊎◌, ◌↔◌, �
 ghost use Rattle.glob_lists.specs.Deciding.{AnswersUnder, Decides};
 ghost use Rattle.gix_glob.specs.Patterns.{HasReading, IsPattern, is_blank, is_negative, without_negation};
 ghost use Rattle.gix_glob_c.specs.Parsed.{IsLawful, IsPathOfFile, IsRead, entry_of_parts, first_of, list_of, mode_of};
-ghost use Rattle.gix_glob_c.specs.Parts.{case_of, none, unless_none};
+ghost use Rattle.gix_glob_c.specs.Parts.{none, rules_of, unless_none};
 
-use crate::{case_of, place_in};
+use crate::{place_in, rules_of};
 use bitflags::Flags;
 use gix_glob::pattern::{Mode, PatternView};
-use glob_lists::RepositoryPath;
+use glob_lists::{RepositoryPath, Rules};
 
 /// What stands for no place and for no index.
 pub(crate) const NONE: usize = usize::MAX;
@@ -69,12 +69,12 @@ pub extern "C" fn gix_glob_pattern_matches_path(
 ) -> bool
     ensures other { ¬ IsPathOfFile path.now → result ≡ false }
     ensures exact { IsLawful pattern.now → IsPathOfFile path.now
-        → (IsTrue result ↔ AnswersUnder None (entry_of_parts pattern.now) path.now is_dir (case_of fold)) }
+        → (IsTrue result ↔ AnswersUnder None (entry_of_parts pattern.now) path.now is_dir (rules_of fold)) }
 {
     let Some(path) = path_of_file(path, is_dir) else {
         return false;
     };
-    is_matched(pattern, &path, fold)
+    is_matched(pattern, &path, rules_of(fold))
 }
 
 /// The index of the last of the patterns that matches a path, as [`gix_glob_pattern_matches_path`] answers; `usize::MAX`
@@ -89,12 +89,12 @@ pub extern "C" fn gix_glob_last_match(
     ensures none { (result ≡ none) ⊎ (result < length patterns.now) }
     ensures other { ¬ IsPathOfFile path.now → result ≡ none }
     ensures exact { All IsLawful patterns.now → IsPathOfFile path.now
-        → Decides (list_of patterns.now ∷ []) path.now is_dir (case_of fold) (option_map (λ (index : ℕ). (0, index)) (unless_none result)) }
+        → Decides (list_of patterns.now ∷ []) path.now is_dir (rules_of fold) (option_map (λ (index : ℕ). (0, index)) (unless_none result)) }
 {
     let Some(path) = path_of_file(path, is_dir) else {
         return NONE;
     };
-    match last_match(patterns, &path, fold) {
+    match last_match(patterns, &path, rules_of(fold)) {
         Some(index) => index,
         None => NONE,
     }
@@ -104,15 +104,15 @@ pub extern "C" fn gix_glob_last_match(
 pub(crate) fn last_match(
     patterns: &[GlobPattern<'_>],
     path: &RepositoryPath<'_>,
-    fold: bool,
+    rules: Rules,
 ) -> Option<usize>
     ensures inside { IfSome result (λ index. index < length patterns.now) }
     ensures some { IfSome result (λ index. index < none) }
     ensures exact { All IsLawful patterns.now
-        → Decides (list_of patterns.now ∷ []) path.now.bytes path.now.is_dir (case_of fold) (option_map (λ (index : ℕ). (0, index)) result) }
+        → Decides (list_of patterns.now ∷ []) path.now.bytes path.now.is_dir rules (option_map (λ (index : ℕ). (0, index)) result) }
 {
     for i in (0..patterns.len()).rev() {
-        if is_matched(&patterns[i], path, fold) {
+        if is_matched(&patterns[i], path, rules) {
             return Some(i);
         }
     }
@@ -154,9 +154,13 @@ pub(crate) fn is_negative(pattern: &GlobPattern<'_>) -> bool
 }
 
 /// Whether a pattern matches a path.
-pub(crate) fn is_matched(pattern: &GlobPattern<'_>, path: &RepositoryPath<'_>, fold: bool) -> bool
+pub(crate) fn is_matched(
+    pattern: &GlobPattern<'_>,
+    path: &RepositoryPath<'_>,
+    rules: Rules,
+) -> bool
     ensures { IsLawful pattern.now →
-        (IsTrue result ↔ AnswersUnder None (entry_of_parts pattern.now) path.now.bytes path.now.is_dir (case_of fold)) }
+        (IsTrue result ↔ AnswersUnder None (entry_of_parts pattern.now) path.now.bytes path.now.is_dir rules) }
 {
-    path.is_matched_by(pattern.view(), case_of(fold))
+    path.is_matched_by(pattern.view(), rules)
 }

@@ -2,7 +2,7 @@
 ghost use Rattle.std.specs.Prelude.{◌≡◌, ◌↔◌, ◌+◌, ◌++◌, ◌∷◌, ◌≤◌, [], ℕ, List, Some, false, length, map, true};
 ghost use Rattle.std.specs.List.{AllByRecursion, filter_map, list_any};
 ghost use Rattle.std.specs.Str.{bytes_eq};
-ghost use Rattle.gix_glob.specs.declared.pattern.Case.{Case};
+ghost use Rattle.glob_lists.specs.declared.rules.Rules.{Rules};
 ghost use Rattle.gix_glob.specs.EntryLists.{EntryList};
 ghost use Rattle.gix_glob.specs.Stripping.{NothingLeft};
 ghost use Rattle.glob_lists.specs.Paths.{Path};
@@ -83,9 +83,9 @@ pub fn files_assign_to_valid_names()
 
 /// Where lists and macros assign to no other name, one that no attribute can have is unspecified for each path.
 pub fn invalid_names_are_unspecified()
-    ensures { (lists : Lists) (macros : List Definition) (path : Path) (case : Case) (filled : List Assigned) (name : List ℕ) →
+    ensures { (lists : Lists) (macros : List Definition) (path : Path) (rules : Rules) (filled : List Assigned) (name : List ℕ) →
         AllByRecursion (λ list. EntriesHaveNames list.entries) lists → MacrosHaveNames macros → is_name name ≡ false →
-        IsAssigned lists macros path case filled → state_in filled name ≡ Unspecified }
+        IsAssigned lists macros path rules filled → state_in filled name ≡ Unspecified }
 {}
 
 /// A line that says nothing may be left out: the others have the same entries, but for their numbers, and define the same macros.
@@ -100,13 +100,13 @@ pub fn silent_lines_may_be_left_out()
 /// Each attribute has one state for a path at most: what is assigned to the path is one list. [`paths_are_assigned_something`] says
 /// that there is one.
 pub fn attributes_have_one_state()
-    ensures { (lists : Lists) (macros : List Definition) (path : Path) (case : Case) (filled other : List Assigned) →
-        IsAssigned lists macros path case filled → IsAssigned lists macros path case other → filled ≡ other }
+    ensures { (lists : Lists) (macros : List Definition) (path : Path) (rules : Rules) (filled other : List Assigned) →
+        IsAssigned lists macros path rules filled → IsAssigned lists macros path rules other → filled ≡ other }
 {}
 
 /// The list of a folder that isn't on the way of a path changes nothing: without its entries the row is the same.
 pub fn lists_off_the_way_say_nothing()
-    ensures { (front after : Lists) (list : EntryList (List Assigned)) (base : List ℕ) (path : Path) (case : Case) (row : List Assigned) →
-        list.base ≡ Some base → NothingLeft case (Some base) path.bytes →
-        IsRow (front ++ list ∷ after) path case row ↔ IsRow (front ++ emptied list ∷ after) path case row }
+    ensures { (front after : Lists) (list : EntryList (List Assigned)) (base : List ℕ) (path : Path) (rules : Rules) (row : List Assigned) →
+        list.base ≡ Some base → NothingLeft rules.case (Some base) path.bytes →
+        IsRow (front ++ list ∷ after) path rules row ↔ IsRow (front ++ emptied list ∷ after) path rules row }
 {}

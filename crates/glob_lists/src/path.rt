@@ -12,6 +12,7 @@ ghost use Rattle.gix_glob.specs.Stripping.{NothingLeft, Rest, RestOf, strip_look
 ghost use Rattle.glob_lists.specs.Deciding.{AnswersFor};
 ghost use Rattle.glob_lists.specs.Paths.{IsPlainPath, MarksDirectory};
 
+use crate::rules::{Reading, Rules};
 use gix_glob::pattern::{Case, PatternView, basename_start};
 use gix_glob::search::pattern::{List, strip_base_handle_recompute_basename_pos};
 use gix_glob::wildmatch::{Counts, Mode};
@@ -207,20 +208,28 @@ impl<'a> RepositoryPath<'a> {
         })
     }
 
-    /// Whether a pattern matches the path, where no wildcard matches a slash. It looks at the whole path, whatever stands
+    /// Whether a pattern matches the path by these rules, where no wildcard matches a slash. It looks at the whole path, whatever stands
     /// before it in the repository.
     #[inline(always)]
-    pub fn is_matched_by(&self, pattern: PatternView<'_>, case: Case) -> bool
+    pub fn is_matched_by(&self, pattern: PatternView<'_>, rules: Rules) -> bool
         ensures { IsPattern pattern.entry.text.now pattern.entry.mode pattern.entry.first_wildcard_pos →
-            IsTrue result ↔ AnswersFor pattern.entry.text.now pattern.entry.mode self.now.bytes self.now.is_dir case }
+            IsTrue result ↔ AnswersFor pattern.entry.text.now pattern.entry.mode self.now.bytes self.now.is_dir rules }
     {
-        pattern.matches_repo_relative_path(
-            self.bytes,
-            self.basename_start,
-            Some(self.is_dir),
-            case,
-            Mode::NO_MATCH_SLASH_LITERAL,
-        )
+        match rules.reading {
+            Reading::Crate => pattern.matches_repo_relative_path(
+                self.bytes,
+                self.basename_start,
+                Some(self.is_dir),
+                rules.case,
+                Mode::NO_MATCH_SLASH_LITERAL,
+            ),
+            Reading::Git => pattern.matches_path_as_git(
+                self.bytes,
+                self.basename_start,
+                Some(self.is_dir),
+                rules.case,
+            ),
+        }
     }
 
     /// Whether a pattern matches the path, as [`RepositoryPath::is_matched_by`] answers it, with its steps and looks counted.
@@ -231,24 +240,33 @@ impl<'a> RepositoryPath<'a> {
     pub fn is_matched_with_counts<S: Ledger, L: Ledger>(
         &self,
         pattern: PatternView<'_>,
-        case: Case,
+        rules: Rules,
         counts: &mut Counts<S, L>,
     ) -> bool
         ensures exact { IsPattern pattern.entry.text.now pattern.entry.mode pattern.entry.first_wildcard_pos →
-            IsTrue result ↔ AnswersFor pattern.entry.text.now pattern.entry.mode self.now.bytes self.now.is_dir case }
+            IsTrue result ↔ AnswersFor pattern.entry.text.now pattern.entry.mode self.now.bytes self.now.is_dir rules }
         ensures steps { counts.new.steps ≤ counts.old.steps + step_limit (length pattern.entry.text.now) (length self.now.bytes) }
         ensures looks { counts.new.looks
             ≤ counts.old.looks + pattern_look_limit (length pattern.entry.text.now) (length self.now.bytes) }
         ensures grows { NeverFall counts.old counts.new }
     {
-        pattern.matches_repo_relative_path_with_counts(
-            self.bytes,
-            self.basename_start,
-            Some(self.is_dir),
-            case,
-            Mode::NO_MATCH_SLASH_LITERAL,
-            counts,
-        )
+        match rules.reading {
+            Reading::Crate => pattern.matches_repo_relative_path_with_counts(
+                self.bytes,
+                self.basename_start,
+                Some(self.is_dir),
+                rules.case,
+                Mode::NO_MATCH_SLASH_LITERAL,
+                counts,
+            ),
+            Reading::Git => pattern.matches_path_as_git_with_counts(
+                self.bytes,
+                self.basename_start,
+                Some(self.is_dir),
+                rules.case,
+                counts,
+            ),
+        }
     }
 }
 

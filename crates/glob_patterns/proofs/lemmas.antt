@@ -1,6 +1,7 @@
 pub mod Agreement
 pub mod BareNames
 pub mod ByteSearches
+pub mod FrontEnds
 pub mod FrontLemmas
 pub mod GitAgreement
 pub mod GitLineLemmas

@@ -7,7 +7,7 @@ use Rattle.std.specs.Option.{option_and_then, option_map_or}
 use Rattle.std.specs.Str.{bytes_eq}
 use Rattle.std.proofs.lemmas.Bool.{and_parts, cases_Bool, false≢true}
 use Rattle.std.proofs.lemmas.Slice.Eq.{bytes_eq-Decides}
-use Rattle.gix_glob.specs.declared.pattern.Case.{Case}
+use Rattle.glob_lists.specs.declared.rules.Rules.{Rules}
 use Rattle.gix_glob.specs.EntryLists.{EntryList}
 use Rattle.glob_lists.specs.Paths.{Path}
 use Rattle.glob_attributes.specs.declared.assignment.State.TheVariants.{Unspecified}
@@ -137,10 +137,10 @@ module _ (name : List ℕ) (invalid : is_name name ≡ false) where
     pairs-names (pair ∷ pairs) =
         all-append (λ (a : Assigned). bytes_eq a.name name ≡ false) (assigned_at lists pair) (flat_map (assigned_at lists) pairs) (pair-names pair) (pairs-names pairs)
 
-pub invalid-unspecified : (lists : Lists) (macros : List Definition) (path : Path) (case : Case) (filled : List Assigned) (name : List ℕ)
+pub invalid-unspecified : (lists : Lists) (macros : List Definition) (path : Path) (rules : Rules) (filled : List Assigned) (name : List ℕ)
     → AllByRecursion (λ (list : EntryList (List Assigned)). EntriesHaveNames list.entries) lists → MacrosHaveNames macros → is_name name ≡ false
-    → IsAssigned lists macros path case filled → state_in filled name ≡ Unspecified
-invalid-unspecified lists macros path case filled name valid defined invalid h =
+    → IsAssigned lists macros path rules filled → state_in filled name ≡ Unspecified
+invalid-unspecified lists macros path rules filled name valid defined invalid h =
     let none : NoneNames name h.0 = subst (NoneNames name) (sym h.1.2)
     (all-reverse (λ (a : Assigned). bytes_eq a.name name ≡ false) (flat_map (assigned_at lists) h.1.0) (pairs-names name invalid lists valid h.1.0)) in
     unnamed-unspecified macros h.0 filled name h.2 none (no-macro-names name invalid macros defined)

@@ -29,24 +29,30 @@ pub fn literal_text_splits_itself()
         → SplitsBy value text way ↔ AreAlike way value text }
 {}
 
-/// A value that is matched ends as the text does, up to case where the mode folds: as far back as the text has none of
-/// `*`, `?`, `[`, `]`, `\` and `/`.
+/// A value that is matched, whole or by front and rest, ends as the text does, up to case where the mode folds: as far back as the text
+/// has none of `*`, `?`, `[`, `]`, `\` and `/`.
 pub fn matched_values_end_as_the_text()
-    ensures { (front end value : List ℕ) (way : Way) → list_any is_joining end ≡ false
+    ensures whole { (front end value : List ℕ) (way : Way) → list_any is_joining end ≡ false
         → SplitsBy value (front ++ end) way → EndsAlike way value end }
+    ensures parted { (front end value : List ℕ) (way : Way) → list_any is_joining end ≡ false
+        → FrontAndRest value (front ++ end) way → EndsAlike way value end }
 {}
 
 /// A value that is matched has each byte of the text that is none of `*`, `?`, `[`, `]`, `\` and `/`, and that stands
 /// before the first `[` and the first `\`, up to case where the mode folds.
 pub fn matched_values_have_the_literal_bytes()
-    ensures { (text value : List ℕ) (way : Way) (i b : ℕ) → IsUnescapedUpTo text i → HasByte text i b → is_joining b ≡ false
+    ensures whole { (text value : List ℕ) (way : Way) (i b : ℕ) → IsUnescapedUpTo text i → HasByte text i b → is_joining b ≡ false
         → SplitsBy value text way → HasAlike way value b }
+    ensures parted { (text value : List ℕ) (way : Way) (i b : ℕ) → IsUnescapedUpTo text i → HasByte text i b → is_joining b ≡ false
+        → FrontAndRest value text way → HasAlike way value b }
 {}
 
 /// A value that is matched has any two such bytes that stand side by side in the text side by side, too.
 pub fn matched_values_have_the_literal_pairs()
-    ensures { (text value : List ℕ) (way : Way) (i a b : ℕ) → IsUnescapedUpTo text (i + 1) → HasByte text i a → HasByte text (i + 1) b
+    ensures whole { (text value : List ℕ) (way : Way) (i a b : ℕ) → IsUnescapedUpTo text (i + 1) → HasByte text i a → HasByte text (i + 1) b
         → is_joining a ≡ false → is_joining b ≡ false → SplitsBy value text way → HasAlikePair way value a b }
+    ensures parted { (text value : List ℕ) (way : Way) (i a b : ℕ) → IsUnescapedUpTo text (i + 1) → HasByte text i a → HasByte text (i + 1) b
+        → is_joining a ≡ false → is_joining b ≡ false → FrontAndRest value text way → HasAlikePair way value a b }
 {}
 
 /// Two answers that are each yes exactly if the text matches the value are the same. So [`Pattern::matches`] and

@@ -1,6 +1,6 @@
 -- The bytes so far agree.
 use Rattle.gix_glob.specs.Ways.{way_of}
-use Rattle.glob_lists.specs.Deciding.{path_mode}
+use Rattle.glob_lists.specs.Rules.{path_mode}
 use Rattle.glob_patterns.specs.Private.Fronts.{AgreeFrom}
 use Rattle.glob_lists.proofs.list.answering.agree_from.Given as goal
 

@@ -1,7 +1,7 @@
 -- At no place so far does the value have the bytes, and two looks for each of them were counted at each.
 use Rattle.std.proofs.Common.{ℕ, ◌-◌, ◌*◌, ◌<◌, length}
 use Rattle.gix_glob.specs.Ways.{way_of}
-use Rattle.glob_lists.specs.Deciding.{path_mode}
+use Rattle.glob_lists.specs.Rules.{path_mode}
 use Rattle.glob_patterns.specs.Private.Fronts.{AgreeFrom}
 use Rattle.glob_lists.specs.Private.Looking.{LooksUpTo}
 use Rattle.glob_lists.proofs.list.answering.has_inside.Given as goal
