@@ -2,6 +2,7 @@
 ghost use Rattle.std.specs.Prelude.{◌≡◌, ◌↔◌, ◌+◌, ◌++◌, ◌∷◌, ◌≤◌, [], ℕ, List, Some, false, length, map, true};
 ghost use Rattle.std.specs.List.{AllByRecursion, filter_map, list_any};
 ghost use Rattle.std.specs.Str.{bytes_eq};
+ghost use Rattle.glob_lists.specs.declared.rules.Reading.{Reading};
 ghost use Rattle.glob_lists.specs.declared.rules.Rules.{Rules};
 ghost use Rattle.gix_glob.specs.EntryLists.{EntryList};
 ghost use Rattle.gix_glob.specs.Stripping.{NothingLeft};
@@ -22,7 +23,7 @@ ghost use Rattle.glob_attributes.specs.States.{Assigned, IsAssigned, IsFilledIn,
 mod assigned;
 
 pub use assigned::paths_are_assigned_something;
-use gix_glob::laws::readings_are_these;
+use gix_glob::laws::{git_readings_are_these, readings_are_these};
 
 /// A text has one head, with one rest, which the equations of `head_of` give.
 pub fn heads_are_these()
@@ -34,11 +35,12 @@ pub fn file_lines_are_these()
     ensures { (bytes : List ℕ) (lines : List (List ℕ)) → FileLines bytes lines ↔ (lines ≡ file_lines bytes) }
 {}
 
-/// A file has one list of entries, which the equations of `attributes_of` give.
+/// A file has one list of entries by each reading, which the equations of `attributes_of` give.
 pub fn attributes_are_these()
-    ensures { (bytes : List ℕ) (entries : List AttributeEntry) → Attributes bytes entries ↔ (entries ≡ attributes_of bytes) }
+    ensures { (reading : Reading) (bytes : List ℕ) (entries : List AttributeEntry) → Attributes reading bytes entries ↔ (entries ≡ attributes_of reading bytes) }
 {
     readings_are_these();
+    git_readings_are_these();
 }
 
 /// Each row is filled in, and in one way, so it gives each attribute one state.
@@ -77,7 +79,7 @@ pub fn unnamed_attributes_are_unspecified()
 /// Attribute files assign to no name but one that an attribute can have ([`is_name`](crate::is_name)): neither by their entries nor by
 /// their macros.
 pub fn files_assign_to_valid_names()
-    ensures entries { (bytes : List ℕ) → EntriesHaveNames (attributes_of bytes) }
+    ensures entries { (reading : Reading) (bytes : List ℕ) → EntriesHaveNames (attributes_of reading bytes) }
     ensures macros { (bytes : List ℕ) → MacrosHaveNames (macros_of bytes) }
 {}
 
@@ -90,8 +92,8 @@ pub fn invalid_names_are_unspecified()
 
 /// A line that says nothing may be left out: the others have the same entries, but for their numbers, and define the same macros.
 pub fn silent_lines_may_be_left_out()
-    ensures entries { (front rest : List (List ℕ)) (line : List ℕ) (n k : ℕ) → SaysNothing line →
-        map unnumbered (entries_from n (front ++ line ∷ rest)) ≡ map unnumbered (entries_from k (front ++ rest)) }
+    ensures entries { (reading : Reading) (front rest : List (List ℕ)) (line : List ℕ) (n k : ℕ) → SaysNothing line →
+        map unnumbered (entries_from reading n (front ++ line ∷ rest)) ≡ map unnumbered (entries_from reading k (front ++ rest)) }
     ensures macros { (front rest : List (List ℕ)) (line : List ℕ) → SaysNothing line →
         filter_map (λ l. definition_given (line_gives true l)) (front ++ line ∷ rest)
         ≡ filter_map (λ l. definition_given (line_gives true l)) (front ++ rest) }

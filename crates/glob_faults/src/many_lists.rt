@@ -5,7 +5,7 @@ use gix_glob::pattern::Case;
 use gix_glob::search::Watched;
 use gix_glob::search::pattern::List;
 use glob_lines::{IgnoreLines, bases_are_folders, run_ignore};
-use glob_lists::{ListIndex, RepositoryPath};
+use glob_lists::{ListIndex, RepositoryPath, Rules};
 use std::process::Abort;
 use std::test::Fail;
 
@@ -20,7 +20,7 @@ fn are_found(
 ) -> Result<(), Fail> {
     let path = RepositoryPath::new(b"a", false).ok_or("a path")?;
     assert!(rt; bases_are_folders(lists));
-    let index = ListIndex::new(rt.alloc(), lists, Case::Sensitive)?;
+    let index = ListIndex::new(rt.alloc(), lists, Rules::by_crate(Case::Sensitive))?;
     let mut pairs = Vec::new(rt.alloc());
     index.matches_into(&path, &mut pairs)?;
     let pair = Some((last, 0));

@@ -4,7 +4,7 @@ use gix_glob::pattern::Case;
 use gix_glob::search::Pattern as _;
 use gix_glob::search::pattern::List;
 use glob_lines::IgnoreLines;
-use glob_lists::{PreparedList, RepositoryPath};
+use glob_lists::{PreparedList, RepositoryPath, Rules};
 use glob_trees::{FolderLists, Tree, TreeFault, list_in_folder};
 use std::alloc::{AllocError, Global};
 use std::process::Abort;
@@ -80,7 +80,7 @@ pub(crate) fn tree_of(
     fronts: Vec<PreparedList<IgnoreLines>>,
 ) -> Result<Tree<IgnoreLines, Failing>, Fail> {
     let source = Failing::at(alloc, fails_at);
-    let tree = Tree::new(alloc, source, fronts, Case::Sensitive);
+    let tree = Tree::new(alloc, source, fronts, Rules::by_crate(Case::Sensitive));
     Ok(tree.ok_or("a tree")?)
 }
 

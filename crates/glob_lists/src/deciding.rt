@@ -177,7 +177,7 @@ pub(crate) fn last_match<T: search::Pattern, S: Ledger, L: Ledger>(
     ensures looks { counts.new.looks ≤ counts.old.looks + list_look_limit (entry_list_of T.seen list.now) (length path.now.bytes) }
     ensures grows { NeverFall counts.old counts.new }
 {
-    let rest = path.under_with_counts(list, rules, counts)?;
+    let rest = path.under_with_counts(list, rules.case, counts)?;
     let mappings = list.patterns.as_slice();
     for m in (0..mappings.len()).rev() {
         if rest.is_matched_with_counts(mappings[m].pattern.view(), rules, counts) {

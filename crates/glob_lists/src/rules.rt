@@ -5,9 +5,10 @@ ghost use Rattle.glob_lists.specs.Rules.{by_crate, by_git};
 use gix_glob::pattern::Case;
 
 /// Whose reading of a pattern counts.
-#[derive(Clone, Copy, Debug, PartialEq, Eq)]
+#[derive(Clone, Copy, PartialEq, Eq, Debug, Hash, PartialOrd, Ord, Default)]
 pub enum Reading {
     /// That of the ported crate: a pattern is one row of tokens.
+    #[default]
     Crate,
     /// That of Git: what a path pattern has before its first special byte is compared by itself, and what follows is a pattern of its own.
     Git,

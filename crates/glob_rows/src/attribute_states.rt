@@ -9,7 +9,7 @@ use gix_glob::pattern::Case;
 use gix_glob::search::has_file_part;
 use gix_glob::search::pattern::List;
 use glob_attributes::{AttributeLines, AttributeNames, MacroTable, PathAttributes, keep_named};
-use glob_lists::{IndexError, ListIndex, RepositoryPath, bases_are_folders};
+use glob_lists::{IndexError, ListIndex, RepositoryPath, Rules, bases_are_folders};
 use glob_trees::list_in_folder;
 use std::alloc::{AllocError, Global};
 
@@ -80,7 +80,7 @@ impl Sources {
         if !bases_are_folders(&self.lists) {
             return Err(RowFault::Field("bases of folders"));
         }
-        let attributes = PathAttributes::new(alloc, &self.lists, &self.macros, &path, case)?;
+        let attributes = PathAttributes::new(alloc, &self.lists, &self.macros, &path, Rules::by_crate(case))?;
         let mut text = Vec::new(alloc);
         for name in names {
             push_state(&mut text, name, &attributes.state_of(name))?;
@@ -106,7 +106,7 @@ fn list_of(alloc: Global, bytes: &[u8]) -> Result<List<AttributeLines>, RowFault
     if !has_file_part(source.as_str()) {
         return Err(RowFault::Field("a source with a file part"));
     }
-    Ok(List::from_bytes(alloc, bytes, source, None, AttributeLines)?)
+    Ok(List::from_bytes(alloc, bytes, source, None, AttributeLines::default())?)
 }
 
 /// The index of lists.
@@ -118,7 +118,7 @@ pub(crate) fn index_of<'a>(
     if !bases_are_folders(lists) {
         return Err(RowFault::Field("bases of folders"));
     }
-    match ListIndex::new(alloc, lists, case) {
+    match ListIndex::new(alloc, lists, Rules::by_crate(case)) {
         Ok(index) => Ok(index),
         Err(IndexError::Memory) => Err(RowFault::Memory),
         Err(IndexError::TooMany) => Err(RowFault::Call("ListIndex::new")),

@@ -9,7 +9,7 @@ use gix_glob::pattern::Case;
 use gix_glob::search::Pattern as _;
 use gix_glob::search::pattern::List;
 use glob_lines::{IgnoreLines, bases_are_folders};
-use glob_lists::RepositoryPath;
+use glob_lists::{RepositoryPath, Rules};
 use glob_trees::{FolderLists, Tree, decide_in_tree, list_in_folder};
 use std::alloc::{AllocError, Global};
 
@@ -112,7 +112,7 @@ pub(crate) fn trees_asked(
         asked: Vec::new(alloc),
     };
     let fronts = Vec::new(alloc);
-    let mut tree = Tree::new(alloc, source, fronts, Case::Sensitive).ok_or(RowFault::Call(
+    let mut tree = Tree::new(alloc, source, fronts, Rules::by_crate(Case::Sensitive)).ok_or(RowFault::Call(
         "Tree::new",
     ))?;
     let mut text = Vec::new(alloc);

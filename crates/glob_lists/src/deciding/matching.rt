@@ -47,7 +47,7 @@ impl<'a, 'p, T: search::Pattern> Asked<'a, 'p, T> {
     {
         let lists = self.lists;
         let list = &lists[i];
-        let Some(rest) = self.path.under(list, self.rules) else {
+        let Some(rest) = self.path.under(list, self.rules.case) else {
             return Ok(());
         };
         let mappings = list.patterns.as_slice();

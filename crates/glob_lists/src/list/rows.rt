@@ -118,7 +118,9 @@ impl ListRows {
         if self.is_passed_over(&question.probe) {
             return None;
         }
-        question.path.under_with_counts(list, question.rules, counts)
+        question
+            .path
+            .under_with_counts(list, question.rules.case, counts)
     }
 
     /// The start of a walk over the rows of the list.

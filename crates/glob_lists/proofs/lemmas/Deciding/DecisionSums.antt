@@ -6,7 +6,7 @@ use Rattle.std.proofs.lemmas.List.Sums.{sum_by-drop_more, sum_by-le, sum_by-take
 use Rattle.std.proofs.lemmas.Option.{get_or_from_slice_get, slice_get_within}
 use Rattle.gix_glob.specs.Steps.{step_limit}
 use Rattle.gix_glob.specs.PatternLimits.{pattern_look_limit}
-use Rattle.glob_lists.specs.declared.rules.Rules.{Rules}
+use Rattle.gix_glob.specs.declared.pattern.Case.{Case}
 use Rattle.gix_glob.proofs.lemmas.Limits.{pattern_look_limit-le, step_limit-le, within_more}
 use Rattle.gix_glob.specs.Stripping.{RestOf}
 
@@ -48,13 +48,13 @@ sum_by-drop-le f xs i j low =
 
 -- ---- what a base leaves is no longer than the path
 
-length-RestOf : (rules : Rules) (base : Option (List ℕ)) (path rest : List ℕ) → RestOf rules.case base path rest → length rest ≤ length path
-length-RestOf rules.case None path rest left = omega (arith, ap length left)
-length-RestOf rules.case (Some base) path rest left = omega (arith, ap length left.joined, length-append left.front rest)
+length-RestOf : (case : Case) (base : Option (List ℕ)) (path rest : List ℕ) → RestOf case base path rest → length rest ≤ length path
+length-RestOf case None path rest left = omega (arith, ap length left)
+length-RestOf case (Some base) path rest left = omega (arith, ap length left.joined, length-append left.front rest)
 
-module _ (rules : Rules) (base : Option (List ℕ)) (path rest : List ℕ) (left : RestOf rules.case base path rest) (p total counted : ℕ) where
+module _ (case : Case) (base : Option (List ℕ)) (path rest : List ℕ) (left : RestOf case base path rest) (p total counted : ℕ) where
   pub steps-under : total ≤ counted + step_limit p (length rest) → total ≤ counted + step_limit p (length path)
-  steps-under within = within_more _ _ _ _ within (step_limit-le p _ _ (length-RestOf rules.case base path rest left))
+  steps-under within = within_more _ _ _ _ within (step_limit-le p _ _ (length-RestOf case base path rest left))
 
   pub looks-under : total ≤ counted + pattern_look_limit p (length rest) → total ≤ counted + pattern_look_limit p (length path)
-  looks-under within = within_more _ _ _ _ within (pattern_look_limit-le p _ _ (length-RestOf rules.case base path rest left))
+  looks-under within = within_more _ _ _ _ within (pattern_look_limit-le p _ _ (length-RestOf case base path rest left))

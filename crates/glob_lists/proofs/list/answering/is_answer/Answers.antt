@@ -1,9 +1,7 @@
 -- A pattern that is told by its end matches; a literal between two stars is looked for, and takes no more looks than a test.
-use Rattle.std.proofs.Common.{◌≡◌, ◌↔◌, ◌∙◌, ℕ, IsTrue, List, ap, length, refl, subst, sym, arith}
-use Rattle.glob_lists.specs.declared.rules.Rules.{Rules}
+use Rattle.std.proofs.Common.{◌≡◌, ◌↔◌, ◌∙◌, ℕ, IsTrue, List, ap, length, refl, subst, arith}
 use Rattle.glob_patterns.specs.Private.Insides.{HasInside}
 use Rattle.gix_glob.specs.Ways.{way_of}
-use Rattle.glob_lists.specs.Deciding.{AnswersFor}
 use Rattle.glob_lists.specs.Rules.{path_mode}
 use Rattle.glob_lists.specs.Private.Asks.Showing.{last_part}
 use Rattle.glob_lists.proofs.lemmas.Asks.InsideLemmas.{inside_answers, inside_looks, last_part_is_short}

@@ -4,7 +4,7 @@ use Rattle.std.specs.Option.{IsNone}
 use Rattle.std.proofs.lemmas.Bool.{false≢true}
 use Rattle.gix_glob.specs.Patterns.{IsPattern, is_blank}
 use Rattle.glob_attributes.proofs.lemmas.PatternLemmas.{first_special-blank}
-use Rattle.glob_attributes.proofs.pattern.read_pattern.Goals as goal
+use Rattle.glob_attributes.proofs.pattern.read_as_crate.Goals as goal
 
 pub unreachable-requires : goal.unreachable-requires
 unreachable-requires c =
