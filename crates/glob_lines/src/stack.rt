@@ -6,9 +6,7 @@ ghost use Rattle.glob_lists.specs.Index.{AreMatches, AreTooMany};
 
 use gix_glob::search;
 use gix_glob::search::pattern::List;
-use glob_lists::{
-    Cursor, IndexError, ListIndex, RepositoryPath, Rules, decide_by, matches_into,
-};
+use glob_lists::{Cursor, IndexError, ListIndex, RepositoryPath, Rules, decide_by, matches_into};
 use std::alloc::{AllocError, Global};
 use std::marker::Model;
 
@@ -51,7 +49,11 @@ impl<'a, T: search::Pattern> ListStack<'a, T> {
             Err(IndexError::TooMany) => None,
             Err(IndexError::Memory) => return Err(AllocError),
         };
-        Ok(ListStack { lists, rules, index })
+        Ok(ListStack {
+            lists,
+            rules,
+            index,
+        })
     }
 
     /// The lists.
