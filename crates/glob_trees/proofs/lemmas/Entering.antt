@@ -1,9 +1,10 @@
 -- Folders that are entered and left: their lists stay those of the folders on the way, and none of the folders is ignored.
 use Rattle.std.proofs.Common.{◌≡◌, ◌⊎◌, inl, inr, ⊎_elim, ℕ, ◌<◌, ◌≤◌, List, [], ◌∷◌, ◌++◌, length, drop, None, Some, refl, sym, ap, subst, ◌∙◌, append_assoc, append-nil, length-append, length-drop, arith}
+use Rattle.std.specs.Prelude.{All}
 use Rattle.std.specs.List.{AllZip}
-use Rattle.std.proofs.Math.Seq.{drop-append_seam, drop-length}
+use Rattle.std.proofs.Math.Seq.{drop-append_seam, drop-length, take-append_seam}
 use Rattle.std.proofs.lemmas.List.{drop-append-le}
-use Rattle.std.proofs.lemmas.List.Elements.{All-push}
+use Rattle.std.proofs.lemmas.List.Elements.{All-push, All-take}
 use Rattle.std.proofs.lemmas.Option.{same_Some}
 use Rattle.gix_glob.specs.declared.pattern.Case.{Case}
 use Rattle.gix_glob.specs.Bytes.{slash}
@@ -16,7 +17,7 @@ use Rattle.glob_trees.specs.Ways.{Folder, IsListOf, base_of_folder, folders_to, 
 use Rattle.glob_trees.proofs.lemmas.Emptied.{nothing_left_shorter}
 use Rattle.glob_trees.proofs.lemmas.Folders.{above_above, above_is_shorter}
 use Rattle.glob_trees.proofs.lemmas.OneMore.{ignores_less, ignores_more}
-use Rattle.glob_trees.proofs.lemmas.WayLemmas.{HasLastFolder, above_more, last_folder, last_same, zip_last}
+use Rattle.glob_trees.proofs.lemmas.WayLemmas.{HasLastFolder, above_more, folders_other, folders_slash, last_folder, last_same, zip_last, zip_more}
 use Rattle.glob_trees.proofs.lemmas.WithEntries.{empty_or_not, with_entries_more}
 
 none_is_some : {L : Type 0} (list : L) → ¬ (None ≡ Some list)
@@ -30,6 +31,9 @@ module _ {V : Type 0} (lists : List (EntryList V)) (list : EntryList V) where
       (λ (none : unless_empty list ≡ []). subst (λ ls. BasesAreFolders (lists ++ ls)) (sym none) (subst BasesAreFolders (sym (append-nil lists)) bases))
       (λ (some : unless_empty list ≡ list ∷ []). subst (λ ls. BasesAreFolders (lists ++ ls)) (sym some) (All-push HasFolder lists list bases folder))
       (empty_or_not list)
+
+  bases_less : BasesAreFolders (lists ++ unless_empty list) → BasesAreFolders lists
+  bases_less bases = subst (All HasFolder) (take-append_seam lists (unless_empty list)) (All-take HasFolder (length lists) (lists ++ unless_empty list) bases)
 
   module _ (case : Case) (path : List ℕ) (nothing : NothingLeft case list.base path) (pair : ℕ × ℕ) where
     pub ignores_with : Ignores lists case path pair → Ignores (lists ++ unless_empty list) case path pair
@@ -58,6 +62,18 @@ module _ {V : Type 0} (shows : Folder → EntryList V → Type 0) (case : Case) 
       (λ (higher : IsAbove folder front). none folder pair higher ignored)
       (above_more folder front b above)
 
+  pub entered_byte : (n b : ℕ) (own : List (EntryList V)) → ¬ (b ≡ slash) → AreEntered shows n lists case front own → AreEntered shows n lists case (front ++ b ∷ []) own
+  entered_byte n b own other e = record {
+    many = e.many;
+    bases = e.bases;
+    shown = subst (λ fs. AllZip (IsListOf shows) fs own) (sym (folders_other front b other)) e.shown;
+    standing = e.standing;
+    none = λ folder pair above ignored. ⊎_elim
+        (λ (here : (folder ≡ front) × (b ≡ slash)). other here.1)
+        (λ (higher : IsAbove folder front). e.none folder pair higher ignored)
+        (above_more folder front b above);
+  }
+
 module _ {V : Type 0} (shows : Folder → EntryList V → Type 0) (case : Case) (n : ℕ) where
   -- a path that begins with a slash enters no folder there
   pub entered_slash : (lists own : List (EntryList V)) → AreEntered shows n lists case [] own → ((pair : ℕ × ℕ) → ¬ Ignores lists case [] pair) → AreEntered shows n lists case (slash ∷ []) own
@@ -78,6 +94,21 @@ module _ {V : Type 0} (shows : Folder → EntryList V → Type 0) (case : Case) 
   stands_more : (lists own : List (EntryList V)) (list : EntryList V) → n ≤ length lists → drop n lists ≡ with_entries own → drop n (lists ++ unless_empty list) ≡ with_entries (own ++ list ∷ [])
   stands_more lists own list many standing =
       drop-append-le n lists (unless_empty list) many ∙ ap (λ ls. ls ++ unless_empty list) standing ∙ sym (with_entries_more own list)
+
+  pub entered_folder : (lists own : List (EntryList V)) (x : ℕ) (xs : List ℕ) (list : EntryList V) → AreEntered shows n lists case (x ∷ xs) own → ((pair : ℕ × ℕ) → ¬ Ignores lists case (x ∷ xs) pair) → IsListOf shows (x ∷ xs) list
+      → AreEntered shows n (lists ++ unless_empty list) case ((x ∷ xs) ++ slash ∷ []) (own ++ list ∷ [])
+  entered_folder lists own x xs list e kept of =
+      let many = e.many in
+      record {
+        many = omega (arith, length-append lists (unless_empty list));
+        bases = bases_more lists list e.bases (is_folder (x ∷ xs) list of);
+        shown = subst (λ fs. AllZip (IsListOf shows) fs (own ++ list ∷ [])) (sym (folders_slash x xs)) (zip_more (IsListOf shows) (folders_to (x ∷ xs)) own (x ∷ xs) list e.shown of);
+        standing = stands_more lists own list e.many e.standing;
+        none = λ folder pair above ignored.
+            let shorter = above_is_shorter folder ((x ∷ xs) ++ slash ∷ []) above in
+            let nothing : NothingLeft case list.base folder = subst (λ b. NothingLeft case b folder) (sym of.based) (nothing_left_shorter case ((x ∷ xs) ++ slash ∷ []) folder shorter) in
+            none_more shows case lists (x ∷ xs) slash e.none kept folder pair above (ignores_without lists list case folder nothing pair ignored);
+      }
 
   -- the top, past the lists that stand before all folders
   pub entered_top : (lists : List (EntryList V)) (list : EntryList V) → length lists ≡ n → BasesAreFolders lists → IsListOf shows [] list → AreEntered shows n (lists ++ unless_empty list) case [] (list ∷ [])
@@ -135,6 +166,44 @@ module _ {V : Type 0} (shows : Folder → EntryList V → Type 0) (case : Case) 
         (λ (none : f ≡ []). absurd (some none))
         (λ (deep : (h : HasLastFolder front) × (f ≡ (h.first ∷ h.more)) × (fs ≡ folders_to (h.first ∷ h.more))). (left_deep deep.0 deep.1 deep.2, ap folders_to deep.1 ∙ sym deep.2))
         (is_last front fs f listed)
+
+  -- the last folder stays: what lies right in it begins with the folder and a slash
+  stays_deep : (lists own : List (EntryList V)) → AreEntered shows n lists case front own → (h : HasLastFolder front) → f ≡ (h.first ∷ h.more) → AreEntered shows n lists case (start_of f) own × (folders_to (start_of f) ≡ folders_to front)
+  stays_deep lists own e h is =
+      let starts : start_of f ≡ (h.first ∷ h.more) ++ slash ∷ [] = ap start_of is in
+      let same : folders_to (start_of f) ≡ folders_to front = ap folders_to starts ∙ folders_slash h.first h.more ∙ sym h.listed in (
+        record {
+          many = e.many;
+          bases = e.bases;
+          shown = subst (λ gs. AllZip (IsListOf shows) gs own) (sym same) e.shown;
+          standing = e.standing;
+          none = λ folder pair above ignored. ⊎_elim
+              (λ (here : (folder ≡ (h.first ∷ h.more)) × (slash ≡ slash)). e.none (h.first ∷ h.more) pair h.above (subst (λ g. Ignores lists case g pair) here.0 ignored))
+              (λ (higher : IsAbove folder (h.first ∷ h.more)). e.none folder pair (above_above folder (h.first ∷ h.more) front higher h.above) ignored)
+              (above_more folder (h.first ∷ h.more) slash (subst (IsAbove folder) starts above));
+        },
+        same,
+      )
+
+  stays_top : (lists own : List (EntryList V)) → AreEntered shows n lists case front own → f ≡ [] → fs ≡ [] → AreEntered shows n lists case (start_of f) own × (folders_to (start_of f) ≡ folders_to front)
+  stays_top lists own e is above =
+      let starts : start_of f ≡ [] = ap start_of is in
+      let same : folders_to (start_of f) ≡ folders_to front = ap folders_to starts ∙ sym (listed ∙ ap (λ gs. gs ++ f ∷ []) above ∙ ap (λ g. g ∷ []) is) in (
+        record {
+          many = e.many;
+          bases = e.bases;
+          shown = subst (λ gs. AllZip (IsListOf shows) gs own) (sym same) e.shown;
+          standing = e.standing;
+          none = λ folder pair above ignored. let shorter = above_is_shorter folder [] (subst (IsAbove folder) starts above) in omega (arith);
+        },
+        same,
+      )
+
+  pub entered_stays : (lists own : List (EntryList V)) → AreEntered shows n lists case front own → AreEntered shows n lists case (start_of f) own × (folders_to (start_of f) ≡ folders_to front)
+  entered_stays lists own e = ⊎_elim
+      (λ (only : folders_to front ≡ [] ∷ []). let same = last_same fs [] f [] (sym listed ∙ only) in stays_top lists own e same.1 same.0)
+      (λ (h : HasLastFolder front). stays_deep lists own e h (last_same fs (folders_to (h.first ∷ h.more)) f (h.first ∷ h.more) (sym listed ∙ h.listed)).1)
+      (last_folder front)
 
 -- what lies in a folder begins with it and a slash, and then has its name there
 pub name_follows : (front : List ℕ) (fs : List Folder) (f : Folder) → folders_to front ≡ fs ++ f ∷ [] → start_of f ++ drop (length (start_of f)) front ≡ front

@@ -1,11 +1,12 @@
 -- What is known of folders stays known where one is entered again, asked for, or left.
-use Rattle.std.proofs.Common.{◌≡◌, ◌⊎◌, inl, inr, ⊎_elim, ℕ, zero, suc, ◌+◌, ◌<◌, ◌≤◌, Bool, List, [], ◌∷◌, ◌++◌, length, map, take, drop, Option, None, Some, refl, sym, ap, subst, ◌∙◌, append_assoc, length-append, take_all, slice_index, arith}
-use Rattle.std.specs.Prelude.{◌↔◌, IsTrue, is_some, option_to_list, reverse, slice_get, slice_set}
+use Rattle.std.proofs.Common.{◌≡◌, ◌⊎◌, inl, inr, ⊎_elim, ℕ, zero, suc, ◌+◌, ◌<◌, ◌≤◌, Bool, true, false, cond, List, [], ◌∷◌, ◌++◌, length, map, take, drop, Option, None, Some, Vec, refl, sym, ap, subst, ◌∙◌, append_assoc, length-append, take_all, slice_index, arith}
+use Rattle.std.specs.Prelude.{◌↔◌, IsTrue, eqb, is_some, option_to_list, reverse, slice_get, slice_set}
 use Rattle.std.specs.List.{AllZip, Contains}
 use Rattle.std.proofs.Math.Seq.{drop-length}
-use Rattle.std.proofs.lemmas.Bool.{cases_eq}
+use Rattle.std.proofs.lemmas.Bool.{cases_eq, false≢true, false_from_ne_true}
+use Rattle.std.proofs.lemmas.Bool.Decides.{Decides-eqb}
 use Rattle.std.proofs.lemmas.List.{length-set, map-append, take-append-drop, take-append-le, drop-append-le}
-use Rattle.std.proofs.lemmas.List.Elements.{Contains-append_left, Contains-push, Contains-push_cases}
+use Rattle.std.proofs.lemmas.List.Elements.{Contains-append_cases, Contains-append_left, Contains-append_right, Contains-push, Contains-push_cases}
 use Rattle.std.proofs.lemmas.Option.{same_Some, slice_get_within}
 use Rattle.gix_glob.specs.declared.pattern.Case.{Case}
 use Rattle.gix_glob.specs.declared.search.pattern.list.List as patterns
@@ -20,16 +21,53 @@ use Rattle.glob_trees.specs.Trees.{Ignores}
 use Rattle.glob_trees.specs.Ways.{Folder, IsListOf, folders_to, start_of, unless_empty}
 use Rattle.glob_trees.proofs.lemmas.Cases.{cases_bytes}
 use Rattle.glob_trees.proofs.lemmas.Entering.{entered_folder, entered_slash, entered_stays, entered_top, name_follows}
-use Rattle.glob_trees.proofs.lemmas.OnWay.{not_on_own_way}
+use Rattle.glob_trees.proofs.lemmas.OnWay.{none_contained, not_on_own_way}
 use Rattle.glob_trees.proofs.lemmas.Places.{named, places_more, places_stay}
 use Rattle.glob_trees.proofs.lemmas.Stepping.{passing, passing_way}
 use Rattle.glob_trees.proofs.lemmas.WayLemmas.{ZipsLast, folders_slash, zip_last, zip_more}
+use Rattle.glob_trees.proofs.lemmas.WithEntries.{not_both}
 
 pub but_one : {S : Type 0} (gave : S → Folder → Type 0) (source : S) (one folder : Folder) → ¬ gave_but gave one source folder → gave source folder → folder ≡ one
 but_one gave source one folder none given = ⊎_elim
     (λ (same : folder ≡ one). same)
     (λ (apart : folder ≡ one → ⊥). absurd (none (given, apart)))
     (cases_bytes folder one)
+
+-- ---- what is known of folders
+
+-- what is known, with one folder more at a place
+abbrev facts_with : {V : Type 0} → (ℕ → Facts V) → ℕ → Facts V → ℕ → Facts V
+facts_with facts place new at = cond (eqb at place) new (facts at)
+
+module _ {V : Type 0} (facts : ℕ → Facts V) (place : ℕ) (new : Facts V) where
+  facts_here : facts_with facts place new place ≡ new
+  facts_here = ap (λ b. cond b new (facts place)) ((Decides-eqb place place).1 refl)
+
+  facts_other : (at : ℕ) → at < place → facts_with facts place new at ≡ facts at
+  facts_other at less = ap (λ b. cond b new (facts at)) (false_from_ne_true (eqb at place) (λ too. let same = (Decides-eqb at place).0 too in omega arith))
+
+  on_way_stays : (folders : List Folder) (way : List FolderOnWay) → AllZip (IsOnWay facts place) folders way → AllZip (IsOnWay (facts_with facts place new) (place + 1)) folders way
+  on_way_stays [] [] zip = tt
+  on_way_stays [] (w ∷ way) zip = absurd zip
+  on_way_stays (f ∷ folders) [] zip = absurd zip
+  on_way_stays (f ∷ folders) (w ∷ way) zip =
+      let here = zip.0 in
+      let same = facts_other w.place here.inside in (
+        record {
+          inside = let inside = here.inside in omega arith;
+          named = ap (λ (k : Facts V). k.folder) same ∙ here.named;
+          long = here.long;
+          listed = subst (λ (k : Facts V). IsTrue w.has_list ↔ (unless_empty k.own ≡ k.own ∷ [])) (sym same) here.listed;
+        },
+        on_way_stays folders way zip.1,
+      )
+
+  own_stays : (folders : List Folder) (way : List FolderOnWay) → AllZip (IsOnWay facts place) folders way → own_lists (facts_with facts place new) way ≡ own_lists facts way
+  own_stays folders [] zip = refl
+  own_stays [] (w ∷ way) zip = absurd zip
+  own_stays (f ∷ folders) (w ∷ way) zip =
+      let here = zip.0 in
+      ap (λ (k : Facts V). k.own ∷ own_lists (facts_with facts place new) way) (facts_other w.place here.inside) ∙ ap (λ ls. (facts w.place).own ∷ ls) (own_stays folders way zip.1)
 
 -- ---- what stands at a place
 
@@ -46,6 +84,15 @@ module _ {X : Type 0} where
   set_other (z ∷ xs) zero (suc j) x apart = refl
   set_other (z ∷ xs) (suc i) zero x apart = refl
   set_other (z ∷ xs) (suc i) (suc j) x apart = set_other xs i j x (λ same. apart (ap suc same))
+
+  push_here : (xs : List X) (x : X) (i : ℕ) (y : X) → slice_get (xs ++ x ∷ []) i ≡ Some y → (slice_get xs i ≡ Some y) ⊎ ((i ≡ length xs) × (y ≡ x))
+  push_here [] x zero y is = inr (refl, sym (same_Some x y is))
+  push_here [] x (suc i) y is = inl is
+  push_here (z ∷ xs) x zero y is = inl is
+  push_here (z ∷ xs) x (suc i) y is = ⊎_elim
+      (λ (before : slice_get xs i ≡ Some y). inl before)
+      (λ (last : (i ≡ length xs) × (y ≡ x)). inr (ap suc last.0, last.1))
+      (push_here xs x i y is)
 
 module _ {T X V : Type 0} (seen : X → V) (way : List ℕ) (place : ℕ) (own : EntryList V) where
   holds_more : (last : ℕ) (o : Option (patterns.List T X)) → HoldsOwn seen way place own o → HoldsOwn seen (way ++ last ∷ []) place own o
@@ -65,6 +112,28 @@ module _ {T X V : Type 0} (seen : X → V) (way : List ℕ) (place : ℕ) (own :
       (λ (empty : unless_empty own ≡ []). inr empty)
       h
   holds_less last (Some list) none h = h
+
+on_way_named : {V : Type 0} (facts : ℕ → Facts V) (count : ℕ) (folders : List Folder) (way : List FolderOnWay) → AllZip (IsOnWay facts count) folders way → (place : ℕ) → Contains (places_of way) place → Contains folders (facts place).folder
+on_way_named facts count folders [] zip place h = absurd (none_contained place h)
+on_way_named facts count [] (w ∷ way) zip place h = absurd zip
+on_way_named facts count (f ∷ folders) (w ∷ way) zip place h = ⊎_elim
+    (λ (first : Contains (w.place ∷ []) place). ⊎_elim
+    (λ (none : Contains [] place). absurd (none_contained place none))
+    (λ (same : w.place ≡ place).
+    let here = zip.0 in
+    subst (λ k. Contains (f ∷ folders) (facts k).folder) same (subst (Contains (f ∷ folders)) (sym here.named) (Contains-append_left (f ∷ []) folders f (Contains-push [] f))))
+    (Contains-push_cases [] w.place place first))
+    (λ (later : Contains (places_of way) place). Contains-append_right (f ∷ []) folders (facts place).folder (on_way_named facts count folders way zip.1 place later))
+    (Contains-append_cases (w.place ∷ []) (places_of way) place h)
+
+-- the lists that are kept of a folder
+view_kept : {T X V : Type 0} (seen : X → V) (way : List ℕ) (place : ℕ) (own : EntryList V) → ¬ Contains way place → (o : Option (patterns.List T X)) → HoldsOwn seen way place own o
+    → (map (entry_list_of seen) (option_to_list o) ≡ unless_empty own) × (IsTrue (is_some o) ↔ (unless_empty own ≡ own ∷ []))
+view_kept seen way place own off None h = ⊎_elim
+    (λ (on_way : Contains way place). absurd (off on_way))
+    (λ (empty : unless_empty own ≡ []). (sym empty, ((λ never. absurd (false≢true never)), (λ some. absurd (not_both own empty some)))))
+    h
+view_kept seen way place own off (Some list) h = (ap (λ l. l ∷ []) h.0 ∙ sym h.1, ((λ _. h.1), (λ _. refl)))
 
 -- ---- the top
 

@@ -1,11 +1,12 @@
 -- A list more at the end of others changes nothing of what its base leaves nothing of.
-use Rattle.std.proofs.Common.{◌≡◌, ◌⊎◌, inl, inr, ⊎_elim, ℕ, zero, suc, Bool, List, [], ◌∷◌, ◌++◌, Some, sym, subst}
+use Rattle.std.proofs.Common.{◌≡◌, ◌⊎◌, inl, inr, ⊎_elim, ℕ, zero, suc, true, Bool, List, [], ◌∷◌, ◌++◌, Some, sym, ◌∙◌, subst}
 use Rattle.std.specs.Prelude.{slice_get}
 use Rattle.std.proofs.lemmas.Option.{same_Some}
 use Rattle.gix_glob.specs.declared.pattern.Case.{Case}
 use Rattle.gix_glob.specs.EntryLists.{EntryList}
 use Rattle.gix_glob.specs.Stripping.{NothingLeft, RestOf}
 use Rattle.glob_lists.specs.Deciding.{PairAnswers}
+use Rattle.glob_trees.specs.Trees.{Ignores}
 
 module _ {X : Type 0} (last : X) where
   more_at : (xs : List X) (i : ℕ) (x : X) → slice_get xs i ≡ Some x → slice_get (xs ++ last ∷ []) i ≡ Some x
@@ -21,6 +22,8 @@ module _ {X : Type 0} (last : X) where
   at_more (y ∷ xs) (suc i) x is = at_more xs i x is
 
 module _ {V : Type 0} (lists : List (EntryList V)) (last : EntryList V) (case : Case) (path : List ℕ) (nothing : NothingLeft case last.base path) where
+  answers_more : (is_dir : Bool) (i m : ℕ) → PairAnswers lists path is_dir case i m → PairAnswers (lists ++ last ∷ []) path is_dir case i m
+  answers_more is_dir i m h = record { list = h.list; there = more_at last lists i h.list h.there; answers = h.answers }
 
   answers_less : (is_dir : Bool) (i m : ℕ) → PairAnswers (lists ++ last ∷ []) path is_dir case i m → PairAnswers lists path is_dir case i m
   answers_less is_dir i m h = ⊎_elim
@@ -28,4 +31,33 @@ module _ {V : Type 0} (lists : List (EntryList V)) (last : EntryList V) (case : 
       (λ (same : last ≡ h.list). absurd (nothing h.answers.answers.rest (subst (λ (l : EntryList V). RestOf case l.base path h.answers.answers.rest) (sym same) h.answers.answers.left)))
       (at_more last lists i h.list h.there)
 
+  pub ignores_more : (pair : ℕ × ℕ) → Ignores lists case path pair → Ignores (lists ++ last ∷ []) case path pair
+  ignores_more pair h = (
+    record {
+      answers = answers_more true pair.0 pair.1 h.0.answers;
+      last = λ i m answers. h.0.last i m (answers_less true i m answers);
+    },
+    record {
+      list = h.1.list;
+      of_lists = more_at last lists pair.0 h.1.list h.1.of_lists;
+      entry = h.1.entry;
+      of_list = h.1.of_list;
+      positive = h.1.positive;
+    },
   )
+
+  pub ignores_less : (pair : ℕ × ℕ) → Ignores (lists ++ last ∷ []) case path pair → Ignores lists case path pair
+  ignores_less pair h =
+      let answers = answers_less true pair.0 pair.1 h.0.answers in (
+        record {
+          answers = answers;
+          last = λ i m other. h.0.last i m (answers_more true i m other);
+        },
+        record {
+          list = h.1.list;
+          of_lists = answers.there ∙ sym (more_at last lists pair.0 answers.list answers.there) ∙ h.1.of_lists;
+          entry = h.1.entry;
+          of_list = h.1.of_list;
+          positive = h.1.positive;
+        },
+      )

@@ -27,6 +27,15 @@ module _ (found : ℕ → List ℕ → Option ℕ) where
       let here : p ≡ q = same_Some p q (sym a.0 ∙ ap (λ k. found k (name_in g f)) outer ∙ b.0) in
       ap (λ k. k ∷ o ∷ ps) here ∙ ap (λ l. q ∷ l) rest
 
+  -- a folder more, in the last one
+  pub places_more : (fs : List Folder) (f g : Folder) (ps : List ℕ) (p q : ℕ) → ArePlaces found (reverse (fs ++ f ∷ [])) (reverse (ps ++ p ∷ [])) → found p (name_in f g) ≡ Some q
+      → ArePlaces found (reverse ((fs ++ f ∷ []) ++ g ∷ [])) (reverse ((ps ++ p ∷ []) ++ q ∷ []))
+  places_more fs f g ps p q there here =
+      let folders = turned (fs ++ f ∷ []) g ∙ ap (λ l. g ∷ l) (turned fs f) in
+      let places = turned (ps ++ p ∷ []) q ∙ ap (λ l. q ∷ l) (turned ps p) in
+      let above : ArePlaces found (f ∷ reverse fs) (p ∷ reverse ps) = subst (ArePlaces found (f ∷ reverse fs)) (turned ps p) (subst (λ l. ArePlaces found l (reverse (ps ++ p ∷ []))) (turned fs f) there) in
+      subst (λ l. ArePlaces found l (reverse ((ps ++ p ∷ []) ++ q ∷ []))) (sym folders) (subst (ArePlaces found (g ∷ f ∷ reverse fs)) (sym places) (here, above))
+
   -- without the last one
   pub places_less : (fs : List Folder) (f g : Folder) (ps : List ℕ) (p q : ℕ) → ArePlaces found (reverse ((fs ++ f ∷ []) ++ g ∷ [])) (reverse ((ps ++ p ∷ []) ++ q ∷ []))
       → (found p (name_in f g) ≡ Some q) × ArePlaces found (reverse (fs ++ f ∷ [])) (reverse (ps ++ p ∷ []))
@@ -51,3 +60,13 @@ module _ (found : ℕ → List ℕ → Option ℕ) where
       named_from (reverse fs) f g p (reverse ps) qs
       (subst (ArePlaces found (f ∷ reverse fs)) (turned ps p) (subst (λ l. ArePlaces found l (reverse (ps ++ p ∷ []))) (turned fs f) there))
       (subst (λ l. ArePlaces found l qs) (turned (fs ++ f ∷ []) g ∙ ap (λ l. g ∷ l) (turned fs f)) longer)
+
+module _ (found more : ℕ → List ℕ → Option ℕ) (stays : (outer : ℕ) (name : List ℕ) (place : ℕ) → found outer name ≡ Some place → more outer name ≡ Some place) where
+  pub places_stay : (folders : List Folder) (ps : List ℕ) → ArePlaces found folders ps → ArePlaces more folders ps
+  places_stay [] ps a = absurd a
+  places_stay (top ∷ []) [] a = absurd a
+  places_stay (top ∷ []) (p ∷ []) a = a
+  places_stay (top ∷ []) (p ∷ o ∷ ps) a = absurd a
+  places_stay (f ∷ g ∷ fs) [] a = absurd a
+  places_stay (f ∷ g ∷ fs) (p ∷ []) a = absurd a
+  places_stay (f ∷ g ∷ fs) (p ∷ o ∷ ps) a = (stays o (name_in g f) p a.0, places_stay (g ∷ fs) (o ∷ ps) a.1)

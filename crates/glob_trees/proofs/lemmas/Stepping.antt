@@ -11,6 +11,7 @@ use Rattle.glob_trees.specs.Private.Entered.{AreEntered, KeepsOn}
 use Rattle.glob_trees.specs.Trees.{Ignores, IsAbove}
 use Rattle.glob_trees.specs.Ways.{AreOnTheWay, Folder, folder_before, folders_from, folders_to}
 use Rattle.glob_trees.proofs.lemmas.Asking.{asked_above, asked_to_path}
+use Rattle.glob_trees.proofs.lemmas.Entering.{entered_byte}
 use Rattle.glob_trees.proofs.lemmas.OnWay.{on_way_more, top_on_way}
 use Rattle.glob_trees.proofs.lemmas.WayLemmas.{before_other, folders_more, folders_other, further}
 
@@ -105,6 +106,11 @@ err_gives (Err e) P Q gives holds = gives holds
 pub pushed : {X : Type 0} (ok : Bool) (old new more : List X) → ok ≡ true → new ≡ (if ok then more else old) → new ≡ more
 pushed true old new more is items = items
 pushed false old new more is items = absurd (cc)
+
+pub passing : {V : Type 0} (shows : Folder → EntryList V → Type 0) (case : Case) (n : ℕ) (lists own : List (EntryList V)) (path : List ℕ) (place : ℕ) → place < length path → ¬ (slice_index path place ≡ slash)
+    → AreEntered shows n lists case (take place path) own → AreEntered shows n lists case (take (place + 1) path) own
+passing shows case n lists own path place inside other e =
+    subst (λ t. AreEntered shows n lists case t own) (sym (path_more path place inside)) (entered_byte shows case lists (take place path) n (slice_index path place) own other e)
 
 pub passing_way : (path : List ℕ) (place : ℕ) → place < length path → ¬ (slice_index path place ≡ slash) → folders_to (take (place + 1) path) ≡ folders_to (take place path)
 passing_way path place inside other = ap folders_to (path_more path place inside) ∙ folders_other (take place path) (slice_index path place) other

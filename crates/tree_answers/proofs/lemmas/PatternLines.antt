@@ -2,7 +2,9 @@
 use Rattle.std.proofs.Common.{◌≡◌, ⊎_elim, ℕ, Bool, true, false, not, ◌&&◌, ◌||◌, IsTrue, List, [], ◌++◌, Option, refl, sym, ap, subst, ◌∙◌, codes, nat_eq, if◌then◌else◌}
 use Rattle.std.specs.List.{starts_with}
 use Rattle.std.specs.Str.{bytes_eq}
-use Rattle.std.proofs.lemmas.Bool.{cases_Bool, and_parts, false≢true}
+use Rattle.std.proofs.lemmas.Bool.{cases_Bool, and_parts, or_cases, false≢true}
+use Rattle.std.proofs.lemmas.Bool.Decides.{Decides-eqb}
+use Rattle.std.proofs.lemmas.Slice.Eq.{starts_is}
 use Rattle.gix_glob.specs.declared.pattern.Mode.{Mode}
 use Rattle.gix_glob.specs.Patterns.{Reads, is_absolute, is_blank, is_for_directories, is_negative, shown_line, sign_of, slash_if}
 use Rattle.gix_glob.specs.Bytes.{has_slash}
@@ -14,6 +16,15 @@ use Rattle.tree_answers.specs.Lines.{begins_with_sign, pattern_line}
 slash_if-again : (l : List ℕ) (there : Bool) → l ≡ slash_if there → slash_if (bytes_eq l (codes "/")) ≡ l
 slash_if-again l true e = ap (λ (x : List ℕ). slash_if (bytes_eq x (codes "/"))) e ∙ sym e
 slash_if-again l false e = ap (λ (x : List ℕ). slash_if (bytes_eq x (codes "/"))) e ∙ sym e
+
+-- a backslash before a text with a sign is the sign of the line
+escaped_sign : (text tail : List ℕ) → begins_with_sign text ≡ true → codes "\\" ≡ sign_of true (codes "\\" ++ (text ++ tail))
+escaped_sign text tail begins = ⊎_elim
+    (λ (mark : starts_with nat_eq text (codes "!") ≡ true).
+    ap (λ (t : List ℕ). sign_of true (codes "\\" ++ (t ++ tail))) (sym ((starts_is Decides-eqb text (codes "!") _ refl).0 mark)))
+    (λ (number : starts_with nat_eq text (codes "#") ≡ true).
+    ap (λ (t : List ℕ). sign_of true (codes "\\" ++ (t ++ tail))) (sym ((starts_is Decides-eqb text (codes "#") _ refl).0 number)))
+    (or_cases _ _ begins)
 
 not_false : (b : Bool) → not b ≡ true → b ≡ false
 not_false true h = absurd (false≢true h)

@@ -22,11 +22,12 @@ use Rattle.tree_answers.specs.declared.form.Form.{Form}
 use Rattle.tree_answers.specs.Attributes.{answer_text, label_text}
 use Rattle.tree_answers.specs.Lines.{name_text}
 use Rattle.tree_commands.specs.declared.check_attr.answering.AttributeAsker.{AttributeAsker}
+use Rattle.tree_commands.specs.declared.check_attr.walk.Asking.{Asking}
 use Rattle.tree_commands.specs.declared.check_attr.walk.Asking.TheVariants as asking
 use Rattle.tree_commands.specs.CheckAttr.{Asked, FolderFile, Files, IsAssignedTo, all, lists_to, macros_for, named, names_of, or_dot, states_text, told_states}
 use Rattle.tree_commands.specs.Private.AttributeAnswers.{IsReady, labels_of, unspecified_text}
 use Rattle.tree_commands.specs.Private.AttributeWays.{HasGoneTo, HasRead, asked_by, front_lists, kept_list}
-use Rattle.tree_commands.proofs.lemmas.AttributeLists.{lists_if_any}
+use Rattle.tree_commands.proofs.lemmas.AttributeLists.{lists_if_any, told_same_all, told_same_named}
 
 -- ---- the bases of lists
 
@@ -52,7 +53,18 @@ module _ (asked : Asked) (macros : List Definition) where
       All-append HasFolder (flat_map (λ at. unless_empty (kept_list asked macros at.0 at.1)) way) (kept_list asked macros [] bytes ∷ []) (way_folders way)
       (All-cons HasFolder (kept_list asked macros [] bytes) [] (kept_folder [] bytes) (All-nil HasFolder))
 
+  pub bases_of_fronts : (files : Files) → BasesAreFolders (front_lists asked macros files)
+  bases_of_fronts files =
+      All-cons HasFolder (kept_list asked macros [] files.system) (kept_list asked macros [] files.user ∷ kept_list asked macros [] files.top ∷ []) (kept_folder [] files.system)
+      (All-cons HasFolder (kept_list asked macros [] files.user) (kept_list asked macros [] files.top ∷ []) (kept_folder [] files.user)
+      (All-cons HasFolder (kept_list asked macros [] files.top) [] (kept_folder [] files.top) (All-nil HasFolder)))
+
 -- ---- the states that are told
+
+told_same : (macros : List Definition) (files : Files) (path : Path) (asks : Asking) (way : List FolderFile) (filled other : List Assigned) (read : List (List ℕ)) → IsAssigned (lists_to files way) macros path Sensitive filled
+    → IsAssigned (lists_if_any macros files path (asked_by asks) way) macros path Sensitive other → told_states (asked_by asks) read other ≡ told_states (asked_by asks) read filled
+told_same macros files path (asking.Names names) way filled other read full some = told_same_named macros files path names.now way filled other read full some
+told_same macros files path (asking.All known) way filled other read full some = told_same_all macros files path way filled other read full some
 
 module _ {S Q : Type 0} (files : Files) (asked : Asked) (shows : Folder → Option (List ℕ) → Type 0) (allows : List ℕ → List ℕ → Type 0) (shows_of : S → Folder → Option (List ℕ) → Type 0) (asker : AttributeAsker S Q) (ready : IsReady files asked shows allows shows_of asker) (told : List ℕ) (leads : led asker.standpoint.now (or_dot told) ≡ Some asker.path.items) where
   -- ---- a path below the top

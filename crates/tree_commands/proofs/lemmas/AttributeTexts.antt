@@ -1,5 +1,5 @@
 -- Texts to which the states of attributes are added.
-use Rattle.std.proofs.Common.{◌≡◌, ℕ, ◌+◌, ◌<◌, List, [], ◌∷◌, ◌++◌, length, map, take, Bor, Vec, Result, Ok, Err, IfOk, add-one, refl, sym, ap, ◌∙◌, append_assoc}
+use Rattle.std.proofs.Common.{◌≡◌, ℕ, zero, suc, ◌+◌, ◌<◌, List, [], ◌∷◌, ◌++◌, length, map, take, Bor, Vec, Result, Ok, Err, IfOk, add-one, refl, sym, ap, ◌∙◌, append_assoc, arith}
 use Rattle.std.specs.Prelude.{slice_index_or}
 use Rattle.std.specs.Vec.{vec_items}
 use Rattle.std.specs.declared.alloc.Global.{Global}
@@ -26,6 +26,16 @@ take_more : {X : Type 0} (xs : List X) (k : ℕ) (d : X) → k < length xs → t
 take_more xs k d inside = rw add-one (take-suc xs k d inside)
 
 module _ (form : Form) where
+  labelled : (names : List (Bor (List ℕ))) (labels : List (Vec ℕ Global)) (k : ℕ) (d : Bor (List ℕ)) (label : Vec ℕ Global) → k < length names
+      → map vec_items labels ≡ map (λ (name : Bor (List ℕ)). label_text form name.now) names → label ≡ slice_index_or labels k label → vec_items label ≡ label_text form (slice_index_or names k d).now
+  labelled [] labels k d label inside same is = absurd (omega (arith, inside))
+  labelled (name ∷ names) [] k d label inside same is = absurd (cc)
+  labelled (name ∷ names) (l ∷ labels) zero d label inside same is =
+      let here : vec_items l ≡ label_text form name.now = cc in
+      ap vec_items is ∙ here
+  labelled (name ∷ names) (l ∷ labels) (suc k) d label inside same is =
+      let rest : map vec_items labels ≡ map (λ (name : Bor (List ℕ)). label_text form name.now) names = cc in
+      labelled names labels k d label (omega (arith, inside)) rest is
 
   module _ (shown : List ℕ) (filled : List Assigned) where
     abbrev state_of : Bor (List ℕ) → Assigned

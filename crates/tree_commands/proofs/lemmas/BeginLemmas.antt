@@ -1,7 +1,7 @@
 -- Where a listing begins, and what it reaches from there.
-use Rattle.std.proofs.Common.{◌≡◌, ◌≢◌, ◌⊎◌, inl, inr, ⊎_elim, ℕ, Bool, true, false, List, [], ◌∷◌, ◌++◌, length, take, refl, sym, ap, subst, ◌∙◌, append-nil, arith}
+use Rattle.std.proofs.Common.{◌≡◌, ◌≢◌, ◌⊎◌, inl, inr, ⊎_elim, ℕ, ◌≤◌, Bool, true, false, List, [], ◌∷◌, ◌++◌, length, take, refl, sym, ap, subst, ◌∙◌, append-nil, arith}
 use Rattle.std.specs.Prelude.{◌↔◌, AllPairs, Option, None, Some, if◌then◌else◌}
-use Rattle.std.specs.List.{Contains}
+use Rattle.std.specs.List.{AllByRecursion, Contains}
 use Rattle.std.proofs.lemmas.List.{take_all}
 use Rattle.std.proofs.lemmas.List.Elements.{All-from_recursion}
 use Rattle.std.proofs.lemmas.List.Kept.{AllPairs-cons}
@@ -10,6 +10,7 @@ use Rattle.std.proofs.lemmas.Option.{same_Some}
 use Rattle.gix_glob.specs.Bytes.{EndsInSlash, slash}
 use Rattle.gix_glob.specs.EntryLists.{EntryList}
 use Rattle.glob_lists.specs.Paths.{IsPlainPath}
+use Rattle.glob_trees.specs.Trees.{IsAbove}
 use Rattle.glob_trees.specs.Ways.{Folder, start_of}
 use Rattle.told_paths.specs.declared.standpoint.Standpoint.{Standpoint}
 use Rattle.told_paths.specs.Paths.{names_folder, parts_of}
@@ -18,13 +19,14 @@ use Rattle.tree_commands.specs.declared.files.pending.Pending.{Pending}
 use Rattle.tree_commands.specs.declared.files.source.EntryKind.{EntryKind}
 use Rattle.tree_commands.specs.declared.files.source.EntryKind.TheVariants as kinds
 use Rattle.tree_commands.specs.FileTrees.{FileTree}
-use Rattle.tree_commands.specs.Files.{Basis, BeginsAt, BeginsBelow, ComesBefore, IsLeaf, IsMet, IsReached, begins, is_folder, lists_to}
+use Rattle.tree_commands.specs.Files.{Basis, BeginsAt, BeginsBelow, ComesBefore, IsFound, IsLeaf, IsMet, IsReached, begins, is_folder, lists_to}
 use Rattle.tree_commands.specs.Ignoring.{IsIgnored}
-use Rattle.tree_commands.specs.Private.Listing.{AreAscending, AreOpen, Begins, BeginsSomewhere, IsClear, MayVisit, PutsListsTo, StandsAtStart, lists_before, path_of}
-use Rattle.tree_commands.specs.Private.UnderWay.{IsHalfway, OfKnown, WritesAll, WritesFront}
+use Rattle.tree_commands.specs.Private.Listing.{Among, AreAscending, AreOpen, Begins, BeginsNowhere, BeginsSomewhere, IsClear, MayVisit, PutsListsTo, StandsAtStart, lists_before, path_of}
+use Rattle.tree_commands.specs.Private.UnderWay.{Beginning, IsHalfway, IsUnderWay, OfKnown, WritesAll, WritesFront, count_of}
 use Rattle.tree_commands.proofs.lemmas.AmongLemmas.{among_contained, contains_among}
 use Rattle.tree_commands.proofs.lemmas.ListsLemmas.{lists_before_some}
-use Rattle.tree_commands.proofs.lemmas.PathLemmas.{marked_start, may_visit_file, may_visit_folder, may_visit_top, start_ends}
+use Rattle.tree_commands.proofs.lemmas.MetLemmas.{MeetsFirst, meets_first}
+use Rattle.tree_commands.proofs.lemmas.PathLemmas.{marked_start, may_visit_file, may_visit_folder, may_visit_top, some_append, start_ends}
 
 -- ---- order
 
@@ -32,7 +34,58 @@ pub all_pairs : (paths : List (List ℕ)) → AreAscending paths → AllPairs Co
 all_pairs [] ordered = λ i j d less inside. absurd (omega arith)
 all_pairs (path ∷ paths) ordered = AllPairs-cons ComesBefore path paths (All-from_recursion (ComesBefore path) paths ordered.0) (all_pairs paths ordered.1)
 
+-- ---- no path
+
+-- a slash alone is no folder's path, and no path is met from it
+slash_is_no_start : (folder : Folder) → ¬ (slash ∷ [] ≡ start_of folder)
+slash_is_no_start [] is = absurd (cc)
+slash_is_no_start (b ∷ folder) is = some_append folder (slash ∷ []) (λ none. absurd (cc)) (let tails : folder ++ slash ∷ [] ≡ [] = cc in tails)
+
+module _ (basis : Basis) (tree : FileTree) where
+  slash_meets_itself : (path : List ℕ) → IsMet basis tree (slash ∷ []) path → path ≡ slash ∷ []
+  slash_meets_itself path met = ⊎_elim
+      (λ (is : path ≡ slash ∷ []). is)
+      (λ (first : MeetsFirst basis tree (slash ∷ []) path). absurd (slash_is_no_start first.folder first.is_start))
+      (meets_first basis tree met)
+
+  leaf_is_more : (path : List ℕ) → IsLeaf tree path → path ≢ slash ∷ []
+  leaf_is_more path leaf is = ⊎_elim
+      (λ (file : ¬ EndsInSlash path). file (record { front = []; joined = is }))
+      (λ (git : (folder : Folder) × (path ≡ start_of folder) × (tree.has_git folder ≡ true)). slash_is_no_start git.0 (sym is ∙ git.1))
+      leaf.1
+
+  nothing_to_list : (lists : List (EntryList (Unit {0}))) → IsHalfway basis tree (slash ∷ []) [] [] lists
+  nothing_to_list lists = record {
+    sound = λ path never. absurd never;
+    met = λ next never. absurd never;
+    standing = λ next never. absurd never;
+    complete = λ path met leaf. absurd (leaf_is_more path leaf (slash_meets_itself path met));
+  }
+
 -- ---- what is pending at the beginning
+
+module _ (Known : FileTree → Type 0) (basis : Basis) (path : List ℕ) (is_told : Bool) (lists : List (EntryList (Unit {0}))) where
+  under_way_nowhere : IsUnderWay basis.case [] [] lists
+  under_way_nowhere = record {
+    may = λ next never. absurd never;
+    counts = λ next never. absurd never;
+    stacked = tt;
+    behind = λ p next never. absurd never;
+    ordered = tt;
+  }
+
+  under_way_somewhere : (next : Pending) → MayVisit basis.case (path_of next) → next.list_count ≤ length lists → IsUnderWay basis.case [] (next ∷ []) lists
+  under_way_somewhere next may count = record {
+    may = λ other among. ⊎_elim (λ (is : next ≡ other). subst (λ (n : Pending). MayVisit basis.case (path_of n)) is may) (λ (never : ⊥). absurd never) among;
+    counts = λ other among. ⊎_elim (λ (is : next ≡ other). subst (λ (n : Pending). n.list_count ≤ length lists) is count) (λ (never : ⊥). absurd never) among;
+    stacked = (tt, tt);
+    behind = λ p other never. absurd never;
+    ordered = tt;
+  }
+
+  pub under_way_begins : (pending : List Pending) → Begins Known basis path is_told lists pending → IsUnderWay basis.case [] pending lists
+  under_way_begins pending (inl nowhere) = subst (λ ps. IsUnderWay basis.case [] ps lists) (sym nowhere.0) under_way_nowhere
+  under_way_begins pending (inr some) = subst (λ ps. IsUnderWay basis.case [] ps lists) (sym some.one) (under_way_somewhere some.next some.may some.count)
 
 -- a start from which is met what is reached
 pub record Starts (standpoint : Standpoint) (basis : Basis) (tree : FileTree) (told : List ℕ) (pending : List Pending) (lists : List (EntryList (Unit {0}))) : Type 0 where
@@ -42,6 +95,11 @@ pub record Starts (standpoint : Standpoint) (basis : Basis) (tree : FileTree) (t
   pub met : (path : List ℕ) → IsReached standpoint basis tree told path → IsMet basis tree start path
 
 module _ (standpoint : Standpoint) (basis : Basis) (told top : List ℕ) (is_told : Bool) (leads : led standpoint told ≡ Some top) (says : is_told ≡ names_folder false (parts_of told)) (Known : FileTree → Type 0) (lists : List (EntryList (Unit {0}))) where
+  -- where a path is reached from begins the listing
+  begins_there : (tree : FileTree) (path : List ℕ) (it : IsReached standpoint basis tree told path) → BeginsAt basis tree top is_told it.start
+  begins_there tree path it =
+      let same : it.top ≡ top = same_Some it.top top (sym it.leads ∙ leads) in
+      subst (λ t. BeginsAt basis tree t is_told it.start) same (subst (λ f. BeginsAt basis tree it.top f it.start) (sym says) it.begins)
 
   module _ (tree : FileTree) (known : Known tree) where
     starts_nowhere : ((start : List ℕ) → ¬ BeginsAt basis tree top is_told start) → Starts standpoint basis tree told [] lists

@@ -21,6 +21,11 @@ use Rattle.glob_trees.specs.Ways.{AreOnTheWay, Folder}
 use Rattle.tree_commands.specs.CheckIgnore.{IsLineAt}
 use Rattle.tree_commands.specs.Private.Finding.{IsFound, IsFoundAs, KeepsTree, WantsFolder, line_of, lists_of, told_kind}
 
+-- a kind that agrees with what is known
+pub some_kind : (known : Option Bool) → (is_dir : Bool) × IfSome known (λ is_folder. is_dir ≡ is_folder)
+some_kind None = (true, tt)
+some_kind (Some is_folder) = (is_folder, refl)
+
 -- an entry stands where a pattern decides
 decides_inside : (lists : List (EntryList (Unit {0}))) (path : List ℕ) (is_dir : Bool) (case : Case) (pair : ℕ × ℕ) → DecidesInTree lists path is_dir case (Some pair) → HasEntryAt lists pair
 decides_inside lists path is_dir case pair (inl (by, below, same)) =

@@ -9,7 +9,7 @@ use Rattle.gix_glob.specs.declared.pattern.Case.{Case}
 use Rattle.gix_glob.specs.EntryLists.{EntryList, entry_list_of}
 use Rattle.glob_lists.specs.Paths.{IsPlainPath}
 use Rattle.glob_trees.specs.TreeParts.{HasMappingAt, TreeParts}
-use Rattle.glob_trees.specs.Ways.{Folder}
+use Rattle.glob_trees.specs.Ways.{AreOnTheWay, Folder, IsListOf}
 use Rattle.record_streams.specs.Records.{Adds, GrowsBy, StaysAllowed, answered_by}
 use Rattle.told_paths.specs.declared.standpoint.Standpoint.{Standpoint}
 use Rattle.told_paths.specs.Paths.{names_folder, parts_of}
@@ -34,6 +34,18 @@ or_false true = refl
 or_false false = refl
 
 module _ (before after : Folder → EntryList (Unit {0}) → Type 0) (on : (folder : Folder) (list : EntryList (Unit {0})) → before folder list → after folder list) where
+  way_stays : (front_count : ℕ) (lists : List (EntryList (Unit {0}))) (case : Case) (path : List ℕ) → AreOnTheWay before front_count lists case path → AreOnTheWay after front_count lists case path
+  way_stays front_count lists case path way = record {
+    entered = way.entered;
+    further = way.further;
+    joined = way.joined;
+    top = way.top;
+    own = way.own;
+    shown = AllZip-weaker (IsListOf before) (IsListOf after) (λ folder list of. record { shown = on folder list of.shown; based = of.based }) way.entered way.own way.shown;
+    standing = way.standing;
+    unignored = way.unignored;
+    ends = way.ends;
+  }
 
   module _ (question : Question) where
     deciding_stays : (path : List ℕ) (known : Option Bool) (line : Option Decision) → IsDeciding question before path known line → IsDeciding question after path known line

@@ -118,6 +118,22 @@ module _ {F : Type 0} (Answers : List ℕ → List ℕ → Type 0) (before after
   whole_text adds =
       (subst (TextOf Answers paths) (sym (whole_added (TextOfAnswered Answers before after paths) adds)) adds.allowed.of_records, adds.allowed.accounted [] none)
 
+  first_text : (fault : F) → FailsAt Answers Refuses paths held text fault → IsTextOfFirst Answers paths text
+  first_text fault fails =
+      (fails.first, fails.told ∷ fails.behind, fails.joined, subst (TextOf Answers fails.first) (sym (whole_added (TextOf Answers fails.first) fails.adds)) fails.adds.allowed)
+
+  stops_at : (is_kept : Bool) (old new : Option (List ℕ)) (fault : F) → FailsAt Answers Refuses paths held text fault → Appends old new (if is_kept then text else []) → StopsAt Answers Refuses paths is_kept old new fault
+  stops_at is_kept old new fault fails written = record {
+    first = fails.first;
+    told = fails.told;
+    behind = fails.behind;
+    joined = fails.joined;
+    refused = fails.refused;
+    text = text;
+    allowed = subst (TextOf Answers fails.first) (sym (whole_added (TextOf Answers fails.first) fails.adds)) fails.adds.allowed;
+    written = written;
+  }
+
   module _ (answered : Result (Unit {0}) F) (ok : OnOk answered (Adds (TextOfAnswered Answers before after paths) held text)) (fails : IfErr answered (FailsAt Answers Refuses paths held text)) (result : Result (Unit {0}) (RecordFault F)) (old new : Option (List ℕ)) where
     written_all : (a : Result (Unit {0}) F) → OnOk a (Adds (TextOfAnswered Answers before after paths) held text) → IsOk a → TextOfPaths Answers after paths text
     written_all (Ok x) adds is = whole_text adds

@@ -3,13 +3,13 @@ use Rattle.std.proofs.Common.{◌≡◌, ◌≢◌, inl, inr, ⊎_elim, ℕ, ◌
 use Rattle.std.specs.Prelude.{if◌then◌else◌, slice_get}
 use Rattle.std.proofs.Math.Seq.{get_or-append_seam}
 use Rattle.std.proofs.Math.ListN.{get_or-append}
-use Rattle.std.proofs.lemmas.Bool.{cases_eq, lt-ltb}
+use Rattle.std.proofs.lemmas.Bool.{cases_eq, le-ltb, lt-ltb}
 use Rattle.std.proofs.lemmas.List.{get_or-map, get_or-replicate, get_or-set_other, get_or-set_same, length-map, length-replicate, length-set, map-append}
 use Rattle.std.proofs.lemmas.Option.{get_or_from_slice_get, none-some, slice_get_within}
 use Rattle.glob_lists.specs.declared.asks.row.Row.{Row}
 use Rattle.glob_lists.specs.declared.link.Link.{Link}
 use Rattle.glob_lists.specs.declared.link.TheConstants.Link.{NONE}
-use Rattle.glob_lists.specs.Private.Asks.Rows.{HasSomeEnd}
+use Rattle.glob_lists.specs.Private.Asks.Rows.{HasNoEnd, HasSomeEnd}
 use Rattle.glob_lists.specs.Private.Lists.Chains.{AreChained, IsChained, IsLastBelow, chain_of, chains_of, end_chain, links_of}
 use Rattle.glob_lists.proofs.lemmas.Elements.{slice_get-push_cases}
 
@@ -125,5 +125,24 @@ AreChained-push rows heads heads' row added chain head small is here set same wh
 pub chain_of-end : (count : ℕ) (row : Row) → HasSomeEnd row → chain_of count row ≡ end_chain count row.asked
 chain_of-end count row some = ap (λ (b : Bool). if b then end_chain count row.asked else 0) (lt-ltb row.spare 64 some)
 
+pub chain_of-none : (count : ℕ) (row : Row) → HasNoEnd row → chain_of count row ≡ 0
+chain_of-none count row none = ap (λ (b : Bool). if b then end_chain count row.asked else 0) (le-ltb row.spare 64 none)
+
 pub chain_at : (count : ℕ) (rows : List Row) (m : ℕ) (row : Row) → slice_get rows m ≡ Some row → get_or (chains_of count rows) m 0 ≡ chain_of count row
 chain_at count rows m row got = get_or-map (chain_of count) rows m row 0 (slice_get_within rows m row got) ∙ ap (chain_of count) (get_or_from_slice_get rows m row row got)
+
+-- ---- one step down
+
+-- a place that lies below a nearer end stays the last one of its chain
+pub IsLastBelow-nearer : (chains : List ℕ) (chain end nearer : ℕ) (link : Link) → nearer ≤ end → link.0 ≤ nearer → IsLastBelow chains chain end link → IsLastBelow chains chain nearer link
+IsLastBelow-nearer chains chain end nearer link near low h = record { below = low; others = λ m from below. h.others m from (omega arith); here = h.here }
+
+-- a row is linked to the last one before it of its chain
+pub before_of : (rows : List Row) (heads : List Link) → AreChained rows heads → (m : ℕ) (row : Row) → slice_get rows m ≡ Some row
+    → IsLastBelow (chains_of (length heads) rows) (get_or (chains_of (length heads) rows) m 0) m row.before
+before_of rows heads chained m row got =
+    let chains = chains_of (length heads) rows in
+    let inside = slice_get_within rows m row got in
+    let long : length chains ≡ length rows = length-map rows (chain_of (length heads)) in
+    let link_is : get_or (links_of rows) m NONE ≡ row.before = get_or-map (λ (seen : Row). seen.before) rows m row NONE inside ∙ ap (λ (seen : Row). seen.before) (get_or_from_slice_get rows m row row got) in
+    subst (IsLastBelow chains (get_or chains m 0) m) link_is (chained.linked.link m (omega arith))

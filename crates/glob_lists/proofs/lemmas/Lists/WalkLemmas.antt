@@ -1,5 +1,5 @@
 -- A walk over chained rows: what lies above its next rows doesn't pass, one step down, and how it begins.
-use Rattle.std.proofs.Common.{◌≡◌, ◌≢◌, ◌⊎◌, inl, inr, ⊎_elim, ℕ, ◌+◌, ◌-◌, ◌*◌, ◌/◌, ◌%◌, ◌<◌, ◌≤◌, List, [], ◌∷◌, ◌++◌, length, get_or, slice_set, Some, sym, ◌∙◌, ap, subst, arith, length-append}
+use Rattle.std.proofs.Common.{◌≡◌, ◌≢◌, ◌⊎◌, inl, inr, ⊎_elim, ℕ, ◌+◌, ◌-◌, ◌*◌, ◌/◌, ◌%◌, ◌<◌, ◌≤◌, List, [], ◌∷◌, ◌++◌, length, get_or, slice_set, Some, refl, sym, ◌∙◌, ap, subst, arith, length-append}
 use Rattle.std.specs.Prelude.{slice_get}
 use Rattle.std.proofs.lemmas.Bool.{cases_eq, cases_lt}
 use Rattle.std.proofs.lemmas.List.{get_or-set_other, get_or-set_same, length-map}
@@ -20,7 +20,7 @@ use Rattle.glob_lists.proofs.lemmas.Elements.{slice_get-push_cases, slice_get-pu
 use Rattle.glob_lists.proofs.lemmas.Asks.EndNumbers.{without_bytes-shift}
 use Rattle.glob_lists.specs.Private.Looking.{LooksUpTo}
 use Rattle.glob_lists.proofs.lemmas.Lists.Looking.{looks_next}
-use Rattle.glob_lists.proofs.lemmas.Lists.ChainLemmas.{IsLastBelow-nearer, chain_at, chain_of-end, chain_of-none}
+use Rattle.glob_lists.proofs.lemmas.Lists.ChainLemmas.{IsLastBelow-nearer, before_of, chain_at, chain_of-end, chain_of-none}
 
 -- ---- rows that pass
 
@@ -89,10 +89,45 @@ module _ (count : ℕ) (rows : List Row) (probe : Probe) (walk : Walk) (at : IsW
       (λ (none : next_of walk walk.latest ≤ 0). omega arith)
       (cases_lt 0 (next_of walk walk.latest))
 
+  -- what lies between the next places and where the walk is doesn't pass
+  pub NonePasses-above : (near : ℕ) → next_of walk walk.latest ≤ near → walk.other.0 ≤ near → NonePasses rows probe near walk.passed_from
+  NonePasses-above near low low' m row from below got passes =
+      let here = chain_at count rows m row got in elim (cases_lt row.spare 64) [
+        | inr none ↦ at.other.others m (omega arith) below (here ∙ chain_of-none count row none)
+        | inl some ↦
+            (let own = at.all m row got some (passes.end some) in
+            let last = next_is_last own.0 (get_or chains m 0) own.1 in
+            let most = latest.most own.0 last.0 in
+            last.1.others m (omega arith) below refl)
+      ]
+
+  -- the walk at a nearer place
+  pub IsWalk-nearer : (near : ℕ) → near ≤ walk.passed_from → next_of walk walk.latest ≤ near → walk.other.0 ≤ near → IsWalk chains rows probe (record walk { passed_from = near })
+  IsWalk-nearer near less low low' = record {
+    lacking = at.lacking;
+    other = IsLastBelow-nearer chains 0 walk.passed_from near walk.other less low' at.other;
+    own = at.own;
+    nexts = record {
+      many = at.nexts.many;
+      some = at.nexts.some;
+      next = λ n chain got.
+          let last = next_is_last n chain got in
+          let most = latest.most n last.0 in
+          IsLastBelow-nearer chains chain walk.passed_from near (get_or walk.nexts n NONE) less (omega arith) last.1;
+      apart = at.nexts.apart;
+    };
+    all = at.all;
+  }
+
 -- ---- one step of a walk
 
 module _ (rows : List Row) (heads : List Link) (chained : AreChained rows heads) (probe : Probe) (walk : Walk) (at : IsWalk (chains_of (length heads) rows) rows probe walk) (latest : IsLatest walk)
     (place : ℕ) (row : Row) (there : slice_get rows place ≡ Some row) where
+  abbrev chains_here : List ℕ
+  chains_here = chains_of (length heads) rows
+
+  before_here : (chain : ℕ) → get_or chains_here place 0 ≡ chain → IsLastBelow chains_here chain place row.before
+  before_here chain is = subst (λ (c : ℕ). IsLastBelow chains_here c place row.before) is (before_of rows heads chained place row there)
 
   -- the next row without an end was met
   module _ (first : next_of walk walk.latest ≤ place) (is : place + 1 ≡ walk.other.0) where
@@ -333,6 +368,9 @@ module _ (rows : List Row) (own : Link) (walk : Walk) (before middle : Counts) (
   -- where the walk is
   abbrev here : Walk
   here = record walk { other = other; passed_from = h.from }
+
+  latest_here : IsLatest here
+  latest_here = record { within = latest.within; here = latest.here; most = latest.most }
 
   module _ (heads : List Link) (probe : Probe) (chained : AreChained rows heads) (start : IsWalk (chains_of (length heads) rows) rows probe walk) (is_own : own ≡ get_or walk.nexts walk.latest NONE) where
     at_here : IsWalk (chains_of (length heads) rows) rows probe here
