@@ -14,6 +14,7 @@ ghost use Rattle.tree_commands.specs.Private.Listing.{AddsFound, Among, EndsInNa
 
 use crate::files::asking::kind_at;
 use crate::files::ignoring::{Ignoring, ignoring_by, is_ignored_by};
+use crate::files::names::first_name;
 use crate::files::source::{EntryKind, FileSource};
 use gix_glob::pattern::Case;
 use glob_lines::IgnoreLines;
@@ -55,16 +56,6 @@ pub(crate) fn entries_of<S: FileSource>(
         rest = behind;
     }
     Ok(paths)
-}
-
-/// The first of some names, and those behind it.
-fn first_name(names: &[u8]) -> (&[u8], Option<&[u8]>)
-    ensures { names_in names.now ≡ result.0.now ∷ names_left (option_copied result.1) }
-{
-    match memchr(0, names) {
-        Some(at) => (&names[..at], Some(&names[at + 1..])),
-        None => (names, None),
-    }
 }
 
 /// Whether a name in a folder may be listed.

@@ -2,7 +2,7 @@ use Rattle.std.proofs.Common.{◌∷◌, ◌+◌, take, ap, sym, ◌∙◌}
 use Rattle.std.proofs.lemmas.List.{take_rest}
 use Rattle.tree_commands.specs.FileTrees.{names_in}
 use Rattle.tree_commands.proofs.lemmas.PieceLemmas.{first_piece_at, first_piece_whole}
-use Rattle.tree_commands.proofs.files.entries.first_name.Goals as goal
+use Rattle.tree_commands.proofs.files.names.first_name.Goals as goal
 
 pub returns-in-Some : goal.returns-in-Some
 returns-in-Some c =
