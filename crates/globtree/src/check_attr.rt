@@ -1,16 +1,14 @@
 //! Telling which state attributes have for paths.
-ghost use Rattle.std.specs.Prelude.{◌≡◌, false};
+ghost use Rattle.std.specs.Prelude.{◌≡◌, ◌⊎◌, IfOk, false};
 ghost use Rattle.gix_glob.specs.Watched.{has_failed};
+ghost use Rattle.globtree.specs.Running.{IsAnswered, IsRefused};
 
 use crate::attribute_files::AttributeFiles;
-use crate::attribute_flags::AttributeFlags;
 use crate::check_ignore::bytes_of;
-use crate::command_words::operands_of;
 use crate::fault::CheckFault;
 use crate::outer_attributes::{OuterAttributes, outer_attributes};
 use crate::running::{ANSWERED, WRONG_WORDS};
 use crate::telling::{tell_line, tell_usage};
-use crate::words::Options;
 use anyhow::{Context, Result};
 use gix_glob::search::Watched;
 use glob_attributes::is_name;
@@ -22,6 +20,8 @@ use tree_answers::Form;
 use tree_commands::check_attr::{
     AskedAttributes, AttributeQuestion, check_attr_paths, run_check_attr,
 };
+use tree_words::check_attr::CheckAttrFlags;
+use tree_words::{Options, operands_of};
 
 /// What the command ends with where a name is none that an attribute can have.
 const NO_NAME: u8 = 255;
@@ -38,13 +38,16 @@ pub(crate) fn check_attr<R: Files + Env + Eprint + AllocGlobal, I: Read, O: Writ
     rt: &R,
     alloc: Global,
     options: Options<'_>,
-    flags: AttributeFlags,
+    flags: CheckAttrFlags,
     words: &[String],
     input: &mut Watched<I>,
     output: &mut Watched<O>,
 ) -> Result<u8>
     requires readable { has_failed input.old ≡ false }
     requires writable { has_failed output.old ≡ false }
+    ensures status { IfOk result (λ status. IsAnswered status ⊎ IsRefused status) }
+    ensures unread { IfOk result (λ status. IsRefused status → input.new ≡ input.old) }
+    ensures unwritten { IfOk result (λ status. IsRefused status → output.new ≡ output.old) }
 {
     let operands = operands_of(alloc, words).context("the words")?;
     let count = match flags.names_first(operands.words.len(), operands.before) {
@@ -84,7 +87,7 @@ pub(crate) fn check_attr<R: Files + Env + Eprint + AllocGlobal, I: Read, O: Writ
 fn question_of<'a>(
     outer: &'a OuterAttributes,
     names: &'a [&'a [u8]],
-    flags: AttributeFlags,
+    flags: CheckAttrFlags,
 ) -> AttributeQuestion<'a> {
     let form = Form::ended_by(flags.nul);
     if flags.all {

@@ -4,7 +4,6 @@ use crate::excludes::{push_excludes, push_info};
 use crate::places::{go_to_folders, go_to_top};
 use crate::signs::{Concerns, tell_signs};
 use crate::sources::FolderFiles;
-use crate::words::Options;
 use anyhow::{Context, Result};
 use gix_glob::pattern::Case;
 use glob_lines::IgnoreLines;
@@ -13,6 +12,7 @@ use glob_trees::Tree;
 use std::alloc::Global;
 use std::rt::{Env, Files};
 use told_paths::Standpoint;
+use tree_words::Options;
 
 /// About how many bytes are kept of folders and their patterns.
 const MOST_BYTES: usize = 24 << 20;
