@@ -1,6 +1,8 @@
 -- Whether a name is among names that are gone through.
-use Rattle.std.proofs.Common.{◌≡◌, ◌⊎◌, ◌↔◌, ⊎_elim, inl, inr, ℕ, zero, suc, ◌<◌, Bool, true, false, ◌||◌, List, [], ◌∷◌, IsTrue, length, get_or, refl, sym, subst, arith}
+use Rattle.std.proofs.Common.{◌≡◌, ◌⊎◌, ◌↔◌, ⊎_elim, inl, inr, ℕ, zero, suc, Bool, true, false, ◌||◌, List, [], ◌∷◌, IsTrue, refl, sym, subst, ◌∙◌, arith}
 use Rattle.std.specs.List.{Contains}
+use Rattle.std.specs.Str.{bytes_eq}
+use Rattle.std.proofs.lemmas.Slice.Eq.{bytes_eq-Decides}
 
 -- the name was met, or is among those that are left, exactly if it is among all
 abbrev pub IsMetOrLeft : List ℕ → Bool → List (List ℕ) → List (List ℕ) → Type 0
@@ -55,3 +57,8 @@ module _ (wanted : List ℕ) where
 
       to_left : Contains left wanted → Contains (name ∷ rest) wanted
       to_left = subst (λ names. Contains names wanted) first
+
+  pub is_wanted : (is : Bool) (name other : List ℕ) → is ≡ bytes_eq name other → other ≡ wanted → IsTrue is ↔ (name ≡ wanted)
+  is_wanted is name other same its =
+      let decides = bytes_eq-Decides name other in
+      (λ holds. decides.0 (sym same ∙ holds) ∙ its, λ equal. same ∙ decides.1 (equal ∙ sym its))

@@ -1,7 +1,6 @@
 //! The entries of a folder that aren't ignored.
 ghost use Rattle.std.specs.Prelude.{◌≡◌, ◌↔◌, ◌++◌, ◌∷◌, [], ℕ, List, if◌then◌else◌, IfOk, IsTrue, OnOk, map};
 ghost use Rattle.std.specs.List.{AllByRecursion};
-ghost use Rattle.std.specs.Option.{option_copied};
 ghost use Rattle.std.specs.Vec.{vec_items};
 ghost use Rattle.gix_glob.specs.Bytes.{slash};
 ghost use Rattle.glob_lists.specs.Deciding.{BasesAreFolders};
@@ -10,7 +9,7 @@ ghost use Rattle.glob_trees.specs.Ways.{GivesOnly};
 ghost use Rattle.told_paths.specs.Paths.{is_name};
 ghost use Rattle.tree_commands.specs.FileTrees.{FileTree, StaysKnown, names_in};
 ghost use Rattle.tree_commands.specs.Files.{IsEntryName, is_folder, is_git};
-ghost use Rattle.tree_commands.specs.Private.Listing.{AddsFound, Among, EndsInName, IsFoundAmong, LeadsOn, StandsThere, names_left, seen_lists};
+ghost use Rattle.tree_commands.specs.Private.Listing.{AddsFound, Among, EndsInName, IsFoundAmong, LeadsOn, StandsThere, seen_lists};
 
 use crate::files::asking::kind_at;
 use crate::files::ignoring::{Ignoring, ignoring_by, is_ignored_by};
