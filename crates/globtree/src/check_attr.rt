@@ -1,6 +1,7 @@
 //! Telling which state attributes have for paths.
-ghost use Rattle.std.specs.Prelude.{◌≡◌, ◌⊎◌, IfOk, false};
-ghost use Rattle.gix_glob.specs.Watched.{has_failed};
+ghost use Rattle.std.specs.Prelude.{◌≡◌, ◌⊎◌, IfOk, false, map, string_bytes};
+ghost use Rattle.gix_glob.specs.Watched.{has_failed, inner};
+ghost use Rattle.globtree.specs.Answers.{AnswersAttr};
 ghost use Rattle.globtree.specs.Running.{IsAnswered, IsRefused};
 
 use crate::attribute_files::AttributeFiles;
@@ -46,6 +47,7 @@ pub(crate) fn check_attr<R: Files + Env + Eprint + AllocGlobal, I: Read, O: Writ
     requires readable { has_failed input.old ≡ false }
     requires writable { has_failed output.old ≡ false }
     ensures status { IfOk result (λ status. IsAnswered status ⊎ IsRefused status) }
+    ensures answered { IfOk result (λ status. IsAnswered status → AnswersAttr flags (map string_bytes words.now) (I.remaining (inner input.old)) (I.remaining (inner input.new)) (O.contents (inner output.old)) (O.contents (inner output.new))) }
     ensures unread { IfOk result (λ status. IsRefused status → input.new ≡ input.old) }
     ensures unwritten { IfOk result (λ status. IsRefused status → output.new ≡ output.old) }
 {

@@ -1,6 +1,8 @@
 //! The command `check-ignore`.
-ghost use Rattle.std.specs.Prelude.{◌≡◌, IfOk, false};
-ghost use Rattle.gix_glob.specs.Watched.{has_failed};
+ghost use Rattle.std.specs.Prelude.{◌≡◌, ℕ, List, IfOk, false, map, string_bytes};
+ghost use Rattle.std.specs.Borrow.{Bor};
+ghost use Rattle.gix_glob.specs.Watched.{has_failed, inner};
+ghost use Rattle.globtree.specs.Answers.{AnswersIgnore};
 ghost use Rattle.globtree.specs.Running.{IsAnswered, asked_by_flags};
 
 use crate::fault::CheckFault;
@@ -38,7 +40,8 @@ pub(crate) fn check_ignore<R: Files + Env + Eprint + AllocGlobal, I: Read, O: Wr
 ) -> Result<u8>
     requires readable { has_failed input.old ≡ false }
     requires writable { has_failed output.old ≡ false }
-    ensures { IfOk result IsAnswered }
+    ensures status { IfOk result IsAnswered }
+    ensures answered { IfOk result (λ status. AnswersIgnore flags (map string_bytes words.now) status (I.remaining (inner input.old)) (I.remaining (inner input.new)) (O.contents (inner output.old)) (O.contents (inner output.new))) }
 {
     let paths = operands_of(alloc, words).context("the paths")?.words;
     if let Some(message) = flags.disagreement(paths.len()) {
@@ -95,7 +98,9 @@ fn sources_of<'a, R: Files + Env + Eprint + AllocGlobal>(
 }
 
 /// The bytes of each of the words.
-pub(crate) fn bytes_of<'a>(alloc: Global, words: &[&'a str]) -> Result<Vec<&'a [u8]>, AllocError> {
+pub(crate) fn bytes_of<'a>(alloc: Global, words: &[&'a str]) -> Result<Vec<&'a [u8]>, AllocError>
+    ensures { IfOk result (λ bytes. map (λ (each : Bor (List ℕ)). each.now) bytes.items ≡ map (λ (word : Bor (List ℕ)). word.now) words.now) }
+{
     let mut bytes = Vec::with_capacity(alloc, words.len())?;
     for word in words {
         bytes.push(word.as_bytes())?;
