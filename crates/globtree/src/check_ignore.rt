@@ -102,7 +102,7 @@ pub(crate) fn bytes_of<'a>(alloc: Global, words: &[&'a str]) -> Result<Vec<&'a [
     ensures { IfOk result (λ bytes. map (λ (each : Bor (List ℕ)). each.now) bytes.items ≡ map (λ (word : Bor (List ℕ)). word.now) words.now) }
 {
     let mut bytes = Vec::with_capacity(alloc, words.len())?;
-    for word in words {
+    'words: for word in words {
         bytes.push(word.as_bytes())?;
     }
     Ok(bytes)
