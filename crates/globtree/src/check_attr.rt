@@ -1,7 +1,9 @@
 //! Telling which state attributes have for paths.
-ghost use Rattle.std.specs.Prelude.{◌≡◌, ◌⊎◌, IfOk, false, map, string_bytes};
+ghost use Rattle.std.specs.Prelude.{◌≡◌, ◌⊎◌, ℕ, List, if◌then◌else◌, IfOk, false, map, string_bytes};
+ghost use Rattle.std.specs.Borrow.{Bor};
 ghost use Rattle.gix_glob.specs.Watched.{has_failed, inner};
-ghost use Rattle.globtree.specs.Answers.{AnswersAttr};
+ghost use Rattle.tree_commands.specs.CheckAttr.{all, named};
+ghost use Rattle.globtree.specs.Answers.{AnswersAttr, form_by};
 ghost use Rattle.globtree.specs.Running.{IsAnswered, IsRefused};
 
 use crate::attribute_files::AttributeFiles;
@@ -90,7 +92,10 @@ fn question_of<'a>(
     outer: &'a OuterAttributes,
     names: &'a [&'a [u8]],
     flags: CheckAttrFlags,
-) -> AttributeQuestion<'a> {
+) -> AttributeQuestion<'a>
+    ensures form { result.form ≡ form_by flags.nul }
+    ensures asks { result.asked ≡ (if flags.all then all else named (map (λ (name : Bor (List ℕ)). name.now) names.now)) }
+{
     let form = Form::ended_by(flags.nul);
     if flags.all {
         return AttributeQuestion::new(outer.files(), AskedAttributes::All, &outer.standpoint, form);

@@ -1,4 +1,6 @@
 //! The work tree that the options before a command tell of, with the files of patterns that count in all of it.
+ghost use Rattle.std.specs.Prelude.{◌≡◌, if◌then◌else◌};
+ghost use Rattle.gix_glob.specs.declared.pattern.Case.TheVariants.{Fold, Sensitive};
 
 use crate::excludes::{push_excludes, push_info};
 use crate::places::{go_to_folders, go_to_top};
@@ -49,7 +51,9 @@ pub(crate) fn fronts_of<R: Files + Env + Eprint + AllocGlobal>(
 }
 
 /// Whether the case of letters counts by the options.
-pub(crate) fn case_of(options: Options<'_>) -> Case {
+pub(crate) fn case_of(options: Options<'_>) -> Case
+    ensures { result ≡ (if options.ignore_case then Fold else Sensitive) }
+{
     if options.ignore_case {
         Case::Fold
     } else {
