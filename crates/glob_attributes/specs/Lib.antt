@@ -11,7 +11,6 @@ pub mod Narrowing
 pub mod Patterns
 pub mod Private
 pub mod Readings
-pub mod Runs
 pub mod States
 pub mod Told
 pub mod Views

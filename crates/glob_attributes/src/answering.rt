@@ -2,7 +2,8 @@
 ghost use Rattle.std.specs.Prelude.{◌≡◌, false};
 ghost use Rattle.gix_glob.specs.Watched.{has_failed, inner};
 ghost use Rattle.glob_attributes.specs.Answers.{IsAnswer};
-ghost use Rattle.glob_attributes.specs.Runs.{EndsRun};
+ghost use Rattle.record_streams.specs.Records.{TextOf};
+ghost use Rattle.record_streams.specs.Runs.{EndsRun};
 
 use crate::query::AttributeQuery;
 use gix_glob::search::Watched;
@@ -33,7 +34,7 @@ pub fn run_attributes<R: Read, W: Write>(
 ) -> Result<(), RecordFault<AllocError>>
     requires readable { has_failed paths.old ≡ false }
     requires writable { has_failed writer.old ≡ false }
-    ensures { EndsRun (IsAnswer query.now) result (R.remaining (inner paths.old)) (R.remaining (inner paths.new))
+    ensures { EndsRun (λ _. TextOf (IsAnswer query.now)) (TextOf (IsAnswer query.now)) 0 result (R.remaining (inner paths.old)) (R.remaining (inner paths.new))
         (W.contents (inner writer.old)) (W.contents (inner writer.new)) (has_failed paths.new) (has_failed writer.new) }
 {
     match run_question::<R, W, Brand>(alloc, query, paths, writer) {
@@ -92,7 +93,7 @@ fn run_question<R: Read, W: Write, Q: Question>(
     requires asked { query.now ≡ Q.query }
     requires readable { has_failed paths.old ≡ false }
     requires writable { has_failed writer.old ≡ false }
-    ensures { EndsRun (IsAnswer Q.query) result (R.remaining (inner paths.old)) (R.remaining (inner paths.new))
+    ensures { EndsRun (λ _. TextOf (IsAnswer Q.query)) (TextOf (IsAnswer Q.query)) 0 result (R.remaining (inner paths.old)) (R.remaining (inner paths.new))
         (W.contents (inner writer.old)) (W.contents (inner writer.new)) (has_failed paths.new) (has_failed writer.new) }
 {
     let mut answerer = QueryAnswerer::<'_, Q> {

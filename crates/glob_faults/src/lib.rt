@@ -12,6 +12,8 @@ mod fakes;
 #[cfg(test)]
 mod files;
 #[cfg(test)]
+mod listings;
+#[cfg(test)]
 mod lists;
 #[cfg(test)]
 mod lists_from_readers;

@@ -79,14 +79,17 @@ impl Answer {
             return self.text.extend_from_slice(b"\\\\");
         }
         if byte < b' ' || byte > b'~' || byte == b' ' && is_end {
-            let digits = [
-                DIGITS[usize::from(byte / 16)],
-                DIGITS[usize::from(byte % 16)],
-            ];
-            self.text.extend_from_slice(b"\\x")?;
-            return self.text.extend_from_slice(&digits);
+            return self.push_digits(byte);
         }
         self.text.push(byte)?;
+        Ok(())
+    }
+
+    /// Adds a byte in two digits.
+    fn push_digits(&mut self, byte: u8) -> Result<(), AllocError> {
+        self.text.extend_from_slice(b"\\x")?;
+        self.text.push(DIGITS[usize::from(byte / 16)])?;
+        self.text.push(DIGITS[usize::from(byte % 16)])?;
         Ok(())
     }
 }

@@ -8,8 +8,8 @@ use crate::subjects::{
     TreeSubject,
 };
 use crate::{
-    attempts, attribute_files, attribute_states, bases, config_files, config_includes, index_files,
-    lines, lists, matching, patterns, repositories, streams, trees,
+    attempts, attribute_files, attribute_states, bases, config_files, config_includes, ignore_runs,
+    index_files, lines, lists, matching, patterns, repositories, streams, trees,
 };
 use std::alloc::Global;
 
@@ -101,6 +101,7 @@ fn ask_trees(
         TreeSubject::Decided => trees::trees(alloc, question, answer),
         TreeSubject::Told => trees::trees_told(alloc, question, answer),
         TreeSubject::Asked => trees::trees_asked(alloc, question, answer),
+        TreeSubject::IgnoreRuns => ignore_runs::ignore_runs(alloc, question, answer),
     }
 }
 

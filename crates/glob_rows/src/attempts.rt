@@ -4,8 +4,8 @@ use crate::answer::Answer;
 use crate::fault::RowFault;
 use crate::question::Question;
 use crate::texts::{push_debug_text, push_text};
-use gix_glob::wildmatch::{attempt, is_start};
-use std::alloc::Global;
+use gix_glob::wildmatch::{Mode, attempt, is_start};
+use std::alloc::{AllocError, Global};
 
 /// The places of a pattern from which an attempt may begin.
 pub(crate) fn starts(
@@ -13,7 +13,12 @@ pub(crate) fn starts(
     question: &Question,
     answer: &mut Answer,
 ) -> Result<(), RowFault> {
-    let (mode, pattern) = (question.mode(0)?, question.bytes(1)?);
+    let text = starts_of(alloc, question.bytes(1)?, question.mode(0)?)?;
+    Ok(answer.push(&text)?)
+}
+
+/// The places of a pattern from which an attempt may begin, with a space between each two.
+fn starts_of(alloc: Global, pattern: &[u8], mode: Mode) -> Result<Vec<u8>, AllocError> {
     let mut text = Vec::new(alloc);
     for place in 0..=pattern.len() {
         if is_start(pattern, place, mode) {
@@ -23,7 +28,7 @@ pub(crate) fn starts(
             push_text(alloc, &mut text, &place)?;
         }
     }
-    Ok(answer.push(&text)?)
+    Ok(text)
 }
 
 /// The number of a field that has one.

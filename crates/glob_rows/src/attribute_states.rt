@@ -8,7 +8,9 @@ use crate::texts::push_text;
 use gix_glob::pattern::Case;
 use gix_glob::search::has_file_part;
 use gix_glob::search::pattern::List;
-use glob_attributes::{AttributeLines, AttributeNames, MacroTable, PathAttributes, keep_named};
+use glob_attributes::{
+    Assignment, AttributeLines, AttributeNames, MacroTable, PathAttributes, keep_named,
+};
 use glob_lists::{IndexError, ListIndex, RepositoryPath, Rules, bases_are_folders};
 use glob_trees::list_in_folder;
 use std::alloc::{AllocError, Global};
@@ -65,6 +67,23 @@ impl Sources {
     fn keep(&mut self, names: &[&[u8]]) {
         for list in &mut self.lists {
             keep_named(list, names, &self.macros);
+        }
+    }
+
+    /// The words for a path, which have to be the same by the lines alone that concern these names.
+    fn states_either_way(
+        &mut self,
+        alloc: Global,
+        path: &[u8],
+        names: &[&[u8]],
+        case: Case,
+    ) -> Result<Vec<u8>, RowFault> {
+        let states = self.states(alloc, path, names, case)?;
+        self.keep(names);
+        if self.states(alloc, path, names, case)?.as_slice() == states.as_slice() {
+            Ok(states)
+        } else {
+            Err(RowFault::Call("lines that were left out count"))
         }
     }
 
@@ -148,11 +167,7 @@ pub(crate) fn attribute_states(
     let (case, path) = (question.case(0)?, question.bytes(1)?);
     let names = names_in(alloc, question.bytes(2)?)?;
     let mut sources = Sources::new(alloc, question.rest(3))?;
-    let states = sources.states(alloc, path, &names, case)?;
-    sources.keep(&names);
-    if sources.states(alloc, path, &names, case)?.as_slice() != states.as_slice() {
-        return Err(RowFault::Call("lines that were left out count"));
-    }
+    let states = sources.states_either_way(alloc, path, &names, case)?;
     Ok(answer.push(&states)?)
 }
 
@@ -177,15 +192,24 @@ pub(crate) fn attributes_kept(
     Ok(answer.push(&text)?)
 }
 
+/// The macros and the names of files.
+#[derive(Drop)]
+struct Tables {
+    macros: MacroTable,
+    names: AttributeNames,
+}
+
 /// The macros and the names of two files.
-fn tables_of(alloc: Global, files: [&[u8]; 2]) -> Result<(MacroTable, AttributeNames), AllocError> {
-    let mut macros = MacroTable::new(alloc)?;
-    let mut names = AttributeNames::new(alloc)?;
+fn tables_of(alloc: Global, files: [&[u8]; 2]) -> Result<Tables, AllocError> {
+    let mut tables = Tables {
+        macros: MacroTable::new(alloc)?,
+        names: AttributeNames::new(alloc)?,
+    };
     for bytes in files {
-        macros.add_file(alloc, bytes)?;
-        names.add_file(alloc, bytes, true)?;
+        tables.macros.add_file(alloc, bytes)?;
+        tables.names.add_file(alloc, bytes, true)?;
     }
-    Ok((macros, names))
+    Ok(tables)
 }
 
 /// A word for the state of each attribute of a path that isn't unspecified, by an index of a file and a stronger one.
@@ -194,13 +218,34 @@ pub(crate) fn all_states(
     question: &Question,
     answer: &mut Answer,
 ) -> Result<(), RowFault> {
-    let (path, files) = (question.bytes(0)?, [question.bytes(1)?, question.bytes(2)?]);
-    let (macros, names) = tables_of(alloc, files)?;
-    let weaker = vec![in alloc; list_of(alloc, files[0])?]?;
-    let stronger = vec![in alloc; list_of(alloc, files[1])?]?;
-    let index = index_of(alloc, &weaker, Case::Sensitive)?;
-    let text = all_text(alloc, &index, &stronger, &macros, &names, path)?;
+    let (path, weaker, stronger) = (question.bytes(0)?, question.bytes(1)?, question.bytes(2)?);
+    let text = text_by_files(alloc, path, weaker, stronger)?;
     Ok(answer.push(&text)?)
+}
+
+/// The words for a path, by the bytes of a file and those of a stronger one.
+fn text_by_files(
+    alloc: Global,
+    path: &[u8],
+    weaker: &[u8],
+    stronger: &[u8],
+) -> Result<Vec<u8>, RowFault> {
+    let tables = tables_of(alloc, [weaker, stronger])?;
+    let weaker = [list_of(alloc, weaker)?];
+    let stronger = [list_of(alloc, stronger)?];
+    text_by_lists(alloc, path, &weaker, &stronger, &tables)
+}
+
+/// The words for a path, by a list and a stronger one.
+fn text_by_lists(
+    alloc: Global,
+    path: &[u8],
+    weaker: &[List<AttributeLines>],
+    stronger: &[List<AttributeLines>],
+    tables: &Tables,
+) -> Result<Vec<u8>, RowFault> {
+    let index = index_of(alloc, weaker, Case::Sensitive)?;
+    all_text(alloc, &index, stronger, tables, path)
 }
 
 /// The words for a path, by an index and stronger lists.
@@ -208,17 +253,24 @@ fn all_text(
     alloc: Global,
     index: &ListIndex<'_, AttributeLines>,
     stronger: &[List<AttributeLines>],
-    macros: &MacroTable,
-    names: &AttributeNames,
+    tables: &Tables,
     path: &[u8],
 ) -> Result<Vec<u8>, RowFault> {
     let path = RepositoryPath::of_line(path).ok_or(RowFault::Field("a path"))?;
     if !bases_are_folders(stronger) {
         return Err(RowFault::Field("bases of folders"));
     }
-    let attributes = PathAttributes::with_index(alloc, index, stronger, macros, &path)?;
+    let attributes = PathAttributes::with_index(alloc, index, stronger, &tables.macros, &path)?;
+    Ok(states_text(
+        alloc,
+        &attributes.states_of(alloc, tables.names.as_slice())?,
+    )?)
+}
+
+/// A word for each state.
+fn states_text(alloc: Global, states: &[Assignment<&[u8]>]) -> Result<Vec<u8>, AllocError> {
     let mut text = Vec::new(alloc);
-    for told in &attributes.states_of(alloc, names.as_slice())? {
+    for told in states {
         push_state(&mut text, told.name, &told.state)?;
     }
     Ok(text)

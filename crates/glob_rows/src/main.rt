@@ -11,6 +11,7 @@ mod config_files;
 mod config_includes;
 mod fault;
 mod file_table;
+mod ignore_runs;
 mod index_files;
 mod lines;
 mod lists;

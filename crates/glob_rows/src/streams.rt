@@ -4,6 +4,7 @@ use crate::answer::Answer;
 use crate::attribute_states::{Sources, index_of};
 use crate::fault::RowFault;
 use crate::question::Question;
+use gix_glob::pattern::Case;
 use gix_glob::search::Watched;
 use glob_attributes::{AttributeQuery, run_attributes};
 use record_streams::{Answerer, RecordFault, RecordStream};
@@ -66,10 +67,21 @@ pub(crate) fn attribute_streams(
     let (case, paths) = (question.case(0)?, question.bytes(2)?);
     let names = names_of(alloc, question.option(1)?)?;
     let sources = Sources::new(alloc, question.rest(3))?;
-    let index = index_of(alloc, &sources.lists, case)?;
-    let query = AttributeQuery::new(&index, &sources.macros, &names);
-    let written = written(alloc, &query, paths)?;
+    let written = written_by(alloc, &sources, &names, case, paths)?;
     Ok(answer.push(&written)?)
+}
+
+/// What is written of the attributes of these names, for the paths of a stream.
+fn written_by(
+    alloc: Global,
+    sources: &Sources,
+    names: &[&[u8]],
+    case: Case,
+    paths: &[u8],
+) -> Result<Vec<u8>, RowFault> {
+    let index = index_of(alloc, &sources.lists, case)?;
+    let query = AttributeQuery::new(&index, &sources.macros, names);
+    written(alloc, &query, paths)
 }
 
 /// The names that words are, with a byte 0 between each two; none where there are no words.

@@ -68,6 +68,7 @@ pub(crate) enum TreeSubject {
     Told,
     Decided,
     Asked,
+    IgnoreRuns,
 }
 
 /// What rows ask of attributes.
@@ -102,7 +103,7 @@ pub(crate) enum RepositorySubject {
 }
 
 /// All files of rows, in the order in which they are asked: the name of each, how many fields are the answer, and what is asked.
-pub(crate) const FILES: [(&str, usize, Subject); 50] = [
+pub(crate) const FILES: [(&str, usize, Subject); 51] = [
     ("matching", 1, Subject::Pattern(PatternSubject::Matching)),
     ("starts", 1, Subject::Pattern(PatternSubject::Starts)),
     ("attempts", 1, Subject::Pattern(PatternSubject::Attempts)),
@@ -139,6 +140,7 @@ pub(crate) const FILES: [(&str, usize, Subject); 50] = [
     ("trees", 1, Subject::Tree(TreeSubject::Decided)),
     ("trees_told", 1, Subject::Tree(TreeSubject::Told)),
     ("trees_asked", 2, Subject::Tree(TreeSubject::Asked)),
+    ("ignore_runs", 3, Subject::Tree(TreeSubject::IgnoreRuns)),
     (
         "attribute_lines",
         1,

@@ -61,13 +61,22 @@ fn decision(
 
 /// A source that has the ignore files of its folders in fields, and notes each folder that it is asked for.
 #[derive(Drop)]
-struct Table<'a> {
+pub(crate) struct Table<'a> {
     alloc: Global,
     folders: &'a [Field],
     asked: Vec<u8>,
 }
 
 impl<'a> Table<'a> {
+    /// A table of folders, each with the bytes of its ignore file behind it. None was asked for yet.
+    pub(crate) fn new(alloc: Global, folders: &'a [Field]) -> Table<'a> {
+        Table {
+            alloc,
+            folders,
+            asked: Vec::new(alloc),
+        }
+    }
+
     /// The bytes of a folder's ignore file.
     fn bytes_of(&self, folder: &[u8]) -> &'a [u8] {
         for file in self.folders.chunks_exact(2) {
@@ -106,24 +115,28 @@ pub(crate) fn trees_asked(
     question: &Question,
     answer: &mut Answer,
 ) -> Result<(), RowFault> {
-    let source = Table {
-        alloc,
-        folders: question.rest(1),
-        asked: Vec::new(alloc),
-    };
-    let fronts = Vec::new(alloc);
-    let mut tree = Tree::new(alloc, source, fronts, Rules::by_crate(Case::Sensitive)).ok_or(RowFault::Call(
-        "Tree::new",
-    ))?;
+    let source = Table::new(alloc, question.rest(1));
+    let tree = Tree::new(alloc, source, Vec::new(alloc), Rules::by_crate(Case::Sensitive));
+    let mut tree = tree.ok_or(RowFault::Call("Tree::new"))?;
+    let decisions = decisions_of(alloc, &mut tree, question.bytes(0)?)?;
+    answer.push(&decisions)?;
+    Ok(answer.push(&tree.source().asked)?)
+}
+
+/// What decides about each of the paths, which stand in lines.
+fn decisions_of(
+    alloc: Global,
+    tree: &mut Tree<IgnoreLines, Table<'_>>,
+    paths: &[u8],
+) -> Result<Vec<u8>, RowFault> {
     let mut text = Vec::new(alloc);
-    for line in question.bytes(0)?.split(|byte| *byte == b'\n') {
+    for path in paths.split(|byte| *byte == b'\n') {
         if !text.is_empty() {
             text.push(b' ')?;
         }
-        push_decision(alloc, &mut tree, line, &mut text)?;
+        push_decision(alloc, tree, path, &mut text)?;
     }
-    answer.push(&text)?;
-    Ok(answer.push(&tree.source().asked)?)
+    Ok(text)
 }
 
 /// Adds what decides about a path: the base of the list and the number of the line, or a dash.

@@ -1,12 +1,9 @@
 pub mod AttributeFlags
 pub mod CommandWords
 pub mod ConfigKeys
-pub mod Files
 pub mod FilesFlags
 pub mod Flags
-pub mod Ignoring
 pub mod IndexHead
-pub mod OnWay
 pub mod SeenFiles
 pub mod Telling
 pub mod Words

@@ -1,132 +1,89 @@
-//! Reading attribute files: their lists, their names, and the lines that say nothing.
+//! Reading attribute files: their bytes, and the lines that say nothing.
 
 use crate::fault::CheckFault;
 use crate::seen_files::{Sight, file_list, seen_file_list};
 use crate::standing::{OwnFile, Standing, file_in, folder_text, own_file, what_stands};
 use crate::telling::tell_line;
-use gix_glob::search::pattern::List;
-use glob_attributes::{
-    AttributeLines, AttributeNames, MacroTable, Silence, SilentLine, silent_lines,
-};
-use glob_trees::list_in_folder;
+use crate::unparsed::Unparsed;
+use glob_attributes::{Silence, SilentLine, silent_lines};
 use std::alloc::{AllocError, Global};
 use std::fs;
 use std::fs::Metadata;
 use std::rt::Files;
+use tree_commands::check_attr::AttributeFolders;
 
 /// The length in bytes from which on a file is passed over.
 const FILE_LIMIT: u64 = 104_857_600;
 
-/// What reads attribute files. It tells what is passed over.
+/// The attribute files below the folder that the program stands in, and those that lie elsewhere. It tells what is passed over.
 #[derive(Drop)]
-pub(crate) struct AttributeReader<'a, R> {
+pub(crate) struct AttributeFiles<'a, R> {
     pub(crate) rt: &'a R,
     pub(crate) alloc: Global,
-    /// The names of attributes, in the order in which they were first read; `None` where nobody asks for all.
-    pub(crate) names: Option<AttributeNames>,
-    /// The bytes of the file that was read last.
-    pub(crate) bytes: Vec<u8>,
 }
 
-impl<'a, R: Files + Eprint> AttributeReader<'a, R> {
-    /// The list of a file that lies outside all folders, and its macros; no patterns where there is none. A link is followed.
-    pub(crate) fn file(
-        &mut self,
-        file: String,
-        macros: &mut MacroTable,
-    ) -> Result<List<AttributeLines>, CheckFault> {
-        self.bytes.clear();
-        let list = match fs::metadata(self.rt, file.as_str()) {
-            Ok(found) if self.is_too_large(file.as_str(), &found)? => {
-                return Ok(List::empty(self.alloc));
+impl<'a, R: Files + Eprint> AttributeFiles<'a, R> {
+    /// The bytes of a file that lies outside all folders; none where there is no file. A link is followed.
+    pub(crate) fn file(&self, file: String) -> Result<Vec<u8>, CheckFault> {
+        let mut bytes = Vec::new(self.alloc);
+        let name = file.clone()?;
+        match fs::metadata(self.rt, name.as_str()) {
+            Ok(found) if self.is_too_large(name.as_str(), &found)? => return Ok(bytes),
+            Ok(found) => self.read_seen(file, &found, &mut bytes)?,
+            Err(_unseen) => {
+                file_list(self.rt, self.alloc, file, &mut bytes, Unparsed)?;
             }
-            Ok(found) => self.list_of_seen(file, &found)?,
-            Err(_unseen) => file_list(self.rt, self.alloc, file, &mut self.bytes, AttributeLines)?,
-        };
-        macros.add_file(self.alloc, &self.bytes)?;
-        self.note(&list, true)?;
-        Ok(list)
+        }
+        self.tell_silences(name.as_str(), &bytes, true)?;
+        Ok(bytes)
     }
 
-    /// The list of the top, and its macros.
-    pub(crate) fn top(
-        &mut self,
-        macros: &mut MacroTable,
-    ) -> Result<List<AttributeLines>, CheckFault> {
+    /// The bytes of the file of the top.
+    pub(crate) fn top(&self) -> Result<Vec<u8>, CheckFault> {
+        let mut bytes = Vec::new(self.alloc);
         let file = String::from_str(self.alloc, ".gitattributes")?;
-        let list = match self.own_list(file, true)? {
-            Some(list) => list,
-            None => List::empty(self.alloc),
-        };
-        macros.add_file(self.alloc, &self.bytes)?;
-        Ok(list)
+        self.read_own(file, &mut bytes, true)?;
+        Ok(bytes)
     }
 
-    /// The list of a folder below the top, with the folder as its base; `None` where no folder stands there that can be looked into.
-    pub(crate) fn list_in(
-        &mut self,
-        folder: &[u8],
-    ) -> Result<Option<List<AttributeLines>>, CheckFault> {
-        let name = folder_text(self.alloc, folder)?;
-        match what_stands(self.rt, self.alloc, name.as_str())? {
-            Standing::Nothing | Standing::Unseen => return Ok(None),
-            Standing::Folder | Standing::Link => {}
-        }
-        let file = file_in(self.alloc, name.as_str(), ".gitattributes")?;
-        match self.own_list(file, false)? {
-            Some(list) => Ok(Some(list_in_folder(self.alloc, list, folder)?)),
-            None => Ok(None),
-        }
-    }
-
-    /// The list of a folder's own file; no patterns where there is none, and `None` where the folder can't be looked into. A link
-    /// isn't followed.
-    fn own_list(
-        &mut self,
+    /// Reads a folder's own file; no bytes where there is none. It answers whether the folder can be looked into. A link isn't followed.
+    fn read_own(
+        &self,
         file: String,
+        bytes: &mut Vec<u8>,
         is_top: bool,
-    ) -> Result<Option<List<AttributeLines>>, CheckFault> {
-        self.bytes.clear();
+    ) -> Result<bool, CheckFault> {
+        bytes.clear();
         let found = match own_file(self.rt, self.alloc, file.as_str())? {
             OwnFile::Found(found) => found,
-            OwnFile::Nothing => return Ok(Some(List::empty(self.alloc))),
-            OwnFile::Shut => return Ok(None),
+            OwnFile::Nothing => return Ok(true),
+            OwnFile::Shut => return Ok(false),
         };
         if self.is_too_large(file.as_str(), &found)? {
-            return Ok(Some(List::empty(self.alloc)));
+            return Ok(true);
         }
-        let list = self.list_of_seen(file, &found)?;
-        self.note(&list, is_top)?;
-        Ok(Some(list))
+        let name = file.clone()?;
+        self.read_seen(file, &found, bytes)?;
+        self.tell_silences(name.as_str(), bytes, is_top)?;
+        Ok(true)
     }
 
-    /// The list of a file that was looked at.
-    fn list_of_seen(
-        &mut self,
+    /// Reads a file that was looked at.
+    fn read_seen(
+        &self,
         file: String,
         found: &Metadata,
-    ) -> Result<List<AttributeLines>, CheckFault> {
+        bytes: &mut Vec<u8>,
+    ) -> Result<(), CheckFault> {
         let seen = Sight::of(found);
-        seen_file_list(
-            self.rt,
-            self.alloc,
-            file,
-            &seen,
-            &mut self.bytes,
-            AttributeLines,
-        )
+        seen_file_list(self.rt, self.alloc, file, &seen, bytes, Unparsed)?;
+        Ok(())
     }
 
-    /// Keeps the names of the file that was read, and tells its lines that say nothing.
-    fn note(&mut self, list: &List<AttributeLines>, is_top: bool) -> Result<(), AllocError> {
-        if let Some(names) = &mut self.names {
-            names.add_file(self.alloc, &self.bytes, is_top)?;
-        }
-        let Some(source) = &list.source else {
-            return Ok(());
-        };
-        for line in &silent_lines(self.alloc, &self.bytes, is_top)? {
-            tell_silent(self.rt, self.alloc, source.as_str(), line)?;
+    /// Tells the lines of a file that say nothing.
+    fn tell_silences(&self, name: &str, bytes: &[u8], is_top: bool) -> Result<(), AllocError> {
+        for line in &silent_lines(self.alloc, bytes, is_top)? {
+            tell_silent(self.rt, self.alloc, name, line)?;
         }
         Ok(())
     }
@@ -142,6 +99,22 @@ impl<'a, R: Files + Eprint> AttributeReader<'a, R> {
             format_args!("warning: '{name}' is passed over: it has {FILE_LIMIT} bytes or more"),
         )?;
         Ok(true)
+    }
+}
+
+impl<'a, R: Files + Eprint> AttributeFolders for AttributeFiles<'a, R> {
+    type Fault = CheckFault;
+
+    ghost shows = { λ _ _ _. Unit {0} };
+
+    fn read_file(&mut self, folder: &[u8], bytes: &mut Vec<u8>) -> Result<bool, CheckFault> {
+        let name = folder_text(self.alloc, folder)?;
+        match what_stands(self.rt, self.alloc, name.as_str())? {
+            Standing::Nothing | Standing::Unseen => return Ok(false),
+            Standing::Folder | Standing::Link => {}
+        }
+        let file = file_in(self.alloc, name.as_str(), ".gitattributes")?;
+        self.read_own(file, bytes, false)
     }
 }
 

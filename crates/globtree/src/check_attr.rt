@@ -2,25 +2,26 @@
 ghost use Rattle.std.specs.Prelude.{◌≡◌, false};
 ghost use Rattle.gix_glob.specs.Watched.{has_failed};
 
-use crate::answering::{answer_paths, answer_records};
-use crate::attribute_asking::AttributeAsker;
+use crate::attribute_files::AttributeFiles;
 use crate::attribute_flags::AttributeFlags;
+use crate::check_ignore::bytes_of;
 use crate::command_words::operands_of;
-use crate::folder_attributes::{FolderAttributes, keep_asked};
+use crate::fault::CheckFault;
 use crate::outer_attributes::{OuterAttributes, outer_attributes};
 use crate::running::{ANSWERED, WRONG_WORDS};
 use crate::telling::{tell_line, tell_usage};
 use crate::words::Options;
-use anyhow::{Context, Result, bail};
-use gix_glob::pattern::Case;
+use anyhow::{Context, Result};
 use gix_glob::search::Watched;
-use gix_glob::search::pattern::List;
-use glob_attributes::{AttributeLines, MacroTable, is_name};
-use glob_lists::{ListIndex, bases_are_folders};
-use std::alloc::{AllocError, Global};
+use glob_attributes::is_name;
+use record_streams::RecordFault;
+use std::alloc::Global;
 use std::io::{Read, Write};
 use std::rt::{Env, Files};
-use tree_answers::{Form, append_label};
+use tree_answers::Form;
+use tree_commands::check_attr::{
+    AskedAttributes, AttributeQuestion, check_attr_paths, run_check_attr,
+};
 
 /// What the command ends with where a name is none that an attribute can have.
 const NO_NAME: u8 = 255;
@@ -54,13 +55,7 @@ pub(crate) fn check_attr<R: Files + Env + Eprint + AllocGlobal, I: Read, O: Writ
         }
     };
     let (names, paths) = operands.words.split_at(count);
-    let OuterAttributes {
-        reader,
-        standpoint,
-        macros,
-        mut lists,
-        mut info,
-    } = outer_attributes(rt, alloc, options, flags)?;
+    let outer = outer_attributes(rt, alloc, options, flags)?;
     if let Some(name) = wrong_name(names) {
         tell_line(
             rt,
@@ -69,63 +64,38 @@ pub(crate) fn check_attr<R: Files + Env + Eprint + AllocGlobal, I: Read, O: Writ
         )?;
         return Ok(NO_NAME);
     }
-    if !flags.all {
-        keep_asked_in_each(alloc, &mut lists, names, &macros)?;
-        keep_asked_in_each(alloc, &mut info, names, &macros)?;
-    }
-    let index = index_of(alloc, &lists)?;
-    let form = Form::ended_by(flags.nul);
-    let asker = AttributeAsker {
-        alloc,
-        standpoint,
-        form,
-        index: &index,
-        folders: FolderAttributes::new(reader, info, names, &macros),
-        labels: labels_of(alloc, names, form)?,
-        path: Vec::new(alloc),
-    };
-    if flags.stdin {
-        answer_records(alloc, asker, form, input, output)?;
+    let asked_names = bytes_of(alloc, names)?;
+    let told = bytes_of(alloc, paths)?;
+    let question = question_of(&outer, &asked_names, flags);
+    let source = AttributeFiles { rt, alloc };
+    let outcome = if flags.stdin {
+        run_check_attr(alloc, &question, source, input, output)
     } else {
-        answer_paths(alloc, asker, paths, true, output)?;
+        check_attr_paths(alloc, &question, source, &told, output)
+    };
+    match outcome {
+        Ok(()) => Ok(ANSWERED),
+        Err(RecordFault::Answer(fault)) => Err(CheckFault::of_attributes(alloc, fault).into()),
+        Err(fault) => Err(fault.into()),
     }
-    Ok(ANSWERED)
 }
 
-/// The label of each of the names.
-fn labels_of(alloc: Global, names: &[&str], form: Form) -> Result<Vec<Vec<u8>>, AllocError> {
-    let mut labels = Vec::with_capacity(alloc, names.len())?;
-    for name in names {
-        let mut label = Vec::new(alloc);
-        append_label(&mut label, name.as_bytes(), form)?;
-        labels.push(label)?;
+/// What is asked of each path, by the flags.
+fn question_of<'a>(
+    outer: &'a OuterAttributes,
+    names: &'a [&'a [u8]],
+    flags: AttributeFlags,
+) -> AttributeQuestion<'a> {
+    let form = Form::ended_by(flags.nul);
+    if flags.all {
+        return AttributeQuestion::new(outer.files(), AskedAttributes::All, &outer.standpoint, form);
     }
-    Ok(labels)
-}
-
-/// Takes from each list the patterns that no state of these attributes rests on.
-fn keep_asked_in_each(
-    alloc: Global,
-    lists: &mut [List<AttributeLines>],
-    names: &[&str],
-    macros: &MacroTable,
-) -> Result<(), AllocError> {
-    'lists: for i in 0..lists.len() {
-        keep_asked(alloc, &mut lists[i], names, macros)?;
-    }
-    Ok(())
-}
-
-/// An index of lists that have no folder as their base.
-fn index_of(
-    alloc: Global,
-    lists: &[List<AttributeLines>],
-) -> Result<ListIndex<'_, AttributeLines>> {
-    if !bases_are_folders(lists) {
-        bail!("the bases of lists");
-    }
-    let index = ListIndex::new(alloc, lists, Case::Sensitive).context("the index")?;
-    Ok(index)
+    AttributeQuestion::new(
+        outer.files(),
+        AskedAttributes::Names(names),
+        &outer.standpoint,
+        form,
+    )
 }
 
 /// The first name that no attribute can have.

@@ -2,22 +2,25 @@
 ghost use Rattle.std.specs.Prelude.{◌≡◌, false};
 ghost use Rattle.gix_glob.specs.Watched.{has_failed};
 
-use crate::answering::{answer_paths, answer_records};
-use crate::asking::Asker;
 use crate::command_words::operands_of;
-use crate::finding::Finder;
+use crate::fault::CheckFault;
+use crate::file_kinds::FileKinds;
 use crate::flags::Flags;
 use crate::running::ANSWERED;
 use crate::signs::Concerns;
-use crate::unlinked::UnlinkedFolders;
+use crate::sources::FolderFiles;
 use crate::words::Options;
 use crate::work_tree::tree_of;
 use anyhow::{Context, Result, bail};
 use gix_glob::search::Watched;
-use std::alloc::Global;
+use record_streams::RecordFault;
+use std::alloc::{AllocError, Global};
 use std::io::{Read, Write};
 use std::rt::{Env, Files};
-use tree_answers::Form;
+use told_paths::Standpoint;
+use tree_commands::check_ignore::{
+    IgnoreFault, IgnoreSources, check_ignore_paths, run_check_ignore,
+};
 
 /// What the command ends with where no line decided about a path.
 const NONE_IGNORED: u8 = 1;
@@ -39,40 +42,49 @@ pub(crate) fn check_ignore<R: Files + Env + Eprint + AllocGlobal, I: Read, O: Wr
     if let Some(message) = flags.disagreement(paths.len()) {
         bail!("{message}");
     }
-    let asker = asker_of(rt, alloc, options, flags)?;
-    let asker = if flags.stdin {
-        answer_records(alloc, asker, Form::ended_by(flags.nul), input, output)?
+    let (standpoint, sources) = sources_of(rt, alloc, options, flags)?;
+    let asked = flags.asked();
+    let outcome = if flags.stdin {
+        run_check_ignore(alloc, &standpoint, asked, sources, input, output).1
     } else {
-        answer_paths(alloc, asker, &paths, false, output)?
+        let paths = bytes_of(alloc, &paths)?;
+        check_ignore_paths(alloc, &standpoint, asked, sources, &paths, output).1
     };
-    Ok(if asker.is_any { ANSWERED } else { NONE_IGNORED })
+    match outcome {
+        Ok(true) => Ok(ANSWERED),
+        Ok(false) => Ok(NONE_IGNORED),
+        Err(RecordFault::Answer(fault)) => Err(CheckFault::of_ignore(alloc, fault).into()),
+        Err(fault) => Err(fault.into()),
+    }
 }
 
-/// What answers paths by the options.
-fn asker_of<'a, R: Files + Env + Eprint + AllocGlobal>(
+/// Where paths are told from, and where answers come from by the options.
+fn sources_of<'a, R: Files + Env + Eprint + AllocGlobal>(
     rt: &'a R,
     alloc: Global,
     options: Options<'_>,
     flags: Flags,
-) -> Result<Asker<'a, R>> {
+) -> Result<
+    (
+        Standpoint,
+        IgnoreSources<FolderFiles<'a, R>, FileKinds<'a, R>>,
+    ),
+> {
     let concerns = Concerns {
         are_attributes: false,
         is_nul: flags.nul,
         uses_index: !flags.no_index,
     };
     let (standpoint, tree) = tree_of(rt, alloc, options, concerns)?;
-    let finder = Finder {
-        rt,
-        alloc,
-        tree,
-        unlinked: UnlinkedFolders::new(alloc),
-    };
-    Ok(Asker {
-        alloc,
-        standpoint,
-        flags,
-        finder,
-        path: Vec::new(alloc),
-        is_any: false,
-    })
+    let kinds = FileKinds { rt, alloc };
+    Ok((standpoint, IgnoreSources { tree, kinds }))
+}
+
+/// The bytes of each of the words.
+pub(crate) fn bytes_of<'a>(alloc: Global, words: &[&'a str]) -> Result<Vec<&'a [u8]>, AllocError> {
+    let mut bytes = Vec::with_capacity(alloc, words.len())?;
+    for word in words {
+        bytes.push(word.as_bytes())?;
+    }
+    Ok(bytes)
 }

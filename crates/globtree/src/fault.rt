@@ -6,6 +6,8 @@ use std::alloc::{AllocError, Global};
 use thiserror::Error;
 use told_paths::LeadFault;
 use tree_answers::NameFault;
+use tree_commands::check_attr::AttributeFault;
+use tree_commands::check_ignore::IgnoreFault;
 
 /// Why a path got no answer.
 #[derive(Debug, Drop, Error)]
@@ -62,10 +64,36 @@ impl CheckFault {
         match fault {
             LeadFault::Memory => CheckFault::Memory,
             LeadFault::Empty => CheckFault::Empty,
-            LeadFault::Outside => match String::from_utf8_lossy(alloc, told) {
-                Ok(text) => CheckFault::Outside(text),
-                Err(_refused) => CheckFault::Memory,
-            },
+            LeadFault::Outside => CheckFault::of_outside(alloc, told),
+        }
+    }
+
+    /// The fault of a path that `check-ignore` has no answer for.
+    pub(crate) fn of_ignore(alloc: Global, fault: IgnoreFault<CheckFault>) -> CheckFault {
+        match fault {
+            IgnoreFault::Memory => CheckFault::Memory,
+            IgnoreFault::Empty => CheckFault::Empty,
+            IgnoreFault::Outside(told) => CheckFault::of_outside(alloc, &told),
+            IgnoreFault::BadlyQuoted => CheckFault::BadlyQuoted,
+            IgnoreFault::Source(fault) => fault,
+        }
+    }
+
+    /// The fault of a path that `check-attr` has no answer for.
+    pub(crate) fn of_attributes(alloc: Global, fault: AttributeFault<CheckFault>) -> CheckFault {
+        match fault {
+            AttributeFault::Memory | AttributeFault::Spent => CheckFault::Memory,
+            AttributeFault::BadlyQuoted => CheckFault::BadlyQuoted,
+            AttributeFault::Outside(told) => CheckFault::of_outside(alloc, &told),
+            AttributeFault::Source(fault) => fault,
+        }
+    }
+
+    /// The fault of a told path that leads out of the work tree.
+    fn of_outside(alloc: Global, told: &[u8]) -> CheckFault {
+        match String::from_utf8_lossy(alloc, told) {
+            Ok(text) => CheckFault::Outside(text),
+            Err(_refused) => CheckFault::Memory,
         }
     }
 }

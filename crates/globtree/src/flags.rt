@@ -1,6 +1,8 @@
 //! The options of `check-ignore`.
 
 use crate::command_words::CommandFlags;
+use tree_answers::Form;
+use tree_commands::check_ignore::IgnoreFlags;
 
 /// What the options of `check-ignore` ask for.
 #[derive(Clone, Copy, Drop)]
@@ -29,6 +31,16 @@ impl Flags {
             quiet: false,
             stdin: false,
             no_index: false,
+        }
+    }
+
+    /// What is written about paths.
+    pub(crate) fn asked(self) -> IgnoreFlags {
+        IgnoreFlags {
+            form: Form::ended_by(self.nul),
+            verbose: self.verbose,
+            non_matching: self.non_matching,
+            quiet: self.quiet,
         }
     }
 

@@ -1,9 +1,8 @@
 //! The command `files`.
 
-use crate::files::Lister;
+use crate::fault::CheckFault;
+use crate::files::TreeFiles;
 use crate::files_flags::FilesFlags;
-use crate::folder_names::NameReader;
-use crate::ignoring::ListsOnWay;
 use crate::running::ANSWERED;
 use crate::signs::Concerns;
 use crate::words::Options;
@@ -13,6 +12,10 @@ use gix_glob::search::Watched;
 use std::alloc::Global;
 use std::io::Write;
 use std::rt::{Env, Files};
+use told_paths::LeadFault;
+use tree_answers::Form;
+use tree_commands::files::fault::FilesFault;
+use tree_commands::files::{Listing, run_files};
 
 /// What the command ends with where something couldn't be read.
 const NOT_ALL_LISTED: u8 = 1;
@@ -32,26 +35,31 @@ pub(crate) fn list_files<R: Files + Env + Eprint + AllocGlobal + Clone + Drop, O
         uses_index: true,
     };
     let (standpoint, fronts) = fronts_of(rt, alloc, options, concerns)?;
-    let mut lister = Lister {
-        rt,
-        alloc,
+    let listing = Listing {
         standpoint,
-        lists: ListsOnWay::new(fronts, case_of(options)).context("the bases of lists")?,
-        nul: flags.nul,
-        folds: options.ignore_case,
-        reader: NameReader::new(alloc)?,
-        path: Vec::new(alloc),
-        folders: Vec::new(alloc),
-        pending: Vec::new(alloc),
-        bytes: Vec::new(alloc),
-        seen: Vec::new(alloc),
-        text: Vec::new(alloc),
-        is_short: false,
+        form: Form::ended_by(flags.nul),
+        fronts,
+        case: case_of(options),
     };
-    lister.list(folder, output)?;
-    Ok(if lister.is_short {
-        NOT_ALL_LISTED
-    } else {
-        ANSWERED
-    })
+    let mut source = TreeFiles::new(rt, alloc)?;
+    match run_files(alloc, listing, &mut source, folder.as_bytes(), output) {
+        Ok(()) if source.is_short() => Ok(NOT_ALL_LISTED),
+        Ok(()) => Ok(ANSWERED),
+        Err(FilesFault::Write(error)) => Err(error).context("writing"),
+        Err(FilesFault::Endless) => None.context("a tree without an end"),
+        Err(fault) => Err(fault_of(alloc, folder, fault).into()),
+    }
+}
+
+/// Another fault as a path got no answer for it.
+fn fault_of(alloc: Global, folder: &str, fault: FilesFault<CheckFault>) -> CheckFault {
+    let told = folder.as_bytes();
+    match fault {
+        FilesFault::Source(fault) => fault,
+        FilesFault::Empty => CheckFault::Empty,
+        FilesFault::Outside => CheckFault::of_lead(alloc, told, LeadFault::Outside),
+        FilesFault::Base => CheckFault::Base,
+        // the last two are told otherwise
+        FilesFault::Memory | FilesFault::Endless | FilesFault::Write(_) => CheckFault::Memory,
+    }
 }

@@ -2,9 +2,6 @@
 //! states attributes have for paths.
 #![tactic(auto)]
 
-mod answering;
-mod asking;
-mod attribute_asking;
 mod attribute_files;
 mod attribute_flags;
 mod check_attr;
@@ -14,16 +11,13 @@ mod command_words;
 mod config_keys;
 mod excludes;
 mod fault;
+mod file_kinds;
 mod files;
 mod files_flags;
-mod finding;
 mod flags;
-mod folder_attributes;
 mod folder_names;
-mod ignoring;
 mod index_head;
 mod list_files;
-mod listing_start;
 mod outer_attributes;
 mod places;
 mod running;
@@ -32,7 +26,7 @@ mod signs;
 mod sources;
 mod standing;
 mod telling;
-mod unlinked;
+mod unparsed;
 mod words;
 mod work_tree;
 

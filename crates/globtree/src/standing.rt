@@ -71,14 +71,6 @@ pub(crate) fn file_in(alloc: Global, folder: &str, file: &str) -> Result<String,
     Ok(name)
 }
 
-/// Whether a folder stands there, and no link to one.
-pub(crate) fn is_folder<R: Files>(rt: &R, name: &str) -> bool {
-    match fs::symlink_metadata(rt, name) {
-        Ok(found) => found.is_dir(),
-        Err(_missing) => false,
-    }
-}
-
 /// What is known of a folder's own file. A link isn't followed, which is told, as is why one can't be read.
 pub(crate) fn own_file<R: Files + Eprint>(
     rt: &R,

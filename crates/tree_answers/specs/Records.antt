@@ -1,9 +1,14 @@
 -- Which path a record names, and what may be written for it.
-use Rattle.std.specs.Prelude.{◌≡◌, ◌⊎◌, ℕ, Bool, false, true, ◌==◌, nat_eq, List, codes}
-use Rattle.std.specs.List.{before_first, starts_with}
+use Rattle.std.specs.Prelude.{◌≡◌, ◌⊎◌, ℕ, Bool, false, true, ◌==◌, nat_eq, List, Some, codes}
+use Rattle.std.specs.List.{AllByRecursion, AllZip, before_first, starts_with}
 use Rattle.glob_attributes.specs.Heads.{IsQuotedHead}
+use Rattle.told_paths.specs.Paths.{below, names_folder, parts_of, walk}
 use Rattle.tree_answers.specs.declared.form.Form.{Form}
 use Rattle.tree_answers.specs.declared.form.Form.TheVariants.{Lines, Records}
+
+-- names that lead where they say, wherever they are told
+abbrev pub LeadsAsTold : List ℕ → Type 0
+LeadsAsTold told = (path : List ℕ) → (walk path (parts_of told) ≡ Some (below path told)) × (names_folder false (parts_of told) ≡ false)
 
 -- the byte that ends a name wherever it comes from
 abbrev pub is_zero : ℕ → Bool
@@ -14,13 +19,25 @@ abbrev pub begins_with_quote : Form → List ℕ → Bool
 begins_with_quote Lines name = starts_with nat_eq name (codes "\"")
 begins_with_quote Records name = false
 
--- the text of a path that stands in quotes: `Answers told text` says what may be written for a told path
-abbrev pub IsTextOfQuoted : (List ℕ → List ℕ → Type 0) → List ℕ → List ℕ → Type 0
-IsTextOfQuoted Answers quoted text = (name rest : List ℕ) × IsQuotedHead quoted name rest × Answers (before_first is_zero name) text
+-- the told path that a text spells between quotes, up to the first byte 0
+abbrev pub SpellsPath : List ℕ → List ℕ → Type 0
+SpellsPath quoted told = (name rest : List ℕ) × IsQuotedHead quoted name rest × (told ≡ before_first is_zero name)
 
--- The text of the path that a record names: what stands before the first byte 0, or what that spells between quotes, again up to the first
+-- The told path that a record names: what stands before the first byte 0, or what that spells between quotes, again up to the first
 -- byte 0.
+abbrev pub NamesPath : Form → List ℕ → List ℕ → Type 0
+NamesPath form bytes told =
+    ((begins_with_quote form (before_first is_zero bytes) ≡ false) × (told ≡ before_first is_zero bytes))
+    ⊎ ((begins_with_quote form (before_first is_zero bytes) ≡ true) × SpellsPath (before_first is_zero bytes) told)
+
+-- the text of the path that a record names: `Answers told text` says what may be written for a told path
 abbrev pub IsTextOf : (List ℕ → List ℕ → Type 0) → Form → List ℕ → List ℕ → Type 0
-IsTextOf Answers form bytes text =
-    ((begins_with_quote form (before_first is_zero bytes) ≡ false) × Answers (before_first is_zero bytes) text)
-    ⊎ ((begins_with_quote form (before_first is_zero bytes) ≡ true) × IsTextOfQuoted Answers (before_first is_zero bytes) text)
+IsTextOf Answers form bytes text = (told : List ℕ) × NamesPath form bytes told × Answers told text
+
+-- the account of told paths is of those that these records name, in order
+abbrev pub AccountsFor : (List (List ℕ) → Type 0) → Form → List (List ℕ) → Type 0
+AccountsFor Answered form records = (all : List (List ℕ)) × AllZip (NamesPath form) records all × Answered all
+
+-- a fault that a told path may get, or one that is made of why a record names no path
+abbrev pub IsRefusal : {F N : Type 0} → (List ℕ → F → Type 0) → (N → F → Type 0) → F → Type 0
+IsRefusal {F} {N} Refuses Gives fault = ((told : List ℕ) × Refuses told fault) ⊎ ((unnamed : N) × Gives unnamed fault)

@@ -1,22 +1,48 @@
--- What may be written for a record.
-use Rattle.std.proofs.Common.{◌≡◌, inl, inr, ⊎_elim, ℕ, Bool, true, false, List, [], ◌∷◌, Result, Ok, Err, OnOk, sym, refl, ap, subst, ◌∙◌, codes, nat_eq}
+-- What may be written for a record, and what is kept account of.
+use Rattle.std.proofs.Common.{◌≡◌, inl, inr, ⊎_elim, ℕ, Bool, true, false, List, [], ◌∷◌, ◌++◌, Result, Ok, Err, OnOk, sym, refl, ap, subst, ◌∙◌, codes, nat_eq, append-nil}
 use Rattle.std.specs.Prelude.{◌||◌}
-use Rattle.std.specs.List.{before_first, list_any, starts_with}
+use Rattle.std.specs.List.{AllZip, before_first, list_any, starts_with}
 use Rattle.std.proofs.lemmas.Bool.{cases_Bool, false≢true}
 use Rattle.std.proofs.lemmas.Bool.Decides.{Decides-eqb}
 use Rattle.std.proofs.lemmas.Slice.Eq.{starts_is}
 use Rattle.glob_lines.specs.Lines.{HasNo}
-use Rattle.record_streams.specs.Records.{Adds, StaysAllowed}
+use Rattle.record_streams.specs.Records.{Adds, GrowsBy, answered_by}
 use Rattle.told_paths.specs.Quoting.{is_unusual}
 use Rattle.tree_answers.specs.declared.form.Form.{Form}
 use Rattle.tree_answers.specs.declared.form.Form.TheVariants.{Lines, Records}
-use Rattle.tree_answers.specs.Records.{IsTextOf, begins_with_quote, is_zero}
+use Rattle.tree_answers.specs.Records.{AccountsFor, IsTextOf, NamesPath, begins_with_quote, is_zero}
 use Rattle.tree_answers.proofs.lemmas.ZeroLemmas.{before_none}
 
--- what may be written for the path may be written for the record
-pub stays_text : (before after : List ℕ → List ℕ → Type 0) → StaysAllowed before after → (form : Form) (bytes text : List ℕ) → IsTextOf before form bytes text → IsTextOf after form bytes text
-stays_text before after stays form bytes text (inl (plain, is)) = inl (plain, stays (before_first is_zero bytes) text is)
-stays_text before after stays form bytes text (inr (quoted, (name, rest, head, is))) = inr (quoted, (name, rest, head, stays (before_first is_zero name) text is))
+module _ {T E : Type 0} (result : Result T E) (form : Form) (bytes told : List ℕ) (names : NamesPath form bytes told) where
+  pub adds_named : (Answers : List ℕ → List ℕ → Type 0) (old new : List ℕ) → OnOk result (Adds (Answers told) old new) → OnOk result (Adds (IsTextOf Answers form bytes) old new)
+  adds_named Answers old new h = elim result as (λ (r : Result T E). OnOk r (Adds (Answers told) old new) → OnOk r (Adds (IsTextOf Answers form bytes) old new)) [
+    | Ok x ↦ λ adds. record { added = adds.added; allowed = (told, names, adds.allowed); grown = adds.grown }
+    | Err e ↦ λ none. none
+  ] h
+
+-- ---- accounts
+
+pub AllZip-append : {A B : Type 0} (R : A → B → Type 0) (xs more : List A) (ys others : List B) → AllZip R xs ys → AllZip R more others → AllZip R (xs ++ more) (ys ++ others)
+AllZip-append R [] more [] others h k = k
+AllZip-append R [] more (y ∷ ys) others h k = absurd h
+AllZip-append R (x ∷ xs) more [] others h k = absurd h
+AllZip-append R (x ∷ xs) more (y ∷ ys) others h k = (h.0, AllZip-append R xs more ys others h.1 k)
+
+module _ (a b : List (List ℕ) → Type 0) (form : Form) where
+  -- the path that a record names was answered
+  accounts_one : (bytes told : List ℕ) → NamesPath form bytes told → GrowsBy a b (told ∷ []) → GrowsBy (AccountsFor a form) (AccountsFor b form) (bytes ∷ [])
+  accounts_one bytes told names grows records (all, each, held) =
+      (all ++ told ∷ [], AllZip-append (NamesPath form) records (bytes ∷ []) all (told ∷ []) each (names, tt), grows all held)
+
+  -- nothing was
+  accounts_none : GrowsBy a b [] → GrowsBy (AccountsFor a form) (AccountsFor b form) []
+  accounts_none grows records (all, each, held) =
+      subst (AccountsFor b form) (sym (append-nil records)) (all, each, subst b (append-nil all) (grows all held))
+
+  pub accounts_named : {T E : Type 0} (result : Result T E) (bytes told : List ℕ) → NamesPath form bytes told → GrowsBy a b (answered_by result told)
+      → GrowsBy (AccountsFor a form) (AccountsFor b form) (answered_by result bytes)
+  accounts_named (Ok x) bytes told names grows = accounts_one bytes told names grows
+  accounts_named (Err e) bytes told names grows = accounts_none grows
 
 -- ---- usual names
 
@@ -41,12 +67,7 @@ unquoted : (form : Form) (bytes : List ℕ) → list_any is_unusual bytes ≡ fa
 unquoted Lines bytes usual = no_quote bytes usual
 unquoted Records bytes usual = refl
 
-usual_text : (Answers : List ℕ → List ℕ → Type 0) (form : Form) (bytes text : List ℕ) → list_any is_unusual bytes ≡ false → Answers bytes text → IsTextOf Answers form bytes text
-usual_text Answers form bytes text usual is =
+pub names_usual : (form : Form) (bytes : List ℕ) → list_any is_unusual bytes ≡ false → NamesPath form bytes bytes
+names_usual form bytes usual =
     let whole : before_first is_zero bytes ≡ bytes = before_none bytes (no_zero bytes usual) in
-    inl (ap (begins_with_quote form) whole ∙ unquoted form bytes usual, subst (λ (b : List ℕ). Answers b text) (sym whole) is)
-
-pub adds_usual : {T E : Type 0} (result : Result T E) (Answers : List ℕ → List ℕ → Type 0) (form : Form) (bytes old new : List ℕ) → list_any is_unusual bytes ≡ false
-    → OnOk result (Adds (Answers bytes) old new) → OnOk result (Adds (λ text. IsTextOf Answers form bytes text) old new)
-adds_usual (Ok x) Answers form bytes old new usual h = record { added = h.added; allowed = usual_text Answers form bytes h.added usual h.allowed; grown = h.grown }
-adds_usual (Err x) Answers form bytes old new usual h = tt
+    inl (ap (begins_with_quote form) whole ∙ unquoted form bytes usual, sym whole)

@@ -1,7 +1,7 @@
 use Rattle.std.proofs.Common.{◌∷◌, ◌+◌, take, ap, sym, ◌∙◌}
 use Rattle.std.proofs.lemmas.List.{take_rest}
 use Rattle.globtree.specs.ConfigKeys.{pieces}
-use Rattle.globtree.proofs.lemmas.PieceLemmas.{first_piece_at, first_piece_whole}
+use Rattle.tree_commands.proofs.lemmas.PieceLemmas.{first_piece_at, first_piece_whole}
 use Rattle.globtree.proofs.config_keys.first_piece.Goals as goal
 
 pub returns-in-Some : goal.returns-in-Some

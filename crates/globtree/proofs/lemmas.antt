@@ -1,3 +1,0 @@
-pub mod AddedLemmas
-pub mod IgnoringLemmas
-pub mod PieceLemmas

@@ -1,0 +1,40 @@
+//! What stands at the paths of the work tree.
+
+use crate::fault::CheckFault;
+use crate::standing::folder_text;
+use std::alloc::Global;
+use std::fs;
+use std::rt::Files;
+use tree_commands::check_ignore::PathKinds;
+
+/// What stands at the paths below the folder that the program stands in.
+#[derive(Drop)]
+pub(crate) struct FileKinds<'a, R> {
+    pub(crate) rt: &'a R,
+    pub(crate) alloc: Global,
+}
+
+impl<'a, R: Files> PathKinds for FileKinds<'a, R> {
+    ghost use Rattle.std.specs.Prelude.{None};
+
+    type Fault = CheckFault;
+
+    ghost kind_of = { λ _ _. None };
+
+    fn is_folder(&mut self, path: &[u8]) -> Result<bool, CheckFault> {
+        let name = folder_text(self.alloc, path)?;
+        match fs::symlink_metadata(self.rt, name.as_str()) {
+            Ok(found) => Ok(found.is_dir()),
+            Err(_missing) => Ok(false),
+        }
+    }
+
+    fn check_folder(&mut self, folder: &[u8]) -> Result<bool, CheckFault> {
+        let name = folder_text(self.alloc, folder)?;
+        match fs::symlink_metadata(self.rt, name.as_str()) {
+            Ok(found) if found.is_symlink() => Err(CheckFault::BeyondLink(name)),
+            Ok(found) => Ok(found.is_dir()),
+            Err(_missing) => Ok(false),
+        }
+    }
+}

@@ -1,0 +1,8 @@
+-- Nothing was written where memory was refused.
+use Rattle.std.proofs.Common.{map}
+use Rattle.gix_glob.specs.Watched.{inner}
+use Rattle.tree_commands.proofs.lemmas.AttributeRuns.{none_first}
+use Rattle.tree_commands.proofs.check_attr.running.check_paths.Goals as goal
+
+pub returns-in_default-answerer_of-clause-cut : goal.returns-in_default-answerer_of-clause-cut
+returns-in_default-answerer_of-clause-cut g c = none_first g.Q.Question.allows (map (λ path. path.now) c.args.paths.now) (g.W.Write.contents (inner c.args.writer.now))

@@ -1,0 +1,194 @@
+-- The line that decides about a told path, and what is kept account of, as what the source shows grows.
+use Rattle.std.proofs.Common.{◌≡◌, ◌⊎◌, inl, inr, ℕ, Bool, true, false, ◌||◌, List, [], ◌∷◌, ◌++◌, map, take, Option, None, Some, IfSome, Result, Ok, Err, IsErr, refl, sym, ap, subst, ◌∙◌, if◌then◌else◌, append-nil}
+use Rattle.std.specs.Prelude.{is_some}
+use Rattle.std.specs.List.{list_any}
+use Rattle.std.proofs.lemmas.Bool.{false≢true}
+use Rattle.std.proofs.lemmas.List.{take-map}
+use Rattle.std.proofs.lemmas.List.Folds.{list_any-append}
+use Rattle.gix_glob.specs.declared.pattern.Case.{Case}
+use Rattle.gix_glob.specs.EntryLists.{EntryList, entry_list_of}
+use Rattle.glob_lists.specs.Paths.{IsPlainPath}
+use Rattle.glob_trees.specs.TreeParts.{HasMappingAt, TreeParts}
+use Rattle.glob_trees.specs.Ways.{AreOnTheWay, Folder, IsListOf}
+use Rattle.record_streams.specs.Records.{Adds, GrowsBy, StaysAllowed, answered_by}
+use Rattle.told_paths.specs.declared.standpoint.Standpoint.{Standpoint}
+use Rattle.told_paths.specs.Paths.{names_folder, parts_of}
+use Rattle.told_paths.specs.Standpoints.{led}
+use Rattle.tree_answers.specs.Lines.{Decision}
+use Rattle.tree_commands.specs.declared.check_ignore.flags.IgnoreFlags.{IgnoreFlags}
+use Rattle.tree_answers.specs.declared.records.NameFault.TheVariants as name
+use Rattle.tree_answers.specs.Records.{IsRefusal}
+use Rattle.tree_commands.specs.declared.check_ignore.fault.IgnoreFault.{IgnoreFault}
+use Rattle.tree_commands.specs.declared.check_ignore.fault.IgnoreFault.TheVariants.{BadlyQuoted}
+use Rattle.tree_commands.specs.Private.Faults.{IsOfName}
+use Rattle.tree_commands.specs.CheckIgnore.{IsDeciding, IsIgnoreAnswer, IsLineAt, IsLineFor, IsStatus, Question, Refuses, counted, question_of, text_about}
+use Rattle.tree_commands.specs.Private.Finding.{FindsTold, IsFound, KeepsTree, lists_of, told_kind}
+use Rattle.tree_answers.proofs.lemmas.RecordLemmas.{AllZip-append}
+use Rattle.tree_commands.proofs.lemmas.AnswerLemmas.{AllZip-weaker}
+use Rattle.tree_commands.proofs.lemmas.FindingLemmas.{stands_there}
+
+-- ---- what is shown stays shown
+
+or_false : (b : Bool) → (b || false) ≡ b
+or_false true = refl
+or_false false = refl
+
+module _ (before after : Folder → EntryList (Unit {0}) → Type 0) (on : (folder : Folder) (list : EntryList (Unit {0})) → before folder list → after folder list) where
+  way_stays : (front_count : ℕ) (lists : List (EntryList (Unit {0}))) (case : Case) (path : List ℕ) → AreOnTheWay before front_count lists case path → AreOnTheWay after front_count lists case path
+  way_stays front_count lists case path way = record {
+    entered = way.entered;
+    further = way.further;
+    joined = way.joined;
+    top = way.top;
+    own = way.own;
+    shown = AllZip-weaker (IsListOf before) (IsListOf after) (λ folder list of. record { shown = on folder list of.shown; based = of.based }) way.entered way.own way.shown;
+    standing = way.standing;
+    unignored = way.unignored;
+    ends = way.ends;
+  }
+
+  module _ (question : Question) where
+    deciding_stays : (path : List ℕ) (known : Option Bool) (line : Option Decision) → IsDeciding question before path known line → IsDeciding question after path known line
+    deciding_stays path known line d = record {
+      lists = d.lists;
+      fronts = d.fronts;
+      on_way = way_stays question.front_count d.lists question.case path d.on_way;
+      is_dir = d.is_dir;
+      kind = d.kind;
+      pair = d.pair;
+      decides = d.decides;
+      there = d.there;
+    }
+
+    decided_stays : (path : List ℕ) (known : Option Bool) (line : Option Decision)
+        → (¬ IsPlainPath path × (line ≡ None)) ⊎ (IsPlainPath path × IsDeciding question before path known line)
+        → (¬ IsPlainPath path × (line ≡ None)) ⊎ (IsPlainPath path × IsDeciding question after path known line)
+    decided_stays path known line (inl none) = inl none
+    decided_stays path known line (inr (plain, d)) = inr (plain, deciding_stays path known line d)
+
+    pub line_stays : (told : List ℕ) (line : Option Decision) → IsLineFor question before told line → IsLineFor question after told line
+    line_stays told line h = record {
+      path = h.path;
+      leads = h.leads;
+      decided = decided_stays h.path (if names_folder false (parts_of told) then Some true else question.kind_of h.path) line h.decided;
+    }
+
+    pub answers_stay : StaysAllowed (IsIgnoreAnswer question before) (IsIgnoreAnswer question after)
+    answers_stay told text (line, for, same) = (line, line_stays told line for, same)
+
+    status_stays : (is_any : Bool) (paths : List (List ℕ)) → IsStatus question before is_any paths → IsStatus question after is_any paths
+    status_stays is_any paths (lines, each, same) = (lines, AllZip-weaker (IsLineFor question before) (IsLineFor question after) line_stays paths lines each, same)
+
+    -- one path more was answered
+    pub status_grows : (was_any : Bool) (told : List ℕ) (line : Option Decision) → IsLineFor question after told line
+        → GrowsBy (IsStatus question before was_any) (IsStatus question after (was_any || is_some (counted question.flags.verbose line))) (told ∷ [])
+    status_grows was_any told line for paths (lines, each, same) =
+        let stays = AllZip-weaker (IsLineFor question before) (IsLineFor question after) line_stays paths lines each in
+        let any : list_any (λ l. is_some (counted question.flags.verbose l)) (lines ++ line ∷ []) ≡ (list_any (λ l. is_some (counted question.flags.verbose l)) lines || list_any (λ l. is_some (counted question.flags.verbose l)) (line ∷ []))
+        = list_any-append (λ l. is_some (counted question.flags.verbose l)) lines (line ∷ []) in (
+          lines ++ line ∷ [],
+          AllZip-append (IsLineFor question after) paths (told ∷ []) lines (line ∷ []) stays (for, tt),
+          ap (λ (b : Bool). b || is_some (counted question.flags.verbose line)) same
+              ∙ (ap (λ (b : Bool). list_any (λ l. is_some (counted question.flags.verbose l)) lines || b) (sym (or_false (is_some (counted question.flags.verbose line))))
+              ∙ sym any),
+        )
+
+    -- nothing was
+    status_kept : (is_any : Bool) → GrowsBy (IsStatus question before is_any) (IsStatus question after is_any) []
+    status_kept is_any paths held = subst (IsStatus question after is_any) (sym (append-nil paths)) (status_stays is_any paths held)
+
+    -- a path got no answer
+    pub status_failed : {T E : Type 0} (result : Result T E) (was_any is_any : Bool) (told : List ℕ) → IsErr result → is_any ≡ was_any → GrowsBy (IsStatus question before was_any) (IsStatus question after is_any) (answered_by result told)
+    status_failed (Ok x) was_any is_any told failed same = absurd (false≢true failed)
+    status_failed (Err fault) was_any is_any told failed same = subst (λ (b : Bool). GrowsBy (IsStatus question before was_any) (IsStatus question after b) []) (sym same) (status_kept was_any)
+
+-- ---- the question stays
+
+module _ {S T X : Type 0} (shows : S → Folder → EntryList (Unit {0}) → Type 0) (old new : TreeParts S T X) (keeps : KeepsTree shows old new) where
+  pub fronts_kept : take new.front_count (map (entry_list_of {V = Unit {0}} (λ _. tt)) new.lists) ≡ take old.front_count (map (entry_list_of {V = Unit {0}} (λ _. tt)) old.lists)
+  fronts_kept =
+      ap (λ n. take n (map (entry_list_of {V = Unit {0}} (λ _. tt)) new.lists)) keeps.front_count
+      ∙ (take-map (entry_list_of {V = Unit {0}} (λ _. tt)) old.front_count new.lists
+      ∙ (ap (map (entry_list_of {V = Unit {0}} (λ _. tt))) keeps.fronts
+      ∙ sym (take-map (entry_list_of {V = Unit {0}} (λ _. tt)) old.front_count old.lists)))
+
+  abbrev asks : ℕ → List (EntryList (Unit {0})) → Case → (List ℕ → Option Bool) → Standpoint → IgnoreFlags → Question
+  asks count fronts case kind_of standpoint flags = record { leads = led standpoint; kind_of = kind_of; front_count = count; fronts = fronts; case = case; flags = flags }
+
+  pub question_kept : (standpoint : Standpoint) (flags : IgnoreFlags) (before after : List ℕ → Option Bool) → after ≡ before → question_of standpoint flags new after ≡ question_of standpoint flags old before
+  question_kept standpoint flags before after same =
+      ap (λ n. asks n (take new.front_count (map (entry_list_of {V = Unit {0}} (λ _. tt)) new.lists)) new.case after standpoint flags) keeps.front_count
+      ∙ (ap (λ fronts. asks old.front_count fronts new.case after standpoint flags) fronts_kept
+      ∙ (ap (λ case. asks old.front_count (take old.front_count (map (entry_list_of {V = Unit {0}} (λ _. tt)) old.lists)) case after standpoint flags) keeps.case
+      ∙ ap (λ kind_of. asks old.front_count (take old.front_count (map (entry_list_of {V = Unit {0}} (λ _. tt)) old.lists)) old.case kind_of standpoint flags) same))
+
+-- ---- what is found
+
+module _ {S T X : Type 0} (shows : S → Folder → EntryList (Unit {0}) → Type 0) (tree : TreeParts S T X) where
+  -- a mapping stands where a pattern decides
+  pub found_there : (path : List ℕ) (known : Option Bool) (pair : Option (ℕ × ℕ)) → IsFound shows tree path known pair → IfSome pair (HasMappingAt tree.lists)
+  found_there path known None found = tt
+  found_there path known (Some pair) (is_dir, kind, found) =
+      let s = stands_there tree.lists path tree.case is_dir pair found.decides in
+      (s.list, s.mapping, s.stand)
+
+  -- or none was found
+  finds_there : (leads : Option (List ℕ)) (known : List ℕ → Option Bool) (pair : Option (ℕ × ℕ)) (path : List ℕ)
+      → (¬ IsPlainPath path × (pair ≡ None)) ⊎ (IsPlainPath path × IsFound shows tree path (known path) pair) → IfSome pair (HasMappingAt tree.lists)
+  finds_there leads known pair path (inl (unplain, none)) = subst (λ (p : Option (ℕ × ℕ)). IfSome p (HasMappingAt tree.lists)) (sym none) tt
+  finds_there leads known pair path (inr (plain, found)) = found_there path (known path) pair found
+
+  pub told_there : (leads : Option (List ℕ)) (known : List ℕ → Option Bool) (pair : Option (ℕ × ℕ)) → FindsTold shows leads known tree pair → IfSome pair (HasMappingAt tree.lists)
+  told_there leads known pair finds = finds_there leads known pair finds.path finds.found
+
+module _ {S T X : Type 0} (shows : S → Folder → EntryList (Unit {0}) → Type 0) (tree : TreeParts S T X) (standpoint : Standpoint) (flags : IgnoreFlags) (kind_of : List ℕ → Option Bool) (told : List ℕ) (pair : Option (ℕ × ℕ)) (line : Option Decision) where
+  nothing_there : pair ≡ None → IsLineAt (lists_of tree) pair line → line ≡ None
+  nothing_there none there = subst (λ (p : Option (ℕ × ℕ)). IsLineAt (lists_of tree) p line) none there
+
+  decided_here : (path : List ℕ) → IsLineAt (lists_of tree) pair line
+      → (¬ IsPlainPath path × (pair ≡ None)) ⊎ (IsPlainPath path × IsFound shows tree path (told_kind (names_folder false (parts_of told)) (kind_of path)) pair)
+      → (¬ IsPlainPath path × (line ≡ None)) ⊎ (IsPlainPath path × IsDeciding (question_of standpoint flags tree kind_of) (shows tree.source) path (if names_folder false (parts_of told) then Some true else kind_of path) line)
+  decided_here path there (inl (unplain, none)) = inl (unplain, nothing_there none there)
+  decided_here path there (inr (plain, (is_dir, kind, found))) = inr (
+    plain,
+    record {
+      lists = lists_of tree;
+      fronts = refl;
+      on_way = found.on_way;
+      is_dir = is_dir;
+      kind = kind;
+      pair = pair;
+      decides = found.decides;
+      there = there;
+    },
+  )
+
+  line_here : FindsTold shows (led standpoint told) (λ path. told_kind (names_folder false (parts_of told)) (kind_of path)) tree pair → IsLineAt (lists_of tree) pair line
+      → IsLineFor (question_of standpoint flags tree kind_of) (shows tree.source) told line
+  line_here finds there = record { path = finds.path; leads = finds.led; decided = decided_here finds.path there finds.found }
+
+  -- the line at the pair that was found is the line for the told path
+  pub line_found : (question : Question) → question_of standpoint flags tree kind_of ≡ question
+      → FindsTold shows (question.leads told) (λ path. told_kind (names_folder false (parts_of told)) (question.kind_of path)) tree pair → IsLineAt (lists_of tree) pair line
+      → IsLineFor question (shows tree.source) told line
+  line_found question same =
+      subst (λ (q : Question). FindsTold shows (q.leads told) (λ path. told_kind (names_folder false (parts_of told)) (q.kind_of path)) tree pair → IsLineAt (lists_of tree) pair line
+      → IsLineFor q (shows tree.source) told line) same line_here
+
+  -- what is appended is an answer
+  pub answer_found : (question : Question) → question_of standpoint flags tree kind_of ≡ question
+      → FindsTold shows (question.leads told) (λ path. told_kind (names_folder false (parts_of told)) (question.kind_of path)) tree pair → IsLineAt (lists_of tree) pair line
+      → (old new : List ℕ) → new ≡ old ++ text_about flags told (counted flags.verbose line) → Adds (IsIgnoreAnswer question (shows tree.source) told) old new
+  answer_found question same finds there old new grown = record {
+    added = text_about flags told (counted flags.verbose line);
+    allowed = (line, line_found question same finds there, ap (λ (q : Question). text_about q.flags told (counted q.flags.verbose line)) same);
+    grown = grown;
+  }
+
+-- ---- faults
+
+-- a fault of a run is that of a path, or that a record names none
+pub refusal_told : {F : Type 0} (leads : List ℕ → Option (List ℕ)) (fault : IgnoreFault F) → IsRefusal (Refuses leads) IsOfName fault → ((told : List ℕ) × Refuses leads told fault) ⊎ (fault ≡ BadlyQuoted)
+refusal_told leads fault (inl told) = inl told
+refusal_told leads fault (inr (name.Memory, same)) = inl ([], subst (Refuses leads []) (sym same) tt)
+refusal_told leads fault (inr (name.BadlyQuoted, same)) = inr same

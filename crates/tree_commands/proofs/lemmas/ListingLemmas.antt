@@ -1,0 +1,285 @@
+-- A listing under way: what was listed, and what is pending.
+use Rattle.std.proofs.Common.{◌≡◌, ◌≢◌, ◌⊎◌, inl, inr, ⊎_elim, ℕ, ◌≤◌, List, [], ◌∷◌, ◌++◌, length, take, map, refl, sym, ap, subst, ◌∙◌, append_assoc, append-nil, length-append, arith}
+use Rattle.std.specs.Prelude.{if◌then◌else◌}
+use Rattle.std.specs.List.{AllByRecursion}
+use Rattle.std.proofs.lemmas.List.{length-take-le, take-append-le, take-take, take_all}
+use Rattle.gix_glob.specs.declared.pattern.Case.{Case}
+use Rattle.gix_glob.specs.Bytes.{EndsInSlash, slash}
+use Rattle.gix_glob.specs.EntryLists.{EntryList}
+use Rattle.glob_trees.specs.Ways.{Folder, start_of, unless_empty}
+use Rattle.tree_commands.specs.declared.files.pending.Pending.{Pending}
+use Rattle.tree_commands.specs.declared.files.source.EntryKind.{EntryKind}
+use Rattle.tree_commands.specs.declared.files.source.EntryKind.TheVariants as kinds
+use Rattle.tree_commands.specs.FileTrees.{FileTree}
+use Rattle.tree_commands.specs.Files.{ComesBefore, IsEntryName, IsEntryOf, IsFound, IsLeaf, IsMet, Basis, is_folder, lies, lists_to}
+use Rattle.tree_commands.specs.Private.Listing.{Among, AreAscending, AreDescending, EndsInName, Enters, LeadsOn, MayVisit, lists_before, path_of}
+use Rattle.tree_commands.specs.Private.UnderWay.{Above, IsHalfway, IsStack, IsUnderWay, Precedes, count_of}
+use Rattle.tree_commands.proofs.lemmas.AmongLemmas.{all_of, among_cases, among_contained, among_last, among_left, among_map, among_mapped, among_right, contains_among, of_all}
+use Rattle.tree_commands.proofs.lemmas.ListsLemmas.{lists_before_some, lists_in, lists_of_entry}
+use Rattle.tree_commands.proofs.lemmas.MetLemmas.{IsOpen, leaf_meets_itself, meets_entry}
+use Rattle.tree_commands.proofs.lemmas.OrderLemmas.{IsMark, comes_before_below, comes_before_more}
+use Rattle.tree_commands.proofs.lemmas.PathLemmas.{entry_unended, marked_start, may_visit_entry, name_is_some, some_append, start_ends}
+use Rattle.tree_commands.proofs.lemmas.StackLemmas.{stack_append, stack_front, stack_top}
+
+-- ---- order
+
+pub ascending_push : (paths : List (List ℕ)) (path : List ℕ) → AreAscending paths → ((one : List ℕ) → Among paths one → ComesBefore one path) → AreAscending (paths ++ path ∷ [])
+ascending_push [] path ordered before = (tt, tt)
+ascending_push (first ∷ paths) path ordered before = (
+  all_of (ComesBefore first) (paths ++ path ∷ []) (λ other among. ⊎_elim
+      (λ (one : Among paths other). of_all (ComesBefore first) paths ordered.0 other one)
+      (λ (last : Among (path ∷ []) other). ⊎_elim (λ (is : path ≡ other). subst (ComesBefore first) is (before first (inl refl))) (λ (never : ⊥). absurd never) last)
+      (among_cases paths (path ∷ []) other among)),
+  ascending_push paths path ordered.1 (λ one among. before one (inr among)),
+)
+
+-- of two entries of a folder, the one that comes first does so with all that lies below it
+entry_precedes : (case : Case) (start one other : List ℕ) → EndsInName case start one → EndsInName case start other → ComesBefore one other → Precedes one other
+entry_precedes case start one other ends next before = record {
+  here = before;
+  below = λ folder rest is. ⊎_elim
+      (λ (file : one ≡ start ++ ends.name).
+      absurd (entry_unended case start ends.name ends.may (subst EndsInSlash (sym is ∙ file) (start_ends folder (λ none. some_append start ends.name (name_is_some case ends.name ends.may) (sym file ∙ is ∙ none))))))
+      (λ (folder : one ≡ (start ++ ends.name) ++ slash ∷ []). ⊎_elim
+      (λ (bare : other ≡ start ++ next.name).
+      below_as rest [] folder (bare ∙ sym (append-nil (start ++ next.name))) (inl refl))
+      (λ (marked : other ≡ (start ++ next.name) ++ slash ∷ []). below_as rest (slash ∷ []) folder marked (inr refl))
+      next.joined)
+      ends.joined;
+}
+  where
+    below_as : (rest mark : List ℕ) → one ≡ (start ++ ends.name) ++ slash ∷ [] → other ≡ (start ++ next.name) ++ mark → IsMark mark → ComesBefore (one ++ rest) other
+    below_as rest mark left right is_mark =
+        let known : ComesBefore ((start ++ ends.name) ++ slash ∷ []) ((start ++ next.name) ++ mark) = subst (λ l. ComesBefore l ((start ++ next.name) ++ mark)) left (subst (λ r. ComesBefore one r) right before) in
+        let more = comes_before_below start ends.name next.name mark rest ends.may.whole next.may.whole is_mark known in
+        subst (λ l. ComesBefore (l ++ rest) other) (sym left) (subst (λ r. ComesBefore (((start ++ ends.name) ++ slash ∷ []) ++ rest) r) (sym right) more)
+
+-- the entries of a folder, put in order, are a stack
+batch_is_stack : (case : Case) (start : List ℕ) (count : ℕ) (batch : List Pending) → ((next : Pending) → Among batch next → EndsInName case start (path_of next))
+    → AllByRecursion (λ next. next.list_count ≡ count) batch → AreDescending (map path_of batch) → IsStack path_of count_of batch
+batch_is_stack case start count [] each counts descending = tt
+batch_is_stack case start count (first ∷ batch) each counts descending = (
+  all_of (Above path_of count_of first) batch (λ later among.
+      let level : later.list_count ≡ count = of_all (λ next. next.list_count ≡ count) batch counts.1 later among in
+      let same = counts.0 in
+      record {
+        counts = omega (arith, level, same);
+        order = entry_precedes case start (path_of later) (path_of first) (each later (inr among)) (each first (inl refl)) (of_all (λ path. ComesBefore path (path_of first)) (map path_of batch) descending.0 (path_of later) (among_map path_of batch later among));
+      }),
+  batch_is_stack case start count batch (λ next among. each next (inr among)) counts.1 descending.1,
+)
+
+-- ---- whatever the tree is
+
+module _ (case : Case) (listed : List (List ℕ)) (pending : List Pending) (next : Pending) (lists : List (EntryList (Unit {0}))) (under : IsUnderWay case listed (pending ++ next ∷ []) lists) where
+  waits : (other : Pending) → Among pending other → Among (pending ++ next ∷ []) other
+  waits other among = among_left pending (next ∷ []) other among
+
+  is_next : Among (pending ++ next ∷ []) next
+  is_next = among_last pending next
+
+  pub may_next : MayVisit case (path_of next)
+  may_next = under.may next is_next
+
+  -- the next path was listed
+  pub under_way_listed : IsUnderWay case (listed ++ path_of next ∷ []) pending lists
+  under_way_listed = record {
+    may = λ other among. under.may other (waits other among);
+    counts = λ other among. under.counts other (waits other among);
+    stacked = stack_front path_of count_of pending (next ∷ []) under.stacked;
+    behind = λ path other before among. ⊎_elim
+        (λ (old : Among listed path). under.behind path other old (waits other among))
+        (λ (one : Among (path_of next ∷ []) path). ⊎_elim
+        (λ (is : path_of next ≡ path). subst (λ p. ComesBefore p (path_of other)) is (let above = stack_top path_of count_of pending next under.stacked other among in above.order.here))
+        (λ (never : ⊥). absurd never)
+        one)
+        (among_cases listed (path_of next ∷ []) path before);
+    ordered = ascending_push listed (path_of next) under.ordered (λ path old. under.behind path next old is_next);
+  }
+
+  -- or its folder was entered
+  module _ (folder : Folder) (is_start : path_of next ≡ start_of folder) (Known : FileTree → Type 0) (new_lists : List (EntryList (Unit {0}))) (new : List Pending) (enters : Enters Known case folder next.list_count lists new_lists pending new) where
+    -- what is found in it
+    ends : (found : Pending) → Among enters.puts.batch found → EndsInName case (start_of folder) (path_of found)
+    ends found among =
+        of_all (EndsInName case (start_of folder)) enters.paths enters.each (path_of found) (let same = enters.puts.same (path_of found) in same.1 (among_map path_of enters.puts.batch found among))
+
+    level : (found : Pending) → Among enters.puts.batch found → found.list_count ≡ length new_lists
+    level found among = of_all (λ other. other.list_count ≡ length new_lists) enters.puts.batch enters.puts.counts found among
+
+    long : next.list_count ≤ length new_lists
+    long =
+        let few = under.counts next is_next in
+        omega (arith, ap length enters.lists.joined, length-append (take next.list_count lists) enters.lists.own, length-take-le next.list_count lists few)
+
+    -- the path of an entry goes on from that of the folder
+    goes_on : (found : Pending) → Among enters.puts.batch found → (rest : List ℕ) × (path_of found ≡ path_of next ++ rest)
+    goes_on found among =
+        let it = ends found among in
+        ⊎_elim
+        (λ (file : path_of found ≡ start_of folder ++ it.name). (it.name, file ∙ ap (λ s. s ++ it.name) (sym is_start)))
+        (λ (marked : path_of found ≡ (start_of folder ++ it.name) ++ slash ∷ []). (it.name ++ slash ∷ [], marked ∙ append_assoc (start_of folder) it.name (slash ∷ []) ∙ ap (λ s. s ++ (it.name ++ slash ∷ [])) (sym is_start)))
+        it.joined
+
+    above_old : (old found : Pending) → Among pending old → Among enters.puts.batch found → Above path_of count_of old found
+    above_old old found waiting among =
+        let above = stack_top path_of count_of pending next under.stacked old waiting in
+        let same = level found among in
+        let rest = goes_on found among in
+        record {
+          counts = omega (arith, above.counts, long, same);
+          order = record {
+            here = subst (λ p. ComesBefore p (path_of old)) (sym rest.1) (above.order.below folder rest.0 is_start);
+            below = λ at more is. subst (λ p. ComesBefore (p ++ more) (path_of old)) (sym rest.1)
+                (subst (λ p. ComesBefore p (path_of old)) (sym (append_assoc (path_of next) rest.0 more)) (above.order.below folder (rest.0 ++ more) is_start));
+          };
+        }
+
+    under_way_joined : IsUnderWay case listed (pending ++ enters.puts.batch) new_lists
+    under_way_joined = record {
+      may = λ other among. ⊎_elim
+          (λ (old : Among pending other). under.may other (waits other old))
+          (λ (found : Among enters.puts.batch other). may_visit_entry case (start_of folder) (path_of other) (let may = under.may next is_next in subst (LeadsOn case) is_start (may.plain folder is_start)) (ends other found))
+          (among_cases pending enters.puts.batch other among);
+      counts = λ other among. ⊎_elim
+          (λ (old : Among pending other). let above = stack_top path_of count_of pending next under.stacked other old in omega (arith, above.counts, long))
+          (λ (found : Among enters.puts.batch other). omega (arith, level other found))
+          (among_cases pending enters.puts.batch other among);
+      stacked = stack_append path_of count_of pending enters.puts.batch (stack_front path_of count_of pending (next ∷ []) under.stacked)
+          (batch_is_stack case (start_of folder) (length new_lists) enters.puts.batch ends enters.puts.counts enters.puts.descending) above_old;
+      behind = λ path other old among. ⊎_elim
+          (λ (waiting : Among pending other). under.behind path other old (waits other waiting))
+          (λ (found : Among enters.puts.batch other). let rest = goes_on other found in
+          subst (ComesBefore path) (sym rest.1) (comes_before_more path (path_of next) rest.0 (under.behind path next old is_next)))
+          (among_cases pending enters.puts.batch other among);
+      ordered = under.ordered;
+    }
+
+    pub under_way_entered : IsUnderWay case listed new new_lists
+    under_way_entered = subst (λ all. IsUnderWay case listed all new_lists) (sym enters.puts.joined) under_way_joined
+
+-- ---- of a tree
+
+-- the lists before an entry that is a folder are those to its path
+lists_below : (basis : Basis) (tree : FileTree) (start name : List ℕ) → IsEntryName basis.case name → (found : List ℕ) (at : Folder) (kind : EntryKind)
+    → found ≡ (start ++ name) ++ (if is_folder kind then slash ∷ [] else []) → found ≡ start_of at → lists_to basis tree (start ++ name) ≡ lists_before basis tree at
+lists_below basis tree start name may found at kinds.Folder joined is =
+    let same : at ≡ start ++ name = marked_start (start ++ name) at (sym joined ∙ is) in
+    ap (lists_to basis tree) (sym same) ∙ sym (lists_before_some basis tree at (λ none. some_append start name (name_is_some basis.case name may) (sym same ∙ none)))
+lists_below basis tree start name may found at kinds.File joined is =
+    let bare : found ≡ start ++ name = joined ∙ append-nil (start ++ name) in
+    absurd (entry_unended basis.case start name may (subst EndsInSlash (sym is ∙ bare) (start_ends at (λ none. some_append start name (name_is_some basis.case name may) (sym bare ∙ is ∙ none)))))
+
+module _ (basis : Basis) (tree : FileTree) (start : List ℕ) (listed : List (List ℕ)) (pending : List Pending) (next : Pending) (lists : List (EntryList (Unit {0}))) (halfway : IsHalfway basis tree start listed (pending ++ next ∷ []) lists) where
+  stays_in : (other : Pending) → Among pending other → Among (pending ++ next ∷ []) other
+  stays_in other among = among_left pending (next ∷ []) other among
+
+  pub halfway_listed : IsLeaf tree (path_of next) → IsHalfway basis tree start (listed ++ path_of next ∷ []) pending lists
+  halfway_listed leaf = record {
+    sound = λ path among. ⊎_elim
+        (λ (old : Among listed path). halfway.sound path old)
+        (λ (one : Among (path_of next ∷ []) path). ⊎_elim
+        (λ (is : path_of next ≡ path). subst (λ p. IsMet basis tree start p × IsLeaf tree p) is (halfway.met next (among_last pending next), leaf))
+        (λ (never : ⊥). absurd never)
+        one)
+        (among_cases listed (path_of next ∷ []) path among);
+    met = λ other among. halfway.met other (stays_in other among);
+    standing = λ other among. halfway.standing other (stays_in other among);
+    complete = λ path met shut. ⊎_elim
+        (λ (old : Among listed path). inl (among_left listed (path_of next ∷ []) path old))
+        (λ (from : (other : Pending) × Among (pending ++ next ∷ []) other × IsMet basis tree (path_of other) path). ⊎_elim
+        (λ (waiting : Among pending from.0). inr (from.0, waiting, from.2))
+        (λ (one : Among (next ∷ []) from.0). ⊎_elim
+        (λ (is : next ≡ from.0).
+        let same : path ≡ path_of next = leaf_meets_itself basis tree (subst (λ (p : Pending). IsMet basis tree (path_of p) path) (sym is) from.2) leaf in
+        inl (subst (Among (listed ++ path_of next ∷ [])) (sym same) (among_last listed (path_of next))))
+        (λ (never : ⊥). absurd never)
+        one)
+        (among_cases pending (next ∷ []) from.0 from.1))
+        (halfway.complete path met shut);
+  }
+
+  module _ (folder : Folder) (is_start : path_of next ≡ start_of folder) (may : IsOpen basis tree folder) (few : (other : Pending) → Among pending other → other.list_count ≤ next.list_count) (fits : next.list_count ≤ length lists)
+      (Known : FileTree → Type 0) (known : Known tree) (new_lists : List (EntryList (Unit {0}))) (new : List Pending) (enters : Enters Known basis.case folder next.list_count lists new_lists pending new) where
+    -- the lists are those of the folder's entries
+    are_lists : new_lists ≡ lists_to basis tree (start_of folder)
+    are_lists =
+        enters.lists.joined
+        ∙ ap (λ (own : List (EntryList (Unit {0}))). take next.list_count lists ++ own) (enters.lists.is_own tree known)
+        ∙ ap (λ (before : List (EntryList (Unit {0}))). before ++ unless_empty (tree.list folder)) (halfway.standing next (among_last pending next) folder is_start)
+        ∙ sym (lists_in basis tree folder)
+
+    -- what is pending of the folder are its entries
+    is_entry : (found : Pending) → Among enters.puts.batch found → IsEntryOf basis tree folder (path_of found)
+    is_entry found among =
+        let same = enters.puts.same (path_of found) in
+        let it = enters.found tree known (path_of found) in
+        let by_name = it.0 (same.1 (among_map path_of enters.puts.batch found among)) in
+        record {
+          name = by_name.name;
+          among = contains_among (tree.names folder) by_name.name by_name.among;
+          may = by_name.may;
+          here = subst (λ (ls : List (EntryList (Unit {0}))). IsFound ls basis.case tree (start_of folder ++ by_name.name) (path_of found)) are_lists by_name.here;
+        }
+
+    entry_waits : (found : List ℕ) → IsEntryOf basis tree folder found → (other : Pending) × Among enters.puts.batch other × (path_of other ≡ found)
+    entry_waits found entry =
+        let it = enters.found tree known found in
+        let among = it.1 (record {
+          name = entry.name;
+          among = among_contained (tree.names folder) entry.name entry.among;
+          may = entry.may;
+          here = subst (λ (ls : List (EntryList (Unit {0}))). IsFound ls basis.case tree (start_of folder ++ entry.name) found) (sym are_lists) entry.here;
+        }) in
+        let same = enters.puts.same found in
+        among_mapped path_of enters.puts.batch found (same.0 among)
+
+    met_next : IsMet basis tree start (start_of folder)
+    met_next = subst (IsMet basis tree start) is_start (halfway.met next (among_last pending next))
+
+    stand_old : (other : Pending) → Among pending other → (at : Folder) → path_of other ≡ start_of at → take other.list_count new_lists ≡ lists_before basis tree at
+    stand_old other waiting at is =
+        let less = few other waiting in
+        let long : length (take next.list_count lists) ≡ next.list_count = length-take-le next.list_count lists fits in
+        ap (take other.list_count) enters.lists.joined
+        ∙ take-append-le other.list_count (take next.list_count lists) enters.lists.own (omega (arith, less, long))
+        ∙ take-take other.list_count next.list_count lists less
+        ∙ halfway.standing other (stays_in other waiting) at is
+
+    stand_new : (other : Pending) → Among enters.puts.batch other → (at : Folder) → path_of other ≡ start_of at → take other.list_count new_lists ≡ lists_before basis tree at
+    stand_new other found at is =
+        let level : other.list_count ≡ length new_lists = of_all (λ (p : Pending). p.list_count ≡ length new_lists) enters.puts.batch enters.puts.counts other found in
+        let entry = is_entry other found in
+        take_all other.list_count new_lists (omega (arith, level)) ∙ are_lists
+        ∙ sym (lists_of_entry basis tree (start_of folder) entry.name entry.may.whole)
+        ∙ lists_below basis tree (start_of folder) entry.name entry.may (path_of other) at entry.here.kind entry.here.joined is
+
+    halfway_joined : IsHalfway basis tree start listed (pending ++ enters.puts.batch) new_lists
+    halfway_joined = record {
+      sound = halfway.sound;
+      met = λ other among. ⊎_elim
+          (λ (old : Among pending other). halfway.met other (stays_in other old))
+          (λ (found : Among enters.puts.batch other). lies met_next may (is_entry other found))
+          (among_cases pending enters.puts.batch other among);
+      standing = λ other among. ⊎_elim
+          (λ (old : Among pending other). stand_old other old)
+          (λ (found : Among enters.puts.batch other). stand_new other found)
+          (among_cases pending enters.puts.batch other among);
+      complete = λ path met shut. ⊎_elim
+          (λ (old : Among listed path). inl old)
+          (λ (from : (other : Pending) × Among (pending ++ next ∷ []) other × IsMet basis tree (path_of other) path). ⊎_elim
+          (λ (waiting : Among pending from.0). inr (from.0, among_left pending enters.puts.batch from.0 waiting, from.2))
+          (λ (one : Among (next ∷ []) from.0). ⊎_elim
+          (λ (is : next ≡ from.0).
+          let met_here : IsMet basis tree (start_of folder) path = subst (λ s. IsMet basis tree s path) is_start (subst (λ (p : Pending). IsMet basis tree (path_of p) path) (sym is) from.2) in
+          let first = meets_entry basis tree folder path may met_here shut in
+          let waits_for = entry_waits first.0 first.1 in
+          inr (waits_for.0, among_right pending enters.puts.batch waits_for.0 waits_for.1, subst (λ s. IsMet basis tree s path) (sym waits_for.2) first.2))
+          (λ (never : ⊥). absurd never)
+          one)
+          (among_cases pending (next ∷ []) from.0 from.1))
+          (halfway.complete path met shut);
+    }
+
+    pub halfway_entered : IsHalfway basis tree start listed new new_lists
+    halfway_entered = subst (λ all. IsHalfway basis tree start listed all new_lists) (sym enters.puts.joined) halfway_joined

@@ -1,0 +1,137 @@
+-- The lines of a listing, as they are written.
+use Rattle.std.proofs.Common.{◌≡◌, ◌≢◌, ◌⊎◌, inl, inr, ⊎_elim, ℕ, ◌≤◌, List, [], ◌∷◌, ◌++◌, length, take, refl, sym, ap, subst, ◌∙◌, append_assoc, append-nil, arith}
+use Rattle.std.specs.Prelude.{Option, None, Some}
+use Rattle.std.specs.Io.KnownBytes.{Appends}
+use Rattle.std.specs.List.{flat_map}
+use Rattle.std.proofs.lemmas.List.{flat_map_more, take_at}
+use Rattle.gix_glob.specs.declared.pattern.Case.{Case}
+use Rattle.gix_glob.specs.EntryLists.{EntryList}
+use Rattle.glob_lines.specs.Transfers.{AppendsFront}
+use Rattle.glob_trees.specs.Ways.{Folder, start_of}
+use Rattle.tree_commands.specs.declared.files.pending.Pending.{Pending}
+use Rattle.tree_commands.specs.FileTrees.{FileTree}
+use Rattle.tree_commands.specs.Files.{IsLeaf, IsMet, Basis}
+use Rattle.tree_commands.specs.Private.Listing.{Among, Enters, IsEntered, IsToList, Visits, WritesOut, path_of, with_line}
+use Rattle.tree_commands.specs.Private.UnderWay.{Beginning, IsHalfway, IsUnderWay, IsWriting, OfKnown, WritesAll, WritesFront}
+use Rattle.tree_commands.proofs.lemmas.AmongLemmas.{among_last}
+use Rattle.tree_commands.proofs.lemmas.ListingLemmas.{halfway_entered, halfway_listed, under_way_entered, under_way_listed}
+use Rattle.tree_commands.proofs.lemmas.StackLemmas.{stack_top}
+
+appends_more : (old middle new : Option (List ℕ)) (one more : List ℕ) → Appends old middle one → Appends middle new more → Appends old new (one ++ more)
+appends_more None middle new one more first next = tt
+appends_more (Some xs) None new one more first next = absurd first
+appends_more (Some xs) (Some ys) None one more first next = absurd next
+appends_more (Some xs) (Some ys) (Some zs) one more first next = next ∙ ap (λ l. l ++ more) first ∙ append_assoc xs one more
+
+pub appends_none : (old : Option (List ℕ)) → Appends old old []
+appends_none None = tt
+appends_none (Some xs) = sym (append-nil xs)
+
+module _ (line : List ℕ → List ℕ) (Known : FileTree → Type 0) (case : Case) (beginning : Beginning) (old : Option (List ℕ)) where
+  -- nothing is listed yet
+  pub begins_writing : (text : List ℕ) → text ≡ [] → IsUnderWay case [] beginning.pending beginning.lists → IsWriting line Known case beginning old old text beginning.pending beginning.lists
+  begins_writing text none under = record {
+    listed = [];
+    under_way = under;
+    written = [];
+    appended = appends_none old;
+    joined = sym none;
+    halfway = λ tree known basis same start halfway. halfway;
+  }
+
+  module _ (new : Option (List ℕ)) (text : List ℕ) (pending : List Pending) (lists : List (EntryList (Unit {0}))) where
+    -- a front of the lines is written at any time
+    pub front_is_written : IsWriting line Known case beginning old new text pending lists → WritesFront line Known case beginning old new
+    front_is_written it = record {
+      listed = it.listed;
+      ordered = it.under_way.ordered;
+      appended = record {
+        count = length it.written;
+        appended = subst (Appends old new) (sym (ap (take (length it.written)) it.joined ∙ take_at it.written text (length it.written) refl)) it.appended;
+      };
+      sound = λ tree known basis same start halfway. (let now = it.halfway tree known basis same start halfway in now.sound);
+    }
+
+  -- all is written where nothing is pending, and what was left
+  pub all_is_written : (middle new : Option (List ℕ)) (text : List ℕ) (lists : List (EntryList (Unit {0}))) → IsWriting line Known case beginning old middle text [] lists → Appends middle new text → WritesAll line Known case beginning old new
+  all_is_written middle new text lists it rest = record {
+    listed = it.listed;
+    ordered = it.under_way.ordered;
+    appended = subst (Appends old new) (sym it.joined) (appends_more old middle new it.written text it.appended rest);
+    exact = λ tree known basis same start halfway path.
+        let now = it.halfway tree known basis same start halfway in (
+          now.sound path,
+          λ listed. ⊎_elim
+              (λ (here : Among it.listed path). here)
+              (λ (from : (next : Pending) × ⊥ × IsMet basis tree (path_of next) path). absurd from.1)
+              (now.complete path listed.0 listed.1),
+        );
+  }
+
+  module _ (Now : FileTree → Type 0) (stays : (tree : FileTree) → Known tree → Now tree) (middle : Option (List ℕ)) (text : List ℕ) (next : Pending) (pending : List Pending) (lists : List (EntryList (Unit {0})))
+      (it : IsWriting line Known case beginning old middle text (pending ++ next ∷ []) lists) where
+    -- the next path was listed, and its line is written or is left
+    pub writes_listed : (new : Option (List ℕ)) (new_pending : List Pending) (new_lists : List (EntryList (Unit {0}))) (path more left written : List ℕ) → IsToList Now next lists new_lists pending new_pending path
+        → more ≡ text ++ line path → Appends middle new written → more ≡ written ++ left → IsWriting line Known case beginning old new left new_pending new_lists
+    writes_listed new new_pending new_lists path more left written is appended out cut =
+        subst (λ (ls : List (EntryList (Unit {0}))). IsWriting line Known case beginning old new left new_pending ls) (sym is.lists)
+        (subst (λ (ps : List Pending). IsWriting line Known case beginning old new left ps lists) (sym is.pending) here)
+      where
+        here : IsWriting line Known case beginning old new left pending lists
+        here = record {
+          listed = it.listed ++ path_of next ∷ [];
+          under_way = under_way_listed case it.listed pending next lists it.under_way;
+          written = it.written ++ written;
+          appended = appends_more old middle new it.written written it.appended out;
+          joined = sym (flat_map_more line [] it.listed (path_of next))
+              ∙ ap (λ l. l ++ line (path_of next)) it.joined
+              ∙ append_assoc it.written text (line (path_of next))
+              ∙ ap (λ l. it.written ++ l) (ap (λ p. text ++ line p) (sym is.same) ∙ sym appended ∙ cut)
+              ∙ sym (append_assoc it.written written left);
+          halfway = λ tree known basis same start halfway.
+              halfway_listed basis tree start it.listed pending next lists (it.halfway tree known basis same start halfway) (subst (IsLeaf tree) is.same (is.leaf tree (stays tree known)));
+        }
+
+    -- or its folder was entered
+    pub writes_entered : (new_pending : List Pending) (new_lists : List (EntryList (Unit {0}))) → IsEntered Now case next lists new_lists pending new_pending → IsWriting line Known case beginning old middle text new_pending new_lists
+    writes_entered new_pending new_lists is = record {
+      listed = it.listed;
+      under_way = under_way_entered case it.listed pending next lists it.under_way is.folder is.start Now new_lists new_pending is.enters;
+      written = it.written;
+      appended = it.appended;
+      joined = it.joined;
+      halfway = λ tree known basis same start halfway.
+          halfway_entered basis tree start it.listed pending next lists (it.halfway tree known basis same start halfway) is.folder is.start (is.may tree (stays tree known))
+          (λ other among. (let above = stack_top path_of (λ (p : Pending). p.list_count) pending next it.under_way.stacked other among in above.counts))
+          (it.under_way.counts next (among_last pending next))
+          Now (stays tree known) new_lists new_pending (subst (λ c. Enters Now c is.folder next.list_count lists new_lists pending new_pending) (sym same) is.enters);
+    }
+
+    -- what is written beside it goes on what was
+    pub asked_is_met : (folder : Folder) → path_of next ≡ start_of folder → OfKnown Known case beginning (λ basis tree start. IsMet basis tree start (start_of folder))
+    asked_is_met folder is = λ tree known basis same start halfway.
+        let now = it.halfway tree known basis same start halfway in subst (IsMet basis tree start) is (now.met next (among_last pending next))
+
+  -- of the text a front is written
+  writes_out : (middle new : Option (List ℕ)) (text left written : List ℕ) (pending : List Pending) (lists : List (EntryList (Unit {0}))) → IsWriting line Known case beginning old middle text pending lists
+      → Appends middle new written → text ≡ written ++ left → IsWriting line Known case beginning old new left pending lists
+  writes_out middle new text left written pending lists it out cut = record {
+    listed = it.listed;
+    under_way = it.under_way;
+    written = it.written ++ written;
+    appended = appends_more old middle new it.written written it.appended out;
+    joined = it.joined ∙ ap (λ l. it.written ++ l) cut ∙ sym (append_assoc it.written written left);
+    halfway = it.halfway;
+  }
+
+  -- the next path was visited, and of what is to be written a front is
+  pub writes_on : (Now : FileTree → Type 0) (stays : (tree : FileTree) → Known tree → Now tree) (middle new : Option (List ℕ)) (text left : List ℕ) (next : Pending) (pending new_pending : List Pending) (lists new_lists : List (EntryList (Unit {0})))
+      (listed : Option (List ℕ)) → IsWriting line Known case beginning old middle text (pending ++ next ∷ []) lists → Visits Now case next lists new_lists pending new_pending listed
+      → WritesOut middle new (with_line line text listed) left → IsWriting line Known case beginning old new left new_pending new_lists
+  writes_on Now stays middle new text left next pending new_pending lists new_lists None it visited out =
+      writes_out middle new text left out.0 new_pending new_lists (writes_entered Now stays middle text next pending lists it new_pending new_lists visited) out.1 out.2
+  writes_on Now stays middle new text left next pending new_pending lists new_lists (Some path) it visited out =
+      writes_listed Now stays middle text next pending lists it new new_pending new_lists path (text ++ line path) left out.0 visited refl out.1 out.2
+
+pub nothing_in_front : (line : List ℕ → List ℕ) (old : Option (List ℕ)) → AppendsFront old old (flat_map line [])
+nothing_in_front line old = record { count = 0; appended = appends_none old }

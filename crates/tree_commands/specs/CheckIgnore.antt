@@ -1,0 +1,84 @@
+-- Which line decides about a told path, and what `check-ignore` writes about it.
+use Rattle.std.specs.Prelude.{◌≡◌, ◌⊎◌, ℕ, Bool, true, false, ◌&&◌, ◌||◌, not, if◌then◌else◌, List, [], map, slice_get, take, Option, None, Some, IfSome, MatchOption, is_some}
+use Rattle.std.specs.List.{AllZip, list_any}
+use Rattle.std.specs.Option.{unwrap_or}
+use Rattle.gix_glob.specs.declared.pattern.Case.{Case}
+use Rattle.gix_glob.specs.Entries.{Entry}
+use Rattle.gix_glob.specs.EntryLists.{EntryList, entry_list_of}
+use Rattle.gix_glob.specs.Patterns.{is_negative}
+use Rattle.glob_lists.specs.Paths.{IsPlainPath}
+use Rattle.glob_trees.specs.TreeParts.{TreeParts}
+use Rattle.glob_trees.specs.Trees.{DecidesInTree}
+use Rattle.glob_trees.specs.Ways.{AreOnTheWay, Folder}
+use Rattle.told_paths.specs.declared.standpoint.Standpoint.{Standpoint}
+use Rattle.told_paths.specs.Paths.{names_folder, parts_of}
+use Rattle.told_paths.specs.Standpoints.{led}
+use Rattle.tree_answers.specs.Lines.{Decision, line_text}
+use Rattle.tree_commands.specs.declared.check_ignore.fault.IgnoreFault.{IgnoreFault}
+use Rattle.tree_commands.specs.declared.check_ignore.fault.IgnoreFault.TheVariants.{Empty, Outside}
+use Rattle.tree_commands.specs.declared.check_ignore.flags.IgnoreFlags.{IgnoreFlags}
+
+-- What is asked of each told path: where it leads from the top; whether a folder stands there, as far as it is known; the lists that
+-- stand before those of all folders, and how many; whether the case of letters counts; and what is written.
+pub record Question : Type 0 where
+  pub leads : List ℕ → Option (List ℕ)
+  pub kind_of : List ℕ → Option Bool
+  pub front_count : ℕ
+  pub fronts : List (EntryList (Unit {0}))
+  pub case : Case
+  pub flags : IgnoreFlags
+
+-- what is asked from a standpoint of a tree, where the kinds of paths are known so far
+abbrev pub question_of : {S T X : Type 0} → Standpoint → IgnoreFlags → TreeParts S T X → (List ℕ → Option Bool) → Question
+question_of standpoint flags tree kind_of =
+    record { leads = led standpoint; kind_of = kind_of; front_count = tree.front_count; fronts = take tree.front_count (map (entry_list_of {V = Unit {0}} (λ _. tt)) tree.lists); case = tree.case; flags = flags }
+
+-- the line at a pair of places, and none for none
+abbrev pub IsLineAt : List (EntryList (Unit {0})) → Option (ℕ × ℕ) → Option Decision → Type 0
+IsLineAt lists pair line = MatchOption pair (line ≡ None)
+    (λ at. (list : EntryList (Unit {0})) × (entry : Entry (Unit {0})) × (slice_get lists at.0 ≡ Some list) × (slice_get list.entries at.1 ≡ Some entry)
+    × (line ≡ Some (record { source = unwrap_or list.source []; number = entry.number; mode = entry.mode; text = entry.text })))
+
+-- The line that decides about a path from the top: by the lists before those of all folders, and those that are shown for the folders on
+-- the way. The path is a folder's where that is known, and none where that is.
+pub record IsDeciding (question : Question) (shows : Folder → EntryList (Unit {0}) → Type 0) (path : List ℕ) (known : Option Bool) (line : Option Decision) : Type 0 where
+  pub lists : List (EntryList (Unit {0}))
+  pub fronts : take question.front_count lists ≡ question.fronts
+  pub on_way : AreOnTheWay shows question.front_count lists question.case path
+  pub is_dir : Bool
+  pub kind : IfSome known (λ is_folder. is_dir ≡ is_folder)
+  pub pair : Option (ℕ × ℕ)
+  pub decides : DecidesInTree lists path is_dir question.case pair
+  pub there : IsLineAt lists pair line
+
+-- The line that decides about a told path: none about one that leads to the top itself, or to what else is no path of a repository. A
+-- path is known to be a folder's where it is told as one.
+pub record IsLineFor (question : Question) (shows : Folder → EntryList (Unit {0}) → Type 0) (told : List ℕ) (line : Option Decision) : Type 0 where
+  pub path : List ℕ
+  pub leads : question.leads told ≡ Some path
+  pub decided : (¬ IsPlainPath path × (line ≡ None))
+      ⊎ (IsPlainPath path × IsDeciding question shows path (if names_folder false (parts_of told) then Some true else question.kind_of path) line)
+
+-- the line, where it counts: a negative one only where lines are written
+abbrev pub counted : Bool → Option Decision → Option Decision
+counted verbose None = None
+counted verbose (Some line) = if verbose || not (is_negative line.mode) then Some line else None
+
+-- what is written about a path: nothing where it is quiet, or where no line counts and paths without one aren't asked for
+abbrev pub text_about : IgnoreFlags → List ℕ → Option Decision → List ℕ
+text_about flags told line = if not flags.quiet && (is_some line || flags.non_matching) then line_text flags.verbose flags.form line told else []
+
+-- what may be written for a told path: the text about it, with the line that decides
+abbrev pub IsIgnoreAnswer : Question → (Folder → EntryList (Unit {0}) → Type 0) → List ℕ → List ℕ → Type 0
+IsIgnoreAnswer question shows told text = (line : Option Decision) × IsLineFor question shows told line × (text ≡ text_about question.flags told (counted question.flags.verbose line))
+
+-- whether a line that counts decides about some of the told paths
+abbrev pub IsStatus : Question → (Folder → EntryList (Unit {0}) → Type 0) → Bool → List (List ℕ) → Type 0
+IsStatus question shows is_any paths =
+    (lines : List (Option Decision)) × AllZip (IsLineFor question shows) paths lines × (is_any ≡ list_any (λ line. is_some (counted question.flags.verbose line)) lines)
+
+-- what a told path may get a fault for: that it leads out of the work tree, or has no bytes, only where it is so
+abbrev pub Refuses : {F : Type 0} → (List ℕ → Option (List ℕ)) → List ℕ → IgnoreFault F → Type 0
+Refuses leads told (Outside path) = (path.items ≡ told) × (leads told ≡ None)
+Refuses leads told Empty = told ≡ []
+Refuses leads told _ = Unit {0}

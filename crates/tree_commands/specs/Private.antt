@@ -1,0 +1,11 @@
+-- Words that only private clauses cite: what the functions of the crate say to one another.
+pub mod Answering
+pub mod AttributeAnswers
+pub mod AttributeRuns
+pub mod AttributeWays
+pub mod Faults
+pub mod Finding
+pub mod Ignoring
+pub mod Listing
+pub mod ListingFaults
+pub mod UnderWay

@@ -1,0 +1,301 @@
+//! What answers each told path by the states of its attributes.
+ghost use Rattle.std.specs.Prelude.{◌≡◌, ◌++◌, ℕ, List, Some, IfOk, OnOk, false, map};
+ghost use Rattle.std.specs.Io.{StartsWith};
+ghost use Rattle.std.specs.Vec.{vec_items};
+ghost use Rattle.glob_attributes.specs.Views.{assignment_with};
+ghost use Rattle.glob_attributes.specs.States.{state_in};
+ghost use Rattle.glob_lists.specs.Paths.{IsPlainPath};
+ghost use Rattle.record_streams.specs.Records.{Adds};
+ghost use Rattle.told_paths.specs.Paths.{names_folder, parts_of};
+ghost use Rattle.told_paths.specs.Standpoints.{led};
+ghost use Rattle.tree_answers.specs.Attributes.{label_text};
+ghost use Rattle.tree_commands.specs.CheckAttr.{or_dot, states_text, told_states};
+ghost use Rattle.tree_commands.specs.Private.AttributeWays.{HasGoneTo, HasRead, asked_by};
+ghost use Rattle.tree_commands.specs.Private.AttributeAnswers.{IsReady, labels_of, shown_text, unspecified_text};
+
+use crate::check_attr::fault::AttributeFault;
+use crate::check_attr::folders::AttributeFolders;
+use crate::check_attr::question::Question;
+use crate::check_attr::walk::{Asking, FolderAttributes};
+use glob_attributes::{Assignment, AttributeLines, PathAttributes, State};
+use glob_lists::{ListIndex, RepositoryPath, plain_path};
+use std::alloc::{AllocError, Global};
+use std::marker::Model;
+use told_paths::Standpoint;
+use tree_answers::{Form, PathAnswerer, append_answer, append_label, path_text};
+
+/// What answers each told path by the states of its attributes. Contracts see whether a path got no answer: then none gets one any more.
+#[derive(Drop)]
+pub(crate) struct AttributeAnswerer<'q, 'm, S: AttributeFolders, Q: Question> {
+    asker: AttributeAsker<'q, 'm, S, Q>,
+}
+
+impl<'q, 'm, S: AttributeFolders, Q: Question> Model for AttributeAnswerer<'q, 'm, S, Q> {
+    ghost use Rattle.std.specs.Prelude.{Bool};
+    ghost use Rattle.tree_commands.specs.Private.AttributeAnswers.{IsReady};
+
+    ghost Value = { Bool };
+
+    ghost view = { λ answerer. answerer.asker.is_spent };
+
+    ghost invariant = { λ answerer. IsReady Q.files Q.asked Q.shows Q.allows S.shows answerer.asker };
+}
+
+impl<'q, 'm, S: AttributeFolders, Q: Question> PathAnswerer for AttributeAnswerer<'q, 'm, S, Q> {
+    type Fault = AttributeFault<S::Fault>;
+
+    ghost answers = { λ _ told text. Q.allows told text };
+
+    ghost answered = { λ _ _. Unit {0} };
+
+    ghost refuses = { λ _ _. Unit {0} };
+
+    fn answer_path(
+        &mut self,
+        text: &mut Vec<u8>,
+        told: &[u8],
+        _is_usual: bool,
+    ) -> Result<(), AttributeFault<S::Fault>> {
+        self.asker.answer_path(text, told)
+    }
+}
+
+impl<'q, 'm, S: AttributeFolders, Q: Question> AttributeAnswerer<'q, 'm, S, Q> {
+    /// What answers by an asker.
+    pub(crate) fn new(asker: AttributeAsker<'q, 'm, S, Q>) -> AttributeAnswerer<'q, 'm, S, Q>
+        requires { IsReady Q.files Q.asked Q.shows Q.allows S.shows asker }
+    {
+        AttributeAnswerer { asker }
+    }
+}
+
+/// What is asked of each path, and what is known of folders.
+#[derive(Drop)]
+pub(crate) struct AttributeAsker<'q, 'm, S, Q> {
+    pub(crate) alloc: Global,
+    pub(crate) standpoint: &'q Standpoint,
+    pub(crate) form: Form,
+    /// The lists that are weaker than those of all folders below the top.
+    pub(crate) index: &'m ListIndex<'m, AttributeLines>,
+    pub(crate) walk: FolderAttributes<'q, 'm, S, Q>,
+    /// The label of each attribute that is asked for, where not all are.
+    pub(crate) labels: Vec<Vec<u8>>,
+    /// The path that was asked last.
+    pub(crate) path: Vec<u8>,
+    /// Whether the source failed, or memory was refused, on the way to a path.
+    pub(crate) is_spent: bool,
+}
+
+impl<'q, 'm, S: AttributeFolders, Q: Question> AttributeAsker<'q, 'm, S, Q> {
+    /// Appends what is written about a told path.
+    ///
+    /// # Errors
+    /// Where the path leads nowhere, the source fails, or memory was refused.
+    fn answer_path(
+        &mut self,
+        text: &mut Vec<u8>,
+        told: &[u8],
+    ) -> Result<(), AttributeFault<S::Fault>>
+        requires ready { IsReady Q.files Q.asked Q.shows Q.allows S.shows self.old }
+        ensures ready { IsReady Q.files Q.asked Q.shows Q.allows S.shows self.new }
+        ensures written { OnOk result (Adds (Q.allows told.now) text.old.items text.new.items) }
+        ensures kept { StartsWith text.new.items text.old.items }
+    {
+        if self.is_spent {
+            return Err(AttributeFault::Spent);
+        }
+        let is_folder = self.lead(told)?;
+        if !plain_path(&self.path) {
+            self.append_unassigned(text, told)?;
+            return Ok(());
+        }
+        self.go()?;
+        self.append_assigned(text, told, is_folder)?;
+        Ok(())
+    }
+
+    /// Goes where a told path leads, from the top. It answers whether the path names a folder by its last part.
+    ///
+    /// # Errors
+    /// Where it leads nowhere, or memory was refused.
+    fn lead(&mut self, told: &[u8]) -> Result<bool, AttributeFault<S::Fault>>
+        ensures leads { IfOk result (λ is_folder. (led self.old.standpoint.now (or_dot told.now) ≡ Some self.new.path.items) × (is_folder ≡ names_folder false (parts_of (or_dot told.now)))) }
+        ensures same { self.new ≡ record self.old { path = self.new.path } }
+    {
+        let told = or_dot(told);
+        let alloc = self.alloc;
+        match self.standpoint.lead(alloc, &mut self.path, told) {
+            Ok(is_folder) => Ok(is_folder),
+            Err(fault) => Err(AttributeFault::of_lead(alloc, told, fault)),
+        }
+    }
+
+    /// Goes to the folder that the path lies in.
+    ///
+    /// # Errors
+    /// Where the source fails, or memory was refused: then nothing more is answered.
+    fn go(&mut self) -> Result<(), AttributeFault<S::Fault>>
+        requires ready { IsReady Q.files Q.asked Q.shows Q.allows S.shows self.old }
+        requires unspent { self.old.is_spent ≡ false }
+        requires plain { IsPlainPath self.old.path.items }
+        ensures ready { IsReady Q.files Q.asked Q.shows Q.allows S.shows self.new }
+        ensures gone { OnOk result (HasGoneTo Q.files Q.asked Q.shows S.shows self.new.walk self.new.path.items) }
+        ensures same { self.new ≡ record self.old { walk = self.new.walk; is_spent = self.new.is_spent } }
+    {
+        match self.walk.go_to(&self.path) {
+            Ok(()) => Ok(()),
+            Err(fault) => {
+                self.is_spent = true;
+                Err(fault)
+            }
+        }
+    }
+
+    /// Appends the states of the attributes of the path that was gone to.
+    ///
+    /// # Errors
+    /// Only where memory was refused.
+    fn append_assigned(
+        &self,
+        text: &mut Vec<u8>,
+        told: &[u8],
+        is_folder: bool,
+    ) -> Result<(), AllocError>
+        requires ready { IsReady Q.files Q.asked Q.shows Q.allows S.shows self.now }
+        requires plain { IsPlainPath self.now.path.items }
+        requires gone { HasGoneTo Q.files Q.asked Q.shows S.shows self.now.walk self.now.path.items }
+        requires leads { led self.now.standpoint.now (or_dot told.now) ≡ Some self.now.path.items }
+        requires folder { is_folder ≡ names_folder false (parts_of (or_dot told.now)) }
+        ensures written { OnOk result (Adds (Q.allows told.now) text.old.items text.new.items) }
+        ensures kept { StartsWith text.new.items text.old.items }
+    {
+        let path = RepositoryPath::from_plain(&self.path, is_folder);
+        let assigned = PathAttributes::with_index(
+            self.alloc,
+            self.index,
+            &self.walk.lists,
+            self.walk.macros,
+            &path,
+        )?;
+        self.append_states(text, told, &assigned)
+    }
+
+    /// Appends the states that are asked for.
+    ///
+    /// # Errors
+    /// Only where memory was refused.
+    fn append_states(
+        &self,
+        text: &mut Vec<u8>,
+        told: &[u8],
+        assigned: &PathAttributes<'_>,
+    ) -> Result<(), AllocError>
+        requires { map vec_items self.now.labels.items ≡ labels_of self.now.form (asked_by self.now.walk.asking) }
+        ensures written { OnOk result ((names : List (List ℕ)) → HasRead self.now.walk.asking names →
+            text.new.items ≡ text.old.items ++ states_text self.now.form told.now (told_states (asked_by self.now.walk.asking) names assigned.now)) }
+        ensures kept { StartsWith text.new.items text.old.items }
+    {
+        let mut quoted = Vec::new(self.alloc);
+        let shown = path_text(&mut quoted, told, self.form)?;
+        match &self.walk.asking {
+            Asking::Names(names) => {
+                append_named(text, shown, names, &self.labels, assigned, self.form)
+            }
+            Asking::All(names) => {
+                let states = assigned.states_of(self.alloc, names.as_slice())?;
+                append_all(self.alloc, text, shown, &states, self.form)
+            }
+        }
+    }
+
+    /// Appends that nothing is said of the attributes that are asked for.
+    ///
+    /// # Errors
+    /// Only where memory was refused.
+    fn append_unassigned(&self, text: &mut Vec<u8>, told: &[u8]) -> Result<(), AllocError>
+        requires ready { IsReady Q.files Q.asked Q.shows Q.allows S.shows self.now }
+        requires plain { ¬ IsPlainPath self.now.path.items }
+        requires leads { led self.now.standpoint.now (or_dot told.now) ≡ Some self.now.path.items }
+        ensures written { OnOk result (Adds (Q.allows told.now) text.old.items text.new.items) }
+        ensures kept { StartsWith text.new.items text.old.items }
+    {
+        let mut quoted = Vec::new(self.alloc);
+        let shown = path_text(&mut quoted, told, self.form)?;
+        append_unspecified(text, shown, &self.labels, self.form)
+    }
+}
+
+/// What is told, or a dot where it has no bytes: these lead nowhere else.
+fn or_dot(told: &[u8]) -> &[u8]
+    ensures { result.now ≡ or_dot told.entry.now }
+{
+    if told.is_empty() { b"." } else { told }
+}
+
+/// Appends the states of these attributes.
+///
+/// # Errors
+/// Only where memory was refused.
+#[tactic(auto, using(crate::proofs::lemmas::AttributeTexts::front_of_front))]
+fn append_named(
+    text: &mut Vec<u8>,
+    shown: &[u8],
+    names: &[&[u8]],
+    labels: &[Vec<u8>],
+    assigned: &PathAttributes<'_>,
+    form: Form,
+) -> Result<(), AllocError>
+    requires { map vec_items labels.now ≡ map (λ name. label_text form name.now) names.now }
+    ensures written { OnOk result (text.new.items ≡ text.old.items ++ shown_text form shown.now (map (λ name. record { name = name.now; state = state_in assigned.now name.now }) names.now)) }
+    ensures kept { StartsWith text.new.items text.old.items }
+{
+    'names: for place in 0..names.len() {
+        let state = assigned.state_of(names[place]);
+        append_answer(text, shown, &labels[place], &state, form)?;
+    }
+    Ok(())
+}
+
+/// Appends these states.
+///
+/// # Errors
+/// Only where memory was refused.
+#[tactic(auto, using(crate::proofs::lemmas::AttributeTexts::front_of_front))]
+fn append_all(
+    alloc: Global,
+    text: &mut Vec<u8>,
+    shown: &[u8],
+    states: &[Assignment<&[u8]>],
+    form: Form,
+) -> Result<(), AllocError>
+    ensures written { OnOk result (text.new.items ≡ text.old.items ++ shown_text form shown.now (map (assignment_with (λ bytes. bytes.now)) states.now)) }
+    ensures kept { StartsWith text.new.items text.old.items }
+{
+    let mut label = Vec::new(alloc);
+    'all: for assigned in states {
+        label.clear();
+        append_label(&mut label, assigned.name, form)?;
+        append_answer(text, shown, &label, &assigned.state, form)?;
+    }
+    Ok(())
+}
+
+/// Appends that the attributes of these labels are unspecified.
+///
+/// # Errors
+/// Only where memory was refused.
+#[tactic(auto, using(crate::proofs::lemmas::AttributeTexts::front_of_front))]
+fn append_unspecified(
+    text: &mut Vec<u8>,
+    shown: &[u8],
+    labels: &[Vec<u8>],
+    form: Form,
+) -> Result<(), AllocError>
+    ensures written { OnOk result (text.new.items ≡ text.old.items ++ unspecified_text form shown.now (map vec_items labels.now)) }
+    ensures kept { StartsWith text.new.items text.old.items }
+{
+    'labels: for label in labels {
+        append_answer(text, shown, label, &State::Unspecified, form)?;
+    }
+    Ok(())
+}

@@ -1,0 +1,60 @@
+//! The lists of attribute files, with the patterns alone that are asked for.
+ghost use Rattle.std.specs.Prelude.{◌≡◌, [], IfOk, map};
+ghost use Rattle.gix_glob.specs.Entries.{entry_of};
+ghost use Rattle.gix_glob.specs.EntryLists.{entry_list_of};
+ghost use Rattle.glob_attributes.specs.Views.{seen_assignments};
+ghost use Rattle.tree_commands.specs.CheckAttr.{all};
+ghost use Rattle.tree_commands.specs.Private.AttributeWays.{asked_of, kept_entries, kept_list};
+
+use crate::check_attr::question::AskedAttributes;
+use gix_glob::search::Pattern;
+use gix_glob::search::pattern::List;
+use glob_attributes::{AttributeLines, MacroTable, keep_named};
+use glob_trees::list_in_folder;
+use std::alloc::{AllocError, Global};
+
+/// The list of a file for the paths in a folder, with the patterns that the states of these attributes rest on. The top is named by no bytes.
+///
+/// # Errors
+/// Only where memory was refused.
+pub(crate) fn kept_list(
+    alloc: Global,
+    asked: AskedAttributes<'_>,
+    macros: &MacroTable,
+    folder: &[u8],
+    bytes: &[u8],
+) -> Result<List<AttributeLines>, AllocError>
+    ensures { IfOk result (λ list. entry_list_of seen_assignments list ≡ kept_list (asked_of asked.entry) macros.now folder.now bytes.now) }
+{
+    let list = keep_asked(list_of(alloc, bytes)?, asked, macros);
+    list_in_folder(alloc, list, folder)
+}
+
+/// The list with the patterns alone that the states of these attributes rest on.
+fn keep_asked(
+    mut list: List<AttributeLines>,
+    asked: AskedAttributes<'_>,
+    macros: &MacroTable,
+) -> List<AttributeLines>
+    ensures entries { map (entry_of seen_assignments) result.patterns.items ≡ kept_entries (asked_of asked.entry) macros.now (map (entry_of seen_assignments) list.patterns.items) }
+    ensures source { result.source ≡ list.source }
+{
+    match asked {
+        AskedAttributes::Names(names) => {
+            keep_named(&mut list, names, macros);
+            list
+        }
+        AskedAttributes::All => list,
+    }
+}
+
+/// The list of a file, without a base.
+fn list_of(alloc: Global, bytes: &[u8]) -> Result<List<AttributeLines>, AllocError>
+    ensures { IfOk result (λ list. entry_list_of seen_assignments list ≡ kept_list all [] [] bytes.now) }
+{
+    Ok(List {
+        patterns: AttributeLines.bytes_to_patterns(alloc, bytes, "")?,
+        source: None,
+        base: None,
+    })
+}

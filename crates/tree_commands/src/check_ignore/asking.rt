@@ -1,0 +1,257 @@
+//! What answers each told path by the line that decides about it.
+ghost use Rattle.std.specs.Prelude.{◌≡◌, ◌++◌, false, IfErr, IfOk, IfSome, IsTrue, None, Option, Some, is_some, [], option_map};
+ghost use Rattle.std.specs.Io.{StartsWith};
+ghost use Rattle.std.specs.List.{list_any};
+ghost use Rattle.std.specs.Option.{unwrap_or};
+ghost use Rattle.std.specs.String.{string_bytes};
+ghost use Rattle.gix_glob.specs.Entries.{entry_of};
+ghost use Rattle.gix_glob.specs.EntryLists.{entry_list_of};
+ghost use Rattle.glob_lists.specs.Paths.{IsPlainPath};
+ghost use Rattle.glob_trees.specs.TreeParts.{HasMappingAt};
+ghost use Rattle.glob_trees.specs.Ways.{GoesOn};
+ghost use Rattle.told_paths.specs.Paths.{names_folder, parts_of};
+ghost use Rattle.told_paths.specs.Quoting.{is_unusual};
+ghost use Rattle.tree_answers.specs.Lines.{Decision};
+ghost use Rattle.tree_answers.specs.Records.{LeadsAsTold};
+ghost use Rattle.tree_commands.specs.CheckIgnore.{IsLineAt, Refuses, counted, question_of, text_about};
+ghost use Rattle.tree_commands.specs.Private.Finding.{FindsTold, line_of, lists_of, told_kind};
+
+use crate::check_ignore::fault::IgnoreFault;
+use crate::check_ignore::finding::Finder;
+use crate::check_ignore::flags::IgnoreFlags;
+use crate::check_ignore::kinds::PathKinds;
+use crate::check_ignore::running::IgnoreSources;
+use crate::check_ignore::unlinked::UnlinkedFolders;
+use gix_glob::search::pattern::{List, Mapping};
+use glob_lines::IgnoreLines;
+use glob_lists::plain_path;
+use glob_trees::FolderLists;
+use std::alloc::{AllocError, Global};
+use std::marker::{Brand, PhantomData};
+use told_paths::{LeadFault, Standpoint};
+use tree_answers::{DecidingLine, PathAnswerer, append_line};
+
+/// What is asked, in words that contracts alone have.
+pub(crate) trait AskedQuestion {
+    ghost use Rattle.tree_commands.specs.CheckIgnore.{Question};
+
+    ghost question: { Question };
+}
+
+impl AskedQuestion for Brand {
+    ghost use Rattle.std.specs.Prelude.{None, [], false};
+    ghost use Rattle.gix_glob.specs.declared.pattern.Case.TheVariants.{Sensitive};
+    ghost use Rattle.tree_answers.specs.declared.form.Form.TheVariants.{Lines};
+
+    ghost question = { record { leads = λ _. None; kind_of = λ _. None; front_count = 0; fronts = []; case = Sensitive; flags = record { form = Lines; verbose = false; non_matching = false; quiet = false } } };
+}
+
+/// What answers each told path by the tree. Its type names what is asked: so a run keeps the question, whatever it does to the answerer.
+#[derive(Drop)]
+pub(crate) struct IgnoreAsker<'a, S: FolderLists<IgnoreLines>, K: PathKinds, Q: AskedQuestion> {
+    alloc: Global,
+    standpoint: &'a Standpoint,
+    flags: IgnoreFlags,
+    finder: Finder<S, K>,
+    /// Where a told path led that isn't the path from the top itself.
+    path: Vec<u8>,
+    /// Whether a line that counts decided about some path.
+    is_any: bool,
+    question: PhantomData<Q>,
+    ghost asked: { question_of standpoint.now flags finder.tree (K.kind_of finder.kinds) ≡ Q.question },
+}
+
+impl<
+    'a,
+    S: FolderLists<IgnoreLines> + Drop,
+    K: PathKinds<Fault = S::Fault> + Drop,
+    Q: AskedQuestion,
+> PathAnswerer for IgnoreAsker<'a, S, K, Q> {
+    ghost use Rattle.tree_commands.specs.CheckIgnore.{IsIgnoreAnswer, IsStatus, Refuses};
+
+    type Fault = IgnoreFault<S::Fault>;
+
+    ghost answers = { λ self. IsIgnoreAnswer Q.question (S.shows (Unit {0}) self.finder.tree.source) };
+
+    ghost answered = { λ self. IsStatus Q.question (S.shows (Unit {0}) self.finder.tree.source) self.is_any };
+
+    ghost refuses = { Refuses Q.question.leads };
+
+    fn answer_path(
+        &mut self,
+        text: &mut Vec<u8>,
+        told: &[u8],
+        is_usual: bool,
+    ) -> Result<(), IgnoreFault<S::Fault>> {
+        let pair = self.find(told, is_usual)?;
+        let is_counted = self.append(text, told, is_usual, pair)?;
+        self.is_any |= is_counted;
+        Ok(())
+    }
+}
+
+impl<
+    'a,
+    S: FolderLists<IgnoreLines> + Drop,
+    K: PathKinds<Fault = S::Fault> + Drop,
+    Q: AskedQuestion,
+> IgnoreAsker<'a, S, K, Q> {
+    /// What answers paths from a standpoint. None was answered yet.
+    pub(crate) fn new(
+        alloc: Global,
+        standpoint: &'a Standpoint,
+        flags: IgnoreFlags,
+        sources: IgnoreSources<S, K>,
+    ) -> IgnoreAsker<'a, S, K, Q>
+        requires { question_of standpoint.now flags sources.tree (K.kind_of sources.kinds) ≡ Q.question }
+        ensures { result.is_any ≡ false }
+    {
+        let IgnoreSources { tree, kinds } = sources;
+        let finder = Finder {
+            tree,
+            kinds,
+            unlinked: UnlinkedFolders::new(alloc),
+        };
+        IgnoreAsker {
+            alloc,
+            standpoint,
+            flags,
+            finder,
+            path: Vec::new(alloc),
+            is_any: false,
+            question: PhantomData,
+        }
+    }
+
+    /// Whether a line that counts decided about some path.
+    pub(crate) fn is_any(&self) -> bool
+        ensures { result ≡ self.now.is_any }
+    {
+        self.is_any
+    }
+
+    /// Gives the sources back.
+    pub(crate) fn into_sources(self) -> IgnoreSources<S, K>
+        ensures { result ≡ record { tree = self.entry.finder.tree; kinds = self.entry.finder.kinds } }
+    {
+        IgnoreSources {
+            tree: self.finder.tree,
+            kinds: self.finder.kinds,
+        }
+    }
+
+    /// Which pattern decides about a told path. Usual names that are told from the top are the path itself.
+    fn find(
+        &mut self,
+        told: &[u8],
+        is_usual: bool,
+    ) -> Result<Option<(usize, usize)>, IgnoreFault<S::Fault>>
+        requires plain { IsTrue is_usual → IsPlainPath told.now }
+        requires leads { IsTrue is_usual → LeadsAsTold told.now }
+        ensures found { IfOk result (FindsTold (S.shows (Unit {0})) (Q.question.leads told.now) (λ path. told_kind (names_folder false (parts_of told.now)) (Q.question.kind_of path)) self.new.finder.tree) }
+        ensures goes_on { GoesOn (S.shows (Unit {0})) self.old.finder.tree.source self.new.finder.tree.source }
+        ensures same { self.new.is_any ≡ self.old.is_any }
+        ensures faults { IfErr result (Refuses Q.question.leads told.now) }
+    {
+        if is_usual && self.standpoint.is_at_top() {
+            return self.finder.find(told, false);
+        }
+        self.find_led(told)
+    }
+
+    /// The same, of a path that has to be led to.
+    #[inline(never)]
+    fn find_led(&mut self, told: &[u8]) -> Result<Option<(usize, usize)>, IgnoreFault<S::Fault>>
+        ensures found { IfOk result (FindsTold (S.shows (Unit {0})) (Q.question.leads told.now) (λ path. told_kind (names_folder false (parts_of told.now)) (Q.question.kind_of path)) self.new.finder.tree) }
+        ensures goes_on { GoesOn (S.shows (Unit {0})) self.old.finder.tree.source self.new.finder.tree.source }
+        ensures same { self.new.is_any ≡ self.old.is_any }
+        ensures faults { IfErr result (Refuses Q.question.leads told.now) }
+    {
+        let is_folder = self.lead(told)?;
+        if !plain_path(&self.path) {
+            return Ok(None);
+        }
+        self.finder.find(&self.path, is_folder)
+    }
+
+    /// Goes where a told path leads. It answers whether the path is told as a folder.
+    fn lead(&mut self, told: &[u8]) -> Result<bool, IgnoreFault<S::Fault>>
+        ensures leads { IfOk result (λ is_folder. (Q.question.leads told.now ≡ Some self.new.path.items) × (is_folder ≡ names_folder false (parts_of told.now))) }
+        ensures finder { self.new.finder ≡ self.old.finder }
+        ensures same { self.new.is_any ≡ self.old.is_any }
+        ensures faults { IfErr result (Refuses Q.question.leads told.now) }
+    {
+        match self.standpoint.lead(self.alloc, &mut self.path, told) {
+            Ok(is_folder) => Ok(is_folder),
+            Err(LeadFault::Memory) => Err(IgnoreFault::Memory),
+            Err(LeadFault::Empty) => Err(IgnoreFault::Empty),
+            Err(LeadFault::Outside) => match Vec::from_slice(self.alloc, told) {
+                Ok(path) => Err(IgnoreFault::Outside(path)),
+                Err(_refused) => Err(IgnoreFault::Memory),
+            },
+        }
+    }
+
+    /// Appends what is written about a told path, where the pattern at this pair of places decides. It answers whether a line counts.
+    fn append(
+        &self,
+        text: &mut Vec<u8>,
+        told: &[u8],
+        is_usual: bool,
+        pair: Option<(usize, usize)>,
+    ) -> Result<bool, AllocError>
+        requires there { IfSome pair (HasMappingAt self.now.finder.tree.lists) }
+        requires usual { IsTrue is_usual → list_any is_unusual told.now ≡ false }
+        ensures appended { IfOk result (λ is_counted. (line : Option Decision) × IsLineAt (lists_of self.now.finder.tree) pair line
+            × (text.new.items ≡ text.old.items ++ text_about self.now.flags told.now (counted self.now.flags.verbose line))
+            × (is_counted ≡ is_some (counted self.now.flags.verbose line))) }
+        ensures kept { StartsWith text.new.items text.old.items }
+    {
+        let line = self.line_at(pair);
+        let is_counted = line.is_some();
+        if self.flags.writes(is_counted) {
+            append_line(
+                text,
+                told,
+                is_usual,
+                &line,
+                self.flags.verbose,
+                self.flags.form,
+            )?;
+        }
+        Ok(is_counted)
+    }
+
+    /// The line at a pair of places, where it counts.
+    fn line_at(&self, pair: Option<(usize, usize)>) -> Option<DecidingLine<'_>>
+        requires { IfSome pair (HasMappingAt self.now.finder.tree.lists) }
+        ensures { (line : Option Decision) × IsLineAt (lists_of self.now.finder.tree) pair line × (result ≡ counted self.now.flags.verbose line) }
+    {
+        let decision = self.finder.tree.decision(pair?)?;
+        if !self.flags.counts(&decision.mapping.pattern) {
+            return None;
+        }
+        Some(line_of(decision.list, decision.mapping))
+    }
+}
+
+/// The line of a mapping of a list.
+fn line_of<'t>(list: &'t List<IgnoreLines>, mapping: &'t Mapping<()>) -> DecidingLine<'t>
+    ensures { result ≡ line_of (entry_list_of (λ _. tt) list.entry.now) (entry_of (λ _. tt) mapping.entry.now) }
+{
+    DecidingLine {
+        source: source_of(list),
+        number: mapping.sequence_number,
+        pattern: &mapping.pattern,
+    }
+}
+
+/// The name of a list's file; no bytes where it has none.
+fn source_of(list: &List<IgnoreLines>) -> &[u8]
+    ensures { result.now ≡ unwrap_or (option_map string_bytes list.entry.now.source) [] }
+{
+    match &list.source {
+        Some(source) => source.as_bytes(),
+        None => b"",
+    }
+}

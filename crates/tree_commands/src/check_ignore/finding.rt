@@ -1,0 +1,147 @@
+//! Which pattern decides about a path of the work tree.
+ghost use Rattle.std.specs.Prelude.{◌≡◌, ◌↔◌, true, IfErr, IfOk, IfSome, IsTrue};
+ghost use Rattle.gix_glob.specs.PatternParts.{mode_of};
+ghost use Rattle.gix_glob.specs.Patterns.{is_for_directories};
+ghost use Rattle.glob_lists.specs.Paths.{IsPlainPath};
+ghost use Rattle.tree_commands.specs.Private.Faults.{IsOfSources};
+ghost use Rattle.tree_commands.specs.Private.Finding.{IsFound, IsFoundAs, KeepsTree, WantsFolder, told_kind};
+
+use crate::check_ignore::fault::IgnoreFault;
+use crate::check_ignore::kinds::{PathKinds, is_folder};
+use crate::check_ignore::unlinked::UnlinkedFolders;
+use bitflags::Flags as _;
+use gix_glob::Pattern;
+use gix_glob::pattern::Mode;
+use glob_lines::IgnoreLines;
+use glob_lists::RepositoryPath;
+use glob_trees::{FolderLists, Tree};
+
+/// What finds the pattern that decides about a path.
+#[derive(Drop)]
+pub(crate) struct Finder<S: FolderLists<IgnoreLines>, K> {
+    pub(crate) tree: Tree<IgnoreLines, S>,
+    pub(crate) kinds: K,
+    /// Folders that weren't entered, and are no links nor below one.
+    pub(crate) unlinked: UnlinkedFolders,
+}
+
+impl<S: FolderLists<IgnoreLines> + Drop, K: PathKinds<Fault = S::Fault>> Finder<S, K> {
+    /// Which pattern decides about a path. The source of kinds is asked whether it is a folder's where the answer depends on it, and it
+    /// wasn't told that it is.
+    #[tactic(auto, using(crate::proofs::lemmas::FindingLemmas::found_without))]
+    pub(crate) fn find(
+        &mut self,
+        path: &[u8],
+        is_told_folder: bool,
+    ) -> Result<Option<(usize, usize)>, IgnoreFault<S::Fault>>
+        requires { IsPlainPath path.now }
+        ensures found { IfOk result (IsFound (S.shows (Unit {0})) self.new.tree path.now (told_kind is_told_folder (K.kind_of self.old.kinds path.now))) }
+        ensures keeps { KeepsTree (S.shows (Unit {0})) self.old.tree self.new.tree }
+        ensures kinds { K.kind_of self.new.kinds ≡ K.kind_of self.old.kinds }
+        ensures faults { IfErr result IsOfSources }
+    {
+        let folder = RepositoryPath::from_plain(path, true);
+        let pair = find_as(&mut self.tree, &folder)?;
+        if is_told_folder || self.has_unseen_folder(&folder) || wants_folder(&self.tree, pair) {
+            return self.find_by_looks(path, is_told_folder, pair);
+        }
+        Ok(pair)
+    }
+
+    /// Whether the folder of a path is neither one that the tree entered on its way, nor the one that was asked for last.
+    fn has_unseen_folder(&self, path: &RepositoryPath<'_>) -> bool {
+        let Some(start) = path.basename_start() else {
+            return false;
+        };
+        start > self.tree.folder().len() && !self.unlinked.is_last(&path.bytes()[..start])
+    }
+
+    /// Which pattern decides about a path, if this one does where the path is a folder's. The source of kinds is asked about links, and
+    /// whether the path is a folder's.
+    #[inline(never)]
+    #[tactic(auto, using(crate::proofs::lemmas::FindingLemmas::found_without, crate::proofs::lemmas::FindingLemmas::found_folder))]
+    fn find_by_looks(
+        &mut self,
+        path: &[u8],
+        is_told_folder: bool,
+        pair: Option<(usize, usize)>,
+    ) -> Result<Option<(usize, usize)>, IgnoreFault<S::Fault>>
+        requires plain { IsPlainPath path.now }
+        requires as_folder { IsFoundAs (S.shows (Unit {0})) self.old.tree path.now true pair }
+        ensures found { IfOk result (IsFound (S.shows (Unit {0})) self.new.tree path.now (told_kind is_told_folder (K.kind_of self.old.kinds path.now))) }
+        ensures keeps { KeepsTree (S.shows (Unit {0})) self.old.tree self.new.tree }
+        ensures kinds { K.kind_of self.new.kinds ≡ K.kind_of self.old.kinds }
+        ensures faults { IfErr result IsOfSources }
+    {
+        let entered = self.tree.folder().len();
+        self.unlinked
+            .check_path(&mut self.kinds, path, is_told_folder, entered)?;
+        if is_told_folder {
+            return Ok(pair);
+        }
+        if !wants_folder(&self.tree, pair) {
+            return Ok(pair);
+        }
+        self.find_by_kind(path)
+    }
+
+    /// Which pattern decides about a path, where one that is for folders alone may.
+    #[tactic(auto, using(crate::proofs::lemmas::FindingLemmas::found_as, crate::proofs::lemmas::FindingLemmas::found_with, crate::proofs::lemmas::FindingLemmas::keeps_on))]
+    fn find_by_kind(&mut self, path: &[u8]) -> Result<Option<(usize, usize)>, IgnoreFault<S::Fault>>
+        requires { IsPlainPath path.now }
+        ensures found { IfOk result (IsFound (S.shows (Unit {0})) self.new.tree path.now (K.kind_of self.old.kinds path.now)) }
+        ensures keeps { KeepsTree (S.shows (Unit {0})) self.old.tree self.new.tree }
+        ensures kinds { K.kind_of self.new.kinds ≡ K.kind_of self.old.kinds }
+        ensures faults { IfErr result IsOfSources }
+    {
+        let pair = find_as(&mut self.tree, &RepositoryPath::from_plain(path, false))?;
+        if wants_folder(&self.tree, pair) {
+            // it is for folders alone, so a folder above is ignored, and it decides whatever stands there
+            return Ok(pair);
+        }
+        if !is_folder(&mut self.kinds, path)? {
+            return Ok(pair);
+        }
+        // the lists may have been asked for again, so that a pair from before may have no place in them
+        find_as(&mut self.tree, &RepositoryPath::from_plain(path, true))
+    }
+}
+
+/// Which pattern decides about a path of this kind.
+fn find_as<S: FolderLists<IgnoreLines> + Drop>(
+    tree: &mut Tree<IgnoreLines, S>,
+    path: &RepositoryPath<'_>,
+) -> Result<Option<(usize, usize)>, IgnoreFault<S::Fault>>
+    ensures found { IfOk result (IsFoundAs (S.shows (Unit {0})) tree.new path.now.bytes path.now.is_dir) }
+    ensures keeps { KeepsTree (S.shows (Unit {0})) tree.old tree.new }
+    ensures faults { IfErr result IsOfSources }
+{
+    match tree.find(path) {
+        Ok(pair) => Ok(pair),
+        Err(fault) => Err(IgnoreFault::from(fault)),
+    }
+}
+
+/// Whether the pattern at a pair of places matches folders alone. Where it doesn't, it decides about a file, too.
+#[tactic(auto, using(crate::proofs::lemmas::FindingLemmas::wanted_here, crate::proofs::lemmas::FindingLemmas::unwanted_nowhere))]
+fn wants_folder<S: FolderLists<IgnoreLines> + Drop>(
+    tree: &Tree<IgnoreLines, S>,
+    pair: Option<(usize, usize)>,
+) -> bool
+    ensures { IsTrue result ↔ WantsFolder tree.now.lists pair }
+{
+    let Some(at) = pair else {
+        return false;
+    };
+    match tree.decision(at) {
+        Some(decision) => is_for_folders(&decision.mapping.pattern),
+        None => false,
+    }
+}
+
+/// Whether a pattern matches folders alone.
+fn is_for_folders(pattern: &Pattern) -> bool
+    ensures { result ≡ is_for_directories (mode_of pattern.now) }
+{
+    pattern.mode().contains(Mode::MUST_BE_DIR)
+}

@@ -1,0 +1,207 @@
+//! A run of `check-ignore`, over records that are read or over paths that are told.
+ghost use Rattle.std.specs.Prelude.{◌≡◌, ◌⊎◌, ℕ, List, false, map, Err, IfOk, MatchResult, Ok, OnErr};
+ghost use Rattle.std.specs.Io.KnownBytes.{Appends};
+ghost use Rattle.std.specs.List.{AllByRecursion};
+ghost use Rattle.gix_glob.specs.Watched.{has_failed, inner};
+ghost use Rattle.glob_lines.specs.Transfers.{AppendsFront};
+ghost use Rattle.record_streams.specs.Faults.{is_write_fault, told_refusal};
+ghost use Rattle.record_streams.specs.Records.{TextOf};
+ghost use Rattle.record_streams.specs.Runs.{EndsRun};
+ghost use Rattle.told_paths.specs.Standpoints.{led};
+ghost use Rattle.tree_answers.specs.Lines.{behind};
+ghost use Rattle.tree_answers.specs.Records.{IsTextOf};
+ghost use Rattle.tree_commands.specs.Answering.{IsTextOfFirst, StopsAt, TextOfNamed, TextOfPaths, Writes};
+ghost use Rattle.tree_commands.specs.declared.check_ignore.fault.IgnoreFault.TheVariants.{BadlyQuoted};
+ghost use Rattle.tree_commands.specs.CheckIgnore.{IsIgnoreAnswer, IsStatus, Refuses, question_of};
+
+use crate::answering::{answer_paths, answer_records};
+use crate::check_ignore::asking::{AskedQuestion, IgnoreAsker};
+use crate::check_ignore::fault::IgnoreFault;
+use crate::check_ignore::finding::Finder;
+use crate::check_ignore::flags::IgnoreFlags;
+use crate::check_ignore::kinds::PathKinds;
+use crate::check_ignore::unlinked::UnlinkedFolders;
+use gix_glob::search::Watched;
+use glob_lines::IgnoreLines;
+use glob_trees::{FolderLists, Tree};
+use record_streams::RecordFault;
+use std::alloc::Global;
+use std::io::{Read, Write};
+use std::marker::{Brand, PhantomData};
+use told_paths::Standpoint;
+
+/// Where answers come from.
+#[derive(Drop)]
+pub struct IgnoreSources<S: FolderLists<IgnoreLines>, K> {
+    /// The work tree, with the lists of its folders and those before them.
+    pub tree: Tree<IgnoreLines, S>,
+    /// What stands at paths.
+    pub kinds: K,
+}
+
+/// Reads records to the reader's end, and writes for each the text about the path that it names, as `git check-ignore --stdin` does: with
+/// the line that decides about it, or only where one does, as the flags say. The answer is whether a line that counts decides about
+/// some path. Gives the sources back.
+///
+/// A path is told from the standpoint. The line is that of the pattern that [`Tree::find`] answers; a path that leads to the top itself has
+/// none. What stands at a path is asked only where the answer depends on it, and it isn't told as a folder; links are looked for
+/// where the tree didn't enter the folders of a path.
+///
+/// How records are read and answers written, [`RecordStream::run`](record_streams::RecordStream::run) tells. No call on the reader or
+/// the writer may have failed before, and none that fails is tried again.
+///
+/// # Errors
+/// Those of `RecordStream::run`; its [`RecordFault::Answer`] has why a record got no answer. All records before it have their text
+/// written, and nothing else is.
+pub fn run_check_ignore<
+    S: FolderLists<IgnoreLines> + Drop,
+    K: PathKinds<Fault = S::Fault> + Drop,
+    R: Read,
+    W: Write,
+>(
+    alloc: Global,
+    standpoint: &Standpoint,
+    flags: IgnoreFlags,
+    sources: IgnoreSources<S, K>,
+    records: &mut Watched<R>,
+    writer: &mut Watched<W>,
+) -> (
+    IgnoreSources<S, K>,
+    Result<bool, RecordFault<IgnoreFault<S::Fault>>>,
+)
+    requires readable { has_failed records.old ≡ false }
+    requires writable { has_failed writer.old ≡ false }
+    ensures ends { EndsRun (λ is_any. TextOfNamed (IsIgnoreAnswer (question_of standpoint.now flags sources.tree (K.kind_of sources.kinds)) (S.shows (Unit {0}) result.0.tree.source)) (IsStatus (question_of standpoint.now flags sources.tree (K.kind_of sources.kinds)) (S.shows (Unit {0}) result.0.tree.source) is_any) flags.form)
+        (TextOf (IsTextOf (IsIgnoreAnswer (question_of standpoint.now flags sources.tree (K.kind_of sources.kinds)) (S.shows (Unit {0}) result.0.tree.source)) flags.form)) (behind flags.form 10) result.1
+        (R.remaining (inner records.old)) (R.remaining (inner records.new)) (W.contents (inner writer.old)) (W.contents (inner writer.new))
+        (has_failed records.new) (has_failed writer.new) }
+    // What is told of a path that got no answer is so.
+    ensures refused { AllByRecursion (λ fault. ((told : List ℕ) × Refuses (led standpoint.now) told fault) ⊎ (fault ≡ BadlyQuoted)) (told_refusal result.1) }
+    ensures again { question_of standpoint.now flags result.0.tree (K.kind_of result.0.kinds) ≡ question_of standpoint.now flags sources.tree (K.kind_of sources.kinds) }
+{
+    run_question::<S, K, R, W, Brand>(alloc, standpoint, flags, sources, records, writer)
+}
+
+/// The same, by a question that a type names.
+fn run_question<
+    S: FolderLists<IgnoreLines> + Drop,
+    K: PathKinds<Fault = S::Fault> + Drop,
+    R: Read,
+    W: Write,
+    Q: AskedQuestion,
+>(
+    alloc: Global,
+    standpoint: &Standpoint,
+    flags: IgnoreFlags,
+    sources: IgnoreSources<S, K>,
+    records: &mut Watched<R>,
+    writer: &mut Watched<W>,
+) -> (
+    IgnoreSources<S, K>,
+    Result<bool, RecordFault<IgnoreFault<S::Fault>>>,
+)
+    requires asked { question_of standpoint.now flags sources.tree (K.kind_of sources.kinds) ≡ Q.question }
+    requires readable { has_failed records.old ≡ false }
+    requires writable { has_failed writer.old ≡ false }
+    ensures ends { EndsRun (λ is_any. TextOfNamed (IsIgnoreAnswer Q.question (S.shows (Unit {0}) result.0.tree.source)) (IsStatus Q.question (S.shows (Unit {0}) result.0.tree.source) is_any) flags.form)
+        (TextOf (IsTextOf (IsIgnoreAnswer Q.question (S.shows (Unit {0}) result.0.tree.source)) flags.form)) (behind flags.form 10) result.1
+        (R.remaining (inner records.old)) (R.remaining (inner records.new)) (W.contents (inner writer.old)) (W.contents (inner writer.new))
+        (has_failed records.new) (has_failed writer.new) }
+    ensures refused { AllByRecursion (λ fault. ((told : List ℕ) × Refuses (led standpoint.now) told fault) ⊎ (fault ≡ BadlyQuoted)) (told_refusal result.1) }
+    ensures again { question_of standpoint.now flags result.0.tree (K.kind_of result.0.kinds) ≡ Q.question }
+{
+    let asker = IgnoreAsker::<'_, S, K, Q>::new(alloc, standpoint, flags, sources);
+    let (asker, told) = answer_records(alloc, asker, flags.form, records, writer);
+    let outcome = outcome_of(told, asker.is_any());
+    (asker.into_sources(), outcome)
+}
+
+/// Writes the text about each of these paths, in order, as [`run_check_ignore`] does for those that records name. All are answered before
+/// anything is written, and where one gets no answer, nothing is.
+///
+/// # Errors
+/// [`RecordFault::Answer`] of the fault of the first path that got no answer, and [`RecordFault::Write`] where a write or a flush failed:
+/// then what was written may end anywhere in the text.
+pub fn check_ignore_paths<
+    S: FolderLists<IgnoreLines> + Drop,
+    K: PathKinds<Fault = S::Fault> + Drop,
+    W: Write,
+>(
+    alloc: Global,
+    standpoint: &Standpoint,
+    flags: IgnoreFlags,
+    sources: IgnoreSources<S, K>,
+    paths: &[&[u8]],
+    writer: &mut Watched<W>,
+) -> (
+    IgnoreSources<S, K>,
+    Result<bool, RecordFault<IgnoreFault<S::Fault>>>,
+)
+    requires { has_failed writer.old ≡ false }
+    ensures ok { IfOk result.1 (λ is_any.
+        Writes (TextOfPaths (IsIgnoreAnswer (question_of standpoint.now flags sources.tree (K.kind_of sources.kinds)) (S.shows (Unit {0}) result.0.tree.source)) (IsStatus (question_of standpoint.now flags sources.tree (K.kind_of sources.kinds)) (S.shows (Unit {0}) result.0.tree.source) is_any) (map (λ path. path.now) paths.now))
+        (Appends (W.contents (inner writer.old)) (W.contents (inner writer.new)))) }
+    // After the fault of a path, nothing was written.
+    ensures refused { AllByRecursion
+        (StopsAt (IsIgnoreAnswer (question_of standpoint.now flags sources.tree (K.kind_of sources.kinds)) (S.shows (Unit {0}) result.0.tree.source)) (Refuses (led standpoint.now)) (map (λ path. path.now) paths.now) false
+        (W.contents (inner writer.old)) (W.contents (inner writer.new)))
+        (told_refusal result.1) }
+    // After one of the writer's, a beginning of the text was.
+    ensures cut { OnErr result.1
+        (Writes (IsTextOfFirst (IsIgnoreAnswer (question_of standpoint.now flags sources.tree (K.kind_of sources.kinds)) (S.shows (Unit {0}) result.0.tree.source)) (map (λ path. path.now) paths.now))
+        (AppendsFront (W.contents (inner writer.old)) (W.contents (inner writer.new)))) }
+    ensures write { is_write_fault result.1 ≡ has_failed writer.new }
+    ensures again { question_of standpoint.now flags result.0.tree (K.kind_of result.0.kinds) ≡ question_of standpoint.now flags sources.tree (K.kind_of sources.kinds) }
+{
+    check_paths::<S, K, W, Brand>(alloc, standpoint, flags, sources, paths, writer)
+}
+
+/// The same, by a question that a type names.
+fn check_paths<
+    S: FolderLists<IgnoreLines> + Drop,
+    K: PathKinds<Fault = S::Fault> + Drop,
+    W: Write,
+    Q: AskedQuestion,
+>(
+    alloc: Global,
+    standpoint: &Standpoint,
+    flags: IgnoreFlags,
+    sources: IgnoreSources<S, K>,
+    paths: &[&[u8]],
+    writer: &mut Watched<W>,
+) -> (
+    IgnoreSources<S, K>,
+    Result<bool, RecordFault<IgnoreFault<S::Fault>>>,
+)
+    requires asked { question_of standpoint.now flags sources.tree (K.kind_of sources.kinds) ≡ Q.question }
+    requires writable { has_failed writer.old ≡ false }
+    ensures ok { IfOk result.1 (λ is_any.
+        Writes (TextOfPaths (IsIgnoreAnswer Q.question (S.shows (Unit {0}) result.0.tree.source)) (IsStatus Q.question (S.shows (Unit {0}) result.0.tree.source) is_any) (map (λ path. path.now) paths.now))
+        (Appends (W.contents (inner writer.old)) (W.contents (inner writer.new)))) }
+    // After the fault of a path, nothing was written.
+    ensures refused { AllByRecursion
+        (StopsAt (IsIgnoreAnswer Q.question (S.shows (Unit {0}) result.0.tree.source)) (Refuses (led standpoint.now)) (map (λ path. path.now) paths.now) false
+        (W.contents (inner writer.old)) (W.contents (inner writer.new)))
+        (told_refusal result.1) }
+    // After one of the writer's, a beginning of the text was.
+    ensures cut { OnErr result.1
+        (Writes (IsTextOfFirst (IsIgnoreAnswer Q.question (S.shows (Unit {0}) result.0.tree.source)) (map (λ path. path.now) paths.now))
+        (AppendsFront (W.contents (inner writer.old)) (W.contents (inner writer.new)))) }
+    ensures write { is_write_fault result.1 ≡ has_failed writer.new }
+    ensures again { question_of standpoint.now flags result.0.tree (K.kind_of result.0.kinds) ≡ Q.question }
+{
+    let asker = IgnoreAsker::<'_, S, K, Q>::new(alloc, standpoint, flags, sources);
+    let (asker, told) = answer_paths(alloc, asker, paths, false, writer);
+    let outcome = outcome_of(told, asker.is_any());
+    (asker.into_sources(), outcome)
+}
+
+/// How a run ended in which a line counted, or none.
+fn outcome_of<F>(told: Result<(), F>, is_any: bool) -> Result<bool, F>
+    ensures { MatchResult told (λ _. result ≡ Ok is_any) (λ fault. result ≡ Err fault) }
+{
+    match told {
+        Ok(()) => Ok(is_any),
+        Err(fault) => Err(fault),
+    }
+}

@@ -1,0 +1,193 @@
+//! The entries of a folder that aren't ignored.
+ghost use Rattle.std.specs.Prelude.{◌≡◌, ◌↔◌, ◌++◌, ◌∷◌, [], ℕ, List, if◌then◌else◌, IfOk, IsTrue, OnOk, map};
+ghost use Rattle.std.specs.List.{AllByRecursion};
+ghost use Rattle.std.specs.Option.{option_copied};
+ghost use Rattle.std.specs.Vec.{vec_items};
+ghost use Rattle.gix_glob.specs.Bytes.{slash};
+ghost use Rattle.glob_lists.specs.Deciding.{BasesAreFolders};
+ghost use Rattle.glob_lists.specs.Paths.{IsPlainPath};
+ghost use Rattle.glob_trees.specs.Ways.{GivesOnly};
+ghost use Rattle.told_paths.specs.Paths.{is_name};
+ghost use Rattle.tree_commands.specs.FileTrees.{FileTree, StaysKnown, names_in};
+ghost use Rattle.tree_commands.specs.Files.{IsEntryName, is_folder, is_git};
+ghost use Rattle.tree_commands.specs.Private.Listing.{AddsFound, Among, EndsInName, IsFoundAmong, LeadsOn, StandsThere, names_left, seen_lists};
+
+use crate::files::asking::kind_at;
+use crate::files::ignoring::{Ignoring, ignoring_by, is_ignored_by};
+use crate::files::source::{EntryKind, FileSource};
+use gix_glob::pattern::Case;
+use glob_lines::IgnoreLines;
+use glob_lists::PreparedList;
+use glob_trees::TreeFault;
+use memchr::memchr;
+use std::alloc::{AllocError, Global};
+
+/// The lists that decide about the entries of a folder: those before all folders, and those of the folders on the way to it, with patterns.
+#[derive(Drop)]
+pub(crate) struct ListsOnWay {
+    pub(crate) lists: Vec<PreparedList<IgnoreLines>>,
+    pub(crate) case: Case,
+}
+
+/// The paths of the entries of a folder that aren't ignored, by the bytes of its names. `start` begins their paths.
+pub(crate) fn entries_of<S: FileSource>(
+    alloc: Global,
+    source: &mut S,
+    on_way: &ListsOnWay,
+    start: &[u8],
+    names: &[u8],
+) -> Result<Vec<Vec<u8>>, TreeFault<S::Fault>>
+    requires folders { BasesAreFolders (seen_lists on_way.now.lists.items) }
+    requires plain { LeadsOn on_way.now.case start.now }
+    ensures each { IfOk result (λ paths. AllByRecursion (EndsInName on_way.now.case start.now) (map vec_items paths.items)) }
+    ensures found { IfOk result (λ paths. (tree : FileTree) → S.shows source.old tree → (path : List ℕ) →
+        Among (map vec_items paths.items) path ↔ IsFoundAmong (seen_lists on_way.now.lists.items) on_way.now.case tree start.now (names_in names.now) path) }
+    ensures stays { StaysKnown S.shows source.old source.new }
+    ensures asks { GivesOnly (λ _. ⊥) (S.asked source.old) (S.asked source.new) }
+{
+    let mut paths = Vec::new(alloc);
+    let mut rest = Some(names);
+    'names: while let Some(left) = rest {
+        let (name, behind) = first_name(left);
+        if is_entry_name(on_way.case, name) {
+            push_found(alloc, source, on_way, &mut paths, start, name)?;
+        }
+        rest = behind;
+    }
+    Ok(paths)
+}
+
+/// The first of some names, and those behind it.
+fn first_name(names: &[u8]) -> (&[u8], Option<&[u8]>)
+    ensures { names_in names.now ≡ result.0.now ∷ names_left (option_copied result.1) }
+{
+    match memchr(0, names) {
+        Some(at) => (&names[..at], Some(&names[at + 1..])),
+        None => (names, None),
+    }
+}
+
+/// Whether a name in a folder may be listed.
+fn is_entry_name(case: Case, name: &[u8]) -> bool
+    ensures { IsTrue result ↔ IsEntryName case name.now }
+{
+    leads_below(name) && memchr(b'/', name).is_none() && !is_git(case, name)
+}
+
+/// Whether a name leads to what lies in the folder.
+fn leads_below(name: &[u8]) -> bool
+    ensures { result ≡ is_name name.now }
+{
+    !(name.is_empty() || name == b".".as_slice() || name == b"..".as_slice())
+}
+
+/// Whether a name is that of a repository's files.
+pub(crate) fn is_git(case: Case, name: &[u8]) -> bool
+    ensures { result ≡ is_git case name.now }
+{
+    match case {
+        Case::Sensitive => name == b".git".as_slice(),
+        Case::Fold => name.eq_ignore_ascii_case(b".git"),
+    }
+}
+
+/// Pushes the path of a name, where what stands there isn't ignored.
+fn push_found<S: FileSource>(
+    alloc: Global,
+    source: &mut S,
+    on_way: &ListsOnWay,
+    paths: &mut Vec<Vec<u8>>,
+    start: &[u8],
+    name: &[u8],
+) -> Result<(), TreeFault<S::Fault>>
+    requires folders { BasesAreFolders (seen_lists on_way.now.lists.items) }
+    requires plain { IsPlainPath (start.now ++ name.now) }
+    ensures adds { OnOk result (AddsFound (S.shows source.old) (seen_lists on_way.now.lists.items) on_way.now.case (start.now ++ name.now) (map vec_items paths.old.items) (map vec_items paths.new.items)) }
+    ensures stays { StaysKnown S.shows source.old source.new }
+    ensures asks { GivesOnly (λ _. ⊥) (S.asked source.old) (S.asked source.new) }
+{
+    // a slash may follow
+    let mut path = Vec::with_capacity(alloc, start.len() + name.len() + 1)?;
+    path.extend_from_slice(start)?;
+    path.extend_from_slice(name)?;
+    let Some(kind) = what_stands(source, on_way, &path)? else {
+        return Ok(());
+    };
+    push_marked(paths, path, kind)?;
+    Ok(())
+}
+
+/// Pushes a path, with a slash behind that of a folder.
+fn push_marked(
+    paths: &mut Vec<Vec<u8>>,
+    mut path: Vec<u8>,
+    kind: EntryKind,
+) -> Result<(), AllocError>
+    ensures { OnOk result (map vec_items paths.new.items ≡ map vec_items paths.old.items ++ (path.items ++ (if is_folder kind then slash ∷ [] else [])) ∷ []) }
+{
+    append_mark(&mut path, kind)?;
+    paths.push(path)?;
+    Ok(())
+}
+
+/// Appends a slash to the path of a folder.
+pub(crate) fn append_mark(path: &mut Vec<u8>, kind: EntryKind) -> Result<(), AllocError>
+    ensures { OnOk result (path.new.items ≡ path.old.items ++ (if is_folder kind then slash ∷ [] else [])) }
+{
+    if is_folder(kind) {
+        path.push(b'/')?;
+    }
+    Ok(())
+}
+
+/// What stands at a path, where it isn't ignored. The source is asked only where the path isn't ignored whatever that is.
+fn what_stands<S: FileSource>(
+    source: &mut S,
+    on_way: &ListsOnWay,
+    path: &[u8],
+) -> Result<Option<EntryKind>, TreeFault<S::Fault>>
+    requires folders { BasesAreFolders (seen_lists on_way.now.lists.items) }
+    requires plain { IsPlainPath path.now }
+    ensures found { IfOk result (λ found. (tree : FileTree) → S.shows source.old tree →
+        StandsThere (seen_lists on_way.now.lists.items) on_way.now.case tree path.now found) }
+    ensures stays { StaysKnown S.shows source.old source.new }
+    ensures asks { GivesOnly (λ _. ⊥) (S.asked source.old) (S.asked source.new) }
+{
+    match ignoring_by(&on_way.lists, on_way.case, path) {
+        Ignoring::Always => Ok(None),
+        Ignoring::Never => kind_at(source, path),
+        Ignoring::ByKind => kept_by_kind(source, on_way, path),
+    }
+}
+
+/// What stands at a path, where that isn't ignored.
+fn kept_by_kind<S: FileSource>(
+    source: &mut S,
+    on_way: &ListsOnWay,
+    path: &[u8],
+) -> Result<Option<EntryKind>, TreeFault<S::Fault>>
+    requires folders { BasesAreFolders (seen_lists on_way.now.lists.items) }
+    requires plain { IsPlainPath path.now }
+    ensures found { IfOk result (λ found. (tree : FileTree) → S.shows source.old tree →
+        StandsThere (seen_lists on_way.now.lists.items) on_way.now.case tree path.now found) }
+    ensures stays { StaysKnown S.shows source.old source.new }
+    ensures asks { GivesOnly (λ _. ⊥) (S.asked source.old) (S.asked source.new) }
+{
+    let Some(kind) = kind_at(source, path)? else {
+        return Ok(None);
+    };
+    if is_ignored_by(&on_way.lists, on_way.case, path, is_folder(kind)) {
+        return Ok(None);
+    }
+    Ok(Some(kind))
+}
+
+/// Whether it is a folder that stands there.
+pub(crate) fn is_folder(kind: EntryKind) -> bool
+    ensures { result ≡ is_folder kind }
+{
+    match kind {
+        EntryKind::Folder => true,
+        EntryKind::File => false,
+    }
+}

@@ -1,0 +1,207 @@
+//! Where a listing begins: at the top, or at a path below it that is told.
+ghost use Rattle.std.specs.Prelude.{◌≡◌, ◌≢◌, ◌∷◌, ◌++◌, ◌↔◌, [], length, IfOk, IsTrue, MatchBool, OnOk};
+ghost use Rattle.gix_glob.specs.Bytes.{EndsInSlash};
+ghost use Rattle.glob_lists.specs.Deciding.{BasesAreFolders};
+ghost use Rattle.glob_lists.specs.Paths.{IsPlainPath};
+ghost use Rattle.glob_trees.specs.Ways.{GivesOnly};
+ghost use Rattle.tree_commands.specs.FileTrees.{FileTree, StaysKnown};
+ghost use Rattle.tree_commands.specs.Private.Listing.{Begins, IsClear, IsPassed, MayBegin, PutsListsTo, StandsAtStart, seen_lists};
+
+use crate::files::asking::{has_git_in, kind_at};
+use crate::files::entries::{ListsOnWay, append_mark, is_folder, is_git};
+use crate::files::ignoring::is_ignored_by;
+use crate::files::lister::{Lister, push_own};
+use crate::files::pending::Pending;
+use crate::files::source::{EntryKind, FileSource};
+use gix_glob::pattern::Case;
+use glob_lists::plain_path;
+use glob_trees::TreeFault;
+use std::alloc::{AllocError, Global};
+use told_paths::last_name;
+
+impl Lister {
+    /// Begins at a path that is told from the top, by no bytes where it is the top itself. It may be told as a folder's.
+    pub(crate) fn begin<S: FileSource>(
+        &mut self,
+        source: &mut S,
+        path: Vec<u8>,
+        is_told_folder: bool,
+    ) -> Result<(), TreeFault<S::Fault>>
+        requires folders { BasesAreFolders (seen_lists self.old.on_way.lists.items) }
+        requires none { self.old.pending.items ≡ [] }
+        ensures begins { OnOk result (Begins (S.shows source.old) (record { fronts = seen_lists self.old.on_way.lists.items; case = self.old.on_way.case }) path.items is_told_folder (seen_lists self.new.on_way.lists.items) self.new.pending.items) }
+        ensures case { self.new.on_way.case ≡ self.old.on_way.case }
+        ensures folders { OnOk result (BasesAreFolders (seen_lists self.new.on_way.lists.items)) }
+        ensures stays { StaysKnown S.shows source.old source.new }
+        ensures asks { GivesOnly (λ _. ⊥) (S.asked source.old) (S.asked source.new) }
+    {
+        if !path.is_empty() {
+            return self.begin_below(source, path, is_told_folder);
+        }
+        self.put_start(path)?;
+        Ok(())
+    }
+
+    /// Puts the path at which the listing begins, with all lists.
+    fn put_start(&mut self, path: Vec<u8>) -> Result<(), AllocError>
+        ensures pending { OnOk result (self.new.pending.items ≡ self.old.pending.items ++ record { path = path; list_count = length self.old.on_way.lists.items } ∷ []) }
+        ensures on_way { self.new.on_way ≡ self.old.on_way }
+    {
+        self.pending.push(Pending {
+            path,
+            list_count: self.on_way.lists.len(),
+        })?;
+        Ok(())
+    }
+
+    /// Begins at a path below the top, where no folder above it is a repository of its own, or ignored.
+    fn begin_below<S: FileSource>(
+        &mut self,
+        source: &mut S,
+        mut path: Vec<u8>,
+        is_told_folder: bool,
+    ) -> Result<(), TreeFault<S::Fault>>
+        requires folders { BasesAreFolders (seen_lists self.old.on_way.lists.items) }
+        requires none { self.old.pending.items ≡ [] }
+        requires below { path.items ≢ [] }
+        ensures begins { OnOk result (Begins (S.shows source.old) (record { fronts = seen_lists self.old.on_way.lists.items; case = self.old.on_way.case }) path.items is_told_folder (seen_lists self.new.on_way.lists.items) self.new.pending.items) }
+        ensures case { self.new.on_way.case ≡ self.old.on_way.case }
+        ensures folders { OnOk result (BasesAreFolders (seen_lists self.new.on_way.lists.items)) }
+        ensures stays { StaysKnown S.shows source.old source.new }
+        ensures asks { GivesOnly (λ _. ⊥) (S.asked source.old) (S.asked source.new) }
+    {
+        let case = self.on_way.case;
+        let Some(kind) = kind_to_begin(source, case, &path, is_told_folder)? else {
+            return Ok(());
+        };
+        if !put_lists_to(self.alloc, source, &mut self.on_way, &path)? {
+            return Ok(());
+        }
+        if is_ignored_by(&self.on_way.lists, case, &path, is_folder(kind)) {
+            return Ok(());
+        }
+        append_mark(&mut path, kind)?;
+        self.put_start(path)?;
+        Ok(())
+    }
+}
+
+/// What stands where a listing is to begin, where no folder above it is a repository of its own; `None` where it begins nowhere.
+fn kind_to_begin<S: FileSource>(
+    source: &mut S,
+    case: Case,
+    path: &[u8],
+    is_told_folder: bool,
+) -> Result<Option<EntryKind>, TreeFault<S::Fault>>
+    ensures may { IfOk result (λ found. MayBegin (S.shows source.old) case path.now is_told_folder found) }
+    ensures stays { StaysKnown S.shows source.old source.new }
+    ensures asks { GivesOnly (λ _. ⊥) (S.asked source.old) (S.asked source.new) }
+{
+    if !is_whole(path) {
+        return Ok(None);
+    }
+    if is_of_repository(source, case, path)? {
+        return Ok(None);
+    }
+    let found = kind_at_start(source, path, is_told_folder)?;
+    Ok(found)
+}
+
+/// Whether the bytes are a path, with no slash at its end.
+fn is_whole(path: &[u8]) -> bool
+    ensures { IsTrue result ↔ IsPlainPath path.now × (¬ EndsInSlash path.now) }
+{
+    plain_path(path) && !ends_in_slash(path)
+}
+
+/// Whether the last byte is a slash.
+fn ends_in_slash(path: &[u8]) -> bool
+    ensures { IsTrue result ↔ EndsInSlash path.now }
+{
+    matches!(path, [.., b'/'])
+}
+
+/// Whether a folder above a path is a repository of its own, or one of them or the path has the name of a repository's files.
+fn is_of_repository<S: FileSource>(
+    source: &mut S,
+    case: Case,
+    path: &[u8],
+) -> Result<bool, TreeFault<S::Fault>>
+    ensures clear { IfOk result (λ is_of. (tree : FileTree) → S.shows source.old tree → MatchBool is_of (¬ IsClear case tree path.now) (IsClear case tree path.now)) }
+    ensures stays { StaysKnown S.shows source.old source.new }
+    ensures asks { GivesOnly (λ _. ⊥) (S.asked source.old) (S.asked source.new) }
+{
+    'bytes: for place in 0..path.len() {
+        if path[place] != b'/' {
+            continue;
+        }
+        if is_repository(source, case, &path[..place])? {
+            return Ok(true);
+        }
+    }
+    Ok(is_git(case, last_name(path)))
+}
+
+/// Whether a folder is a repository of its own, or has the name of a repository's files.
+fn is_repository<S: FileSource>(
+    source: &mut S,
+    case: Case,
+    folder: &[u8],
+) -> Result<bool, TreeFault<S::Fault>>
+    ensures own { IfOk result (λ is_own. (tree : FileTree) → S.shows source.old tree → MatchBool is_own (¬ IsPassed case tree folder.now) (IsPassed case tree folder.now)) }
+    ensures stays { StaysKnown S.shows source.old source.new }
+    ensures asks { GivesOnly (λ _. ⊥) (S.asked source.old) (S.asked source.new) }
+{
+    if is_git(case, last_name(folder)) {
+        return Ok(true);
+    }
+    let has_git = has_git_in(source, folder)?;
+    Ok(has_git)
+}
+
+/// What stands where a listing is to begin; `None` where nothing is listed there. A path that is told as a folder's has to be one.
+fn kind_at_start<S: FileSource>(
+    source: &mut S,
+    path: &[u8],
+    is_told_folder: bool,
+) -> Result<Option<EntryKind>, TreeFault<S::Fault>>
+    ensures found { IfOk result (λ found. (tree : FileTree) → S.shows source.old tree → StandsAtStart tree path.now is_told_folder found) }
+    ensures stays { StaysKnown S.shows source.old source.new }
+    ensures asks { GivesOnly (λ _. ⊥) (S.asked source.old) (S.asked source.new) }
+{
+    let found = kind_at(source, path)?;
+    if !is_told_folder || matches!(found, Some(EntryKind::Folder)) {
+        return Ok(found);
+    }
+    source.no_folder(path).map_err(TreeFault::Source)?;
+    Ok(None)
+}
+
+/// Puts the lists of the folders on the way to a path behind the others. It answers whether no folder above the path is ignored.
+fn put_lists_to<S: FileSource>(
+    alloc: Global,
+    source: &mut S,
+    on_way: &mut ListsOnWay,
+    path: &[u8],
+) -> Result<bool, TreeFault<S::Fault>>
+    requires folders { BasesAreFolders (seen_lists on_way.old.lists.items) }
+    requires plain { IsPlainPath path.now }
+    ensures puts { IfOk result (λ is_open. (tree : FileTree) → S.shows source.old tree → PutsListsTo (record { fronts = seen_lists on_way.old.lists.items; case = on_way.old.case }) tree path.now (seen_lists on_way.new.lists.items) is_open) }
+    ensures case { on_way.new.case ≡ on_way.old.case }
+    ensures folders { OnOk result (BasesAreFolders (seen_lists on_way.new.lists.items)) }
+    ensures stays { StaysKnown S.shows source.old source.new }
+    ensures asks { GivesOnly (λ _. ⊥) (S.asked source.old) (S.asked source.new) }
+{
+    push_own(alloc, source, on_way, b"")?;
+    'bytes: for place in 0..path.len() {
+        if path[place] != b'/' {
+            continue;
+        }
+        let folder = &path[..place];
+        if is_ignored_by(&on_way.lists, on_way.case, folder, true) {
+            return Ok(false);
+        }
+        push_own(alloc, source, on_way, folder)?;
+    }
+    Ok(true)
+}

@@ -1,0 +1,10 @@
+//! Commands over a work tree, from the bytes that are read to the bytes that are written. What the tree has comes from sources that the
+//! caller gives, and contracts speak of what these show.
+#![tactic(auto)]
+
+mod answering;
+pub mod check_attr;
+pub mod check_ignore;
+pub mod files;
+
+pub use answering::{answer_paths, answer_records};
