@@ -1,5 +1,5 @@
 //! Paths of a repository: which bytes are one, and what the base of a list leaves of it.
-ghost use Rattle.std.specs.Prelude.{◌≡◌, ◌+◌, ◌≤◌, ◌↔◌, IsTrue, MatchOption, Some, length, option_map, take, true};
+ghost use Rattle.std.specs.Prelude.{◌≡◌, ◌+◌, ◌≤◌, ◌↔◌, [], false, IsTrue, MatchOption, Some, length, option_map, take, true};
 ghost use Rattle.std.specs.Option.{ForSome};
 ghost use Rattle.std.specs.Vec.{vec_items};
 ghost use Rattle.gix_glob.specs.Bytes.{HasByte, slash};
@@ -22,7 +22,7 @@ use std::sync::ledger::Ledger;
 
 /// A path of a repository, or what a base leaves of one: its bytes, and whether it is a directory's.
 ///
-/// The bytes begin with no slash and have no two slashes in a row. They are empty only where a base was all of a path. A part `.` or
+/// The bytes begin with no slash and have no two slashes in a row. They are empty only of the top, and where a base was all of a path. A part `.` or
 /// `..` is a name like any other here, where Git goes to the folder that it means: lead such paths to where they mean before.
 /// Contracts see the bytes, and whether it is a directory's.
 #[derive(Debug, Drop)]
@@ -70,6 +70,19 @@ impl<'a> RepositoryPath<'a> {
             return None;
         }
         Some(RepositoryPath::from_plain(bytes, is_dir))
+    }
+
+    /// The top of a repository, which has no bytes. It isn't said to be a directory: no pattern for directories alone speaks of it.
+    ///
+    /// A pattern for paths that matches no bytes would match it, though as Git has it none does.
+    pub fn top() -> RepositoryPath<'a>
+        ensures { result ≡ record { bytes = []; is_dir = false } }
+    {
+        RepositoryPath {
+            bytes: &[],
+            basename_start: None,
+            is_dir: false,
+        }
     }
 
     /// The path of bytes that are known to be a [`plain_path`], which are not tested again.

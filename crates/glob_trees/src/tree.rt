@@ -147,6 +147,13 @@ impl<T: search::Pattern, S: FolderLists<T> + Drop> Tree<T, S> {
         &self.entered.folder
     }
 
+    /// The rules by which patterns are matched.
+    pub fn rules(&self) -> Rules
+        ensures { result ≡ self.now.rules }
+    {
+        self.entered.rules
+    }
+
     /// The source.
     pub fn source(&self) -> &S
         ensures { result.now ≡ self.now.source }

@@ -1,5 +1,6 @@
 //! What a real work tree tells `files`: the names in its folders, what stands there, and their ignore files. What can't be looked at is told.
 
+use crate::excludes::BY_GIT;
 use crate::fault::CheckFault;
 use crate::folder_names::NameReader;
 use crate::seen_files::{Sight, seen_file_list};
@@ -111,7 +112,7 @@ impl<'a, R: Files + Eprint> TreeFiles<'a, R> {
             file,
             &seen,
             &mut self.bytes,
-            IgnoreLines,
+            BY_GIT,
         )
     }
 

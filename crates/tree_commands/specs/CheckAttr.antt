@@ -3,7 +3,10 @@ use Rattle.std.specs.Prelude.{◌≡◌, ◌⊎◌, ◌↔◌, ℕ, false, true,
 use Rattle.std.specs.List.{AllByRecursion, Contains, flat_map}
 use Rattle.gix_glob.specs.declared.pattern.Case.TheVariants.{Sensitive}
 use Rattle.gix_glob.specs.EntryLists.{EntryList}
+use Rattle.glob_lists.specs.declared.rules.Reading.TheVariants.{Git}
+use Rattle.glob_lists.specs.declared.rules.Rules.{Rules}
 use Rattle.glob_lists.specs.Paths.{IsPlainPath}
+use Rattle.glob_lists.specs.Rules.{by_git}
 use Rattle.glob_trees.specs.Ways.{Folder, base_of_folder, folders_to}
 use Rattle.glob_attributes.specs.Equations.Files.{attributes_of}
 use Rattle.glob_attributes.specs.Macros.{Definition, macros_of}
@@ -24,6 +27,10 @@ pub record Files : Type 0 where
   pub top : List ℕ
   pub info : List ℕ
 
+-- patterns are read and matched as Git does it, and the case of letters counts
+abbrev pub attribute_rules : Rules
+attribute_rules = by_git Sensitive
+
 -- these files, the weakest first
 abbrev pub files_of : Files → List (List ℕ)
 files_of files = files.system ∷ files.user ∷ files.top ∷ files.info ∷ []
@@ -34,7 +41,7 @@ FolderFile = Folder × List ℕ
 
 -- the list of a file, for the paths in a folder: for all paths where that is the top, which is named by no bytes
 abbrev pub list_in : Folder → List ℕ → EntryList (List Assigned)
-list_in folder bytes = record { entries = attributes_of bytes; source = None; base = base_of_folder folder }
+list_in folder bytes = record { entries = attributes_of Git bytes; source = None; base = base_of_folder folder }
 
 -- The lists that count for a path, the weakest first: the system's, the user's, the top's, those of the folders on the way to it, and the
 -- repository's own.
@@ -101,7 +108,7 @@ or_dot (b ∷ told) = b ∷ told
 abbrev pub IsAssignedTo : Query → List ℕ → List ℕ → List FolderFile → List Assigned → Type 0
 IsAssignedTo query told path way filled =
     (¬ IsPlainPath path × (filled ≡ []))
-    ⊎ (IsPlainPath path × IsAssigned (lists_to query.files way) (macros_for query.files) (record { bytes = path; is_dir = names_folder false (parts_of (or_dot told)) }) Sensitive filled)
+    ⊎ (IsPlainPath path × IsAssigned (lists_to query.files way) (macros_for query.files) (record { bytes = path; is_dir = names_folder false (parts_of (or_dot told)) }) attribute_rules filled)
 
 -- The text about a path as it was told. What is assigned to a path is one list, by laws of `glob_attributes`.
 pub record IsStatesText (query : Query) (shows : Folder → Option (List ℕ) → Type 0) (told text : List ℕ) : Type 0 where

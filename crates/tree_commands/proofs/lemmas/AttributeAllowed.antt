@@ -4,7 +4,6 @@ use Rattle.std.specs.List.{flat_map}
 use Rattle.std.specs.Vec.{vec_items}
 use Rattle.std.proofs.lemmas.List.Elements.{All-append, All-cons, All-nil}
 use Rattle.std.proofs.lemmas.Option.{none-some, same_Some}
-use Rattle.gix_glob.specs.declared.pattern.Case.TheVariants.{Sensitive}
 use Rattle.gix_glob.specs.Bytes.{slash}
 use Rattle.gix_glob.specs.EntryLists.{EntryList, entry_list_of}
 use Rattle.glob_lists.specs.Deciding.{BasesAreFolders, HasFolder}
@@ -24,7 +23,7 @@ use Rattle.tree_answers.specs.Lines.{name_text}
 use Rattle.tree_commands.specs.declared.check_attr.answering.AttributeAsker.{AttributeAsker}
 use Rattle.tree_commands.specs.declared.check_attr.walk.Asking.{Asking}
 use Rattle.tree_commands.specs.declared.check_attr.walk.Asking.TheVariants as asking
-use Rattle.tree_commands.specs.CheckAttr.{Asked, FolderFile, Files, IsAssignedTo, all, lists_to, macros_for, named, names_of, or_dot, states_text, told_states}
+use Rattle.tree_commands.specs.CheckAttr.{Asked, FolderFile, Files, IsAssignedTo, all, attribute_rules, lists_to, macros_for, named, names_of, or_dot, states_text, told_states}
 use Rattle.tree_commands.specs.Private.AttributeAnswers.{IsReady, labels_of, unspecified_text}
 use Rattle.tree_commands.specs.Private.AttributeWays.{HasGoneTo, HasRead, asked_by, front_lists, kept_list}
 use Rattle.tree_commands.proofs.lemmas.AttributeLists.{lists_if_any, told_same_all, told_same_named}
@@ -61,8 +60,8 @@ module _ (asked : Asked) (macros : List Definition) where
 
 -- ---- the states that are told
 
-told_same : (macros : List Definition) (files : Files) (path : Path) (asks : Asking) (way : List FolderFile) (filled other : List Assigned) (read : List (List ℕ)) → IsAssigned (lists_to files way) macros path Sensitive filled
-    → IsAssigned (lists_if_any macros files path (asked_by asks) way) macros path Sensitive other → told_states (asked_by asks) read other ≡ told_states (asked_by asks) read filled
+told_same : (macros : List Definition) (files : Files) (path : Path) (asks : Asking) (way : List FolderFile) (filled other : List Assigned) (read : List (List ℕ)) → IsAssigned (lists_to files way) macros path attribute_rules filled
+    → IsAssigned (lists_if_any macros files path (asked_by asks) way) macros path attribute_rules other → told_states (asked_by asks) read other ≡ told_states (asked_by asks) read filled
 told_same macros files path (asking.Names names) way filled other read full some = told_same_named macros files path names.now way filled other read full some
 told_same macros files path (asking.All known) way filled other read full some = told_same_all macros files path way filled other read full some
 
@@ -73,23 +72,23 @@ module _ {S Q : Type 0} (files : Files) (asked : Asked) (shows : Folder → Opti
     abbrev at_path : Path
     at_path = record { bytes = asker.path.items; is_dir = is_folder }
 
-    module _ (assigned : List Assigned) (its : IsAssigned (map (entry_list_of seen_assignments) asker.index.now.lists ++ map (entry_list_of seen_assignments) asker.walk.lists.items) asker.walk.macros.now at_path asker.index.now.case assigned) where
+    module _ (assigned : List Assigned) (its : IsAssigned (map (entry_list_of seen_assignments) asker.index.now.lists ++ map (entry_list_of seen_assignments) asker.walk.lists.items) asker.walk.macros.now at_path asker.index.now.rules assigned) where
       -- by the lists that are kept, as they are asked for
-      by_kept : IsAssigned (lists_if_any (macros_for files) files at_path (asked_by asker.walk.asking) gone.way) (macros_for files) at_path Sensitive assigned
+      by_kept : IsAssigned (lists_if_any (macros_for files) files at_path (asked_by asker.walk.asking) gone.way) (macros_for files) at_path attribute_rules assigned
       by_kept =
           let walks = gone.walks in
-          subst (λ a. IsAssigned (lists_if_any (macros_for files) files at_path a gone.way) (macros_for files) at_path Sensitive assigned) (sym walks.asks)
-          (subst (λ case. IsAssigned (lists_if_any (macros_for files) files at_path asked gone.way) (macros_for files) at_path case assigned) ready.case
-          (subst (λ macros. IsAssigned (lists_if_any (macros_for files) files at_path asked gone.way) macros at_path asker.index.now.case assigned) walks.macros
-          (subst (λ lists. IsAssigned (front_lists asked (macros_for files) files ++ lists) asker.walk.macros.now at_path asker.index.now.case assigned) gone.standing
-          (subst (λ lists. IsAssigned (lists ++ map (entry_list_of seen_assignments) asker.walk.lists.items) asker.walk.macros.now at_path asker.index.now.case assigned) ready.lists its))))
+          subst (λ a. IsAssigned (lists_if_any (macros_for files) files at_path a gone.way) (macros_for files) at_path attribute_rules assigned) (sym walks.asks)
+          (subst (λ rules. IsAssigned (lists_if_any (macros_for files) files at_path asked gone.way) (macros_for files) at_path rules assigned) ready.rules
+          (subst (λ macros. IsAssigned (lists_if_any (macros_for files) files at_path asked gone.way) macros at_path asker.index.now.rules assigned) walks.macros
+          (subst (λ lists. IsAssigned (front_lists asked (macros_for files) files ++ lists) asker.walk.macros.now at_path asker.index.now.rules assigned) gone.standing
+          (subst (λ lists. IsAssigned (lists ++ map (entry_list_of seen_assignments) asker.walk.lists.items) asker.walk.macros.now at_path asker.index.now.rules assigned) ready.lists its))))
 
       text_same : (filled : List Assigned) → IsAssignedTo (record { files = files; asked = asked; standpoint = asker.standpoint.now; form = asker.form }) told asker.path.items gone.way filled
           → told_states (asked_by asker.walk.asking) (names_of files gone.walks.read) assigned ≡ told_states asked (names_of files gone.walks.read) filled
       text_same filled (inl none) = absurd (none.0 plain)
       text_same filled (inr some) =
           let walks = gone.walks in
-          let full = subst (λ is. IsAssigned (lists_to files gone.way) (macros_for files) (record { bytes = asker.path.items; is_dir = is }) Sensitive filled) (sym named_so) some.1 in
+          let full = subst (λ is. IsAssigned (lists_to files gone.way) (macros_for files) (record { bytes = asker.path.items; is_dir = is }) attribute_rules filled) (sym named_so) some.1 in
           told_same (macros_for files) files at_path asker.walk.asking gone.way filled assigned (names_of files walks.read) full by_kept
           ∙ ap (λ a. told_states a (names_of files walks.read) filled) walks.asks
 

@@ -2,7 +2,6 @@
 use Rattle.std.specs.Prelude.{◌≡◌, ℕ, false, List, [], Option, map}
 use Rattle.std.specs.List.{flat_map}
 use Rattle.std.specs.Vec.{vec_items}
-use Rattle.gix_glob.specs.declared.pattern.Case.TheVariants.{Sensitive}
 use Rattle.gix_glob.specs.EntryLists.{entry_list_of}
 use Rattle.glob_attributes.specs.States.{Assigned}
 use Rattle.glob_attributes.specs.Views.{seen_assignments}
@@ -11,7 +10,7 @@ use Rattle.glob_trees.specs.Ways.{Folder}
 use Rattle.tree_answers.specs.declared.form.Form.{Form}
 use Rattle.tree_answers.specs.Attributes.{answer_text, label_text}
 use Rattle.tree_commands.specs.declared.check_attr.answering.AttributeAsker.{AttributeAsker}
-use Rattle.tree_commands.specs.CheckAttr.{Asked, Files, IsStatesText, all, macros_for, named}
+use Rattle.tree_commands.specs.CheckAttr.{Asked, Files, IsStatesText, all, attribute_rules, macros_for, named}
 use Rattle.tree_commands.specs.Private.AttributeWays.{IsEntered, front_lists}
 
 -- the labels of the attributes that are asked for, where not all are
@@ -32,6 +31,6 @@ module _ {S Q : Type 0} (files : Files) (asked : Asked) (shows : Folder → Opti
   pub record IsReady (asker : AttributeAsker S Q) : Type 0 where
     pub allowed : (told text : List ℕ) → IsStatesText (record { files = files; asked = asked; standpoint = asker.standpoint.now; form = asker.form }) shows told text → allows told text
     pub lists : map (entry_list_of seen_assignments) asker.index.now.lists ≡ front_lists asked (macros_for files) files
-    pub case : asker.index.now.case ≡ Sensitive
+    pub rules : asker.index.now.rules ≡ attribute_rules
     pub labels : map vec_items asker.labels.items ≡ labels_of asker.form asked
     pub entered : asker.is_spent ≡ false → IsEntered files asked shows shows_of asker.walk

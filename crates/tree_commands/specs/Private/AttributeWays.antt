@@ -6,6 +6,7 @@ use Rattle.gix_glob.specs.declared.search.pattern.list.List as patterns
 use Rattle.gix_glob.specs.Bytes.{HasByte, slash}
 use Rattle.std.specs.declared.alloc.Global.{Global}
 use Rattle.glob_attributes.specs.declared.assignment.Assignment.{Assignment}
+use Rattle.glob_lists.specs.declared.rules.Reading.TheVariants.{Git}
 use Rattle.glob_attributes.specs.declared.parser.AttributeLines.{AttributeLines}
 use Rattle.glob_attributes.specs.Told.{names_read, with_names}
 use Rattle.gix_glob.specs.EntryLists.{EntryList, entry_list_of}
@@ -53,7 +54,7 @@ kept_entries all macros entries = entries
 
 -- the list of a file for the paths in a folder, with these entries alone
 abbrev pub kept_list : Asked → List Definition → Folder → List ℕ → EntryList (List Assigned)
-kept_list asked macros folder bytes = record { entries = kept_entries asked macros (attributes_of bytes); source = None; base = base_of_folder folder }
+kept_list asked macros folder bytes = record { entries = kept_entries asked macros (attributes_of Git bytes); source = None; base = base_of_folder folder }
 
 -- the lists of the system's file, the user's and the top's
 abbrev pub front_lists : Asked → List Definition → Files → Lists

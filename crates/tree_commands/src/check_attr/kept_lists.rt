@@ -10,6 +10,7 @@ use crate::check_attr::question::AskedAttributes;
 use gix_glob::search::Pattern;
 use gix_glob::search::pattern::List;
 use glob_attributes::{AttributeLines, MacroTable, keep_named};
+use glob_lists::Reading;
 use glob_trees::list_in_folder;
 use std::alloc::{AllocError, Global};
 
@@ -48,12 +49,15 @@ fn keep_asked(
     }
 }
 
-/// The list of a file, without a base.
+/// The list of a file as Git reads it, without a base.
 fn list_of(alloc: Global, bytes: &[u8]) -> Result<List<AttributeLines>, AllocError>
     ensures { IfOk result (λ list. entry_list_of seen_assignments list ≡ kept_list all [] [] bytes.now) }
 {
+    let lines = AttributeLines {
+        reading: Reading::Git,
+    };
     Ok(List {
-        patterns: AttributeLines.bytes_to_patterns(alloc, bytes, "")?,
+        patterns: lines.bytes_to_patterns(alloc, bytes, "")?,
         source: None,
         base: None,
     })

@@ -3,7 +3,6 @@ ghost use Rattle.std.specs.Prelude.{◌≡◌, IfOk, OnErr, OnOk, false, map, tr
 ghost use Rattle.std.specs.Io.KnownBytes.{Appends};
 ghost use Rattle.std.specs.List.{AllByRecursion};
 ghost use Rattle.std.specs.Vec.{vec_items};
-ghost use Rattle.gix_glob.specs.declared.pattern.Case.TheVariants.{Sensitive};
 ghost use Rattle.gix_glob.specs.EntryLists.{entry_list_of};
 ghost use Rattle.gix_glob.specs.Watched.{has_failed, inner};
 ghost use Rattle.glob_attributes.specs.Views.{seen_assignments};
@@ -16,7 +15,7 @@ ghost use Rattle.tree_answers.specs.Lines.{behind};
 ghost use Rattle.tree_answers.specs.Records.{IsTextOf};
 ghost use Rattle.record_streams.specs.Runs.{EndsRun};
 ghost use Rattle.tree_commands.specs.Answering.{IsTextOfFirst, StopsAt, TextOfNamed, TextOfPaths, Writes};
-ghost use Rattle.tree_commands.specs.CheckAttr.{IsStatesText, macros_for};
+ghost use Rattle.tree_commands.specs.CheckAttr.{IsStatesText, attribute_rules, macros_for};
 ghost use Rattle.tree_commands.specs.Private.AttributeAnswers.{labels_of};
 ghost use Rattle.tree_commands.specs.Private.AttributeRuns.{AsksFor};
 ghost use Rattle.tree_commands.specs.Private.AttributeWays.{IsEntered, asked_of, front_lists};
@@ -33,7 +32,7 @@ use gix_glob::pattern::Case;
 use gix_glob::search::Watched;
 use gix_glob::search::pattern::List;
 use glob_attributes::{AttributeLines, MacroTable};
-use glob_lists::ListIndex;
+use glob_lists::{ListIndex, Rules};
 use record_streams::RecordFault;
 use std::alloc::{AllocError, Global};
 use std::io::{Read, Write};
@@ -174,9 +173,9 @@ fn index_of(
     lists: &[List<AttributeLines>],
 ) -> Result<ListIndex<'_, AttributeLines>, AllocError>
     requires { BasesAreFolders (map (entry_list_of seen_assignments) lists.now) }
-    ensures { IfOk result (λ index. (index.lists ≡ lists.entry.now) × (index.case ≡ Sensitive)) }
+    ensures { IfOk result (λ index. (index.lists ≡ lists.entry.now) × (index.rules ≡ attribute_rules)) }
 {
-    match ListIndex::new(alloc, lists, Case::Sensitive) {
+    match ListIndex::new(alloc, lists, Rules::by_git(Case::Sensitive)) {
         Ok(index) => Ok(index),
         Err(_refused) => Err(AllocError),
     }
@@ -193,7 +192,7 @@ fn answerer_of<'q, 'm, S: AttributeFolders, Q: Question>(
     requires asks { AsksFor Q.files Q.asked Q.shows Q.allows question.now (S.shows source) }
     requires macros { macros.now ≡ macros_for Q.files }
     requires lists { map (entry_list_of seen_assignments) index.now.lists ≡ front_lists Q.asked (macros_for Q.files) Q.files }
-    requires case { index.now.case ≡ Sensitive }
+    requires rules { index.now.rules ≡ attribute_rules }
 {
     let walk = walk_of::<S, Q>(alloc, question, source, macros)?;
     let labels = labels_of(alloc, question.asked, question.form)?;

@@ -22,7 +22,7 @@ new-requires-2 g c =
     record {
       allowed = λ told text is. asks.allowed told text (subst (λ q. IsStatesText q g.Q.Question.shows told text) same is);
       lists = c.requires.lists;
-      case = c.requires.case;
+      rules = c.requires.rules;
       labels = c.in_ok-labels.ensures ∙ ap (labels_of form) (ap (λ (q : Query). q.asked) c.question.view_is ∙ asks.asks);
       entered = λ _. c.in_ok-walk.ensures;
     }
