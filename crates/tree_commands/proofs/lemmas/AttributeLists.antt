@@ -16,8 +16,8 @@ use Rattle.glob_attributes.specs.States.{Assigned, IsAssigned, IsRow, Lists, sta
 use Rattle.glob_attributes.proofs.lemmas.GivenLemmas.{EntriesGive, ListsGive, given-row, row-given}
 use Rattle.glob_attributes.proofs.lemmas.KeptLemmas.{concerns-named, filter-alike, needed, states_kept}
 use Rattle.glob_attributes.proofs.lemmas.OneRowLemmas.{assigned-one}
-use Rattle.tree_commands.specs.CheckAttr.{Asked, FolderFile, Files, all, attribute_rules, list_in, lists_to, named, told_states}
-use Rattle.tree_commands.specs.Private.AttributeWays.{front_lists, kept_list}
+use Rattle.tree_commands.specs.CheckAttr.{Asked, FolderFile, Files, all, files_of, list_in, lists_for_top, lists_to, named, names_alone, told_states}
+use Rattle.tree_commands.specs.Private.AttributeWays.{front_lists, kept_list, top_list, top_lists}
 
 -- ---- lists without entries
 
@@ -83,9 +83,15 @@ module _ (names : List (Bor (List ℕ))) (macros : List Definition) where
       ap (λ entries. record (list_in folder bytes) { entries = entries })
       (filter-alike (needed names macros) (λ entry. concerns (map (λ (name : Bor (List ℕ)). name.now) names) macros entry.value) (λ entry. concerns-named names macros entry.value) (attributes_of Git bytes))
 
+  -- and so does the one for the top
+  narrowed_is_top : (bytes : List ℕ) → narrowed (names_alone (list_in [] bytes)) ≡ top_list (named (map (λ (name : Bor (List ℕ)). name.now) names)) macros bytes
+  narrowed_is_top bytes =
+      ap (λ entries. record (list_in [] bytes) { entries = entries })
+      (filter-alike (needed names macros) (λ entry. concerns (map (λ (name : Bor (List ℕ)). name.now) names) macros entry.value) (λ entry. concerns-named names macros entry.value) (names_alone (list_in [] bytes)).entries)
+
 -- ---- the lists to a path
 
-module _ (macros : List Definition) (files : Files) (path : Path) where
+module _ (macros : List Definition) (files : Files) (path : Path) (rules : Rules) where
   abbrev fronts : (Folder → List ℕ → EntryList (List Assigned)) → Lists
   fronts list = list [] files.system ∷ list [] files.user ∷ list [] files.top ∷ []
 
@@ -96,12 +102,12 @@ module _ (macros : List Definition) (files : Files) (path : Path) where
   abbrev pub lists_if_any : Asked → List FolderFile → Lists
   lists_if_any asked way = front_lists asked macros files ++ (flat_map (λ at. unless_empty (kept_list asked macros at.0 at.1)) way ++ kept_list asked macros [] files.info ∷ [])
 
-  if_any_behind : (asked : Asked) (way : List FolderFile) (filled : List Assigned) → IsAssigned (lists_by (kept_list asked macros) way) macros path attribute_rules filled
-      → IsAssigned (lists_if_any asked way) macros path attribute_rules filled
+  if_any_behind : (asked : Asked) (way : List FolderFile) (filled : List Assigned) → IsAssigned (lists_by (kept_list asked macros) way) macros path rules filled
+      → IsAssigned (lists_if_any asked way) macros path rules filled
   if_any_behind asked way filled h =
       let kept : FolderFile → EntryList (List Assigned) = λ at. kept_list asked macros at.0 at.1 in
-      subst (λ ls. IsAssigned (fronts (kept_list asked macros) ++ (ls ++ kept_list asked macros [] files.info ∷ [])) macros path attribute_rules filled) (flat_map-map unless_empty kept way)
-      (assigned_dropped path attribute_rules macros (fronts (kept_list asked macros)) (map kept way) (kept_list asked macros [] files.info ∷ []) filled h)
+      subst (λ ls. IsAssigned (fronts (kept_list asked macros) ++ (ls ++ kept_list asked macros [] files.info ∷ [])) macros path rules filled) (flat_map-map unless_empty kept way)
+      (assigned_dropped path rules macros (fronts (kept_list asked macros)) (map kept way) (kept_list asked macros [] files.info ∷ []) filled h)
 
   module _ (names : List (Bor (List ℕ))) where
     abbrev asked_names : Asked
@@ -126,15 +132,39 @@ module _ (macros : List Definition) (files : Files) (path : Path) where
         ∙ ap (λ ls. kept [] files.system ∷ kept [] files.user ∷ kept [] files.top ∷ ls)
         (way_narrowed way (list_in [] files.info ∷ []) ∙ ap (λ l. map (λ at. kept at.0 at.1) way ++ l ∷ []) (narrowed_is_kept names macros [] files.info))
 
-    pub told_same_named : (way : List FolderFile) (filled other : List Assigned) (read : List (List ℕ)) → IsAssigned (lists_to files way) macros path attribute_rules filled → IsAssigned (lists_if_any asked_names way) macros path attribute_rules other
+    pub told_same_named : (way : List FolderFile) (filled other : List Assigned) (read : List (List ℕ)) → IsAssigned (lists_to files way) macros path rules filled → IsAssigned (lists_if_any asked_names way) macros path rules other
         → told_states asked_names read other ≡ told_states asked_names read filled
     told_same_named way filled other read full some =
-        let one = assigned_narrowed names macros path attribute_rules [] (lists_by list_in way) filled full in
-        let left = if_any_behind asked_names way one.0 (subst (λ ls. IsAssigned ls macros path attribute_rules one.0) (all_narrowed way) one.1) in
-        let same = assigned-one (lists_if_any asked_names way) macros path attribute_rules other one.0 some left in
+        let one = assigned_narrowed names macros path rules [] (lists_by list_in way) filled full in
+        let left = if_any_behind asked_names way one.0 (subst (λ ls. IsAssigned ls macros path rules one.0) (all_narrowed way) one.1) in
+        let same = assigned-one (lists_if_any asked_names way) macros path rules other one.0 some left in
         ap (told_states asked_names read) same ∙ states_alike names macros names one.0 filled one.2 read
 
-  pub told_same_all : (way : List FolderFile) (filled other : List Assigned) (read : List (List ℕ)) → IsAssigned (lists_to files way) macros path attribute_rules filled → IsAssigned (lists_if_any all way) macros path attribute_rules other
+  pub told_same_all : (way : List FolderFile) (filled other : List Assigned) (read : List (List ℕ)) → IsAssigned (lists_to files way) macros path rules filled → IsAssigned (lists_if_any all way) macros path rules other
       → told_states all read other ≡ told_states all read filled
   told_same_all way filled other read full some =
-      ap (told_states all read) (assigned-one (lists_if_any all way) macros path attribute_rules other filled some (if_any_behind all way filled full))
+      ap (told_states all read) (assigned-one (lists_if_any all way) macros path rules other filled some (if_any_behind all way filled full))
+
+  -- ---- the lists for the top
+
+  module _ (names : List (Bor (List ℕ))) where
+    abbrev top_names : Asked
+    top_names = named (map (λ (name : Bor (List ℕ)). name.now) names)
+
+    tops_narrowed : (bytes : List (List ℕ)) → map (narrowed names macros) (map (λ each. names_alone (list_in [] each)) bytes) ≡ map (top_list top_names macros) bytes
+    tops_narrowed [] = refl
+    tops_narrowed (each ∷ bytes) =
+        ap (λ l. l ∷ map (narrowed names macros) (map (λ each. names_alone (list_in [] each)) bytes)) (narrowed_is_top names macros each)
+        ∙ ap (λ ls. top_list top_names macros each ∷ ls) (tops_narrowed bytes)
+
+    pub told_same_top_named : (filled other : List Assigned) (read : List (List ℕ)) → IsAssigned (lists_for_top files) macros path rules filled → IsAssigned (top_lists top_names macros files) macros path rules other
+        → told_states top_names read other ≡ told_states top_names read filled
+    told_same_top_named filled other read full some =
+        let one = assigned_narrowed names macros path rules [] (lists_for_top files) filled full in
+        let left = subst (λ ls. IsAssigned ls macros path rules one.0) (tops_narrowed (files_of files)) one.1 in
+        let same = assigned-one (top_lists top_names macros files) macros path rules other one.0 some left in
+        ap (told_states top_names read) same ∙ states_alike names macros names one.0 filled one.2 read
+
+  pub told_same_top_all : (filled other : List Assigned) (read : List (List ℕ)) → IsAssigned (lists_for_top files) macros path rules filled → IsAssigned (top_lists all macros files) macros path rules other
+      → told_states all read other ≡ told_states all read filled
+  told_same_top_all filled other read full some = ap (told_states all read) (assigned-one (lists_for_top files) macros path rules other filled some full)

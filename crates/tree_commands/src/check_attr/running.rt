@@ -8,6 +8,7 @@ ghost use Rattle.gix_glob.specs.Watched.{has_failed, inner};
 ghost use Rattle.glob_attributes.specs.Views.{seen_assignments};
 ghost use Rattle.glob_lines.specs.Transfers.{AppendsFront};
 ghost use Rattle.glob_lists.specs.Deciding.{BasesAreFolders};
+ghost use Rattle.glob_lists.specs.Rules.{by_git};
 ghost use Rattle.record_streams.specs.Faults.{is_write_fault, told_refusal};
 ghost use Rattle.record_streams.specs.Records.{TextOf};
 ghost use Rattle.tree_answers.specs.Attributes.{label_text};
@@ -15,7 +16,7 @@ ghost use Rattle.tree_answers.specs.Lines.{behind};
 ghost use Rattle.tree_answers.specs.Records.{IsTextOf};
 ghost use Rattle.record_streams.specs.Runs.{EndsRun};
 ghost use Rattle.tree_commands.specs.Answering.{IsTextOfFirst, StopsAt, TextOfNamed, TextOfPaths, Writes};
-ghost use Rattle.tree_commands.specs.CheckAttr.{IsStatesText, attribute_rules, macros_for};
+ghost use Rattle.tree_commands.specs.CheckAttr.{IsStatesText, macros_for};
 ghost use Rattle.tree_commands.specs.Private.AttributeAnswers.{labels_of};
 ghost use Rattle.tree_commands.specs.Private.AttributeRuns.{AsksFor};
 ghost use Rattle.tree_commands.specs.Private.AttributeWays.{IsEntered, asked_of, front_lists};
@@ -25,7 +26,7 @@ use crate::check_attr::answering::{AttributeAnswerer, AttributeAsker};
 use crate::check_attr::fault::AttributeFault;
 use crate::check_attr::folders::AttributeFolders;
 use crate::check_attr::kept_lists::kept_list;
-use crate::check_attr::outer::{asking_of, front_lists, macros_of_files};
+use crate::check_attr::outer::{asking_of, front_lists, macros_of_files, top_lists};
 use crate::check_attr::question::{AskedAttributes, AttributeQuestion, Question};
 use crate::check_attr::walk::FolderAttributes;
 use gix_glob::pattern::Case;
@@ -75,7 +76,7 @@ fn run_question<R: Read, W: Write, S: AttributeFolders, Q: Question>(
     records: &mut Watched<R>,
     writer: &mut Watched<W>,
 ) -> Result<(), RecordFault<AttributeFault<S::Fault>>>
-    requires asks { AsksFor Q.files Q.asked Q.shows Q.allows question.now (S.shows source) }
+    requires asks { AsksFor Q.files Q.asked Q.case Q.shows Q.allows question.now (S.shows source) }
     requires readable { has_failed records.old ≡ false }
     requires writable { has_failed writer.old ≡ false }
     ensures { EndsRun (λ _. TextOfNamed Q.allows (λ _. Unit {0}) question.now.form)
@@ -90,7 +91,7 @@ fn run_question<R: Read, W: Write, S: AttributeFolders, Q: Question>(
     let Ok(lists) = front_lists(alloc, question.files, question.asked, &macros) else {
         return Err(RecordFault::Memory);
     };
-    let Ok(index) = index_of(alloc, &lists) else {
+    let Ok(index) = index_of(alloc, &lists, question.case) else {
         return Err(RecordFault::Memory);
     };
     let Ok(answerer) = answerer_of::<S, Q>(alloc, question, source, &macros, &index) else {
@@ -138,7 +139,7 @@ fn check_paths<W: Write, S: AttributeFolders, Q: Question>(
     paths: &[&[u8]],
     writer: &mut Watched<W>,
 ) -> Result<(), RecordFault<AttributeFault<S::Fault>>>
-    requires asks { AsksFor Q.files Q.asked Q.shows Q.allows question.now (S.shows source) }
+    requires asks { AsksFor Q.files Q.asked Q.case Q.shows Q.allows question.now (S.shows source) }
     requires writable { has_failed writer.old ≡ false }
     ensures ok { OnOk result
         (Writes (TextOfPaths Q.allows (λ _. Unit {0}) (map (λ path. path.now) paths.now))
@@ -157,7 +158,7 @@ fn check_paths<W: Write, S: AttributeFolders, Q: Question>(
     let Ok(lists) = front_lists(alloc, question.files, question.asked, &macros) else {
         return Err(RecordFault::Memory);
     };
-    let Ok(index) = index_of(alloc, &lists) else {
+    let Ok(index) = index_of(alloc, &lists, question.case) else {
         return Err(RecordFault::Memory);
     };
     let Ok(answerer) = answerer_of::<S, Q>(alloc, question, source, &macros, &index) else {
@@ -171,11 +172,12 @@ fn check_paths<W: Write, S: AttributeFolders, Q: Question>(
 fn index_of(
     alloc: Global,
     lists: &[List<AttributeLines>],
+    case: Case,
 ) -> Result<ListIndex<'_, AttributeLines>, AllocError>
     requires { BasesAreFolders (map (entry_list_of seen_assignments) lists.now) }
-    ensures { IfOk result (λ index. (index.lists ≡ lists.entry.now) × (index.rules ≡ attribute_rules)) }
+    ensures { IfOk result (λ index. (index.lists ≡ lists.entry.now) × (index.rules ≡ by_git case)) }
 {
-    match ListIndex::new(alloc, lists, Rules::by_git(Case::Sensitive)) {
+    match ListIndex::new(alloc, lists, Rules::by_git(case)) {
         Ok(index) => Ok(index),
         Err(_refused) => Err(AllocError),
     }
@@ -189,19 +191,21 @@ fn answerer_of<'q, 'm, S: AttributeFolders, Q: Question>(
     macros: &'m MacroTable,
     index: &'m ListIndex<'m, AttributeLines>,
 ) -> Result<AttributeAnswerer<'q, 'm, S, Q>, AllocError>
-    requires asks { AsksFor Q.files Q.asked Q.shows Q.allows question.now (S.shows source) }
+    requires asks { AsksFor Q.files Q.asked Q.case Q.shows Q.allows question.now (S.shows source) }
     requires macros { macros.now ≡ macros_for Q.files }
     requires lists { map (entry_list_of seen_assignments) index.now.lists ≡ front_lists Q.asked (macros_for Q.files) Q.files }
-    requires rules { index.now.rules ≡ attribute_rules }
+    requires rules { index.now.rules ≡ by_git Q.case }
 {
     let walk = walk_of::<S, Q>(alloc, question, source, macros)?;
     let labels = labels_of(alloc, question.asked, question.form)?;
+    let top = top_lists(alloc, question.files, question.asked, macros)?;
     Ok(AttributeAnswerer::new(AttributeAsker {
         alloc,
         standpoint: question.standpoint,
         form: question.form,
         index,
         walk,
+        top,
         labels,
         path: Vec::new(alloc),
         is_spent: false,
@@ -215,7 +219,7 @@ fn walk_of<'q, 'm, S: AttributeFolders, Q: Question>(
     source: S,
     macros: &'m MacroTable,
 ) -> Result<FolderAttributes<'q, 'm, S, Q>, AllocError>
-    requires asks { AsksFor Q.files Q.asked Q.shows Q.allows question.now (S.shows source) }
+    requires asks { AsksFor Q.files Q.asked Q.case Q.shows Q.allows question.now (S.shows source) }
     requires macros { macros.now ≡ macros_for Q.files }
     ensures { IfOk result (IsEntered Q.files Q.asked Q.shows S.shows) }
 {
