@@ -1,7 +1,7 @@
 //! The state of an attribute for a path: `struct gix_glob_attributes` of the header.
 ghost use Rattle.std.specs.Prelude.{◌≡◌, ◌<◌, ◌≤◌, ◌+◌, ◌++◌, ℕ, All, IfSome, List, drop, is_some, length, map, true, false};
 ghost use Rattle.std.specs.List.{flat_map};
-ghost use Rattle.gix_glob_c.specs.Attributes.{IsLawfulAttributes, attribute_list, line_count, path_asked, told_of};
+ghost use Rattle.gix_glob_c.specs.Attributes.{IsLawfulAttributes, attribute_list, line_count, path_asked, reading_of_lines, told_of};
 ghost use Rattle.gix_glob_c.specs.Private.Finding.{IsFoundUpTo, lines_at};
 ghost use Rattle.gix_glob_c.specs.Parsed.{IsPathOfFile};
 ghost use Rattle.gix_glob_c.specs.Parts.{rules_of};
@@ -17,7 +17,7 @@ use crate::paths::GlobPath;
 use crate::tree::is_folder;
 use glob_attributes::State;
 use glob_attributes::borrowed::{Text, TextMacro, tell_state};
-use glob_lists::{RepositoryPath, Rules};
+use glob_lists::{Reading, RepositoryPath, Rules};
 
 /// `struct gix_glob_attribute_list`: the lines of one attribute file that give a pattern, and its folder.
 #[repr(C)]
@@ -51,7 +51,7 @@ pub struct GlobState<'a> {
 
 /// The state of an attribute for a path, as [`PathAttributes`](glob_attributes::PathAttributes) has it. `texts` and `marks` are
 /// memory that is written to: as many texts as there are lines in all lists, and one for each macro, suffice; and a mark for each
-/// macro; further marks stay as they were. `false` is answered, and `out` left as it was, where there are too few, or the path is
+/// macro; further marks stay as they were. The reading of the first line's pattern counts for all. `false` is answered, and `out` left as it was, where there are too few, or the path is
 /// empty, has a slash at its front or end, or two in a row.
 #[unsafe(no_mangle)]
 pub extern "C" fn gix_glob_attribute_of<'a>(
@@ -69,13 +69,14 @@ pub extern "C" fn gix_glob_attribute_of<'a>(
         → length attributes.now.macros.now ≤ length marks.old → result ≡ true }
     ensures marks { drop (length attributes.now.macros.now) marks.new ≡ drop (length attributes.now.macros.now) marks.old }
     ensures exact { All IsLawfulAttributes attributes.now.lists.now → result ≡ true → (filled : List Assigned)
-        × IsAssigned (map attribute_list attributes.now.lists.now) (map definition_of attributes.now.macros.now) (path_asked path.now) (rules_of fold) filled
+        × IsAssigned (map attribute_list attributes.now.lists.now) (map definition_of attributes.now.macros.now) (path_asked path.now) (rules_of (reading_of_lines attributes.now.lists.now) fold) filled
         × ((out.new.kind, out.new.value.now) ≡ told_of (state_in filled name.now)) }
 {
     let Some(asked) = path_of_file(path.bytes, path.is_dir) else {
         return false;
     };
-    let Some(count) = push_matches(attributes.lists, &asked, rules_of(fold), texts) else {
+    let rules = rules_of(reading_of_lines(attributes.lists), fold);
+    let Some(count) = push_matches(attributes.lists, &asked, rules, texts) else {
         return false;
     };
     let macros = attributes.macros;
@@ -88,6 +89,18 @@ pub extern "C" fn gix_glob_attribute_of<'a>(
     };
     *out = told_of(&state);
     true
+}
+
+/// Whose reading counts for the lines of a call: that of the first.
+fn reading_of_lines(lists: &[GlobAttributeList<'_>]) -> Reading
+    ensures { result ≡ reading_of_lines lists.now }
+{
+    for list in lists {
+        if let [first, ..] = list.lines {
+            return first.pattern.reading();
+        }
+    }
+    Reading::Crate
 }
 
 /// What C is told of a state.

@@ -2,12 +2,12 @@
 ghost use Rattle.std.specs.Prelude.{◌≡◌, ◌↔◌, ◌⊎◌, ◌^◌, ◌<◌, ◌≤◌, ℕ, [], ◌∷◌, All, IfSome, drop, length, map, option_map, take, true, false};
 ghost use Rattle.glob_lists.specs.Deciding.{Decides};
 ghost use Rattle.glob_lists.specs.Prepared.{ArePrepared};
-ghost use Rattle.gix_glob_c.specs.Parsed.{IsLawful, IsPathOfFile, entry_of_parts, list_of};
+ghost use Rattle.gix_glob_c.specs.Parsed.{IsLawful, IsPathOfFile, entry_of_parts, list_of, reading_of_all};
 ghost use Rattle.gix_glob_c.specs.Indexed.{IsIndex};
 ghost use Rattle.gix_glob_c.specs.Parts.{none, rules_of, unless_none};
 
 use crate::rules_of;
-use crate::parsed::{GlobPattern, NONE, last_match, path_of_file};
+use crate::parsed::{GlobPattern, NONE, last_match, path_of_file, reading_of_all};
 use gix_glob::pattern::PatternView;
 use glob_lists::prepared::{self, Heads, Viewed};
 use glob_lists::{RepositoryPath, Row, Rules};
@@ -66,12 +66,13 @@ pub extern "C" fn gix_glob_index_last_match(
     ensures none { (result ≡ none) ⊎ (result < length index.now.patterns.now) }
     ensures other { ¬ IsPathOfFile path.now → result ≡ none }
     ensures exact { All IsLawful index.now.patterns.now → IsIndex index.now → IsPathOfFile path.now
-        → Decides (list_of index.now.patterns.now ∷ []) path.now is_dir (rules_of fold) (option_map (λ (index : ℕ). (0, index)) (unless_none result)) }
+        → Decides (list_of index.now.patterns.now ∷ []) path.now is_dir (rules_of (reading_of_all index.now.patterns.now) fold) (option_map (λ (index : ℕ). (0, index)) (unless_none result)) }
 {
     let Some(path) = path_of_file(path, is_dir) else {
         return NONE;
     };
-    match last_by_index(index, &path, rules_of(fold)) {
+    let rules = rules_of(reading_of_all(index.patterns), fold);
+    match last_by_index(index, &path, rules) {
         Some(place) => place,
         None => NONE,
     }

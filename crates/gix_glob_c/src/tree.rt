@@ -5,14 +5,14 @@ ghost use Rattle.gix_glob.specs.Paths.{IsFolder};
 ghost use Rattle.gix_glob.specs.Patterns.{is_negative};
 ghost use Rattle.glob_lists.specs.Deciding.{AnswersAt};
 ghost use Rattle.glob_trees.specs.Trees.{DecidesInTree};
-ghost use Rattle.gix_glob_c.specs.Lists.{HasPatternAt, IsLawfulList, entry_list, pair_told};
+ghost use Rattle.gix_glob_c.specs.Lists.{HasPatternAt, IsLawfulList, entry_list, pair_told, reading_of_lists};
 ghost use Rattle.gix_glob_c.specs.Parsed.{IsPathOfFile, mode_of};
 ghost use Rattle.gix_glob_c.specs.declared.parsed.GlobPattern.{GlobPattern};
 ghost use Rattle.gix_glob_c.specs.Parts.{rules_of};
 
 use crate::rules_of;
 use crate::parsed::{GlobPattern, is_negative, last_match, path_of_file};
-use glob_lists::{ListStack, RepositoryPath, Rules};
+use glob_lists::{ListStack, Reading, RepositoryPath, Rules};
 use glob_trees::decide_in_tree_by;
 
 /// `struct gix_glob_list`: the patterns of one file, and its folder.
@@ -36,7 +36,8 @@ pub struct GlobDecision {
 }
 
 /// Which pattern decides about a path in a work tree, as [`decide_in_tree`](glob_trees::decide_in_tree) answers it: the one that
-/// ignores the topmost ignored folder above the path, and where none is ignored, the last one that matches the path. `false` is
+/// ignores the topmost ignored folder above the path, and where none is ignored, the last one that matches the path. The reading of the
+/// lists' first pattern counts for all. `false` is
 /// answered, and `out` left as it was, where none decides, or the path is empty, has a slash at its front or end, or two in a row.
 #[unsafe(no_mangle)]
 pub extern "C" fn gix_glob_decide_in_tree(
@@ -50,17 +51,30 @@ pub extern "C" fn gix_glob_decide_in_tree(
     ensures inside { result ≡ true → HasPatternAt lists.now (out.new.list, out.new.pattern) }
     ensures other { ¬ IsPathOfFile path.now → result ≡ false }
     ensures exact { All IsLawfulList lists.now → IsPathOfFile path.now
-        → DecidesInTree (map entry_list lists.now) path.now is_dir (rules_of fold) (pair_told result out.new) }
+        → DecidesInTree (map entry_list lists.now) path.now is_dir (rules_of (reading_of_lists lists.now) fold) (pair_told result out.new) }
 {
     let Some(path) = path_of_file(path, is_dir) else {
         return false;
     };
+    let rules = rules_of(reading_of_lists(lists), fold);
     let lists = HandedLists { lists };
-    let Some((list, pattern)) = decide_in_tree_by(&lists, &path, rules_of(fold)) else {
+    let Some((list, pattern)) = decide_in_tree_by(&lists, &path, rules) else {
         return false;
     };
     *out = GlobDecision { list, pattern };
     true
+}
+
+/// Whose reading counts for the lists of a call: that of their first pattern.
+fn reading_of_lists(lists: &[GlobList<'_>]) -> Reading
+    ensures { result ≡ reading_of_lists lists.now }
+{
+    for list in lists {
+        if let [first, ..] = list.patterns {
+            return first.reading();
+        }
+    }
+    Reading::Crate
 }
 
 /// The lists that C hands over.

@@ -3,7 +3,7 @@ use Rattle.std.proofs.Common.{◌≡◌, length, ap, sym, arith}
 use Rattle.std.proofs.lemmas.Bool.{false≢true}
 use Rattle.glob_lines.proofs.lemmas.IgnoreLemmas.{CutsLine-shorter_by}
 use Rattle.gix_glob_c.specs.AttributeFile.{unread_of_file}
-use Rattle.gix_glob_c.proofs.attribute_file.gix_glob_parse_attribute_line.Goals as goal
+use Rattle.gix_glob_c.proofs.attribute_file.take_line.Goals as goal
 
 pub returns-clause-ended : goal.returns-clause-ended
 returns-clause-ended c = λ _.
