@@ -57,8 +57,8 @@ empty-front : (front : List ℕ) → length front ≡ 0 → front ≡ []
 empty-front [] none = refl
 empty-front (b ∷ front) none = absurd (omega (arith, none))
 
-pub rest-of : (rules : Rules) (base : Option (Vec ℕ Global)) (path rest : List ℕ) → Rest rules (option_map_or vec_items base []) path rest → RestOf rules.case (option_map vec_items base) path rest
-rest-of rules None path rest r = sym (r.joined ∙ ap (λ l. l ++ rest) (empty-front r.front (Rest-front rules [] path rest r)))
+pub rest-of : (rules : Rules) (base : Option (Vec ℕ Global)) (path rest : List ℕ) → Rest rules.case (option_map_or vec_items base []) path rest → RestOf rules.case (option_map vec_items base) path rest
+rest-of rules None path rest r = sym (r.joined ∙ ap (λ l. l ++ rest) (empty-front r.front (Rest-front rules.case [] path rest r)))
 rest-of rules (Some base) path rest r = r
 
 pub nothing-of : (rules : Rules) (base : Option (Vec ℕ Global)) (path : List ℕ) → NothingLeft rules.case (Some (option_map_or vec_items base [])) path → NothingLeft rules.case (option_map vec_items base) path

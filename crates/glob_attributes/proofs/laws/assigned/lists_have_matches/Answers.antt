@@ -43,7 +43,7 @@ mappings-preserved c =
     let within : c.mappings.m < length list.patterns.items = omega (arith, ap length c.as_slice-mappings.ensures.value) in
     let is = rw c.as_slice-mappings.ensures.value at c.index-mappings-m.is in
     let here = slice_get-map_at (entry_of seen_assignments) list.patterns.items c.mappings.m c.index-mappings-m.result within is in
-    let left = rest-of c.args.rules list.base path.bytes c.in-Some.rest.bytes (subst (λ b. Rest c.args.rules b path.bytes c.in-Some.rest.bytes) c.base_of.ensures c.in-Some.ensures.0) in
+    let left = rest-of c.args.rules list.base path.bytes c.in-Some.rest.bytes (subst (λ b. Rest c.args.rules.case b path.bytes c.in-Some.rest.bytes) c.base_of.ensures c.in-Some.ensures.0) in
     let told = asked_rest lists c.args.rules path c.args.place c.mappings.m (entry_list_of seen_assignments list) (entry_of seen_assignments c.index-mappings-m.result) there here
     c.in-Some.rest c.view.result.text.now c.view.result.mode c.is_matched_by.result (left, c.in-Some.ensures.1)
     (rw (← c.index-mappings-m.is) at c.view.ensures.text) (rw (← c.index-mappings-m.is) at c.view.ensures.mode)
