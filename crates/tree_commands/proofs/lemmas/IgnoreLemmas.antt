@@ -1,11 +1,14 @@
 -- The line that decides about a told path, and what is kept account of, as what the source shows grows.
-use Rattle.std.proofs.Common.{◌≡◌, ◌⊎◌, inl, inr, ℕ, Bool, true, false, ◌||◌, List, [], ◌∷◌, ◌++◌, map, take, Option, None, Some, IfSome, Result, Ok, Err, IsErr, refl, sym, ap, subst, ◌∙◌, if◌then◌else◌, append-nil}
+use Rattle.std.proofs.Common.{◌≡◌, ◌⊎◌, inl, inr, ◌≢◌, ℕ, ◌≤◌, Bool, true, false, ◌||◌, List, [], ◌∷◌, ◌++◌, map, take, Option, None, Some, IfOk, IfSome, Result, Ok, Err, IsErr, refl, sym, ap, subst, ◌∙◌, if◌then◌else◌, length, append-nil, length-append, arith}
 use Rattle.std.specs.Prelude.{is_some}
 use Rattle.std.specs.List.{list_any}
 use Rattle.std.proofs.lemmas.Bool.{false≢true}
+use Rattle.std.proofs.Math.Seq.{take-append_seam, take-length}
 use Rattle.std.proofs.lemmas.List.{take-map}
 use Rattle.std.proofs.lemmas.List.Folds.{list_any-append}
+use Rattle.std.proofs.lemmas.Result.{IfOk-weaker}
 use Rattle.glob_lists.specs.declared.rules.Rules.{Rules}
+use Rattle.gix_glob.specs.Bytes.{slash}
 use Rattle.gix_glob.specs.EntryLists.{EntryList, entry_list_of}
 use Rattle.glob_lists.specs.Paths.{IsPlainPath}
 use Rattle.glob_trees.specs.TreeParts.{HasMappingAt, TreeParts}
@@ -209,6 +212,58 @@ module _ {S T X : Type 0} (shows : S → Folder → EntryList (Unit {0}) → Typ
     allowed = (line, line_found question same finds there, ap (λ (q : Question). text_about q.flags told (counted q.flags.verbose line)) same);
     grown = grown;
   }
+
+-- ---- where a told path leads
+
+-- no slash is put where the path isn't told as a folder's
+asked_bare : (path : List ℕ) → asked_path false path ≡ path
+asked_bare [] = refl
+asked_bare (b ∷ path) = append-nil (b ∷ path)
+
+asked_top : (is_told : Bool) (path : List ℕ) → path ≡ [] → asked_path is_told path ≡ path
+asked_top is_told [] top = refl
+asked_top is_told (b ∷ path) top = absurd (cc)
+
+asked_folder : (path : List ℕ) → path ≢ [] → asked_path true path ≡ path ++ slash ∷ []
+asked_folder [] some = absurd (some refl)
+asked_folder (b ∷ path) some = refl
+
+-- the bytes are those that are asked about, and so many of them come before the slash
+abbrev pub IsLed : Option (List ℕ) → Bool → ℕ → List ℕ → Type 0
+IsLed leads is_told bare asked = (leads ≡ Some (take bare asked)) × (asked ≡ asked_path is_told (take bare asked)) × (bare ≤ length asked)
+
+module _ (leads : Option (List ℕ)) (is_told : Bool) (path : List ℕ) (led : leads ≡ Some path) where
+  led_whole : asked_path is_told path ≡ path → IsLed leads is_told (length path) path
+  led_whole same = (
+    led ∙ ap (λ p. Some p) (sym (take-length path)),
+    sym same ∙ ap (asked_path is_told) (sym (take-length path)),
+    omega arith,
+  )
+
+  pub led_bare : is_told ≡ false → IsLed leads is_told (length path) path
+  led_bare bare = led_whole (ap (λ b. asked_path b path) bare ∙ asked_bare path)
+
+  pub led_top : path ≡ [] → IsLed leads is_told (length path) path
+  led_top top = led_whole (asked_top is_told path top)
+
+  pub led_folder : is_told ≡ true → path ≢ [] → IsLed leads is_told (length path) (path ++ slash ∷ [])
+  led_folder told some = (
+    led ∙ ap (λ p. Some p) (sym (take-append_seam path (slash ∷ []))),
+    sym (ap (asked_path is_told) (take-append_seam path (slash ∷ [])) ∙ (ap (λ b. asked_path b path) told ∙ asked_folder path some)),
+    omega (arith, length-append path (slash ∷ [])),
+  )
+
+module _ {S T X : Type 0} (shows : S → Folder → EntryList (Unit {0}) → Type 0) (tree : TreeParts S T X) (leads : Option (List ℕ)) (is_told : Bool) (known : List ℕ → Option Bool) (bare asked : List ℕ) (led : leads ≡ Some bare) (same : asked ≡ asked_path is_told bare) where
+  pub told_top : {E : Type 0} (result : Result (Option (ℕ × ℕ)) E) → asked ≡ [] → IfOk result (IsFoundForTop shows tree) → IfOk result (FindsTold shows leads is_told known tree)
+  told_top result top found = IfOk-weaker result (IsFoundForTop shows tree) (FindsTold shows leads is_told known tree) (λ pair here. record { path = bare; led = led; found = inl (sym same ∙ top, here) }) found
+
+  pub told_unplain : asked ≢ [] → ¬ IsPlainPath asked → FindsTold shows leads is_told known tree None
+  told_unplain some unplain = record { path = bare; led = led; found = subst (λ (a : List ℕ). Finds shows tree a (known bare) None) same (inr (inl (some, unplain, refl))) }
+
+  pub told_plain : {E : Type 0} (result : Result (Option (ℕ × ℕ)) E) → IsPlainPath asked → IfOk result (IsFound shows tree asked (known bare)) → IfOk result (FindsTold shows leads is_told known tree)
+  told_plain result plain found =
+      IfOk-weaker result (IsFound shows tree asked (known bare)) (FindsTold shows leads is_told known tree)
+      (λ pair here. record { path = bare; led = led; found = subst (λ (a : List ℕ). Finds shows tree a (known bare) pair) same (inr (inr (plain, here))) }) found
 
 -- ---- faults
 
