@@ -69,8 +69,8 @@ pub extern "C" fn gix_glob_decide_in_tree(
 fn reading_of_lists(lists: &[GlobList<'_>]) -> Reading
     ensures { result ≡ reading_of_lists lists.now }
 {
-    for list in lists {
-        if let [first, ..] = list.patterns {
+    'lists: for i in 0..lists.len() {
+        if let [first, ..] = lists[i].patterns {
             return first.reading();
         }
     }

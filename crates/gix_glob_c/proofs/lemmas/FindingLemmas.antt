@@ -26,7 +26,7 @@ use Rattle.gix_glob_c.specs.declared.attributes.GlobAttributeList.{GlobAttribute
 -- what the reading of a line and of a list takes where there is none
 abbrev pub blank_line : GlobAttributeLine
 blank_line = record {
-  pattern = record { text = record { ref_ptr = (0, 0); now = [] }; first_wildcard_pos = 0; mode = 0 };
+  pattern = record { text = record { ref_ptr = (0, 0); now = [] }; first_wildcard_pos = 0; mode = 0; reading = 0 };
   words = record { ref_ptr = (0, 0); now = [] };
 }
 

@@ -17,7 +17,7 @@ use crate::check_attr::fault::AttributeFault;
 use crate::check_attr::folders::AttributeFolders;
 use crate::check_attr::question::Question;
 use crate::check_attr::walk::{Asking, FolderAttributes};
-use gix_glob::search::pattern::List;
+use gix_glob::search::pattern;
 use glob_attributes::{Assignment, AttributeLines, PathAttributes, State};
 use glob_lists::{ListIndex, RepositoryPath, plain_path};
 use std::alloc::{AllocError, Global};
@@ -80,7 +80,7 @@ pub(crate) struct AttributeAsker<'q, 'm, S, Q> {
     pub(crate) index: &'m ListIndex<'m, AttributeLines>,
     pub(crate) walk: FolderAttributes<'q, 'm, S, Q>,
     /// The lists that count for the top, with their patterns for names alone.
-    pub(crate) top: Vec<List<AttributeLines>>,
+    pub(crate) top: Vec<pattern::List<AttributeLines>>,
     /// The label of each attribute that is asked for, where not all are.
     pub(crate) labels: Vec<Vec<u8>>,
     /// The path that was asked last.

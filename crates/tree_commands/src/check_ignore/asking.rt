@@ -190,7 +190,9 @@ impl<
         let is_folder = self.go(told)?;
         let bare = self.path.len();
         if is_folder && bare > 0 {
-            self.path.push(b'/')?;
+            let Ok(()) = self.path.push(b'/') else {
+                return Err(IgnoreFault::Memory);
+            };
         }
         Ok(bare)
     }

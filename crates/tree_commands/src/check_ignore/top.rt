@@ -39,8 +39,9 @@ fn last_for_top<T: search::Pattern>(list: &List<T>, rules: Rules) -> Option<usiz
     if !is_of_all(list) {
         return None;
     }
-    for m in (0..list.patterns.len()).rev() {
-        if matches_top(&list.patterns[m].pattern, rules) {
+    let mappings = list.patterns.as_slice();
+    for m in (0..mappings.len()).rev() {
+        if matches_top(&mappings[m].pattern, rules) {
             return Some(m);
         }
     }
