@@ -95,7 +95,7 @@ pub extern "C" fn gix_glob_attribute_of<'a>(
 fn reading_of_lines(lists: &[GlobAttributeList<'_>]) -> Reading
     ensures { result ≡ reading_of_lines lists.now }
 {
-    'lists: for i in 0..lists.len() {
+    for i in 0..lists.len() {
         if let [first, ..] = lists[i].lines {
             return first.pattern.reading();
         }

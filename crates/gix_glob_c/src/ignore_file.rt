@@ -5,7 +5,7 @@ ghost use Rattle.glob_lines.specs.Memory.{end_of};
 ghost use Rattle.gix_glob_c.specs.IgnoreFile.{ReadsText, ReadsTextAsGit, TakesLine, TakesLineAsGit, unread_of};
 
 use crate::parsed::{GlobPattern, gix_glob_parse, gix_glob_parse_as_git};
-use glob_lines::{next_git_line, next_ignore_line, without_byte_order_mark};
+use glob_lines::{IgnoreLine, next_git_line, next_ignore_line, without_byte_order_mark};
 
 /// `struct gix_glob_lines`: what is left to read of an ignore file, and how many of its lines were read.
 #[repr(C)]
@@ -37,9 +37,8 @@ pub extern "C" fn gix_glob_parse_ignore_line<'a>(
     let Some(line) = next_ignore_line(unread(lines)) else {
         return false;
     };
-    lines.rest = line.rest;
-    lines.number = lines.number.saturating_add(1);
-    *has_pattern = read_text(line.text, out);
+    let text = go_behind(lines, line);
+    *has_pattern = read_text(text, out);
     true
 }
 
@@ -60,10 +59,20 @@ pub extern "C" fn gix_glob_parse_ignore_line_as_git<'a>(
     let Some(line) = next_git_line(unread(lines)) else {
         return false;
     };
+    let text = go_behind(lines, line);
+    *has_pattern = read_git_text(text, out);
+    true
+}
+
+/// Goes on behind a line, and answers its text.
+fn go_behind<'a>(lines: &mut GlobLines<'a>, line: IgnoreLine<'a>) -> Option<&'a [u8]>
+    ensures text { result ≡ line.entry.text }
+    ensures rest { lines.new.rest ≡ line.entry.rest }
+    ensures number { lines.new.number ≡ min (lines.old.number + 1) (2 ^ 64 - 1) }
+{
     lines.rest = line.rest;
     lines.number = lines.number.saturating_add(1);
-    *has_pattern = read_git_text(line.text, out);
-    true
+    line.text
 }
 
 /// The bytes that are left to read, without a byte order mark at the front of the file.

@@ -69,7 +69,7 @@ pub extern "C" fn gix_glob_decide_in_tree(
 fn reading_of_lists(lists: &[GlobList<'_>]) -> Reading
     ensures { result ≡ reading_of_lists lists.now }
 {
-    'lists: for i in 0..lists.len() {
+    for i in 0..lists.len() {
         if let [first, ..] = lists[i].patterns {
             return first.reading();
         }

@@ -5,5 +5,5 @@ use Rattle.gix_glob_c.specs.declared.attributes.GlobAttributeList.{GlobAttribute
 use Rattle.gix_glob_c.proofs.attributes.reading_of_lines.Given as goal
 
 -- the lists so far have no lines
-abbrev pub invariant-lists : goal.invariant-lists
-invariant-lists l = flat_map (λ (list : GlobAttributeList). map (λ (line : GlobAttributeLine). line.pattern) list.lines.now) (take l.i l.lists) ≡ []
+abbrev pub invariant-loop-i : goal.invariant-loop-i
+invariant-loop-i l = flat_map (λ (list : GlobAttributeList). map (λ (line : GlobAttributeLine). line.pattern) list.lines.now) (take l.i l.lists) ≡ []

@@ -4,5 +4,5 @@ use Rattle.gix_glob_c.specs.declared.tree.GlobList.{GlobList}
 use Rattle.gix_glob_c.proofs.tree.reading_of_lists.Given as goal
 
 -- the lists so far have no patterns
-abbrev pub invariant-lists : goal.invariant-lists
-invariant-lists l = flat_map (λ (list : GlobList). list.patterns.now) (take l.i l.lists) ≡ []
+abbrev pub invariant-loop-i : goal.invariant-loop-i
+invariant-loop-i l = flat_map (λ (list : GlobList). list.patterns.now) (take l.i l.lists) ≡ []
