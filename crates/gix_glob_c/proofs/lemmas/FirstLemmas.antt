@@ -1,8 +1,13 @@
 -- What the lists of a call begin with, as they are gone through.
-use Rattle.std.proofs.Common.{◌≡◌, ℕ, ◌+◌, ◌<◌, ◌≤◌, List, [], ◌∷◌, ◌++◌, length, take, drop, get_or, sym, ap, ◌∙◌, slice_index_or, append-nil, length-drop, take-append-drop, drop_of_length-le, arith}
+use Rattle.std.proofs.Common.{◌≡◌, ℕ, ◌+◌, ◌<◌, ◌≤◌, List, [], ◌∷◌, ◌++◌, length, take, drop, get_or, refl, sym, ap, ◌∙◌, slice_index_or, append-nil, length-drop, take-append-drop, drop_of_length-le, arith}
 use Rattle.std.specs.List.{flat_map}
 use Rattle.std.proofs.lemmas.Grind.{flat_map-append}
 use Rattle.std.proofs.lemmas.List.{get_or-drop, take_more}
+
+-- what is not empty begins with something
+pub begins_so : {Y : Type 0} (ys : List Y) (d : Y) → 1 ≤ length ys → (rest : List Y) × (ys ≡ get_or ys 0 d ∷ rest)
+begins_so [] d some = absurd (omega arith)
+begins_so (y ∷ ys) d some = (ys, refl)
 
 module _ {X Y : Type 0} (f : X → List Y) where
   head_gives : (xs : List X) (d : X) (y : Y) (ys : List Y) → 0 < length xs → f (get_or xs 0 d) ≡ y ∷ ys → (rest : List Y) × (flat_map f xs ≡ y ∷ rest)

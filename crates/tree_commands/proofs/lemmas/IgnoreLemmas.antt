@@ -216,7 +216,7 @@ module _ {S T X : Type 0} (shows : S → Folder → EntryList (Unit {0}) → Typ
 -- ---- where a told path leads
 
 -- no slash is put where the path isn't told as a folder's
-asked_bare : (path : List ℕ) → asked_path false path ≡ path
+pub asked_bare : (path : List ℕ) → asked_path false path ≡ path
 asked_bare [] = refl
 asked_bare (b ∷ path) = append-nil (b ∷ path)
 

@@ -9,9 +9,7 @@ ghost use Rattle.tree_commands.specs.CheckAttr.{all};
 ghost use Rattle.tree_commands.specs.Private.AttributeWays.{asked_of, kept_entries, kept_list, top_list};
 
 use crate::check_attr::question::AskedAttributes;
-use bitflags::Flags as _;
 use gix_glob::Pattern;
-use gix_glob::pattern::Mode;
 use gix_glob::search::Pattern as _;
 use gix_glob::search::pattern::{List, Mapping};
 use glob_attributes::{Assignment, AttributeLines, MacroTable, keep_named};
@@ -44,6 +42,7 @@ fn keep_asked(
 ) -> List<AttributeLines>
     ensures entries { map (entry_of seen_assignments) result.patterns.items ≡ kept_entries (asked_of asked.entry) macros.now (map (entry_of seen_assignments) list.patterns.items) }
     ensures source { result.source ≡ list.source }
+    ensures base { result.base ≡ list.base }
 {
     match asked {
         AskedAttributes::Names(names) => {
@@ -82,7 +81,7 @@ fn keep_names(patterns: &mut Vec<Mapping<Vec<Assignment<Vec<u8>>>>>)
 fn is_for_names(pattern: &Pattern) -> bool
     ensures { result ≡ looks_at_name (mode_of pattern.now) }
 {
-    pattern.mode().contains(Mode::NO_SUB_DIR)
+    pattern.mode().looks_at_name()
 }
 
 /// The list of a file as Git reads it, without a base.

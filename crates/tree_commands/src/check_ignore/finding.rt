@@ -4,7 +4,8 @@ ghost use Rattle.gix_glob.specs.PatternParts.{mode_of};
 ghost use Rattle.gix_glob.specs.Patterns.{is_for_directories};
 ghost use Rattle.glob_lists.specs.Paths.{IsPlainPath};
 ghost use Rattle.tree_commands.specs.Private.Faults.{IsOfSources};
-ghost use Rattle.tree_commands.specs.Private.Finding.{IsFound, IsFoundAs, IsFoundForTop, KeepsTree, WantsFolder};
+ghost use Rattle.tree_commands.specs.Private.Finding.{IsFound, IsFoundAs, IsFoundForTop, KeepsTree, WantsFolder, lists_of};
+ghost use Rattle.tree_commands.specs.Tops.{DecidesForTop};
 
 use crate::check_ignore::fault::IgnoreFault;
 use crate::check_ignore::kinds::{PathKinds, is_folder};
@@ -57,9 +58,10 @@ impl<S: FolderLists<IgnoreLines> + Drop, K: PathKinds<Fault = S::Fault>> Finder<
         ensures kinds { K.kind_of self.new.kinds ≡ K.kind_of self.old.kinds }
         ensures faults { IfErr result IsOfSources }
     {
-        // the list of the top is asked for; as Git has it, no pattern for paths matches the top, so the answer isn't taken
-        let _ = find_as(&mut self.tree, &RepositoryPath::top())?;
-        Ok(deciding_for_top(self.tree.lists(), self.tree.rules()))
+        let top = RepositoryPath::top();
+        // so the list of the top is asked for; the answer isn't taken, for as Git has it no pattern for paths matches the top
+        let _pair = find_as(&mut self.tree, &top)?;
+        Ok(deciding_in(&self.tree))
     }
 
     /// Whether the folder of a path is neither one that the tree entered on its way, nor the one that was asked for last.
@@ -121,6 +123,15 @@ impl<S: FolderLists<IgnoreLines> + Drop, K: PathKinds<Fault = S::Fault>> Finder<
         // the lists may have been asked for again, so that a pair from before may have no place in them
         find_as(&mut self.tree, &RepositoryPath::from_plain(path, true))
     }
+}
+
+/// Which pattern of a tree's lists decides about the top.
+fn deciding_in<S: FolderLists<IgnoreLines> + Drop>(
+    tree: &Tree<IgnoreLines, S>,
+) -> Option<(usize, usize)>
+    ensures { DecidesForTop (lists_of tree.now) tree.now.rules result }
+{
+    deciding_for_top(tree.lists(), tree.rules())
 }
 
 /// Which pattern decides about a path of this kind.

@@ -7,8 +7,6 @@ ghost use Rattle.glob_lists.specs.Deciding.{AnswersFor};
 ghost use Rattle.tree_commands.specs.Tops.{AnswersForTop, DecidesForTop};
 ghost use Rattle.tree_commands.specs.Private.Tops.{IsOfAll};
 
-use bitflags::Flags as _;
-use gix_glob::pattern::Mode;
 use gix_glob::search::pattern::List;
 use gix_glob::{Pattern, search};
 use glob_lists::{PreparedList, RepositoryPath, Rules};
@@ -22,7 +20,8 @@ pub(crate) fn deciding_for_top<T: search::Pattern>(
     ensures { DecidesForTop (map (entry_list_of T.seen) lists.now) rules result }
 {
     for place in (0..lists.len()).rev() {
-        if let Some(last) = last_for_top(lists[place].list(), rules) {
+        let list = lists[place].list();
+        if let Some(last) = last_for_top(list, rules) {
             return Some((place, last));
         }
     }
@@ -62,7 +61,7 @@ fn is_of_all<T: search::Pattern>(list: &List<T>) -> bool
 fn matches_top(pattern: &Pattern, rules: Rules) -> bool
     ensures { IsTrue result ↔ IsTrue (looks_at_name (mode_of pattern.now)) × AnswersFor (text_of pattern.now) (mode_of pattern.now) [] false rules }
 {
-    if !pattern.mode().contains(Mode::NO_SUB_DIR) {
+    if !pattern.mode().looks_at_name() {
         return false;
     }
     RepositoryPath::top().is_matched_by(pattern.view(), rules)

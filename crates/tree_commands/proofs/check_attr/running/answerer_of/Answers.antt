@@ -1,10 +1,12 @@
 -- What is asked is what the asker has.
-use Rattle.std.proofs.Common.{◌≡◌, ap, sym, subst, ◌∙◌}
+use Rattle.std.proofs.Common.{◌≡◌, List, ap, sym, subst, ◌∙◌}
 use Rattle.gix_glob.specs.declared.pattern.Case.{Case}
+use Rattle.glob_attributes.specs.Macros.{Definition}
 use Rattle.told_paths.specs.declared.standpoint.Standpoint.{Standpoint}
 use Rattle.tree_answers.specs.declared.form.Form.{Form}
-use Rattle.tree_commands.specs.CheckAttr.{Asked, Files, IsStatesText, Query}
+use Rattle.tree_commands.specs.CheckAttr.{Asked, Files, IsStatesText, Query, macros_for}
 use Rattle.tree_commands.specs.Private.AttributeAnswers.{labels_of}
+use Rattle.tree_commands.specs.Private.AttributeWays.{top_lists}
 use Rattle.tree_commands.proofs.check_attr.running.answerer_of.Goals as goal
 
 pub new-requires-2 : goal.new-requires-2
@@ -25,7 +27,11 @@ new-requires-2 g c =
       allowed = λ told text is. asks.allowed told text (subst (λ q. IsStatesText q g.Q.Question.shows told text) same is);
       lists = c.requires.lists;
       rules = c.requires.rules;
-      top = c.in_ok-top.ensures ∙ ?;
+      top = c.in_ok-top.ensures
+          ∙ ap (λ (q : Query). top_lists q.asked c.args.macros.now q.files) c.question.view_is
+          ∙ ap (λ (asked : Asked). top_lists asked c.args.macros.now query.files) asks.asks
+          ∙ ap (λ (macros : List Definition). top_lists g.Q.Question.asked macros query.files) c.requires.macros
+          ∙ ap (top_lists g.Q.Question.asked (macros_for g.Q.Question.files)) asks.of_files;
       labels = c.in_ok-labels.ensures ∙ ap (labels_of form) (ap (λ (q : Query). q.asked) c.question.view_is ∙ asks.asks);
       entered = λ _. c.in_ok-walk.ensures;
     }

@@ -14,3 +14,22 @@ asked_list g c =
     let at = c.loop-place.place - 1 in
     let within : at < length c.args.lists.now = omega arith in
     slice_get-map_at (entry_list_of g.T.Pattern.seen) c.args.lists.now at c.index-lists-place.result within c.index-lists-place.is
+
+pub returns-in-Some : goal.returns-in-Some
+returns-in-Some g c =
+    let there = asked_list g (goal.at.returns-in-Some g c).After-index-lists-place in
+    let at = c.loop-place.place - 1 in
+    let next : c.loop-place.place ≡ at + 1 = omega arith in
+    let found = rw (← c.index-lists-place.is) at (rw c.list.ensures at c.in-Some.ensures) in
+    DecidesForTop-found (map (entry_list_of g.T.Pattern.seen) c.args.lists.now) c.args.rules c.loop-place.place at c.in-Some.last (entry_list_of g.T.Pattern.seen c.index-lists-place.result) next there c.loop-place.invariant found
+
+pub loop-place-preserved : goal.loop-place-preserved
+loop-place-preserved g c =
+    let there = asked_list g (goal.at.loop-place-preserved g c).After-index-lists-place in
+    let at = c.loop-place.place - 1 in
+    let next : c.loop-place.place ≡ at + 1 = omega arith in
+    let none = rw (← c.index-lists-place.is) at (rw c.list.ensures at (rw c.in_default.is at c.last_for_top.ensures)) in
+    NoListFrom-less (map (entry_list_of g.T.Pattern.seen) c.args.lists.now) c.args.rules c.loop-place.place at (entry_list_of g.T.Pattern.seen c.index-lists-place.result) next there c.loop-place.invariant none
+
+pub returns : goal.returns
+returns g c = DecidesForTop-none (map (entry_list_of g.T.Pattern.seen) c.args.lists.now) c.args.rules c.loop-place.place (omega arith) c.loop-place.invariant

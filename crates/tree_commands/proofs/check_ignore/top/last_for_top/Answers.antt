@@ -1,7 +1,6 @@
 -- The mappings are gone through from the last one on.
-use Rattle.std.proofs.Common.{◌≡◌, ◌↔◌, IsTrue, false, true, [], ◌+◌, ◌-◌, ◌<◌, length, map, Some, ap, sym, ◌∙◌, arith}
+use Rattle.std.proofs.Common.{◌≡◌, ◌↔◌, IsTrue, false, true, [], refl, ◌+◌, ◌-◌, ◌<◌, length, map, Some, ap, sym, ◌∙◌, arith}
 use Rattle.std.specs.Prelude.{slice_get}
-use Rattle.std.proofs.lemmas.Bool.{false≢true}
 use Rattle.gix_glob.specs.Entries.{entry_of}
 use Rattle.gix_glob.specs.EntryLists.{entry_list_of}
 use Rattle.gix_glob.specs.PatternParts.{mode_of, text_of}
@@ -10,7 +9,7 @@ use Rattle.gix_glob.proofs.lemmas.Elements.{slice_get-map_at}
 use Rattle.glob_lists.specs.Deciding.{AnswersFor}
 use Rattle.glob_lists.proofs.lemmas.Deciding.LastNumbers.{NoneFrom-all, NoneFrom-less}
 use Rattle.tree_commands.specs.Tops.{AnswersForTop}
-use Rattle.tree_commands.proofs.lemmas.TopLemmas.{LastForTop-found, for_top-of_all, for_top-only, for_top-yes}
+use Rattle.tree_commands.proofs.lemmas.TopLemmas.{LastForTop-found, for_top-only, for_top-yes}
 use Rattle.tree_commands.proofs.check_ignore.top.last_for_top.Given.{Over}
 use Rattle.tree_commands.proofs.check_ignore.top.last_for_top.Goals as goal
 use Rattle.tree_commands.proofs.check_ignore.top.last_for_top.Goals.{After-matches_top}
@@ -28,18 +27,13 @@ told : (g : Over) (c : After-matches_top g) → IsTrue c.matches_top.result
     ↔ (IsTrue (looks_at_name (mode_of c.index-mappings-m.result.pattern)) × AnswersFor (text_of c.index-mappings-m.result.pattern) (mode_of c.index-mappings-m.result.pattern) [] false c.args.rules)
 told g c = rw (← c.index-mappings-m.is) at c.matches_top.ensures
 
-pub returns-then-not-is_of_all : goal.returns-then-not-is_of_all
-returns-then-not-is_of_all g c = λ m h.
-    let all = c.is_of_all.ensures.1 (for_top-of_all (entry_list_of g.T.Pattern.seen c.args.list.now) c.args.rules m h) in
-    absurd (cc)
-
 pub returns-then-matches_top : goal.returns-then-matches_top
 returns-then-matches_top g c =
     let after = (goal.at.returns-then-matches_top g c).After-matches_top in
     let list = entry_list_of g.T.Pattern.seen c.args.list.now in
     let at = c.loop-m.m - 1 in
     let next : c.loop-m.m ≡ at + 1 = omega arith in
-    let all = c.is_of_all.ensures.0 c.if-not-is_of_all.false in
+    let all = c.if-not-is_of_all.ensures.0 refl in
     LastForTop-found list c.args.rules c.loop-m.m at next c.loop-m.invariant
     (for_top-yes list c.args.rules at (entry_of g.T.Pattern.seen c.index-mappings-m.result) (tested_entry g after) all ((told g after).0 c.if-matches_top.true))
 

@@ -1,5 +1,5 @@
 -- What is assigned is by the lists that count for the top, so its text is allowed.
-use Rattle.std.proofs.Common.{◌≡◌, map, ap, sym, subst, ◌∙◌}
+use Rattle.std.proofs.Common.{◌≡◌, false, [], map, ap, sym, subst, ◌∙◌}
 use Rattle.gix_glob.specs.EntryLists.{entry_list_of}
 use Rattle.glob_attributes.specs.States.{IsAssigned}
 use Rattle.glob_attributes.specs.Views.{seen_assignments}
