@@ -20,7 +20,7 @@ returns-in-Some g c =
     let there = asked_list g (goal.at.returns-in-Some g c).After-index-lists-place in
     let at = c.loop-place.place - 1 in
     let next : c.loop-place.place ≡ at + 1 = omega arith in
-    let found = rw (← c.index-lists-place.is) at (rw c.list-list.ensures at c.in-Some.ensures) in
+    let found = rw c.list-list.ensures at c.in-Some.ensures in
     DecidesForTop-found (map (entry_list_of g.T.Pattern.seen) c.args.lists.now) c.args.rules c.loop-place.place at c.in-Some.last (entry_list_of g.T.Pattern.seen c.index-lists-place.result) next there c.loop-place.invariant found
 
 pub loop-place-preserved : goal.loop-place-preserved
@@ -28,7 +28,7 @@ loop-place-preserved g c =
     let there = asked_list g (goal.at.loop-place-preserved g c).After-index-lists-place in
     let at = c.loop-place.place - 1 in
     let next : c.loop-place.place ≡ at + 1 = omega arith in
-    let none = rw (← c.index-lists-place.is) at (rw c.list-list.ensures at (rw c.in_default.is at c.last_for_top.ensures)) in
+    let none = rw c.list-list.ensures at (rw c.in_default.is at c.last_for_top.ensures) in
     NoListFrom-less (map (entry_list_of g.T.Pattern.seen) c.args.lists.now) c.args.rules c.loop-place.place at (entry_list_of g.T.Pattern.seen c.index-lists-place.result) next there c.loop-place.invariant none
 
 pub returns : goal.returns
