@@ -1,9 +1,5 @@
-pub mod AttributeFlags
-pub mod CommandWords
 pub mod ConfigKeys
-pub mod FilesFlags
-pub mod Flags
 pub mod IndexHead
+pub mod Running
 pub mod SeenFiles
 pub mod Telling
-pub mod Words

@@ -1,16 +1,16 @@
 //! Telling which state attributes have for paths.
-ghost use Rattle.std.specs.Prelude.{◌≡◌, false};
+ghost use Rattle.std.specs.Prelude.{◌≡◌, ◌⊎◌, ℕ, List, if◌then◌else◌, IfOk, false, map};
+ghost use Rattle.std.specs.Borrow.{Bor};
 ghost use Rattle.gix_glob.specs.Watched.{has_failed};
+ghost use Rattle.tree_commands.specs.CheckAttr.{all, named};
+ghost use Rattle.globtree.specs.Running.{IsAnswered, IsRefused, form_by};
 
 use crate::attribute_files::AttributeFiles;
-use crate::attribute_flags::AttributeFlags;
 use crate::check_ignore::bytes_of;
-use crate::command_words::operands_of;
 use crate::fault::CheckFault;
 use crate::outer_attributes::{OuterAttributes, outer_attributes};
 use crate::running::{ANSWERED, WRONG_WORDS};
 use crate::telling::{tell_line, tell_usage};
-use crate::words::Options;
 use crate::work_tree::case_of;
 use anyhow::{Context, Result};
 use gix_glob::search::Watched;
@@ -23,6 +23,8 @@ use tree_answers::Form;
 use tree_commands::check_attr::{
     AskedAttributes, AttributeQuestion, check_attr_paths, run_check_attr,
 };
+use tree_words::check_attr::CheckAttrFlags;
+use tree_words::{Options, operands_of};
 
 /// What the command ends with where a name is none that an attribute can have.
 const NO_NAME: u8 = 255;
@@ -39,13 +41,16 @@ pub(crate) fn check_attr<R: Files + Env + Eprint + AllocGlobal, I: Read, O: Writ
     rt: &R,
     alloc: Global,
     options: Options<'_>,
-    flags: AttributeFlags,
+    flags: CheckAttrFlags,
     words: &[String],
     input: &mut Watched<I>,
     output: &mut Watched<O>,
 ) -> Result<u8>
     requires readable { has_failed input.old ≡ false }
     requires writable { has_failed output.old ≡ false }
+    ensures status { IfOk result (λ status. IsAnswered status ⊎ IsRefused status) }
+    ensures unread { IfOk result (λ status. IsRefused status → input.new ≡ input.old) }
+    ensures unwritten { IfOk result (λ status. IsRefused status → output.new ≡ output.old) }
 {
     let operands = operands_of(alloc, words).context("the words")?;
     let count = match flags.names_first(operands.words.len(), operands.before) {
@@ -86,8 +91,11 @@ fn question_of<'a>(
     outer: &'a OuterAttributes,
     names: &'a [&'a [u8]],
     options: Options<'_>,
-    flags: AttributeFlags,
-) -> AttributeQuestion<'a> {
+    flags: CheckAttrFlags,
+) -> AttributeQuestion<'a>
+    ensures form { result.form ≡ form_by flags.nul }
+    ensures asks { result.asked ≡ (if flags.all then all else named (map (λ (name : Bor (List ℕ)). name.now) names.now)) }
+{
     let asked = if flags.all {
         AskedAttributes::All
     } else {

@@ -106,14 +106,7 @@ impl<'a, R: Files + Eprint> TreeFiles<'a, R> {
             return Ok(List::empty(self.alloc));
         };
         let seen = Sight::of(&found);
-        seen_file_list(
-            self.rt,
-            self.alloc,
-            file,
-            &seen,
-            &mut self.bytes,
-            BY_GIT,
-        )
+        seen_file_list(self.rt, self.alloc, file, &seen, &mut self.bytes, BY_GIT)
     }
 
     /// Tells the error by which a path isn't listed, or not all of a folder. Want of memory is a fault.

@@ -1,11 +1,11 @@
 //! The command `files`.
+ghost use Rattle.std.specs.Prelude.{IfOk};
+ghost use Rattle.globtree.specs.Running.{IsAnswered};
 
 use crate::fault::CheckFault;
 use crate::files::TreeFiles;
-use crate::files_flags::FilesFlags;
 use crate::running::ANSWERED;
 use crate::signs::Concerns;
-use crate::words::Options;
 use crate::work_tree::{case_of, fronts_of};
 use anyhow::{Context, Result};
 use gix_glob::search::Watched;
@@ -16,6 +16,8 @@ use told_paths::LeadFault;
 use tree_answers::Form;
 use tree_commands::files::fault::FilesFault;
 use tree_commands::files::{Listing, run_files};
+use tree_words::Options;
+use tree_words::files::FilesFlags;
 
 /// What the command ends with where something couldn't be read.
 const NOT_ALL_LISTED: u8 = 1;
@@ -28,7 +30,9 @@ pub(crate) fn list_files<R: Files + Env + Eprint + AllocGlobal + Clone + Drop, O
     flags: FilesFlags,
     folder: &str,
     output: &mut Watched<O>,
-) -> Result<u8> {
+) -> Result<u8>
+    ensures { IfOk result IsAnswered }
+{
     let concerns = Concerns {
         are_attributes: false,
         is_nul: flags.nul,

@@ -3,18 +3,14 @@
 #![tactic(auto)]
 
 mod attribute_files;
-mod attribute_flags;
 mod check_attr;
 mod check_ignore;
 mod closed_folders;
-mod command_words;
 mod config_keys;
 mod excludes;
 mod fault;
 mod file_kinds;
 mod files;
-mod files_flags;
-mod flags;
 mod folder_names;
 mod index_head;
 mod list_files;
@@ -27,7 +23,6 @@ mod sources;
 mod standing;
 mod telling;
 mod unparsed;
-mod words;
 mod work_tree;
 
 use gix_glob::search::Watched;

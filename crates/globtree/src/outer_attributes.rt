@@ -1,16 +1,16 @@
 //! The attribute files that don't depend on a path: the system's, the user's, the top's and the repository's own.
 
 use crate::attribute_files::AttributeFiles;
-use crate::attribute_flags::AttributeFlags;
 use crate::excludes::users_file;
 use crate::places::{go_to_folders, go_to_top};
 use crate::signs::{Concerns, tell_signs};
-use crate::words::Options;
 use anyhow::Result;
 use std::alloc::{AllocError, Global};
 use std::rt::{Env, Files};
 use told_paths::Standpoint;
 use tree_commands::check_attr::OuterFiles;
+use tree_words::Options;
+use tree_words::check_attr::CheckAttrFlags;
 
 /// The bytes of the files that are read before any path is asked for, and where paths are told from.
 #[derive(Drop)]
@@ -39,7 +39,7 @@ pub(crate) fn outer_attributes<R: Files + Env + Eprint + AllocGlobal>(
     rt: &R,
     alloc: Global,
     options: Options<'_>,
-    flags: AttributeFlags,
+    flags: CheckAttrFlags,
 ) -> Result<OuterAttributes> {
     go_to_folders(rt, options.words)?;
     let reader = AttributeFiles { rt, alloc };

@@ -1,10 +1,10 @@
 //! Going to the top of the work tree.
-use crate::words::takes_value;
 use anyhow::{Context, Result, bail};
 use std::alloc::Global;
 use std::rt::{Env, Files};
 use std::{env, fs};
 use told_paths::{Standpoint, below_folder, leave};
+use tree_words::takes_value;
 
 /// Goes to each folder that `-C` names among the words before the command, from the one before it.
 pub(crate) fn go_to_folders<R: Files + Env>(rt: &R, words: &[String]) -> Result<()> {

@@ -1,17 +1,20 @@
 //! What the words ask for, done.
-ghost use Rattle.std.specs.Prelude.{◌≡◌, ◌≢◌, false};
-ghost use Rattle.gix_glob.specs.Watched.{has_failed};
+ghost use Rattle.std.specs.Prelude.{◌≡◌, ◌≢◌, IfOk, OnOk, false, map, string_bytes};
+ghost use Rattle.std.specs.Io.KnownBytes.{Appends};
+ghost use Rattle.gix_glob.specs.Watched.{has_failed, inner};
+ghost use Rattle.tree_words.specs.Words.{AreWrong};
+ghost use Rattle.globtree.specs.Running.{IsAnswered, IsRefused, IsStatus};
 
 use crate::check_attr::check_attr;
 use crate::check_ignore::check_ignore;
 use crate::list_files::list_files;
 use crate::telling::{tell_line, tell_no_memory, tell_usage};
-use crate::words::{Command, asked_by};
 use anyhow::{Context, Result};
 use gix_glob::search::Watched;
 use std::alloc::Global;
 use std::io::{ErrorKind, Read, Write};
 use std::rt::{Env, Files};
+use tree_words::{Command, asked_by};
 
 /// What the program ends with.
 pub(crate) const ANSWERED: u8 = 0;
@@ -41,7 +44,8 @@ options:
 
 const VERSION: &str = "globtree 0.1.0\n";
 
-/// Does what the words ask for, and answers the status to end with.
+/// Does what the words ask for, and answers the status to end with: 0 or 1 where all was answered, 128 after a fault, 129 where the
+/// words don't fit together, 255 where a name is none that an attribute can have. In the last two cases nothing is read or written.
 pub fn run_words<R: Files + Env + Eprint + AllocGlobal + Clone + Drop, I: Read, O: Write>(
     rt: &R,
     alloc: Global,
@@ -51,6 +55,10 @@ pub fn run_words<R: Files + Env + Eprint + AllocGlobal + Clone + Drop, I: Read, 
 ) -> u8
     requires readable { has_failed input.old ≡ false }
     requires writable { has_failed output.old ≡ false }
+    ensures status { IsStatus result }
+    ensures wrong { AreWrong (map string_bytes words.now) → result ≡ 129 }
+    ensures unread { IsRefused result → input.new ≡ input.old }
+    ensures unwritten { IsRefused result → output.new ≡ output.old }
 {
     let Some((options, command)) = asked_by(words) else {
         return tell_wrong_words(rt);
@@ -110,7 +118,10 @@ fn tell_wrong_words<R: Eprint>(rt: &R) -> u8
 }
 
 /// Writes a text.
-fn write_text<O: Write>(output: &mut Watched<O>, text: &str) -> Result<u8> {
+fn write_text<O: Write>(output: &mut Watched<O>, text: &str) -> Result<u8>
+    ensures answered { IfOk result IsAnswered }
+    ensures written { OnOk result (Appends (O.contents (inner output.old)) (O.contents (inner output.new)) text.now) }
+{
     output.write_all(text.as_bytes()).context("writing")?;
     output.flush().context("writing")?;
     Ok(ANSWERED)

@@ -3,13 +3,13 @@
 use crate::config_keys::{KEYS, Key};
 use crate::index_head::entry_count;
 use crate::telling::tell_line;
-use crate::words::Options;
 use glob_lines::without_byte_order_mark;
 use std::alloc::{AllocError, Global};
 use std::env::VarError;
 use std::io::{ErrorKind, Read};
 use std::rt::{Env, Files};
 use std::{env, fs, io};
+use tree_words::Options;
 
 /// The variables by which Git takes another repository, or other configuration.
 const VARIABLES: [&str; 11] = [

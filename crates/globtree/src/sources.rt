@@ -57,14 +57,7 @@ impl<'a, R: Files + Eprint> FolderFiles<'a, R> {
         match own_file(self.rt, self.alloc, file.as_str())? {
             OwnFile::Found(found) => {
                 let seen = Sight::of(&found);
-                seen_file_list(
-                    self.rt,
-                    self.alloc,
-                    file,
-                    &seen,
-                    &mut self.bytes,
-                    BY_GIT,
-                )
+                seen_file_list(self.rt, self.alloc, file, &seen, &mut self.bytes, BY_GIT)
             }
             OwnFile::Nothing => Ok(List::empty(self.alloc)),
             OwnFile::Shut => {

@@ -1,10 +1,11 @@
 //! The work tree that the options before a command tell of, with the files of patterns that count in all of it.
+ghost use Rattle.std.specs.Prelude.{◌≡◌, if◌then◌else◌};
+ghost use Rattle.gix_glob.specs.declared.pattern.Case.TheVariants.{Fold, Sensitive};
 
 use crate::excludes::{push_excludes, push_info};
 use crate::places::{go_to_folders, go_to_top};
 use crate::signs::{Concerns, tell_signs};
 use crate::sources::FolderFiles;
-use crate::words::Options;
 use anyhow::{Context, Result};
 use gix_glob::pattern::Case;
 use glob_lines::IgnoreLines;
@@ -13,6 +14,7 @@ use glob_trees::Tree;
 use std::alloc::Global;
 use std::rt::{Env, Files};
 use told_paths::Standpoint;
+use tree_words::Options;
 
 /// About how many bytes are kept of folders and their patterns.
 const MOST_BYTES: usize = 24 << 20;
@@ -49,7 +51,9 @@ pub(crate) fn fronts_of<R: Files + Env + Eprint + AllocGlobal>(
 }
 
 /// Whether the case of letters counts by the options.
-pub(crate) fn case_of(options: Options<'_>) -> Case {
+pub(crate) fn case_of(options: Options<'_>) -> Case
+    ensures { result ≡ (if options.entry.ignore_case then Fold else Sensitive) }
+{
     if options.ignore_case {
         Case::Fold
     } else {

@@ -20,6 +20,7 @@ pub mod ListingLemmas
 pub mod ListingRuns
 pub mod ListsLemmas
 pub mod MetLemmas
+pub mod NameLemmas
 pub mod OrderLemmas
 pub mod PathLemmas
 pub mod PieceLemmas

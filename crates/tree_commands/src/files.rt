@@ -22,6 +22,7 @@ mod entries;
 pub mod fault;
 mod ignoring;
 mod lister;
+mod names;
 mod pending;
 pub mod source;
 mod start;

@@ -55,12 +55,6 @@ module _ (asked : Asked) (macros : List Definition) where
       All-append HasFolder (flat_map (λ at. unless_empty (kept_list asked macros at.0 at.1)) way) (kept_list asked macros [] bytes ∷ []) (way_folders way)
       (All-cons HasFolder (kept_list asked macros [] bytes) [] (kept_folder [] bytes) (All-nil HasFolder))
 
-  pub bases_of_fronts : (files : Files) → BasesAreFolders (front_lists asked macros files)
-  bases_of_fronts files =
-      All-cons HasFolder (kept_list asked macros [] files.system) (kept_list asked macros [] files.user ∷ kept_list asked macros [] files.top ∷ []) (kept_folder [] files.system)
-      (All-cons HasFolder (kept_list asked macros [] files.user) (kept_list asked macros [] files.top ∷ []) (kept_folder [] files.user)
-      (All-cons HasFolder (kept_list asked macros [] files.top) [] (kept_folder [] files.top) (All-nil HasFolder)))
-
   top_folder : (bytes : List ℕ) → HasFolder (top_list asked macros bytes)
   top_folder bytes = λ base is. absurd (none-some base is)
 

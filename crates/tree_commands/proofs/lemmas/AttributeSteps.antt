@@ -67,16 +67,6 @@ passed folder path place before inside other = record {
   level = passing_way path place inside other ∙ before.level;
 }
 
--- the folder before a slash is entered
-pub entered_to : (folder path : List ℕ) (place : ℕ) → place < length path → folder ≡ take (place + 1) path → IsBefore folder path (place + 1)
-entered_to folder path place inside is =
-    let long : length folder ≡ place + 1 = ap length is ∙ length-take-le (place + 1) path (omega (arith, inside)) in
-    record {
-      begins = is ∙ ap (λ k. take k path) (sym long);
-      inside = omega (arith, long);
-      level = ap folders_to (sym is);
-    }
-
 pub begun : (folder path : List ℕ) → folder ≡ take (length folder) path → IsBefore folder path (length folder)
 begun folder path begins = record { begins = begins; inside = omega arith; level = ap folders_to (sym begins) }
 

@@ -1,7 +1,7 @@
 -- Where a listing begins, and what it reaches from there.
-use Rattle.std.proofs.Common.{◌≡◌, ◌≢◌, ◌⊎◌, inl, inr, ⊎_elim, ℕ, ◌≤◌, Bool, true, false, List, [], ◌∷◌, ◌++◌, length, take, refl, sym, ap, subst, ◌∙◌, append-nil, arith}
+use Rattle.std.proofs.Common.{◌≡◌, ◌≢◌, ◌⊎◌, inl, inr, ⊎_elim, ℕ, Bool, true, false, List, [], ◌∷◌, ◌++◌, length, take, refl, sym, ap, subst, ◌∙◌, append-nil, arith}
 use Rattle.std.specs.Prelude.{◌↔◌, AllPairs, Option, None, Some, if◌then◌else◌}
-use Rattle.std.specs.List.{AllByRecursion, Contains}
+use Rattle.std.specs.List.{Contains}
 use Rattle.std.proofs.lemmas.List.{take_all}
 use Rattle.std.proofs.lemmas.List.Elements.{All-from_recursion}
 use Rattle.std.proofs.lemmas.List.Kept.{AllPairs-cons}
@@ -10,7 +10,6 @@ use Rattle.std.proofs.lemmas.Option.{same_Some}
 use Rattle.gix_glob.specs.Bytes.{EndsInSlash, slash}
 use Rattle.gix_glob.specs.EntryLists.{EntryList}
 use Rattle.glob_lists.specs.Paths.{IsPlainPath}
-use Rattle.glob_trees.specs.Trees.{IsAbove}
 use Rattle.glob_trees.specs.Ways.{Folder, start_of}
 use Rattle.told_paths.specs.declared.standpoint.Standpoint.{Standpoint}
 use Rattle.told_paths.specs.Paths.{names_folder, parts_of}
@@ -19,10 +18,10 @@ use Rattle.tree_commands.specs.declared.files.pending.Pending.{Pending}
 use Rattle.tree_commands.specs.declared.files.source.EntryKind.{EntryKind}
 use Rattle.tree_commands.specs.declared.files.source.EntryKind.TheVariants as kinds
 use Rattle.tree_commands.specs.FileTrees.{FileTree}
-use Rattle.tree_commands.specs.Files.{Basis, BeginsAt, BeginsBelow, ComesBefore, IsFound, IsLeaf, IsMet, IsReached, begins, is_folder, lists_to}
+use Rattle.tree_commands.specs.Files.{Basis, BeginsAt, BeginsBelow, ComesBefore, IsLeaf, IsMet, IsReached, begins, is_folder, lists_to}
 use Rattle.tree_commands.specs.Ignoring.{IsIgnored}
-use Rattle.tree_commands.specs.Private.Listing.{Among, AreAscending, AreOpen, Begins, BeginsNowhere, BeginsSomewhere, IsClear, MayVisit, PutsListsTo, StandsAtStart, lists_before, path_of}
-use Rattle.tree_commands.specs.Private.UnderWay.{Beginning, IsHalfway, IsUnderWay, OfKnown, WritesAll, WritesFront, count_of}
+use Rattle.tree_commands.specs.Private.Listing.{AreAscending, AreOpen, Begins, BeginsSomewhere, IsClear, MayVisit, PutsListsTo, StandsAtStart, lists_before, path_of}
+use Rattle.tree_commands.specs.Private.UnderWay.{IsHalfway, OfKnown, WritesAll, WritesFront}
 use Rattle.tree_commands.proofs.lemmas.AmongLemmas.{among_contained, contains_among}
 use Rattle.tree_commands.proofs.lemmas.ListsLemmas.{lists_before_some}
 use Rattle.tree_commands.proofs.lemmas.MetLemmas.{MeetsFirst, meets_first}
@@ -63,29 +62,6 @@ module _ (basis : Basis) (tree : FileTree) where
   }
 
 -- ---- what is pending at the beginning
-
-module _ (Known : FileTree → Type 0) (basis : Basis) (path : List ℕ) (is_told : Bool) (lists : List (EntryList (Unit {0}))) where
-  under_way_nowhere : IsUnderWay basis.case [] [] lists
-  under_way_nowhere = record {
-    may = λ next never. absurd never;
-    counts = λ next never. absurd never;
-    stacked = tt;
-    behind = λ p next never. absurd never;
-    ordered = tt;
-  }
-
-  under_way_somewhere : (next : Pending) → MayVisit basis.case (path_of next) → next.list_count ≤ length lists → IsUnderWay basis.case [] (next ∷ []) lists
-  under_way_somewhere next may count = record {
-    may = λ other among. ⊎_elim (λ (is : next ≡ other). subst (λ (n : Pending). MayVisit basis.case (path_of n)) is may) (λ (never : ⊥). absurd never) among;
-    counts = λ other among. ⊎_elim (λ (is : next ≡ other). subst (λ (n : Pending). n.list_count ≤ length lists) is count) (λ (never : ⊥). absurd never) among;
-    stacked = (tt, tt);
-    behind = λ p other never. absurd never;
-    ordered = tt;
-  }
-
-  pub under_way_begins : (pending : List Pending) → Begins Known basis path is_told lists pending → IsUnderWay basis.case [] pending lists
-  under_way_begins pending (inl nowhere) = subst (λ ps. IsUnderWay basis.case [] ps lists) (sym nowhere.0) under_way_nowhere
-  under_way_begins pending (inr some) = subst (λ ps. IsUnderWay basis.case [] ps lists) (sym some.one) (under_way_somewhere some.next some.may some.count)
 
 -- a start from which is met what is reached
 pub record Starts (standpoint : Standpoint) (basis : Basis) (tree : FileTree) (told : List ℕ) (pending : List Pending) (lists : List (EntryList (Unit {0}))) : Type 0 where

@@ -22,14 +22,6 @@ pub record IsGoingOver (Known : FileTree → Type 0) (lists : List (EntryList (U
   pub found : (tree : FileTree) → Known tree → (path : List ℕ) → Among paths path ↔ IsFoundAmong lists case tree start passed path
 
 module _ (Known : FileTree → Type 0) (lists : List (EntryList (Unit {0}))) (case : Case) (start : List ℕ) (names : List (List ℕ)) where
-  pub going_begins : IsGoingOver Known lists case start names names []
-  going_begins = record {
-    passed = [];
-    joined = refl;
-    each = tt;
-    found = λ tree known path. ((λ never. absurd never), (λ it. absurd it.among));
-  }
-
   pub going_ends : (paths : List (List ℕ)) → IsGoingOver Known lists case start names [] paths → (tree : FileTree) → Known tree → (path : List ℕ) → Among paths path ↔ IsFoundAmong lists case tree start names path
   going_ends paths it tree known path =
       subst (λ ns. Among paths path ↔ IsFoundAmong lists case tree start ns path) (sym (it.joined ∙ append-nil it.passed)) (it.found tree known path)
@@ -135,10 +127,6 @@ module _ (lists : List (EntryList (Unit {0}))) (case : Case) (tree : FileTree) (
   pub stands_kept : (found : Option EntryKind) → found ≡ tree.kind path → ((is_dir : Bool) → ¬ IsIgnored lists case path is_dir) → StandsThere lists case tree path found
   stands_kept None is never = λ kind there. absurd (let both : None ≡ Some kind = is ∙ there in cc)
   stands_kept (Some kind) is never = (sym is, never (is_folder kind))
-
-  -- of one where nothing stands, and where it depends on what does
-  pub stands_none : None ≡ tree.kind path → StandsThere lists case tree path None
-  stands_none is = λ kind there. absurd (let both : None ≡ Some kind = is ∙ there in cc)
 
   pub stands_as : (kind : EntryKind) → Some kind ≡ tree.kind path → IsIgnored lists case path (is_folder kind) → StandsThere lists case tree path None
   stands_as kind is ignored = λ other there. (let same = same_Some kind other (is ∙ there) in subst (λ k. IsIgnored lists case path (is_folder k)) same ignored)

@@ -1,5 +1,5 @@
 -- The lines of a listing, as they are written.
-use Rattle.std.proofs.Common.{◌≡◌, ◌≢◌, ◌⊎◌, inl, inr, ⊎_elim, ℕ, ◌≤◌, List, [], ◌∷◌, ◌++◌, length, take, refl, sym, ap, subst, ◌∙◌, append_assoc, append-nil, arith}
+use Rattle.std.proofs.Common.{◌≡◌, ◌⊎◌, ⊎_elim, ℕ, List, [], ◌∷◌, ◌++◌, length, take, refl, sym, ap, subst, ◌∙◌, append_assoc, append-nil}
 use Rattle.std.specs.Prelude.{Option, None, Some}
 use Rattle.std.specs.Io.KnownBytes.{Appends}
 use Rattle.std.specs.List.{flat_map}
@@ -10,9 +10,9 @@ use Rattle.glob_lines.specs.Transfers.{AppendsFront}
 use Rattle.glob_trees.specs.Ways.{Folder, start_of}
 use Rattle.tree_commands.specs.declared.files.pending.Pending.{Pending}
 use Rattle.tree_commands.specs.FileTrees.{FileTree}
-use Rattle.tree_commands.specs.Files.{IsLeaf, IsMet, Basis}
+use Rattle.tree_commands.specs.Files.{IsLeaf, IsMet}
 use Rattle.tree_commands.specs.Private.Listing.{Among, Enters, IsEntered, IsToList, Visits, WritesOut, path_of, with_line}
-use Rattle.tree_commands.specs.Private.UnderWay.{Beginning, IsHalfway, IsUnderWay, IsWriting, OfKnown, WritesAll, WritesFront}
+use Rattle.tree_commands.specs.Private.UnderWay.{Beginning, IsWriting, OfKnown, WritesAll, WritesFront}
 use Rattle.tree_commands.proofs.lemmas.AmongLemmas.{among_last}
 use Rattle.tree_commands.proofs.lemmas.ListingLemmas.{halfway_entered, halfway_listed, under_way_entered, under_way_listed}
 use Rattle.tree_commands.proofs.lemmas.StackLemmas.{stack_top}
@@ -28,17 +28,6 @@ appends_none None = tt
 appends_none (Some xs) = sym (append-nil xs)
 
 module _ (line : List ℕ → List ℕ) (Known : FileTree → Type 0) (case : Case) (beginning : Beginning) (old : Option (List ℕ)) where
-  -- nothing is listed yet
-  pub begins_writing : (text : List ℕ) → text ≡ [] → IsUnderWay case [] beginning.pending beginning.lists → IsWriting line Known case beginning old old text beginning.pending beginning.lists
-  begins_writing text none under = record {
-    listed = [];
-    under_way = under;
-    written = [];
-    appended = appends_none old;
-    joined = sym none;
-    halfway = λ tree known basis same start halfway. halfway;
-  }
-
   module _ (new : Option (List ℕ)) (text : List ℕ) (pending : List Pending) (lists : List (EntryList (Unit {0}))) where
     -- a front of the lines is written at any time
     pub front_is_written : IsWriting line Known case beginning old new text pending lists → WritesFront line Known case beginning old new

@@ -5,11 +5,10 @@ use Rattle.std.proofs.lemmas.List.Elements.{All-append, All-cons, All-nil, All-t
 use Rattle.std.proofs.lemmas.Option.{same_Some}
 use Rattle.gix_glob.specs.Bytes.{slash}
 use Rattle.gix_glob.specs.declared.search.pattern.list.List as patterns
-use Rattle.gix_glob.specs.Entries.{Entry}
 use Rattle.gix_glob.specs.EntryLists.{EntryList, entry_list_of}
 use Rattle.glob_lines.specs.Lines.{HasNo}
 use Rattle.glob_lists.specs.Deciding.{BasesAreFolders, HasFolder}
-use Rattle.glob_trees.specs.Ways.{Folder, base_of_folder, folders_to, if_any, start_of, unless_empty, with_entries}
+use Rattle.glob_trees.specs.Ways.{Folder, base_of_folder, folders_to, start_of, unless_empty, with_entries}
 use Rattle.glob_trees.proofs.lemmas.WayLemmas.{folders_other, folders_slash}
 use Rattle.glob_trees.proofs.lemmas.WithEntries.{empty_or_not, with_entries_more}
 use Rattle.tree_commands.specs.FileTrees.{FileTree}
@@ -70,9 +69,6 @@ module _ {V : Type 0} where
       (empty_or_not list)
 
 -- ---- the list of a folder that was found to have none
-
-pub no_list : (tree : FileTree) (folder : Folder) → (tree.list folder).entries ≡ [] → [] ≡ unless_empty (tree.list folder)
-no_list tree folder none = sym (ap (λ (entries : List (Entry (Unit {0}))). if_any entries (tree.list folder)) none)
 
 pub seen_taken : {T X : Type 0} (n : ℕ) (lists : List (patterns.List T X)) → take n (seen_lists lists) ≡ seen_lists (take n lists)
 seen_taken n lists = take-map (entry_list_of (λ _. tt)) n lists

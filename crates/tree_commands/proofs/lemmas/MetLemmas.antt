@@ -1,5 +1,5 @@
 -- The paths that are met from one on.
-use Rattle.std.proofs.Common.{◌≡◌, ◌≢◌, ◌⊎◌, inl, inr, ⊎_elim, ℕ, Bool, true, false, List, [], ◌∷◌, ◌++◌, refl, sym, ap, subst, ◌∙◌}
+use Rattle.std.proofs.Common.{◌≡◌, ◌≢◌, ◌⊎◌, inl, inr, ⊎_elim, ℕ, Bool, true, false, List, [], ◌∷◌, refl, sym, ap, subst, ◌∙◌}
 use Rattle.std.specs.Prelude.{IsTrue}
 use Rattle.std.proofs.lemmas.Bool.{false≢true}
 use Rattle.gix_glob.specs.Bytes.{EndsInSlash}
@@ -11,10 +11,6 @@ use Rattle.tree_commands.proofs.lemmas.PathLemmas.{one_folder, start_ends}
 module _ (basis : Basis) (tree : FileTree) where
   abbrev pub IsOpen : Folder → Type 0
   IsOpen folder = (folder ≡ []) ⊎ (tree.has_git folder ≡ false)
-
-  pub met_further : {start middle path : List ℕ} → IsMet basis tree start middle → IsMet basis tree middle path → IsMet basis tree start path
-  met_further one begins = one
-  met_further one (lies more may entry) = lies (met_further one more) may entry
 
   -- a path that is met from another one lies below an entry of that
   pub record MeetsFirst (start path : List ℕ) : Type 0 where
@@ -69,6 +65,3 @@ pub open_by : (shut git : Bool) (folder : Folder) → ((IsTrue shut → (git ≡
 open_by shut git [] tells is = inl refl
 open_by shut true (b ∷ folder) tells is = absurd (false≢true (sym is ∙ tells.1 (refl, λ none. absurd (cc))))
 open_by shut false (b ∷ folder) tells is = inr refl
-
-pub shut_by : (shut git : Bool) (folder : Folder) → ((IsTrue shut → (git ≡ true) × (folder ≢ [])) × ((git ≡ true) × (folder ≢ []) → IsTrue shut)) → shut ≡ true → (git ≡ true) × (folder ≢ [])
-shut_by shut git folder tells is = tells.0 is

@@ -139,11 +139,6 @@ before_trans (x ∷ xs) (y ∷ ys) (z ∷ zs) (inl less) (inr same) = inl (let i
 before_trans (x ∷ xs) (y ∷ ys) (z ∷ zs) (inr same) (inl more) = inl (let is = same.0 in omega arith)
 before_trans (x ∷ xs) (y ∷ ys) (z ∷ zs) (inr one) (inr two) = inr (one.0 ∙ two.0, before_trans xs ys zs one.1 two.1)
 
-never_itself : (xs : List ℕ) → ¬ Before xs xs
-never_itself [] never = never
-never_itself (x ∷ xs) (inl less) = omega arith
-never_itself (x ∷ xs) (inr same) = never_itself xs same.1
-
 either : (xs ys : List ℕ) → Before xs ys ⊎ ((xs ≡ ys) ⊎ Before ys xs)
 either [] [] = inr (inl refl)
 either [] (y ∷ ys) = inl tt
@@ -161,12 +156,6 @@ either (x ∷ xs) (y ∷ ys) = ⊎_elim
     (λ (greater : (y < x) × (nat_cmp x y ≡ Greater)). inr (inr (inl greater.0)))
     more)
     (three x y)
-
-pub comes_first_trans : (xs ys zs : List ℕ) → ComesBefore xs ys → ComesBefore ys zs → ComesBefore xs zs
-comes_first_trans xs ys zs one two = by_bytes_before xs zs (before_trans xs ys zs (before_by_bytes xs ys one) (before_by_bytes ys zs two))
-
-pub never_before_itself : (xs : List ℕ) → ¬ ComesBefore xs xs
-never_before_itself xs h = never_itself xs (before_by_bytes xs xs h)
 
 -- what doesn't come behind another text, and isn't it, comes before it
 pub comes_before_other : (xs ys : List ℕ) → ¬ ComesBefore ys xs → xs ≢ ys → ComesBefore xs ys

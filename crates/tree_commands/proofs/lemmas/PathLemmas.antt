@@ -1,7 +1,5 @@
 -- Paths of entries: what is plain, and what ends in a slash.
-use Rattle.std.proofs.Common.{◌≡◌, ◌≢◌, ◌⊎◌, inl, inr, ⊎_elim, ℕ, zero, suc, ◌+◌, ◌-◌, ◌<◌, ◌≤◌, Bool, true, false, List, [], ◌∷◌, ◌++◌, length, get_or, take, refl, sym, ap, subst, ◌∙◌, append_assoc, append-nil, length-append, arith}
-use Rattle.std.specs.Prelude.{IsTrue, slice_index}
-use Rattle.std.specs.List.{AllByRecursion}
+use Rattle.std.proofs.Common.{◌≡◌, ◌≢◌, ◌⊎◌, inl, inr, ⊎_elim, ℕ, ◌+◌, ◌-◌, ◌<◌, ◌≤◌, true, false, List, [], ◌∷◌, ◌++◌, length, take, refl, sym, ap, subst, ◌∙◌, append_assoc, length-append, arith}
 use Rattle.std.proofs.lemmas.Bool.{cases_lt, false≢true}
 use Rattle.std.proofs.lemmas.List.{get_or-append_right, get_or_append_left, same_from_push, take_all, take_more}
 use Rattle.std.proofs.lemmas.List.Elements.{All-from_recursion}
@@ -57,9 +55,6 @@ start_ends (b ∷ folder) some = marked_ends (b ∷ folder)
 pub some_append : (xs ys : List ℕ) → ys ≢ [] → (xs ++ ys) ≢ []
 some_append [] ys some is = some is
 some_append (x ∷ xs) ys some is = absurd (cc)
-
-pub start_is_some : (b : ℕ) (folder : List ℕ) → start_of (b ∷ folder) ≢ []
-start_is_some b folder is = absurd (cc)
 
 -- by the start of its entries, a folder is known
 pub one_folder : (folder other : Folder) → start_of folder ≡ start_of other → folder ≡ other

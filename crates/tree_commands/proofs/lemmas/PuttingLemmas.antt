@@ -1,18 +1,18 @@
 -- Paths that are put in order, each once.
-use Rattle.std.proofs.Common.{◌≡◌, ◌≢◌, ◌⊎◌, inl, inr, ⊎_elim, ℕ, zero, suc, ◌+◌, ◌<◌, ◌≤◌, true, false, List, [], ◌∷◌, ◌++◌, length, get_or, map, take, refl, sym, ap, subst, ◌∙◌, append_assoc, append-nil, arith}
+use Rattle.std.proofs.Common.{◌≡◌, ◌≢◌, ◌⊎◌, inl, inr, ⊎_elim, ℕ, suc, ◌+◌, ◌<◌, true, false, List, [], ◌∷◌, ◌++◌, length, get_or, map, take, refl, sym, ap, subst, ◌∙◌, append_assoc, append-nil, arith}
 use Rattle.std.specs.Prelude.{◌↔◌, ◌-◌, Bool, IsPermutation, IsSorted, IsTrue, Some, slice_get}
 use Rattle.std.specs.Cmp.Lexicographic.{slice_cmp}
-use Rattle.std.specs.List.{AllByRecursion, Contains}
+use Rattle.std.specs.List.{AllByRecursion}
 use Rattle.std.specs.Ordering.{is_lt, nat_cmp}
 use Rattle.std.proofs.lemmas.Bool.{false≢true}
 use Rattle.std.specs.Str.{bytes_eq}
 use Rattle.std.proofs.lemmas.List.{map-append, map_push, same_from_push, take_all, take_more}
 use Rattle.std.proofs.lemmas.Option.{get_or_from_slice_get, slice_get_within}
 use Rattle.std.proofs.lemmas.Slice.Eq.{bytes_eq-Decides}
-use Rattle.std.proofs.lemmas.List.Sorted.{Contains-permutation, IsPermutation-sym}
+use Rattle.std.proofs.lemmas.List.Sorted.{Contains-permutation}
 use Rattle.tree_commands.specs.declared.files.pending.Pending.{Pending}
 use Rattle.tree_commands.specs.Files.{ComesBefore}
-use Rattle.tree_commands.specs.Private.Listing.{Among, AreDescending, EndsWith, PutsInOrder, path_of}
+use Rattle.tree_commands.specs.Private.Listing.{Among, AreDescending, EndsWith, path_of}
 use Rattle.tree_commands.proofs.lemmas.AmongLemmas.{all_of, among_cases, among_contained, among_last, among_left, among_map, among_mapped, among_right, contains_among, of_all}
 use Rattle.tree_commands.proofs.lemmas.OrderLemmas.{comes_before_other, not_behind_trans, same_between}
 
@@ -107,15 +107,6 @@ putting_begins paths left count old rises same = record {
   rises = rises;
   less = λ one other among never. absurd never;
   same = λ path. (let it = same path in (λ among. inl (it.0 among), λ either. ⊎_elim (λ (here : Among left path). it.1 here) (λ (never : ⊥). absurd never) either));
-}
-
-pub putting_ends : (paths : List (List ℕ)) (count : ℕ) (old new : List Pending) → IsPutting paths [] count old new → PutsInOrder paths count old new
-putting_ends paths count old new it = record {
-  batch = it.batch;
-  joined = it.joined;
-  counts = it.counts;
-  descending = it.descending;
-  same = λ path. (let each = it.same path in (λ among. ⊎_elim (λ (never : ⊥). absurd never) (λ (here : Among (map path_of it.batch) path). here) (each.0 among), λ among. each.1 (inr among)));
 }
 
 module _ (paths left : List (List ℕ)) (count : ℕ) (old new : List Pending) (next : Pending) (level : next.list_count ≡ count) (it : IsPutting paths (left ++ path_of next ∷ []) count old new) where

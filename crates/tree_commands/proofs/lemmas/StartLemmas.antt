@@ -1,5 +1,5 @@
 -- The way to the path at which a listing begins.
-use Rattle.std.proofs.Common.{◌≡◌, ◌≢◌, ◌⊎◌, inl, inr, ⊎_elim, ℕ, zero, suc, ◌+◌, ◌<◌, ◌≤◌, true, false, List, [], ◌∷◌, ◌++◌, length, map, take, refl, sym, ap, subst, ◌∙◌, append_assoc, arith}
+use Rattle.std.proofs.Common.{◌≡◌, ◌≢◌, ◌⊎◌, inl, inr, ⊎_elim, ℕ, zero, suc, ◌+◌, ◌<◌, ◌≤◌, true, false, List, [], ◌∷◌, ◌++◌, length, map, take, refl, sym, ap, subst, ◌∙◌, arith}
 use Rattle.std.specs.Prelude.{Bool, MatchBool, slice_index}
 use Rattle.gix_glob.specs.declared.pattern.Case.{Case}
 use Rattle.std.proofs.lemmas.Bool.{cases_lt, false≢true}
@@ -9,14 +9,14 @@ use Rattle.gix_glob.specs.EntryLists.{EntryList}
 use Rattle.glob_lines.specs.Lines.{HasNo}
 use Rattle.glob_lists.specs.Paths.{IsPlainPath}
 use Rattle.glob_trees.specs.Trees.{IsAbove}
-use Rattle.glob_trees.specs.Ways.{Folder, folders_to, start_of, unless_empty, with_entries}
+use Rattle.glob_trees.specs.Ways.{Folder, start_of, unless_empty, with_entries}
 use Rattle.glob_trees.proofs.lemmas.Folders.{above_is_front, above_is_shorter, above_slash, slash_below}
 use Rattle.glob_trees.proofs.lemmas.WayLemmas.{folders_other}
 use Rattle.told_paths.specs.Paths.{IsLastName}
 use Rattle.tree_commands.specs.FileTrees.{FileTree}
 use Rattle.tree_commands.specs.Files.{Basis, is_git, lists_to}
 use Rattle.tree_commands.specs.Ignoring.{IsIgnored}
-use Rattle.tree_commands.specs.Private.Listing.{AreOpen, IsClear, IsPassed, lists_before}
+use Rattle.tree_commands.specs.Private.Listing.{AreOpen, IsClear, IsPassed}
 use Rattle.tree_commands.proofs.lemmas.ListsLemmas.{lists_before_some, lists_in}
 
 -- ---- one last name
@@ -77,12 +77,6 @@ above_or_here {P} folder path place above less before here = elim (cases_lt (len
 ]
 
 module _ (basis : Basis) (tree : FileTree) (path : List ℕ) where
-  pub way_begins : (lists own : List (EntryList (Unit {0}))) → lists ≡ basis.fronts ++ own → own ≡ unless_empty (tree.list []) → IsOnWayTo basis tree path 0 lists
-  way_begins lists own joined is_own = record {
-    are = joined ∙ ap (λ (l : List (EntryList (Unit {0}))). basis.fronts ++ l) is_own ∙ sym (lists_in basis tree []);
-    open_so_far = λ folder above less. absurd (omega arith);
-  }
-
   module _ (place : ℕ) (lists : List (EntryList (Unit {0}))) (inside : place < length path) (way : IsOnWayTo basis tree path place lists) where
     -- another byte than a slash
     pub way_passes : slice_index path place ≢ slash → IsOnWayTo basis tree path (place + 1) lists

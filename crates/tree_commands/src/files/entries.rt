@@ -1,7 +1,6 @@
 //! The entries of a folder that aren't ignored.
 ghost use Rattle.std.specs.Prelude.{◌≡◌, ◌↔◌, ◌++◌, ◌∷◌, [], ℕ, List, if◌then◌else◌, IfOk, IsTrue, OnOk, map};
 ghost use Rattle.std.specs.List.{AllByRecursion};
-ghost use Rattle.std.specs.Option.{option_copied};
 ghost use Rattle.std.specs.Vec.{vec_items};
 ghost use Rattle.gix_glob.specs.Bytes.{slash};
 ghost use Rattle.glob_lists.specs.Deciding.{BasesAreFolders};
@@ -10,10 +9,11 @@ ghost use Rattle.glob_trees.specs.Ways.{GivesOnly};
 ghost use Rattle.told_paths.specs.Paths.{is_name};
 ghost use Rattle.tree_commands.specs.FileTrees.{FileTree, StaysKnown, names_in};
 ghost use Rattle.tree_commands.specs.Files.{IsEntryName, is_folder, is_git};
-ghost use Rattle.tree_commands.specs.Private.Listing.{AddsFound, Among, EndsInName, IsFoundAmong, LeadsOn, StandsThere, names_left, seen_lists};
+ghost use Rattle.tree_commands.specs.Private.Listing.{AddsFound, Among, EndsInName, IsFoundAmong, LeadsOn, StandsThere, seen_lists};
 
 use crate::files::asking::kind_at;
 use crate::files::ignoring::{Ignoring, ignoring_by, is_ignored_by};
+use crate::files::names::first_name;
 use crate::files::source::{EntryKind, FileSource};
 use gix_glob::pattern::Case;
 use glob_lines::IgnoreLines;
@@ -55,16 +55,6 @@ pub(crate) fn entries_of<S: FileSource>(
         rest = behind;
     }
     Ok(paths)
-}
-
-/// The first of some names, and those behind it.
-fn first_name(names: &[u8]) -> (&[u8], Option<&[u8]>)
-    ensures { names_in names.now ≡ result.0.now ∷ names_left (option_copied result.1) }
-{
-    match memchr(0, names) {
-        Some(at) => (&names[..at], Some(&names[at + 1..])),
-        None => (names, None),
-    }
 }
 
 /// Whether a name in a folder may be listed.

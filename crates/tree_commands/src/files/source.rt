@@ -1,5 +1,9 @@
 //! Where it is told what a work tree has: the names in its folders, what stands at its paths, and the patterns of its folders.
+ghost use Rattle.std.specs.Prelude.{◌≡◌, ◌↔◌, IsTrue, codes};
+ghost use Rattle.std.specs.List.{Contains};
+ghost use Rattle.tree_commands.specs.FileTrees.{names_in};
 
+use crate::files::names::first_name;
 use gix_glob::search::pattern::List;
 use glob_lines::IgnoreLines;
 
@@ -26,11 +30,18 @@ pub struct FolderNames {
 
 impl FolderNames {
     /// What names tell of the folder that they lie in: `.git` among them makes it a repository, and its patterns lie in `.gitignore`.
-    pub fn of_names(bytes: Vec<u8>) -> FolderNames {
+    pub fn of_names(bytes: Vec<u8>) -> FolderNames
+        ensures kept { result.bytes ≡ bytes }
+        ensures git { IsTrue result.has_git ↔ Contains (names_in bytes.items) (codes ".git") }
+        ensures patterns { IsTrue result.has_patterns ↔ Contains (names_in bytes.items) (codes ".gitignore") }
+    {
         let (mut has_git, mut has_patterns) = (false, false);
-        'names: for name in bytes.split(|byte| *byte == 0) {
+        let mut rest = Some(bytes.as_slice());
+        'names: while let Some(left) = rest {
+            let (name, behind) = first_name(left);
             has_git |= name == b".git".as_slice();
             has_patterns |= name == b".gitignore".as_slice();
+            rest = behind;
         }
         FolderNames {
             bytes,

@@ -1,0 +1,6 @@
+pub mod CheckAttr
+pub mod CheckIgnore
+pub mod Files
+pub mod Operands
+pub mod Private
+pub mod Words

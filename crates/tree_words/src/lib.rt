@@ -1,0 +1,14 @@
+//! What the words of `globtree`'s command line ask for.
+#![tactic(auto)]
+
+pub mod check_attr;
+pub mod check_ignore;
+mod command;
+pub mod files;
+mod flags;
+mod operands;
+mod options;
+
+pub use command::{Command, asked_by};
+pub use operands::{Operands, operands_of};
+pub use options::{Options, takes_value};
