@@ -14,6 +14,7 @@ use Rattle.tree_commands.specs.Answering.{TextOfNamed, TextOfPaths, Writes}
 use Rattle.tree_commands.specs.CheckAttr.{IsStatesText, Query, all, named}
 use Rattle.tree_commands.specs.CheckIgnore.{IsIgnoreAnswer, IsStatus, Question}
 use Rattle.tree_commands.specs.Files.{ComesBefore, path_line}
+use Rattle.tree_commands.specs.declared.check_ignore.flags.IgnoreFlags.{IgnoreFlags}
 use Rattle.tree_words.specs.CheckAttr.{names_first}
 use Rattle.tree_words.specs.declared.check_attr.CheckAttrFlags.{CheckAttrFlags}
 use Rattle.tree_words.specs.declared.check_ignore.CheckIgnoreFlags.{CheckIgnoreFlags}
@@ -35,16 +36,26 @@ any_file folder file = Unit {0}
 abbrev pub form_by : Bool → Form
 form_by is_nul = if is_nul then Records else Lines
 
--- The words behind `check-ignore` were answered: with `--stdin` all of the input was read, and the text about each path that it names
--- was written; else that about each path among the words. The status says whether a line decides about one.
-pub record AnswersIgnore (flags : CheckIgnoreFlags) (words : List (List ℕ)) (status : ℕ) (left rest old new : Option (List ℕ)) : Type 0 where
+-- all of the input was read, and the text about each path that it names was written
+pub record ReadsIgnore (flags : IgnoreFlags) (is_any : Bool) (left rest old new : Option (List ℕ)) : Type 0 where
   pub question : Question
-  pub asks : question.flags ≡ asked_by_flags flags
+  pub asks : question.flags ≡ flags
+  pub run : Run (ReadsWhole left rest)
+      (AnswersAll (TextOfNamed (IsIgnoreAnswer question any_list) (IsStatus question any_list is_any) flags.form) (behind flags.form 10)) (Appends old new)
+
+-- the text about each of these paths was written
+pub record TellsIgnore (flags : IgnoreFlags) (paths : List (List ℕ)) (is_any : Bool) (old new : Option (List ℕ)) : Type 0 where
+  pub question : Question
+  pub asks : question.flags ≡ flags
+  pub writes : Writes (TextOfPaths (IsIgnoreAnswer question any_list) (IsStatus question any_list is_any) paths) (Appends old new)
+
+-- The words behind `check-ignore` were answered: with `--stdin` the paths that are read, else those among the words. The status says
+-- whether a line decides about one.
+pub record AnswersIgnore (flags : CheckIgnoreFlags) (words : List (List ℕ)) (status : ℕ) (left rest old new : Option (List ℕ)) : Type 0 where
   pub is_any : Bool
   pub ends : status ≡ (if is_any then 0 else 1)
-  pub read : flags.stdin ≡ true → Run (ReadsWhole left rest)
-      (AnswersAll (TextOfNamed (IsIgnoreAnswer question any_list) (IsStatus question any_list is_any) (form_by flags.nul)) (behind (form_by flags.nul) 10)) (Appends old new)
-  pub told : flags.stdin ≡ false → Writes (TextOfPaths (IsIgnoreAnswer question any_list) (IsStatus question any_list is_any) (operands_among words)) (Appends old new)
+  pub read : flags.stdin ≡ true → ReadsIgnore (asked_by_flags flags) is_any left rest old new
+  pub told : flags.stdin ≡ false → TellsIgnore (asked_by_flags flags) (operands_among words) is_any old new
 
 -- The words behind `check-attr` were answered in the same way, by the states of all attributes, or of those that the first operands name.
 pub record AnswersAttr (flags : CheckAttrFlags) (words : List (List ℕ)) (left rest old new : Option (List ℕ)) : Type 0 where

@@ -52,7 +52,7 @@ pub(crate) fn fronts_of<R: Files + Env + Eprint + AllocGlobal>(
 
 /// Whether the case of letters counts by the options.
 pub(crate) fn case_of(options: Options<'_>) -> Case
-    ensures { result ≡ (if options.ignore_case then Fold else Sensitive) }
+    ensures { result ≡ (if options.entry.ignore_case then Fold else Sensitive) }
 {
     if options.ignore_case {
         Case::Fold
