@@ -21,7 +21,7 @@ use std::io::{Read, Write};
 use std::rt::{Env, Files};
 use tree_answers::Form;
 use tree_commands::check_attr::{
-    AskedAttributes, AttributeQuestion, check_attr_paths, run_check_attr,
+    AskedAttributes, AttributeFault, AttributeQuestion, check_attr_paths, run_check_attr,
 };
 use tree_words::check_attr::CheckAttrFlags;
 use tree_words::{Options, operands_of};
@@ -80,10 +80,15 @@ pub(crate) fn check_attr<R: Files + Env + Eprint + AllocGlobal, I: Read, O: Writ
     } else {
         check_attr_paths(alloc, &question, source, &told, output)
     };
-    match outcome {
-        Ok(()) => Ok(ANSWERED),
-        Err(RecordFault::Answer(fault)) => Err(CheckFault::of_attributes(alloc, fault).into()),
-        Err(fault) => Err(fault.into()),
+    outcome.map_err(|fault| told_fault(alloc, fault))?;
+    Ok(ANSWERED)
+}
+
+/// A fault as it is told.
+fn told_fault(alloc: Global, fault: RecordFault<AttributeFault<CheckFault>>) -> anyhow::Error {
+    match fault {
+        RecordFault::Answer(fault) => CheckFault::of_attributes(alloc, fault).into(),
+        fault => fault.into(),
     }
 }
 
