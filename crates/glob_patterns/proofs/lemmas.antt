@@ -13,6 +13,7 @@ pub mod LoneStars
 pub mod ModeBits
 pub mod PathLimits
 pub mod PatternOrder
+pub mod PlainFolding
 pub mod ReadingEquations
 pub mod ReadingLemmas
 pub mod Shortcuts
